@@ -152,9 +152,9 @@ uint32_t regress_c_compile_utf16_within(regress_c_pattern *pattern, const uint16
                                         const uint8_t *flags, size_t flags_len, const regress_c_bounds *bounds);
 
 /*
- * Says what is wrong with a pattern. For a syntax error, returns SYNTAX, sets `at` to the offset in units of the
- * pattern at which the error begins, and writes the cause in words to `cause`: `count` bytes of UTF-8 without a
- * terminating 0. If the buffer is too short, returns SHORT_BUFFER and sets `at` all the same.
+ * Says what is wrong with a pattern. For a syntax error or too many groups, returns SYNTAX, sets `at` to the offset in
+ * units of the pattern at which the error begins, and writes the cause in words to `cause`: `count` bytes of UTF-8
+ * without a terminating 0. If the buffer is too short, returns SHORT_BUFFER and sets `at` all the same.
  *
  * Returns DONE if there is no syntax error (also if the pattern has too many loops or instructions), or NOT_UTF8,
  * UNKNOWN_FLAG or MEMORY.

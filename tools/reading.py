@@ -212,7 +212,7 @@ def parses(F,t):
     guesses={q[1] for q,n in disj((F,None),False,(t,())) if q[0]==()}
     for g in guesses:
         names=[x for x in g if x]
-        if len(set(names))!=len(names) or len(g)>65535: continue
+        if len(set(names))!=len(names): continue
         for q,n in disj((F,g),False,(t,())):
             if q==((),g): trees.append(('cat',(n,('goal',))))
     return trees

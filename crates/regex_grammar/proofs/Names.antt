@@ -7,26 +7,24 @@ use Rattle.std.proofs.lemmas.Bool.{eqb-true, eq-eqb, ne_eqb, and_parts, and_from
 use Rattle.std.proofs.lemmas.List.{length-map, ext_get_or, map-append}
 use Rattle.std.proofs.Math.Seq.{get_or-append_seam}
 use Rattle.regex_meaning.specs.NumberListHelpers.{contains, numbers_from}
-use Rattle.regex_meaning.specs.Tree.{Node, cat, alt, capture_group, lookaround, loop, loop_1_char_body, char, char_set, match_any}
-use Rattle.regex_meaning.specs.Tree.{match_any_except_line_terminator, group_ids}
-use Rattle.regex_meaning.specs.Captures.{capturing_group_ids_and_names, group_name_of_id}
+use Rattle.regex_meaning.specs.Tree.{Node, cat, alt, capture_group, lookaround, loop, loop_1_char_body, group_ids}
+use Rattle.regex_meaning.specs.GroupsByNumberAndName.{capturing_group_ids_and_names, group_name_of_id}
 use Rattle.regex_meaning.specs.Laws.{Each}
 use Rattle.regex_meaning.proofs.Each.{Each-append, Each-reverse}
 use Rattle.regex_meaning.proofs.Booleans.{same-truth}
 use Rattle.regex_meaning.proofs.Lists.{length-numbers_from}
-use Rattle.regex_grammar.specs.ReadingStatesAndDigits.{RemainingPattern, ParseState, PatternContext, groups_at, state_with_text_left, with_opened_group, arm, sequence_node}
-use Rattle.regex_grammar.specs.Grammar.{SimpleAtom, pattern_character, extended_character, any_character, decimal_escape, named_reference}
-use Rattle.regex_grammar.specs.Grammar.{character_escape, character_class_escape, character_class, Disjunction, Alternative, Term, Assertion, Atom}
-use Rattle.regex_grammar.specs.Grammar.{last_alternative, alternatives, no_terms, terms, assertion, atom, quantified, start, end, boundary, look}
+use Rattle.regex_grammar.specs.ReadingStatesAndDigits.{RemainingCodePoints, ParseState, PatternContext, groups_at, state_with_text_left, with_opened_group, arm, sequence_node}
+use Rattle.regex_grammar.specs.Grammar.{Syntax, profile, Disjunction, Alternative, Term, Assertion, Atom, last_alternative, alternatives, no_terms}
+use Rattle.regex_grammar.specs.Grammar.{terms, assertion, repeated_assertion, atom, quantified, start, end, boundary, look}
 use Rattle.regex_grammar.specs.Grammar.{leaf, group, named_group, plain_group, pattern_is}
 use Rattle.regex_grammar.specs.GroupNameScan.{scanned_group_names}
 use Rattle.regex_grammar.specs.Laws.{NamesAreFound}
 use Rattle.regex_grammar.proofs.Parts.{contains-counted, once-inside}
 use Rattle.regex_grammar.proofs.Found.{groups_are_found}
-use Rattle.regex_grammar.proofs.Trees.{part-disjunction}
+use Rattle.regex_grammar.proofs.Trees.{AtomsAreSound, atoms-are-sound, part-disjunction}
 
 abbrev Names : Type 0
-Names = List RemainingPattern
+Names = List RemainingCodePoints
 
 -- ---- Groups that have opened stay
 
@@ -40,33 +38,34 @@ stays {p} e = record { added = []; opened = e ∙ sym (append-nil p.opened) }
 then-later : {p q r : ParseState} → Later p q → Later q r → Later p r
 then-later {p} a b = record { added = a.added ++ b.added; opened = b.opened ∙ ap (λ x. x ++ b.added) a.opened ∙ append_assoc p.opened a.added b.added }
 
-opens : {p q : ParseState} (name : RemainingPattern) → q.opened ≡ p.opened ++ name ∷ [] → Later p q
+opens : {p q : ParseState} (name : RemainingCodePoints) → q.opened ≡ p.opened ++ name ∷ [] → Later p q
 opens name e = record { added = name ∷ []; opened = e }
 
 back : {p q : ParseState} → p.opened ≡ q.opened → Later p q
 back e = stays (sym e)
 
 mutual
-  later-disjunction : {w : PatternContext} {behind : Bool} {p q : ParseState} {n : Node} → Disjunction w behind p q n → Later p q
+  later-disjunction : {S : Syntax} {w : PatternContext} {behind : Bool} {p q : ParseState} {n : Node} → Disjunction S w behind p q n → Later p q
   later-disjunction (last_alternative a) = later-alternative a
   later-disjunction (alternatives a bar d) = then-later (later-alternative a) (then-later (back (ap (λ x. x.opened) bar)) (later-disjunction d))
 
-  later-alternative : {w : PatternContext} {behind : Bool} {p q : ParseState} {ns : List Node} → Alternative w behind p q ns → Later p q
+  later-alternative : {S : Syntax} {w : PatternContext} {behind : Bool} {p q : ParseState} {ns : List Node} → Alternative S w behind p q ns → Later p q
   later-alternative no_terms = stays refl
   later-alternative (terms t a) = then-later (later-term t) (later-alternative a)
 
-  later-term : {w : PatternContext} {behind : Bool} {p q : ParseState} {n : Node} → Term w behind p q n → Later p q
-  later-term (assertion a) = later-assertion a
+  later-term : {S : Syntax} {w : PatternContext} {behind : Bool} {p q : ParseState} {n : Node} → Term S w behind p q n → Later p q
+  later-term (assertion a k) = later-assertion a
+  later-term (repeated_assertion a may k) = then-later (later-assertion a) (stays refl)
   later-term (atom a k) = later-atom a
   later-term (quantified a k) = then-later (later-atom a) (stays refl)
 
-  later-assertion : {w : PatternContext} {p q : ParseState} {n : Node} → Assertion w p q n → Later p q
+  later-assertion : {S : Syntax} {w : PatternContext} {p q : ParseState} {n : Node} → Assertion S w p q n → Later p q
   later-assertion (start e) = back (ap (λ x. x.opened) e)
   later-assertion (end e) = back (ap (λ x. x.opened) e)
   later-assertion (boundary invert e) = back (ap (λ x. x.opened) e)
   later-assertion (look negate backwards e d f) = then-later (back (ap (λ x. x.opened) e)) (then-later (later-disjunction d) (back (ap (λ x. x.opened) f)))
 
-  later-atom : {w : PatternContext} {behind : Bool} {p q : ParseState} {n : Node} → Atom w behind p q n → Later p q
+  later-atom : {S : Syntax} {w : PatternContext} {behind : Bool} {p q : ParseState} {n : Node} → Atom S w behind p q n → Later p q
   later-atom (leaf a) = stays refl
   later-atom (group e o d f) = then-later (opens [] (ap (λ x. x.opened ++ [] ∷ []) (sym e))) (then-later (later-disjunction d) (back (ap (λ x. x.opened) f)))
   later-atom (named_group {name = name} e g d f) = then-later (opens name (ap (λ x. x.opened ++ name ∷ []) (sym e))) (then-later (later-disjunction d) (back (ap (λ x. x.opened) f)))
@@ -81,7 +80,7 @@ GoesOn names opened = (rest : Names) × (names ≡ opened ++ rest)
 before : {names : Names} {p q : ParseState} → Later p q → GoesOn names q.opened → GoesOn names p.opened
 before {p = p} l g = (l.added ++ g.0, g.1 ∙ ap (λ x. x ++ g.0) l.opened ∙ append_assoc p.opened l.added g.0)
 
-record Stands (names : Names) (named : ℕ × RemainingPattern) : Type 0 where
+record Stands (names : Names) (named : ℕ × RemainingCodePoints) : Type 0 where
   pub left : Names
   pub right : Names
   pub whole : names ≡ left ++ named.1 ∷ right
@@ -90,72 +89,7 @@ record Stands (names : Names) (named : ℕ × RemainingPattern) : Type 0 where
 abbrev AreNamed : Names → Node → Type 0
 AreNamed names n = Each (Stands names) (capturing_group_ids_and_names n)
 
-unnamed-if : (names : Names) (b : Bool) (x y : Node) → AreNamed names x → AreNamed names y → AreNamed names (if b then x else y)
-unnamed-if names true x y h k = h
-unnamed-if names false x y h k = k
-
-leaf-named : (names : Names) {w : PatternContext} {here there : RemainingPattern} {n : Node} → SimpleAtom w here there n → AreNamed names n
-leaf-named names (pattern_character e f) = unnamed-if names _ (char_set _) (char _) tt tt
-leaf-named names (extended_character e f k l) = unnamed-if names _ (char_set _) (char _) tt tt
-leaf-named names {w} (any_character e) = unnamed-if names w.flags.dot_all match_any match_any_except_line_terminator tt tt
-leaf-named names (decimal_escape e f d l) = tt
-leaf-named names (named_reference e d f) = tt
-leaf-named names (character_escape e d) = unnamed-if names _ (char_set _) (char _) tt tt
-leaf-named names (character_class_escape e f s) = tt
-leaf-named names (character_class e d) = tt
-
-row-named : (names : Names) (ns : List Node) → Each (AreNamed names) ns → AreNamed names (sequence_node ns)
-row-named names [] h = tt
-row-named names (n ∷ ns) h = Each-append (Stands names) (capturing_group_ids_and_names n) (capturing_group_ids_and_names (sequence_node ns)) h.0 (row-named names ns h.1)
-
-arm-named : (names : Names) (behind : Bool) (ns : List Node) → Each (AreNamed names) ns → AreNamed names (arm behind ns)
-arm-named names true ns h = row-named names (reverse ns) (Each-reverse (AreNamed names) ns h)
-arm-named names false ns h = row-named names ns h
-
--- a group that has opened here
-opened-here : (names : Names) (q : ParseState) {r : ParseState} (id : ℕ) (name : RemainingPattern) → id ≡ length q.opened → Later (with_opened_group name q) r → GoesOn names r.opened → Stands names (id, name)
-opened-here names q id name e l g = record {
-  left = q.opened;
-  right = l.added ++ g.0;
-  whole = g.1 ∙ ap (λ x. x ++ g.0) l.opened ∙ append_assoc (q.opened ++ name ∷ []) l.added g.0 ∙ append_assoc q.opened (name ∷ []) (l.added ++ g.0);
-  id = e;
-}
-
-same-groups : {names a b : Names} → a ≡ b → GoesOn names b → GoesOn names a
-same-groups {names} e g = (g.0, g.1 ∙ ap (λ x. x ++ g.0) (sym e))
-
-mutual
-  named-disjunction : {names : Names} {w : PatternContext} {behind : Bool} {p q : ParseState} {n : Node} → Disjunction w behind p q n → GoesOn names q.opened → AreNamed names n
-  named-disjunction {names} (last_alternative {behind = behind} a) g = arm-named names behind _ (named-alternative a g)
-  named-disjunction {names} (alternatives {behind = behind} a bar d) g =
-      Each-append (Stands names) _ _ (arm-named names behind _ (named-alternative a (same-groups (ap (λ x. x.opened) bar) (before (later-disjunction d) g)))) (named-disjunction d g)
-
-  named-alternative : {names : Names} {w : PatternContext} {behind : Bool} {p q : ParseState} {ns : List Node} → Alternative w behind p q ns → GoesOn names q.opened → Each (AreNamed names) ns
-  named-alternative no_terms g = tt
-  named-alternative (terms t a) g = (named-term t (before (later-alternative a) g), named-alternative a g)
-
-  named-term : {names : Names} {w : PatternContext} {behind : Bool} {p q : ParseState} {n : Node} → Term w behind p q n → GoesOn names q.opened → AreNamed names n
-  named-term (assertion a) g = named-assertion a g
-  named-term (atom a k) g = named-atom a g
-  named-term (quantified a k) g = named-atom a g
-
-  named-assertion : {names : Names} {w : PatternContext} {p q : ParseState} {n : Node} → Assertion w p q n → GoesOn names q.opened → AreNamed names n
-  named-assertion (start e) g = tt
-  named-assertion (end e) g = tt
-  named-assertion (boundary invert e) g = tt
-  named-assertion (look negate backwards e d f) g = named-disjunction d (same-groups (ap (λ x. x.opened) f) g)
-
-  named-atom : {names : Names} {w : PatternContext} {behind : Bool} {p q : ParseState} {n : Node} → Atom w behind p q n → GoesOn names q.opened → AreNamed names n
-  named-atom {names} (leaf a) g = leaf-named names a
-  named-atom {names} (group {q = q} e o d f) g =
-      let h = same-groups (ap (λ x. x.opened) f) g in (opened-here names q _ [] (ap groups_at e) (later-disjunction d) h, named-disjunction d h)
-  named-atom {names} (named_group {q = q} {there = there} {name = name} e i d f) g =
-      let h = same-groups (ap (λ x. x.opened) f) g in (opened-here names (state_with_text_left there q) _ name (ap groups_at e) (later-disjunction d) h, named-disjunction d h)
-  named-atom (plain_group e d f) g = named-disjunction d (same-groups (ap (λ x. x.opened) f) g)
-
--- ---- The names by id
-
-abbrev pub ids_of : List (ℕ × RemainingPattern) → List ℕ
+abbrev pub ids_of : List (ℕ × RemainingCodePoints) → List ℕ
 ids_of named = map (λ n. n.0) named
 
 pub named_ids-ids : (n : Node) → ids_of (capturing_group_ids_and_names n) ≡ group_ids n
@@ -167,13 +101,74 @@ named_ids-ids (loop q s e contents) = named_ids-ids contents
 named_ids-ids (loop_1_char_body q contents) = named_ids-ids contents
 named_ids-ids _ = refl
 
-pub at-number : (f : ℕ → RemainingPattern) (first count k : ℕ) → k < count → get_or (map f (numbers_from first count)) k [] ≡ f (first + k)
+-- where there is no id there is no group
+unnamed : (names : Names) (n : Node) → group_ids n ≡ [] → AreNamed names n
+unnamed names n e = by (capturing_group_ids_and_names n) (named_ids-ids n ∙ e)
+  where
+    by : (named : List (ℕ × RemainingCodePoints)) → ids_of named ≡ [] → Each (Stands names) named
+    by [] f = tt
+    by (x ∷ named) f = absurd (let none : x.0 ∷ ids_of named ≡ [] = f in cc)
+
+row-named : (names : Names) (ns : List Node) → Each (AreNamed names) ns → AreNamed names (sequence_node ns)
+row-named names [] h = tt
+row-named names (n ∷ ns) h = Each-append (Stands names) (capturing_group_ids_and_names n) (capturing_group_ids_and_names (sequence_node ns)) h.0 (row-named names ns h.1)
+
+arm-named : (names : Names) (behind : Bool) (ns : List Node) → Each (AreNamed names) ns → AreNamed names (arm behind ns)
+arm-named names true ns h = row-named names (reverse ns) (Each-reverse (AreNamed names) ns h)
+arm-named names false ns h = row-named names ns h
+
+-- a group that has opened here
+opened-here : (names : Names) (q : ParseState) {r : ParseState} (id : ℕ) (name : RemainingCodePoints) → id ≡ length q.opened → Later (with_opened_group name q) r → GoesOn names r.opened → Stands names (id, name)
+opened-here names q id name e l g = record {
+  left = q.opened;
+  right = l.added ++ g.0;
+  whole = g.1 ∙ ap (λ x. x ++ g.0) l.opened ∙ append_assoc (q.opened ++ name ∷ []) l.added g.0 ∙ append_assoc q.opened (name ∷ []) (l.added ++ g.0);
+  id = e;
+}
+
+same-groups : {names a b : Names} → a ≡ b → GoesOn names b → GoesOn names a
+same-groups {names} e g = (g.0, g.1 ∙ ap (λ x. x ++ g.0) (sym e))
+
+module _ (S : Syntax) (sound : AtomsAreSound S) where
+  mutual
+    named-disjunction : {names : Names} {w : PatternContext} {behind : Bool} {p q : ParseState} {n : Node} → Disjunction S w behind p q n → GoesOn names q.opened → AreNamed names n
+    named-disjunction {names} (last_alternative {behind = behind} a) g = arm-named names behind _ (named-alternative a g)
+    named-disjunction {names} (alternatives {behind = behind} a bar d) g =
+        Each-append (Stands names) _ _ (arm-named names behind _ (named-alternative a (same-groups (ap (λ x. x.opened) bar) (before (later-disjunction d) g)))) (named-disjunction d g)
+
+    named-alternative : {names : Names} {w : PatternContext} {behind : Bool} {p q : ParseState} {ns : List Node} → Alternative S w behind p q ns → GoesOn names q.opened → Each (AreNamed names) ns
+    named-alternative no_terms g = tt
+    named-alternative (terms t a) g = (named-term t (before (later-alternative a) g), named-alternative a g)
+
+    named-term : {names : Names} {w : PatternContext} {behind : Bool} {p q : ParseState} {n : Node} → Term S w behind p q n → GoesOn names q.opened → AreNamed names n
+    named-term (assertion a k) g = named-assertion a g
+    named-term (repeated_assertion a may k) g = named-assertion a g
+    named-term (atom a k) g = named-atom a g
+    named-term (quantified a k) g = named-atom a g
+
+    named-assertion : {names : Names} {w : PatternContext} {p q : ParseState} {n : Node} → Assertion S w p q n → GoesOn names q.opened → AreNamed names n
+    named-assertion (start e) g = tt
+    named-assertion (end e) g = tt
+    named-assertion (boundary invert e) g = tt
+    named-assertion (look negate backwards e d f) g = named-disjunction d (same-groups (ap (λ x. x.opened) f) g)
+
+    named-atom : {names : Names} {w : PatternContext} {behind : Bool} {p q : ParseState} {n : Node} → Atom S w behind p q n → GoesOn names q.opened → AreNamed names n
+    named-atom {names} {w} (leaf {p = p} {there = there} {n = n} a) g = unnamed names n (sound w p.text there n a).ids
+    named-atom {names} (group {q = q} e o d f) g =
+        let h = same-groups (ap (λ x. x.opened) f) g in (opened-here names q _ [] (ap groups_at e) (later-disjunction d) h, named-disjunction d h)
+    named-atom {names} (named_group {q = q} {there = there} {name = name} e i d f) g =
+        let h = same-groups (ap (λ x. x.opened) f) g in (opened-here names (state_with_text_left there q) _ name (ap groups_at e) (later-disjunction d) h, named-disjunction d h)
+    named-atom (plain_group e d f) g = named-disjunction d (same-groups (ap (λ x. x.opened) f) g)
+
+-- ---- The names by id
+
+pub at-number : (f : ℕ → RemainingCodePoints) (first count k : ℕ) → k < count → get_or (map f (numbers_from first count)) k [] ≡ f (first + k)
 at-number f first zero k h = absurd (omega (arith, h))
 at-number f first (suc count) zero h = ap f (omega arith)
 at-number f first (suc count) (suc k) h = at-number f (first + 1) count k (omega (arith, h)) ∙ ap f (omega arith)
 
 -- the name of an id that stands there
-name-is : (names : Names) (named : List (ℕ × RemainingPattern)) (id : ℕ) → Each (Stands names) named → contains (ids_of named) id ≡ true → group_name_of_id named id ≡ get_or names id []
+name-is : (names : Names) (named : List (ℕ × RemainingCodePoints)) (id : ℕ) → Each (Stands names) named → contains (ids_of named) id ≡ true → group_name_of_id named id ≡ get_or names id []
 name-is names [] id h k = absurd (true≢false (sym k))
 name-is names (n ∷ named) id h k = by (n.0 == id) refl (name-is names named id h.1)
   where
@@ -187,14 +182,14 @@ name-is names (n ∷ named) id h k = by (n.0 == id) refl (name-is names named id
 
 -- ---- Where no group has a name
 
-abbrev is_empty : RemainingPattern → Bool
+abbrev is_empty : RemainingCodePoints → Bool
 is_empty name = length name == 0
 
-empty-is : (name : RemainingPattern) → is_empty name ≡ true → name ≡ []
+empty-is : (name : RemainingCodePoints) → is_empty name ≡ true → name ≡ []
 empty-is [] h = refl
 empty-is (c ∷ cs) h = let e : suc (length cs) ≡ 0 = eqb-true _ 0 h in absurd (omega (arith, e))
 
-no-name : (named : List (ℕ × RemainingPattern)) (id : ℕ) → list_all (λ p. is_empty p.1) named ≡ true → group_name_of_id named id ≡ []
+no-name : (named : List (ℕ × RemainingCodePoints)) (id : ℕ) → list_all (λ p. is_empty p.1) named ≡ true → group_name_of_id named id ≡ []
 no-name [] id h = refl
 no-name (n ∷ named) id h = by (n.0 == id) (empty-is n.1 (and_parts (is_empty n.1) _ h).0) (no-name named id (and_parts (is_empty n.1) _ h).1)
   where
@@ -206,15 +201,15 @@ all-empty : (names : Names) → ((id : ℕ) → id < length names → get_or nam
 all-empty [] h = refl
 all-empty (name ∷ names) h = and_from _ _ (ap is_empty (h 0 (omega arith))) (all-empty names (λ id k. h (suc id) (omega (arith, k))))
 
-one-of : (left right : Names) (name : RemainingPattern) → list_all is_empty (left ++ name ∷ right) ≡ true → is_empty name ≡ true
+one-of : (left right : Names) (name : RemainingCodePoints) → list_all is_empty (left ++ name ∷ right) ≡ true → is_empty name ≡ true
 one-of [] right name h = (and_parts (is_empty name) _ h).0
 one-of (x ∷ left) right name h = one-of left right name (and_parts (is_empty x) _ h).1
 
-none-named : (names : Names) (named : List (ℕ × RemainingPattern)) → Each (Stands names) named → list_all is_empty names ≡ true → list_all (λ p. is_empty p.1) named ≡ true
+none-named : (names : Names) (named : List (ℕ × RemainingCodePoints)) → Each (Stands names) named → list_all is_empty names ≡ true → list_all (λ p. is_empty p.1) named ≡ true
 none-named names [] h k = refl
 none-named names (n ∷ named) h k = and_from _ _ (one-of h.0.left h.0.right n.1 (ap (list_all is_empty) (sym h.0.whole) ∙ k)) (none-named names named h.1 k)
 
-module _ (names : Names) (named : List (ℕ × RemainingPattern)) (are : Each (Stands names) named) (many : length named ≡ length names)
+module _ (names : Names) (named : List (ℕ × RemainingCodePoints)) (are : Each (Stands names) named) (many : length named ≡ length names)
     (each : (id : ℕ) → id < length names → contains (ids_of named) id ≡ true)
   where
     by-id : (id : ℕ) → id < length names → group_name_of_id named id ≡ get_or names id []
@@ -234,8 +229,8 @@ module _ (names : Names) (named : List (ℕ × RemainingPattern)) (are : Each (S
     names-are = rw (test, in-place) refl
 
 pub names_are_found : NamesAreFound
-names_are_found flags pattern t (pattern_is {n = n} groups d distinct few) =
-    let p = part-disjunction d in
+names_are_found flags pattern t (pattern_is {n = n} groups d distinct) =
+    let p = part-disjunction profile atoms-are-sound d in
     let root : capturing_group_ids_and_names t.root ≡ capturing_group_ids_and_names n = append-nil (capturing_group_ids_and_names n) in
     let found : groups ≡ scanned_group_names false pattern = groups_are_found (record { flags = flags; groups = groups }) pattern groups n d in
     let many : length (capturing_group_ids_and_names n) ≡ length groups = sym (length-map (capturing_group_ids_and_names n) (λ p. p.0)) ∙ ap length (named_ids-ids n) ∙ omega (arith, p.count) in
@@ -243,5 +238,5 @@ names_are_found flags pattern t (pattern_is {n = n} groups d distinct few) =
     λ id h. let once = p.ids id ∙ once-inside 0 (length groups) id (omega arith) h in
     ap (λ ids. contains ids id) (named_ids-ids n) ∙ contains-counted (group_ids n) id (omega (arith, once)) in
     ap (λ named. if list_all (λ p. is_empty p.1) named then [] else map (group_name_of_id named) (numbers_from 0 (length named))) root
-    ∙ names-are groups (capturing_group_ids_and_names n) (named-disjunction d ([], sym (append-nil groups))) many inside
+    ∙ names-are groups (capturing_group_ids_and_names n) (named-disjunction profile atoms-are-sound d ([], sym (append-nil groups))) many inside
     ∙ ap (λ names. if list_all is_empty names then [] else names) found

@@ -8,13 +8,13 @@ use Rattle.regex_meaning.specs.NumberListHelpers.{contains, numbers_from}
 use Rattle.regex_meaning.specs.Tree.{Node, group_ids, every_node_passes, empty, goal, char, char_set, byte_set, byte_sequence, cat, end_of_cat, alt, bracket}
 use Rattle.regex_meaning.specs.Tree.{string_set, match_any, match_any_except_line_terminator, anchor, word_boundary, capture_group, back_ref}
 use Rattle.regex_meaning.specs.Tree.{lookaround, loop, loop_1_char_body, Quantifier}
-use Rattle.regex_meaning.specs.WellFormedTrees.{number_of_goals, encloses, is_in_order, names_the_groups_inside, refers_to_a_group, has_order_in_quantifier}
-use Rattle.regex_meaning.specs.WellFormedTrees.{has_one_character_body, has_text_in_sequence, fits_instructions, is_well_formed}
-use Rattle.regex_meaning.specs.CompilationRelation.{reads_bytes}
+use Rattle.regex_meaning.specs.WellFormedTrees.{number_of_goal_nodes, encloses, is_min_at_most_max, names_the_groups_inside, refers_to_a_group, has_order_in_quantifier}
+use Rattle.regex_meaning.specs.WellFormedTrees.{has_one_character_body, has_text_in_sequence, sets_and_strings_fit_instructions, is_well_formed}
+use Rattle.regex_meaning.specs.CompilationRelation.{tree_contains_byte_nodes}
 use Rattle.regex_meaning.proofs.WellFormedLemmas.{by_clauses}
 use Rattle.regex_meaning.proofs.Booleans.{and-left, and-right}
 use Rattle.regex_meaning.proofs.Lists.{list_all-members}
-use Rattle.regex_grammar.specs.SubtreeInvariants.{is_of_pattern, is_sound, occurrences_of_id, once_within, IsSoundSubtree, IsSoundLeaf}
+use Rattle.regex_grammar.specs.SubtreeInvariants.{is_of_pattern, is_sound, occurrences_of_id, once_within, IsSoundSubtree, IsSoundGrouplessTree}
 use Rattle.regex_grammar.specs.TreesWithoutCharLoops.{is_not_char_loop, has_no_char_loops}
 
 -- ---- Tests
@@ -54,7 +54,7 @@ pub record Sound (greatest : ℕ) (n : Node) : Type 0 where
   pub order : has_order_in_quantifier n ≡ true
   pub body : has_one_character_body n ≡ true
   pub characters : is_of_pattern n ≡ true
-  pub fits : fits_instructions n ≡ true
+  pub fits : sets_and_strings_fit_instructions n ≡ true
 
 six : (a b c d e f : Bool) → (a && b && c && d && e && f) ≡ true
     → (a ≡ true) × (b ≡ true) × (c ≡ true) × (d ≡ true) × (e ≡ true) × (f ≡ true)
@@ -132,7 +132,7 @@ count_by-append p xs ys = sum_by-append (λ y. if p y then 1 else 0) xs ys
 
 -- ---- Leaves
 
-pub part-leaf : (first greatest : ℕ) (n : Node) → IsSoundLeaf greatest n → IsSoundSubtree first first greatest n
+pub part-leaf : (first greatest : ℕ) (n : Node) → IsSoundGrouplessTree greatest n → IsSoundSubtree first first greatest n
 part-leaf first greatest n l = record {
   goals = l.goals;
   count = rw l.ids (omega arith);
@@ -144,7 +144,7 @@ part-leaf first greatest n l = record {
 
 -- a node that has what two nodes have together
 pub record IsJoined (n x y : Node) : Type 0 where
-  pub goals : number_of_goals n ≡ number_of_goals x + number_of_goals y
+  pub goals : number_of_goal_nodes n ≡ number_of_goal_nodes x + number_of_goal_nodes y
   pub count : length (group_ids n) ≡ length (group_ids x) + length (group_ids y)
   pub ids : (id : ℕ) → occurrences_of_id id n ≡ occurrences_of_id id x + occurrences_of_id id y
   pub sound : (greatest : ℕ) → IsTrue (every_node_passes (is_sound greatest) x) → IsTrue (every_node_passes (is_sound greatest) y) → IsTrue (every_node_passes (is_sound greatest) n)
@@ -160,7 +160,7 @@ part-joined first middle end greatest n x y j p q = record {
   sound = j.sound greatest p.sound q.sound;
 }
 
-joined-by : (n x y : Node) → number_of_goals n ≡ number_of_goals x + number_of_goals y → group_ids n ≡ group_ids x ++ group_ids y
+joined-by : (n x y : Node) → number_of_goal_nodes n ≡ number_of_goal_nodes x + number_of_goal_nodes y → group_ids n ≡ group_ids x ++ group_ids y
     → ((greatest : ℕ) → IsTrue (every_node_passes (is_sound greatest) x) → IsTrue (every_node_passes (is_sound greatest) y) → IsTrue (every_node_passes (is_sound greatest) n))
     → IsJoined n x y
 joined-by n x y goals ids sound = record {
@@ -256,7 +256,7 @@ part-lookaround first end greatest negate backwards n p = record {
   sound = and_from _ _ (sound-from greatest (lookaround (record { negate = negate; backwards = backwards; start_group = first; end_group = end }) n) (record { names = part-encloses first end greatest n p; refers = refl; order = refl; body = refl; characters = refl; fits = refl })) p.sound;
 }
 
-pub part-loop : (first end greatest : ℕ) (q : Quantifier) (n : Node) → is_in_order q ≡ true → IsSoundSubtree first end greatest n
+pub part-loop : (first end greatest : ℕ) (q : Quantifier) (n : Node) → is_min_at_most_max q ≡ true → IsSoundSubtree first end greatest n
     → IsSoundSubtree first end greatest (loop q first end n)
 part-loop first end greatest q n order p = record {
   goals = omega (arith, p.goals);
@@ -274,7 +274,7 @@ text-from _ h = refl
 neither : (a b : Bool) → a ≡ false → b ≡ false → (a || b) ≡ false
 neither a b h k = rw (h, k) refl
 
-reads-none : (n : Node) → every_node_passes is_of_pattern n ≡ true → reads_bytes n ≡ false
+reads-none : (n : Node) → every_node_passes is_of_pattern n ≡ true → tree_contains_byte_nodes n ≡ false
 reads-none (byte_set members) h = grind arith
 reads-none (byte_sequence bytes) h = grind arith
 reads-none (cat first rest) h = neither _ _ (reads-none first (and-left _ (every_node_passes is_of_pattern rest) h)) (reads-none rest (and-right (every_node_passes is_of_pattern first) _ h))
@@ -287,7 +287,7 @@ reads-none _ h = refl
 
 -- ---- The whole pattern
 
-whole-goals : (n : Node) → number_of_goals n ≡ 0 → (number_of_goals (cat n (cat goal end_of_cat)) == 1) ≡ true
+whole-goals : (n : Node) → number_of_goal_nodes n ≡ 0 → (number_of_goal_nodes (cat n (cat goal end_of_cat)) == 1) ≡ true
 whole-goals n h = rw h
 
 whole-every : (greatest : ℕ) (n : Node) (test : Node → Bool) → ((m : Node) → is_sound greatest m ≡ true → test m ≡ true)
@@ -295,7 +295,7 @@ whole-every : (greatest : ℕ) (n : Node) (test : Node → Bool) → ((m : Node)
 whole-every greatest n test weaker h =
     every-weaker (is_sound greatest) test weaker (cat n (cat goal end_of_cat)) (and_from _ _ (and_from _ _ refl h) refl)
 
-pub whole-reads_none : (greatest : ℕ) (n : Node) → every_node_passes (is_sound greatest) n ≡ true → reads_bytes (cat n (cat goal end_of_cat)) ≡ false
+pub whole-reads_none : (greatest : ℕ) (n : Node) → every_node_passes (is_sound greatest) n ≡ true → tree_contains_byte_nodes (cat n (cat goal end_of_cat)) ≡ false
 whole-reads_none greatest n h = reads-none (cat n (cat goal end_of_cat)) (whole-every greatest n is_of_pattern (λ m k. (Sound-from greatest m k).characters) h)
 
 plain-node : (n : Node) → is_of_pattern n ≡ true → is_not_char_loop n ≡ true
@@ -321,5 +321,5 @@ whole groups greatest n within p =
       quantifiers = whole-every greatest n has_order_in_quantifier (λ m k. (Sound-from greatest m k).order) p.sound;
       bodies = whole-every greatest n has_one_character_body (λ m k. (Sound-from greatest m k).body) p.sound;
       sequences = whole-every greatest n has_text_in_sequence (λ m k. text-from m (Sound-from greatest m k).characters) p.sound;
-      sets = whole-every greatest n fits_instructions (λ m k. (Sound-from greatest m k).fits) p.sound;
+      sets = whole-every greatest n sets_and_strings_fit_instructions (λ m k. (Sound-from greatest m k).fits) p.sound;
     })

@@ -8,13 +8,13 @@ use Rattle.std.proofs.lemmas.List.Sums.{take_while-cons}
 use Rattle.std.proofs.lemmas.Str.{digit_value_digit}
 use Rattle.std.proofs.lemmas.Str.Parse.{digit_from_value}
 use lib.Pointwise.{pointwise}
-use Rattle.regex_grammar.specs.ReadingStatesAndDigits.{RemainingPattern, begins_with_characters, Digits, digits_from, digits, value_of_digits, group_number_of}
+use Rattle.regex_grammar.specs.ReadingStatesAndDigits.{RemainingCodePoints, begins_with_characters, Digits, digits_from, leading_digits, value_of_digits, group_number_of}
 use Rattle.regex_grammar.proofs.Leaves.{Some_inj}
 use Rattle.regex_grammar.proofs.Members.{digit_begins}
 
 -- ---- Numbers
 
-pub grows : (n : ℕ) (ds : RemainingPattern) → 0 < n → 0 < fold (λ n c. 10 * n + digit_value c) n ds
+pub grows : (n : ℕ) (ds : RemainingCodePoints) → 0 < n → 0 < fold (λ n c. 10 * n + digit_value c) n ds
 grows n [] h = h
 grows n (d ∷ ds) h = grows (10 * n + digit_value d) ds (omega arith)
 
@@ -25,17 +25,17 @@ positive c other d = let v : digit_value c + 48 ≡ c = digit_value_digit c (dig
     by zero e = absurd (other (omega (arith, e)))
     by (suc n) e = omega arith
 
-pub number-positive : {here there : RemainingPattern} {n : ℕ} → begins_with_characters "0" here ≡ false → Digits 10 here there n → 0 < n
+pub number-positive : {here there : RemainingCodePoints} {n : ℕ} → begins_with_characters "0" here ≡ false → Digits 10 here there n → 0 < n
 number-positive {here = []} e (digits_from k) = absurd (omega arith)
 number-positive {here = c ∷ cs} e (digits_from k) =
     let d : is_digit c 10 ≡ true = digit_begins {base = 10} {here = c ∷ cs} (digits_from k) in
-    let same : digits 10 (c ∷ cs) ≡ c ∷ digits 10 cs = take_while-cons (λ x. is_digit x 10) c cs ∙ rw d refl in
+    let same : leading_digits 10 (c ∷ cs) ≡ c ∷ leading_digits 10 cs = take_while-cons (λ x. is_digit x 10) c cs ∙ rw d refl in
     let p : 0 < digit_value c = positive c (λ f. true≢false (sym (rw (eq-eqb 48 c f) refl) ∙ e)) d in
-    subst (λ x. 0 < value_of_digits 10 x) (sym same) (grows (10 * 0 + digit_value c) (digits 10 cs) (omega arith))
+    subst (λ x. 0 < value_of_digits 10 x) (sym same) (grows (10 * 0 + digit_value c) (leading_digits 10 cs) (omega arith))
 
 -- ---- Names
 
-pub number_of-bounds : (name : RemainingPattern) (groups : List RemainingPattern) (n : ℕ) → group_number_of name groups ≡ Some n → (0 < n) × (n ≤ length groups)
+pub number_of-bounds : (name : RemainingCodePoints) (groups : List RemainingCodePoints) (n : ℕ) → group_number_of name groups ≡ Some n → (0 < n) × (n ≤ length groups)
 number_of-bounds name [] n e = absurd cc
 number_of-bounds name (o ∷ groups) n e = by (λ m f. number_of-bounds name groups m f) (pointwise nat_eq name o) refl (group_number_of name groups) refl
   where

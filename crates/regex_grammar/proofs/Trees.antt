@@ -5,16 +5,16 @@ use Rattle.std.specs.Prelude.{if◌then◌else◌, nat_le, nat_lt, nat_eq, ◌==
 use Rattle.std.proofs.lemmas.Bool.{le-leb}
 use Rattle.std.proofs.lemmas.List.{reverse-append}
 use Rattle.regex_meaning.specs.Tree.{Node, Flags, Quantifier, group_ids, every_node_passes, char, char_set, cat, end_of_cat, back_ref, match_any}
-use Rattle.regex_meaning.specs.Tree.{match_any_except_line_terminator, capture_group}
-use Rattle.regex_meaning.specs.Text.{expand_code_point, fold_code_point, all_with_fold, to_uppercase, to_lowercase}
-use Rattle.regex_meaning.specs.WellFormedTrees.{is_in_order, number_of_goals}
-use Rattle.regex_grammar.specs.ReadingStatesAndDigits.{RemainingPattern, ParseState, PatternContext, groups_at, arm, sequence_node}
+use Rattle.regex_meaning.specs.Tree.{match_any_except_line_terminator, capture_group, lookaround}
+use Rattle.regex_meaning.specs.Text.{expand_code_point, fold_code_point, all_with_fold, to_ascii_uppercase, to_ascii_lowercase}
+use Rattle.regex_meaning.specs.WellFormedTrees.{is_min_at_most_max, number_of_goal_nodes}
+use Rattle.regex_grammar.specs.ReadingStatesAndDigits.{RemainingCodePoints, ParseState, PatternContext, groups_at, arm, sequence_node}
 use Rattle.regex_grammar.specs.EscapesNamesQuantifiers.{ValidQuantifier, greedy, lazy}
 use Rattle.regex_grammar.specs.Grammar.{character_node, SimpleAtom, pattern_character, extended_character, any_character, decimal_escape, named_reference}
 use Rattle.regex_grammar.specs.Grammar.{character_escape, character_class_escape, character_class, Disjunction, Alternative, Term, Assertion, Atom}
-use Rattle.regex_grammar.specs.Grammar.{last_alternative, alternatives, no_terms, terms, assertion, atom, quantified, start, end, boundary, look}
+use Rattle.regex_grammar.specs.Grammar.{Syntax, profile, last_alternative, alternatives, no_terms, terms, assertion, repeated_assertion, atom, quantified, start, end, boundary, look}
 use Rattle.regex_grammar.specs.Grammar.{leaf, group, named_group, plain_group, pattern_is}
-use Rattle.regex_grammar.specs.SubtreeInvariants.{is_sound, occurrences_of_id, once_within, IsSoundSubtree, IsSoundLeaf}
+use Rattle.regex_grammar.specs.SubtreeInvariants.{is_sound, occurrences_of_id, once_within, IsSoundSubtree, IsSoundGrouplessTree}
 use Rattle.regex_grammar.specs.GroupNameScan.{scanned_group_names}
 use Rattle.regex_meaning.proofs.Booleans.{and-left, and-right}
 use Rattle.regex_grammar.proofs.Found.{groups_are_found}
@@ -25,7 +25,7 @@ use Rattle.regex_grammar.proofs.References.{number-positive, number_of-bounds}
 
 -- ---- Atoms without groups
 
-leaf-if : (greatest : ℕ) (b : Bool) (x y : Node) → IsSoundLeaf greatest x → IsSoundLeaf greatest y → IsSoundLeaf greatest (if b then x else y)
+leaf-if : (greatest : ℕ) (b : Bool) (x y : Node) → IsSoundGrouplessTree greatest x → IsSoundGrouplessTree greatest y → IsSoundGrouplessTree greatest (if b then x else y)
 leaf-if greatest true x y h k = h
 leaf-if greatest false x y h k = k
 
@@ -48,19 +48,19 @@ few_members c true unicode = few_with_fold unicode (fold_code_point unicode c)
     plain false x y z = omega arith
 
     few_with_fold : (unicode : Bool) (folded : ℕ) → length (all_with_fold unicode folded) ≤ 4
-    few_with_fold false folded = plain (to_uppercase folded == to_lowercase folded) folded (to_uppercase folded) (to_lowercase folded)
+    few_with_fold false folded = plain (to_ascii_uppercase folded == to_ascii_lowercase folded) folded (to_ascii_uppercase folded) (to_ascii_lowercase folded)
     few_with_fold true folded =
-        cases (to_uppercase folded == to_lowercase folded) (folded == 115) (folded == 107) folded (to_uppercase folded) (to_lowercase folded) 0x017F 0x212A
+        cases (to_ascii_uppercase folded == to_ascii_lowercase folded) (folded == 115) (folded == 107) folded (to_ascii_uppercase folded) (to_ascii_lowercase folded) 0x017F 0x212A
 
 module _ (greatest : ℕ) where
-  leaf-character : (flags : Flags) (c : ℕ) → IsSoundLeaf greatest (character_node flags c)
+  leaf-character : (flags : Flags) (c : ℕ) → IsSoundGrouplessTree greatest (character_node flags c)
   leaf-character flags c =
       let members = expand_code_point c flags.icase flags.unicode in
       leaf-if greatest (nat_lt 1 (length members)) (char_set members) (char c)
       (record { goals = refl; ids = refl; sound = le-leb (length members) 4 (few_members c flags.icase flags.unicode) })
       (record { goals = refl; ids = refl; sound = refl })
 
-  pub leaf-reference : (id : ℕ) (icase : Bool) → 0 < id → id ≤ greatest → IsSoundLeaf greatest (back_ref id icase)
+  pub leaf-reference : (id : ℕ) (icase : Bool) → 0 < id → id ≤ greatest → IsSoundGrouplessTree greatest (back_ref id icase)
   leaf-reference id icase h k = record {
     goals = refl;
     ids = refl;
@@ -75,7 +75,7 @@ module _ (greatest : ℕ) where
 abbrev groups_in : PatternContext → ℕ
 groups_in w = length w.groups
 
-leaf-is : (w : PatternContext) {here there : RemainingPattern} {n : Node} → SimpleAtom w here there n → IsSoundLeaf (groups_in w) n
+leaf-is : (w : PatternContext) {here there : RemainingCodePoints} {n : Node} → SimpleAtom w here there n → IsSoundGrouplessTree (groups_in w) n
 leaf-is w (pattern_character {c = c} e f) = leaf-character (groups_in w) w.flags c
 leaf-is w (extended_character {c = c} e f k l) = leaf-character (groups_in w) w.flags c
 leaf-is w (any_character e) =
@@ -87,9 +87,16 @@ leaf-is w (character_escape {c = c} e d) = leaf-character (groups_in w) w.flags 
 leaf-is w (character_class_escape e f s) = record { goals = refl; ids = refl; sound = refl }
 leaf-is w (character_class e d) = record { goals = refl; ids = refl; sound = refl }
 
+-- by a syntax each atom without groups is a sound tree
+abbrev pub AtomsAreSound : (S : Syntax) → Type 0
+AtomsAreSound S = (w : PatternContext) (here there : RemainingCodePoints) (n : Node) → S.simple_atom w here there n → IsSoundGrouplessTree (groups_in w) n
+
+pub atoms-are-sound : AtomsAreSound profile
+atoms-are-sound w here there n a = leaf-is w a
+
 -- ---- Terms one after the other
 
-snoc-goals : (xs : List Node) (y : Node) → number_of_goals (sequence_node (xs ++ y ∷ [])) ≡ number_of_goals y + number_of_goals (sequence_node xs)
+snoc-goals : (xs : List Node) (y : Node) → number_of_goal_nodes (sequence_node (xs ++ y ∷ [])) ≡ number_of_goal_nodes y + number_of_goal_nodes (sequence_node xs)
 snoc-goals [] y = omega arith
 snoc-goals (x ∷ xs) y = omega (arith, snoc-goals xs y)
 
@@ -126,7 +133,7 @@ arm-more true first middle last greatest n ns h k =
 
 -- ---- From one place to another
 
-in-order : {here there : RemainingPattern} {q : Quantifier} → ValidQuantifier here there q → is_in_order q ≡ true
+in-order : {here there : RemainingCodePoints} {q : Quantifier} → ValidQuantifier here there q → is_min_at_most_max q ≡ true
 in-order (greedy h e o) = o
 in-order (lazy h e o) = o
 
@@ -137,43 +144,46 @@ Reads w p q n = IsSoundSubtree (groups_at p) (groups_at q) (groups_in w) n
 between : (greatest : ℕ) {a b c d : ℕ} {n : Node} → a ≡ b → c ≡ d → IsSoundSubtree b c greatest n → IsSoundSubtree a d greatest n
 between greatest {b = b} {d = d} {n = n} e f h = subst (λ x. IsSoundSubtree x d greatest n) (sym e) (subst (λ x. IsSoundSubtree b x greatest n) f h)
 
-leaf-between : (greatest : ℕ) {a b : ℕ} {n : Node} → a ≡ b → IsSoundLeaf greatest n → IsSoundSubtree a b greatest n
+leaf-between : (greatest : ℕ) {a b : ℕ} {n : Node} → a ≡ b → IsSoundGrouplessTree greatest n → IsSoundSubtree a b greatest n
 leaf-between greatest {a = a} {n = n} e h = between greatest refl e (part-leaf a greatest n h)
 
-group-between : (greatest : ℕ) (before : List RemainingPattern) {a b c : ℕ} {n : Node} (name : RemainingPattern) → a ≡ length before → b ≡ c → IsSoundSubtree (length (before ++ name ∷ [])) b greatest n
+group-between : (greatest : ℕ) (before : List RemainingCodePoints) {a b c : ℕ} {n : Node} (name : RemainingCodePoints) → a ≡ length before → b ≡ c → IsSoundSubtree (length (before ++ name ∷ [])) b greatest n
     → IsSoundSubtree a c greatest (capture_group a name n)
 group-between greatest before {a = a} {c = c} {n = n} name e f h =
     part-group a c greatest name n (between greatest (ap (λ x. x + 1) e ∙ sym (length-append before (name ∷ []))) f h)
 
-mutual
-  pub part-disjunction : {w : PatternContext} {behind : Bool} {p q : ParseState} {n : Node} → Disjunction w behind p q n → Reads w p q n
-  part-disjunction (last_alternative a) = part-alternative a
-  part-disjunction {w} (alternatives {p = p} {q = q} {r = r} {s = s} a bar d) =
-      part-joined (groups_at p) (groups_at q) (groups_at s) (groups_in w) _ _ _ (joined-alt _ _) (part-alternative a) (between (groups_in w) (ap groups_at bar) refl (part-disjunction d))
+module _ (S : Syntax) (sound : AtomsAreSound S) where
+  mutual
+    pub part-disjunction : {w : PatternContext} {behind : Bool} {p q : ParseState} {n : Node} → Disjunction S w behind p q n → Reads w p q n
+    part-disjunction (last_alternative a) = part-alternative a
+    part-disjunction {w} (alternatives {p = p} {q = q} {r = r} {t = t} a bar d) =
+        part-joined (groups_at p) (groups_at q) (groups_at t) (groups_in w) _ _ _ (joined-alt _ _) (part-alternative a) (between (groups_in w) (ap groups_at bar) refl (part-disjunction d))
 
-  part-alternative : {w : PatternContext} {behind : Bool} {p q : ParseState} {ns : List Node} → Alternative w behind p q ns → Reads w p q (arm behind ns)
-  part-alternative {w} (no_terms {behind = behind} {p = p}) = arm-none behind (groups_at p) (groups_in w)
-  part-alternative {w} (terms {behind = behind} {p = p} {q = q} {r = r} {n = n} {ns = ns} t a) =
-      arm-more behind (groups_at p) (groups_at q) (groups_at r) (groups_in w) n ns (part-term t) (part-alternative a)
+    part-alternative : {w : PatternContext} {behind : Bool} {p q : ParseState} {ns : List Node} → Alternative S w behind p q ns → Reads w p q (arm behind ns)
+    part-alternative {w} (no_terms {behind = behind} {p = p}) = arm-none behind (groups_at p) (groups_in w)
+    part-alternative {w} (terms {behind = behind} {p = p} {q = q} {r = r} {n = n} {ns = ns} t a) =
+        arm-more behind (groups_at p) (groups_at q) (groups_at r) (groups_in w) n ns (part-term t) (part-alternative a)
 
-  part-term : {w : PatternContext} {behind : Bool} {p q : ParseState} {n : Node} → Term w behind p q n → Reads w p q n
-  part-term (assertion a) = part-assertion a
-  part-term (atom a k) = part-atom a
-  part-term {w} (quantified {p = p} {q = q} {n = n} {quantifier = quantifier} a k) =
-      part-loop (groups_at p) (groups_at q) (groups_in w) quantifier n (in-order k) (part-atom a)
+    part-term : {w : PatternContext} {behind : Bool} {p q : ParseState} {n : Node} → Term S w behind p q n → Reads w p q n
+    part-term (assertion a k) = part-assertion a
+    part-term {w} (repeated_assertion {p = p} {q = q} {l = l} {n = n} {quantifier = quantifier} a may k) =
+        part-loop (groups_at p) (groups_at q) (groups_in w) quantifier (lookaround l n) (in-order k) (part-assertion a)
+    part-term (atom a k) = part-atom a
+    part-term {w} (quantified {p = p} {q = q} {n = n} {quantifier = quantifier} a k) =
+        part-loop (groups_at p) (groups_at q) (groups_in w) quantifier n (in-order k) (part-atom a)
 
-  part-assertion : {w : PatternContext} {p q : ParseState} {n : Node} → Assertion w p q n → Reads w p q n
-  part-assertion {w} (start e) = leaf-between (groups_in w) (ap groups_at e) (record { goals = refl; ids = refl; sound = refl })
-  part-assertion {w} (end e) = leaf-between (groups_in w) (ap groups_at e) (record { goals = refl; ids = refl; sound = refl })
-  part-assertion {w} (boundary invert e) = leaf-between (groups_in w) (ap groups_at e) (record { goals = refl; ids = refl; sound = refl })
-  part-assertion {w} (look {p = p} {s = s} {n = n} negate backwards e d f) =
-      part-lookaround (groups_at p) (groups_at s) (groups_in w) negate backwards n (between (groups_in w) (ap groups_at e) (ap groups_at f) (part-disjunction d))
+    part-assertion : {w : PatternContext} {p q : ParseState} {n : Node} → Assertion S w p q n → Reads w p q n
+    part-assertion {w} (start e) = leaf-between (groups_in w) (ap groups_at e) (record { goals = refl; ids = refl; sound = refl })
+    part-assertion {w} (end e) = leaf-between (groups_in w) (ap groups_at e) (record { goals = refl; ids = refl; sound = refl })
+    part-assertion {w} (boundary invert e) = leaf-between (groups_in w) (ap groups_at e) (record { goals = refl; ids = refl; sound = refl })
+    part-assertion {w} (look {p = p} {t = t} {n = n} negate backwards e d f) =
+        part-lookaround (groups_at p) (groups_at t) (groups_in w) negate backwards n (between (groups_in w) (ap groups_at e) (ap groups_at f) (part-disjunction d))
 
-  part-atom : {w : PatternContext} {behind : Bool} {p q : ParseState} {n : Node} → Atom w behind p q n → Reads w p q n
-  part-atom {w} (leaf {p = p} {n = n} a) = part-leaf (groups_at p) (groups_in w) n (leaf-is w a)
-  part-atom {w} (group {q = q} e o d f) = group-between (groups_in w) q.opened [] (ap groups_at e) (ap groups_at f) (part-disjunction d)
-  part-atom {w} (named_group {q = q} {name = name} e g d f) = group-between (groups_in w) q.opened name (ap groups_at e) (ap groups_at f) (part-disjunction d)
-  part-atom {w} (plain_group e d f) = between (groups_in w) (ap groups_at e) (ap groups_at f) (part-disjunction d)
+    part-atom : {w : PatternContext} {behind : Bool} {p q : ParseState} {n : Node} → Atom S w behind p q n → Reads w p q n
+    part-atom {w} (leaf {p = p} {n = n} a) = part-leaf (groups_at p) (groups_in w) n (sound w _ _ _ a)
+    part-atom {w} (group {q = q} e o d f) = group-between (groups_in w) q.opened [] (ap groups_at e) (ap groups_at f) (part-disjunction d)
+    part-atom {w} (named_group {q = q} {name = name} e g d f) = group-between (groups_in w) q.opened name (ap groups_at e) (ap groups_at f) (part-disjunction d)
+    part-atom {w} (plain_group e d f) = between (groups_in w) (ap groups_at e) (ap groups_at f) (part-disjunction d)
 
 -- ---- The whole pattern
 
@@ -181,16 +191,15 @@ ids-within : (id groups : ℕ) → once_within 0 groups id ≡ (if nat_lt id gro
 ids-within id groups = rw (le-leb 0 id (omega arith)) refl
 
 pub groups_are_counted : GroupsAreCounted
-groups_are_counted flags pattern t (pattern_is {n = n} groups d distinct few) =
-    let p = part-disjunction d in
+groups_are_counted flags pattern t (pattern_is {n = n} groups d distinct) =
+    let p = part-disjunction profile atoms-are-sound d in
     let found : length groups ≡ length (scanned_group_names false pattern) = ap length (groups_are_found (record { flags = flags; groups = groups }) pattern groups n d) in
     let ids : group_ids t.root ≡ group_ids n = append-nil (group_ids n) in (
       ap length ids ∙ omega (arith, p.count, found),
-      omega (arith, few, found),
       λ id. ap (λ x. count_by (nat_eq id) x) ids ∙ p.ids id ∙ ids-within id (length groups) ∙ ap (λ m. if nat_lt id m then 1 else 0) found,
     )
 
 pub trees_are_well_formed : TreesAreWellFormed
-trees_are_well_formed flags pattern t (pattern_is {n = n} groups d distinct few) =
-    let p = part-disjunction d in
+trees_are_well_formed flags pattern t (pattern_is {n = n} groups d distinct) =
+    let p = part-disjunction profile atoms-are-sound d in
     (refl, whole (length groups) (length groups) n (omega arith) p, whole-reads_none (length groups) n p.sound, whole-plain (length groups) n p.sound)

@@ -6,7 +6,7 @@ use Rattle.std.specs.Int.{is_in_range}
 use Rattle.regex_meaning.specs.Tree.{Intervals, Flags, BracketContents}
 use Rattle.regex_meaning.specs.Text.{expand_code_point}
 use Rattle.regex_meaning.specs.Outcomes.{in_intervals}
-use Rattle.regex_grammar.specs.ReadingStatesAndDigits.{RemainingPattern, ◌∈◌, begins_with_characters}
+use Rattle.regex_grammar.specs.ReadingStatesAndDigits.{RemainingCodePoints, ◌∈◌, begins_with_characters}
 use Rattle.regex_grammar.specs.EscapesNamesQuantifiers.{CharacterEscape}
 
 -- a member of a class: a character, a range, or the set of a class escape, which may be inverted
@@ -48,10 +48,10 @@ abbrev pub closed_under_case_folding : Flags → (ℕ → Bool) → ℕ → Bool
 closed_under_case_folding flags test c = list_any test (expand_code_point c flags.icase flags.unicode)
 
 -- whether c is in the set of a member; an inverted class escape is the complement of its closed set
-abbrev pub is_in_class_member : Flags → ℕ → ClassMember → Bool
-is_in_class_member flags c (character d) = c == d
-is_in_class_member flags c (range first last) = is_in_range first last c
-is_in_class_member flags c (class set invert) =
+abbrev pub class_member_contains : Flags → ℕ → ClassMember → Bool
+class_member_contains flags c (character d) = c == d
+class_member_contains flags c (range first last) = is_in_range first last c
+class_member_contains flags c (class set invert) =
     let test = closed_under_case_folding flags (in_intervals set) c in if invert then nat_le c 0x10_FFFF && not test else test
 
 -- no interval is empty, they are in order, and between any two of them a number is left out
@@ -64,23 +64,23 @@ AreCanonicalIntervals (i ∷ j ∷ more) = (i.0 ≤ i.1) × (suc i.1 < j.0) × A
 -- as a member does
 pub record IsSetOf (flags : Flags) (members : List ClassMember) (set : Intervals) : Type 0 where
   pub apart : AreCanonicalIntervals set
-  pub same : (c : ℕ) → in_intervals set c ≡ closed_under_case_folding flags (λ d. list_any (is_in_class_member flags d) members) c
+  pub same : (c : ℕ) → in_intervals set c ≡ closed_under_case_folding flags (λ d. list_any (class_member_contains flags d) members) c
 
 -- ---- ClassRanges
 
 -- ClassAtom, with the member that it denotes
-pub data ClassAtom (flags : Flags) (here : RemainingPattern) : (there : RemainingPattern) → ClassMember → Type 0 where
+pub data ClassAtom (flags : Flags) (here : RemainingCodePoints) : (there : RemainingCodePoints) → ClassMember → Type 0 where
   -- SourceCharacter but not `\` or `]`; also `-`
-  verbatim : {c : ℕ} {there : RemainingPattern}
+  verbatim : {c : ℕ} {there : RemainingCodePoints}
       → here ≡ c ∷ there → c ∈ "\\]" ≡ false
       → ClassAtom flags here there (character c)
   -- CharacterClassEscape
-  of_class : {letter : ℕ} {m : ClassMember} {there : RemainingPattern}
+  of_class : {letter : ℕ} {m : ClassMember} {there : RemainingCodePoints}
       → here ≡ codes "\\" ++ letter ∷ there → class_escape letter ≡ Some m
       → ClassAtom flags here there m
-  backspace : {there : RemainingPattern} → here ≡ codes "\\b" ++ there → ClassAtom flags here there (character 8)
+  backspace : {there : RemainingCodePoints} → here ≡ codes "\\b" ++ there → ClassAtom flags here there (character 8)
   -- CharacterEscape
-  escaped : {c : ℕ} {a there : RemainingPattern}
+  escaped : {c : ℕ} {a there : RemainingCodePoints}
       → here ≡ codes "\\" ++ a → CharacterEscape flags.unicode a there c
       → ClassAtom flags here there (character c)
 
@@ -90,35 +90,35 @@ are_characters (character c) (character d) = true
 are_characters _ _ = false
 
 -- a `-` is here, and is not the last character of the class
-abbrev pub IsRangeDash : RemainingPattern → Type 0
-IsRangeDash here = (c : ℕ) × (there : RemainingPattern) × (here ≡ codes "-" ++ c ∷ there) × (c ≢ 93)
+abbrev pub IsRangeDash : RemainingCodePoints → Type 0
+IsRangeDash here = (c : ℕ) × (there : RemainingCodePoints) × (here ≡ codes "-" ++ c ∷ there) × (c ≢ 93)
 
 -- the members of one atom, or of two atoms with a `-` between them
-pub data ClassMembers (flags : Flags) (here : RemainingPattern) : (there : RemainingPattern) → List ClassMember → Type 0 where
+pub data ClassMembers (flags : Flags) (here : RemainingCodePoints) : (there : RemainingCodePoints) → List ClassMember → Type 0 where
   -- one ClassAtom
-  alone : {m : ClassMember} {there : RemainingPattern}
+  alone : {m : ClassMember} {there : RemainingCodePoints}
       → ClassAtom flags here there m → ¬ (IsRangeDash there)
       → ClassMembers flags here there (m ∷ [])
   -- `ClassAtom - ClassAtom`: a range, whose ends are in order (early error)
-  from_to : {first last : ℕ} {a b there : RemainingPattern}
+  from_to : {first last : ℕ} {a b there : RemainingCodePoints}
       → ClassAtom flags here a (character first) → a ≡ codes "-" ++ b → ClassAtom flags b there (character last)
       → first ≤ last
       → ClassMembers flags here there (range first last ∷ [])
   -- with every flag, a `-` beside a class escape denotes itself (B.1.4 has this without `u` only)
-  no_range : {m n : ClassMember} {a b there : RemainingPattern}
+  no_range : {m n : ClassMember} {a b there : RemainingCodePoints}
       → ClassAtom flags here a m → a ≡ codes "-" ++ b → ClassAtom flags b there n
       → are_characters m n ≡ false
       → ClassMembers flags here there (m ∷ character 45 ∷ n ∷ [])
 
 -- ClassRanges, up to and including the `]`, with the members of all atoms
-pub data ClassRanges (flags : Flags) : (here there : RemainingPattern) → List ClassMember → Type 0 where
-  no_more : {here there : RemainingPattern} → here ≡ codes "]" ++ there → ClassRanges flags here there []
-  more : {here a there : RemainingPattern} {ms others : List ClassMember}
+pub data ClassRanges (flags : Flags) : (here there : RemainingCodePoints) → List ClassMember → Type 0 where
+  no_more : {here there : RemainingCodePoints} → here ≡ codes "]" ++ there → ClassRanges flags here there []
+  more : {here a there : RemainingCodePoints} {ms others : List ClassMember}
       → ClassMembers flags here a ms → ClassRanges flags a there others
       → ClassRanges flags here there (ms ++ others)
 
 -- whether a `[`, `&&` or `--` occurs before the class ends
-abbrev pub has_set_operation : RemainingPattern → Bool
+abbrev pub has_set_operation : RemainingCodePoints → Bool
 has_set_operation [] = false
 has_set_operation (c ∷ []) = c ∈ "["
 has_set_operation (c ∷ d ∷ rest) =
@@ -129,12 +129,12 @@ has_set_operation (c ∷ d ∷ rest) =
     else has_set_operation (d ∷ rest)
 
 -- CharacterClass, after the `[`; with `v`, a class with a set operation is refused
-pub data CharacterClass (flags : Flags) (here : RemainingPattern) : (there : RemainingPattern) → BracketContents → Type 0 where
-  plain : {there : RemainingPattern} {ms : List ClassMember} {set : Intervals}
+pub data CharacterClass (flags : Flags) (here : RemainingCodePoints) : (there : RemainingCodePoints) → BracketContents → Type 0 where
+  plain : {there : RemainingCodePoints} {ms : List ClassMember} {set : Intervals}
       → begins_with_characters "^" here ≡ false → (flags.unicode_sets && has_set_operation here) ≡ false
       → ClassRanges flags here there ms → IsSetOf flags ms set
       → CharacterClass flags here there (record { invert = false; intervals = set })
-  inverted : {a there : RemainingPattern} {ms : List ClassMember} {set : Intervals}
+  inverted : {a there : RemainingCodePoints} {ms : List ClassMember} {set : Intervals}
       → here ≡ codes "^" ++ a → (flags.unicode_sets && has_set_operation here) ≡ false
       → ClassRanges flags a there ms → IsSetOf flags ms set
       → CharacterClass flags here there (record { invert = true; intervals = set })

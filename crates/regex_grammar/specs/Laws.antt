@@ -1,17 +1,17 @@
 -- Laws of the grammar; `src/lib.rt` proves each.
 use Rattle.std.specs.Prelude.{◌≡◌, List, [], false, codes}
 use Rattle.regex_meaning.specs.Tree.{Node, Tree, Flags, goal, char, cat, end_of_cat, alt}
-use Rattle.regex_grammar.specs.ReadingStatesAndDigits.{RemainingPattern, PatternContext}
-use Rattle.regex_grammar.specs.Grammar.{Disjunction, Parses}
+use Rattle.regex_grammar.specs.ReadingStatesAndDigits.{RemainingCodePoints, PatternContext}
+use Rattle.regex_grammar.specs.Grammar.{Disjunction, Parses, profile}
 use Rattle.regex_grammar.specs.GroupNameScan.{scanned_group_names}
-use Rattle.std.specs.Prelude.{ℕ, ◌≤◌, ◌==◌, IsTrue, length, map, chars, count_by, nat_eq, nat_lt, if◌then◌else◌}
+use Rattle.std.specs.Prelude.{ℕ, ◌==◌, IsTrue, length, map, chars, count_by, nat_eq, nat_lt, if◌then◌else◌}
 use Rattle.std.specs.List.{list_all}
 use Rattle.std.specs.Str.{is_utf8}
 use Rattle.regex_meaning.specs.Tree.{group_ids}
 use Rattle.regex_meaning.specs.FlagLettersAndEscaping.{escape}
-use Rattle.regex_meaning.specs.Captures.{group_names_by_id}
+use Rattle.regex_meaning.specs.GroupsByNumberAndName.{group_names_by_id}
 use Rattle.regex_meaning.specs.WellFormedTrees.{IsWellFormed}
-use Rattle.regex_meaning.specs.CompilationRelation.{reads_bytes}
+use Rattle.regex_meaning.specs.CompilationRelation.{tree_contains_byte_nodes}
 use Rattle.regex_grammar.specs.ReadingStatesAndDigits.{sequence_node}
 use Rattle.regex_grammar.specs.Grammar.{character_node}
 use Rattle.regex_grammar.specs.TreesWithoutCharLoops.{has_no_char_loops}
@@ -32,38 +32,37 @@ ExampleIsParsed =
 -- a pattern has at most one tree
 abbrev pub OneTree : Type 0
 OneTree =
-    (flags : Flags) (pattern : RemainingPattern) (t u : Tree) → Parses flags pattern t → Parses flags pattern u → t ≡ u
+    (flags : Flags) (pattern : RemainingCodePoints) (t u : Tree) → Parses flags pattern t → Parses flags pattern u → t ≡ u
 
 -- the names of the groups that have opened at the end of a pattern are those that the scan finds
 abbrev pub GroupsAreFound : Type 0
 GroupsAreFound =
-    (w : PatternContext) (pattern : RemainingPattern) (groups : List RemainingPattern) (n : Node)
-    → Disjunction w false (record { text = pattern; opened = [] }) (record { text = []; opened = groups }) n
+    (w : PatternContext) (pattern : RemainingCodePoints) (groups : List RemainingCodePoints) (n : Node)
+    → Disjunction profile w false (record { text = pattern; opened = [] }) (record { text = []; opened = groups }) n
     → groups ≡ scanned_group_names false pattern
 
--- a tree has as many groups as the scan finds, at most 65,535, and each number below that is the id
--- of exactly one
+-- a tree has as many groups as the scan finds, and each number below that is the id of exactly one
 abbrev pub GroupsAreCounted : Type 0
 GroupsAreCounted =
-    (flags : Flags) (pattern : RemainingPattern) (t : Tree) → Parses flags pattern t →
+    (flags : Flags) (pattern : RemainingCodePoints) (t : Tree) → Parses flags pattern t →
     let groups = length (scanned_group_names false pattern) in
-    (length (group_ids t.root) ≡ groups) × (groups ≤ 65535)
+    (length (group_ids t.root) ≡ groups)
     × ((id : ℕ) → count_by (nat_eq id) (group_ids t.root) ≡ (if nat_lt id groups then 1 else 0))
 
 -- the tree of a pattern has its flags, is well formed, reads no bytes, and has no loop over one
 -- character
 abbrev pub TreesAreWellFormed : Type 0
 TreesAreWellFormed =
-    (flags : Flags) (pattern : RemainingPattern) (t : Tree) → Parses flags pattern t
-    → (t.flags ≡ flags) × IsWellFormed t.root × (reads_bytes t.root ≡ false) × IsTrue (has_no_char_loops t.root)
+    (flags : Flags) (pattern : RemainingCodePoints) (t : Tree) → Parses flags pattern t
+    → (t.flags ≡ flags) × IsWellFormed t.root × (tree_contains_byte_nodes t.root ≡ false) × IsTrue (has_no_char_loops t.root)
 
 -- the tree of a sequence of characters
-abbrev pub literal_tree : Flags → RemainingPattern → Tree
+abbrev pub literal_tree : Flags → RemainingCodePoints → Tree
 literal_tree flags text = record { root = cat (sequence_node (map (character_node flags) text)) (cat goal end_of_cat); flags = flags }
 
 -- with every flag, an escaped text is a pattern whose tree is the sequence of its characters
 abbrev pub EscapedTextsAreRead : Type 0
-EscapedTextsAreRead = (flags : Flags) (text : RemainingPattern) → Parses flags (escape text) (literal_tree flags text)
+EscapedTextsAreRead = (flags : Flags) (text : RemainingCodePoints) → Parses flags (escape text) (literal_tree flags text)
 
 -- with every flag, a UTF-8 text whose bytes were escaped is a pattern whose tree is the sequence of
 -- its characters
@@ -76,6 +75,6 @@ EscapedBytesAreRead =
 -- has a name
 abbrev pub NamesAreFound : Type 0
 NamesAreFound =
-    (flags : Flags) (pattern : RemainingPattern) (t : Tree) → Parses flags pattern t →
+    (flags : Flags) (pattern : RemainingCodePoints) (t : Tree) → Parses flags pattern t →
     let names = scanned_group_names false pattern in
     group_names_by_id t.root ≡ (if list_all (λ name. length name == 0) names then [] else names)

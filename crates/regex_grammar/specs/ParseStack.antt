@@ -1,10 +1,10 @@
 -- What a parser with a stack of open groups has read of a pattern, and how the rest can complete
 -- it; no part of the grammar.
-use Rattle.std.specs.Prelude.{◌≡◌, ℕ, Bool, List, [], ◌∷◌, ◌++◌}
-use Rattle.regex_meaning.specs.Tree.{Node, Quantifier, alt, loop, lookaround, capture_group}
-use Rattle.regex_grammar.specs.ReadingStatesAndDigits.{RemainingPattern, ParseState, PatternContext, groups_at, ◌▸◌, state_with_text_left, arm}
+use Rattle.std.specs.Prelude.{◌≡◌, ℕ, Bool, List, [], ◌∷◌, ◌++◌, IsTrue}
+use Rattle.regex_meaning.specs.Tree.{Node, Lookaround, Quantifier, alt, loop, lookaround, capture_group}
+use Rattle.regex_grammar.specs.ReadingStatesAndDigits.{RemainingCodePoints, ParseState, PatternContext, groups_at, ◌▸◌, state_with_text_left, arm}
 use Rattle.regex_grammar.specs.EscapesNamesQuantifiers.{BeginsQuantifier, ValidQuantifier}
-use Rattle.regex_grammar.specs.Grammar.{Disjunction, Alternative}
+use Rattle.regex_grammar.specs.Grammar.{Syntax, Disjunction, Alternative}
 
 -- a disjunction as far as it is read: the alternatives that have ended, and the terms of the
 -- current one
@@ -18,30 +18,30 @@ abbrev pub empty_disjunction : (behind : Bool) → PartialDisjunction
 empty_disjunction behind = record { arms = []; terms = []; behind = behind }
 
 -- adds a term to the current alternative
-abbrev pub push : Node → PartialDisjunction → PartialDisjunction
-push n l = record l { terms = l.terms ++ n ∷ [] }
+abbrev pub push_term : Node → PartialDisjunction → PartialDisjunction
+push_term n l = record l { terms = l.terms ++ n ∷ [] }
 
 -- ends the current alternative
 abbrev pub end_alternative : PartialDisjunction → PartialDisjunction
 end_alternative l = record l { arms = l.arms ++ arm l.behind l.terms ∷ []; terms = [] }
 
 -- nests alternatives to the right, before the last one, which is given
-abbrev pub join : List Node → Node → Node
-join [] last = last
-join (n ∷ ns) last = alt n (join ns last)
+abbrev pub nest_alternatives : List Node → Node → Node
+nest_alternatives [] last = last
+nest_alternatives (n ∷ ns) last = alt n (nest_alternatives ns last)
 
 -- reading from p to q completes the partial disjunction to this node
-pub data Completes (w : PatternContext) (l : PartialDisjunction) (p : ParseState) : (q : ParseState) → Node → Type 0 where
+pub data Completes (s : Syntax) (w : PatternContext) (l : PartialDisjunction) (p : ParseState) : (q : ParseState) → Node → Type 0 where
   last_arm : {q : ParseState} {ns : List Node}
-      → Alternative w l.behind p q ns
-      → Completes w l p q (join l.arms (arm l.behind (l.terms ++ ns)))
-  further_arms : {q r s : ParseState} {ns : List Node} {right : Node}
-      → Alternative w l.behind p q ns → q ≡ "|" ▸ r → Disjunction w l.behind r s right
-      → Completes w l p s (join l.arms (alt (arm l.behind (l.terms ++ ns)) right))
+      → Alternative s w l.behind p q ns
+      → Completes s w l p q (nest_alternatives l.arms (arm l.behind (l.terms ++ ns)))
+  further_arms : {q r t : ParseState} {ns : List Node} {right : Node}
+      → Alternative s w l.behind p q ns → q ≡ "|" ▸ r → Disjunction s w l.behind r t right
+      → Completes s w l p t (nest_alternatives l.arms (alt (arm l.behind (l.terms ++ ns)) right))
 
 -- the kind of an open group, which decides the node that is made of its contents
 pub data OpenGroupKind : Type 0 where
-  captures : (id : ℕ) (name : RemainingPattern) → OpenGroupKind
+  captures : (id : ℕ) (name : RemainingCodePoints) → OpenGroupKind
   plain : OpenGroupKind
   looks : (negate backwards : Bool) (start_group : ℕ) → OpenGroupKind
 
@@ -55,26 +55,36 @@ pub record OpenGroup : Type 0 where
 -- an atom, with or without a quantifier
 pub data IsTerm (start : ℕ) (n : Node) (p : ParseState) : (q : ParseState) → Node → Type 0 where
   once : ¬ (BeginsQuantifier p.text) → IsTerm start n p p n
-  repeated : {there : RemainingPattern} {quantifier : Quantifier}
+  repeated : {there : RemainingCodePoints} {quantifier : Quantifier}
       → ValidQuantifier p.text there quantifier
       → IsTerm start n p (state_with_text_left there p) (loop quantifier start (groups_at p) n)
 
+-- the lookaround of an open group that ends here
+abbrev pub lookaround_up_to : (negate backwards : Bool) (start_group : ℕ) → ParseState → Lookaround
+lookaround_up_to negate backwards start p =
+    record { negate = negate; backwards = backwards; start_group = start; end_group = groups_at p }
+
 -- the term that a group becomes after its `)`, with its quantifier if it has one
-pub data ClosesGroup (o : OpenGroup) (contents : Node) (p : ParseState) : (q : ParseState) → Node → Type 0 where
+pub data ClosesGroup (s : Syntax) (w : PatternContext) (o : OpenGroup) (contents : Node) (p : ParseState) : (q : ParseState) → Node → Type 0 where
   looked : (negate backwards : Bool) (start : ℕ)
-      → o.opened ≡ looks negate backwards start
-      → ClosesGroup o contents p p
-      (lookaround
-      (record { negate = negate; backwards = backwards; start_group = start; end_group = groups_at p }) contents)
-  captured : {id : ℕ} {name : RemainingPattern} {q : ParseState} {n : Node}
+      → o.opened ≡ looks negate backwards start → ¬ (BeginsQuantifier p.text)
+      → ClosesGroup s w o contents p p (lookaround (lookaround_up_to negate backwards start p) contents)
+  looked_repeatedly : {there : RemainingCodePoints} {quantifier : Quantifier} (negate backwards : Bool) (start : ℕ)
+      → o.opened ≡ looks negate backwards start → IsTrue (s.may_repeat w.flags backwards)
+      → ValidQuantifier p.text there quantifier
+      → ClosesGroup s w o contents p (state_with_text_left there p)
+      (loop quantifier o.start (groups_at p) (lookaround (lookaround_up_to negate backwards start p) contents))
+  captured : {id : ℕ} {name : RemainingCodePoints} {q : ParseState} {n : Node}
       → o.opened ≡ captures id name → IsTerm o.start (capture_group id name contents) p q n
-      → ClosesGroup o contents p q n
-  enclosed : {q : ParseState} {n : Node} → o.opened ≡ plain → IsTerm o.start contents p q n → ClosesGroup o contents p q n
+      → ClosesGroup s w o contents p q n
+  enclosed : {q : ParseState} {n : Node}
+      → o.opened ≡ plain → IsTerm o.start contents p q n
+      → ClosesGroup s w o contents p q n
 
 -- reading the rest of the pattern completes all disjunctions, the innermost first; at the end
 -- exactly these groups have opened
-abbrev pub CompletesAll : PatternContext → (groups : List RemainingPattern) → List OpenGroup → PartialDisjunction → ParseState → Node → Type 0
-CompletesAll w groups [] l p t = Completes w l p (record { text = []; opened = groups }) t
-CompletesAll w groups (o ∷ around) l p t =
-    (q r s : ParseState) × (contents n : Node) × Completes w l p q contents × (q ≡ ")" ▸ r) × ClosesGroup o contents r s n
-    × CompletesAll w groups around (push n o.outer) s t
+abbrev pub CompletesAll : Syntax → PatternContext → (groups : List RemainingCodePoints) → List OpenGroup → PartialDisjunction → ParseState → Node → Type 0
+CompletesAll s w groups [] l p t = Completes s w l p (record { text = []; opened = groups }) t
+CompletesAll s w groups (o ∷ around) l p t =
+    (q r end : ParseState) × (contents n : Node) × Completes s w l p q contents × (q ≡ ")" ▸ r) × ClosesGroup s w o contents r end n
+    × CompletesAll s w groups around (push_term n o.outer) end t

@@ -9,21 +9,21 @@ use Rattle.regex_meaning.specs.Tree.{Node, Flags, cat, end_of_cat}
 use Prim.Native.String.{String}
 
 -- the code points that are still to be read
-abbrev pub RemainingPattern : Type 0
-RemainingPattern = List ℕ
+abbrev pub RemainingCodePoints : Type 0
+RemainingCodePoints = List ℕ
 
 -- a position in a pattern: the text that is still to be read, and the name of each group that has
 -- opened, empty if it has none; so group ids and the groups inside a loop or a lookaround are
 -- lengths of that list (*parenIndex* and *parenCount* of 21.2.2.5 and 21.2.2.8)
 pub record ParseState : Type 0 where
-  pub text : RemainingPattern
-  pub opened : List RemainingPattern
+  pub text : RemainingCodePoints
+  pub opened : List RemainingCodePoints
 
 -- what is known of the whole pattern: its flags, and the name of each of its groups, since a
 -- reference may precede its group
 pub record PatternContext : Type 0 where
   pub flags : Flags
-  pub groups : List RemainingPattern
+  pub groups : List RemainingCodePoints
 
 -- the number of groups that have opened
 abbrev pub groups_at : ParseState → ℕ
@@ -35,11 +35,11 @@ abbrev pub ◌▸◌ : String → ParseState → ParseState
 word ▸ p = record p { text = codes word ++ p.text }
 
 -- the state after a text without groups, with `there` left
-abbrev pub state_with_text_left : RemainingPattern → ParseState → ParseState
+abbrev pub state_with_text_left : RemainingCodePoints → ParseState → ParseState
 state_with_text_left there p = record p { text = there }
 
 -- the state after a group with this name has opened
-abbrev pub with_opened_group : (name : RemainingPattern) → ParseState → ParseState
+abbrev pub with_opened_group : (name : RemainingCodePoints) → ParseState → ParseState
 with_opened_group name p = record p { opened = p.opened ++ name ∷ [] }
 
 -- whether the character is one of these
@@ -48,24 +48,24 @@ abbrev pub ◌∈◌ : ℕ → String → Bool
 c ∈ s = contains (codes s) c
 
 -- whether the text begins with these characters
-abbrev pub begins_with_characters : String → RemainingPattern → Bool
+abbrev pub begins_with_characters : String → RemainingCodePoints → Bool
 begins_with_characters word here = starts_with nat_eq here (codes word)
 
 -- the longest prefix of digits
-abbrev pub digits : (base : ℕ) → RemainingPattern → RemainingPattern
-digits base here = take_while (λ c. is_digit c base) here
+abbrev pub leading_digits : (base : ℕ) → RemainingCodePoints → RemainingCodePoints
+leading_digits base here = take_while (λ c. is_digit c base) here
 
 -- the value of digits
-abbrev pub value_of_digits : (base : ℕ) → RemainingPattern → ℕ
+abbrev pub value_of_digits : (base : ℕ) → RemainingCodePoints → ℕ
 value_of_digits base here = fold (λ n c. base * n + digit_value c) 0 here
 
 -- DecimalDigits or HexDigits and their value: at least one digit, and no digit follows
-pub data Digits (base : ℕ) (here : RemainingPattern) : (there : RemainingPattern) (n : ℕ) → Type 0 where
-  digits_from : 0 < length (digits base here)
-      → Digits base here (drop (length (digits base here)) here) (value_of_digits base (digits base here))
+pub data Digits (base : ℕ) (here : RemainingCodePoints) : (there : RemainingCodePoints) (n : ℕ) → Type 0 where
+  digits_from : 0 < length (leading_digits base here)
+      → Digits base here (drop (length (leading_digits base here)) here) (value_of_digits base (leading_digits base here))
 
 -- the number of the first group with this name, counted from 1
-abbrev pub group_number_of : (name : RemainingPattern) → List RemainingPattern → Option ℕ
+abbrev pub group_number_of : (name : RemainingCodePoints) → List RemainingCodePoints → Option ℕ
 group_number_of name [] = None
 group_number_of name (other ∷ names) = if pointwise nat_eq name other then Some 1 else option_map suc (group_number_of name names)
 

@@ -2,15 +2,15 @@
 use Rattle.std.proofs.Common.{◌≡◌, ℕ, ◌<◌, ◌≤◌, List, ◌∷◌, map, Option, Some, None, refl, ap, ◌∙◌, arith, option_map, option_and_then}
 use Rattle.regex_meaning.specs.Tree.{Node}
 use Rattle.regex_meaning.specs.Text.{Text, last_place}
-use Rattle.regex_meaning.specs.CodeUnitOffsets.{IsText, offset, place_at, IsBoundary}
+use Rattle.regex_meaning.specs.CodeUnitOffsets.{HasRisingPlaceOffsets, offset, place_at, IsBoundary}
 use Rattle.regex_meaning.specs.FirstAndAllMatches.{Found, first_match, place_behind, match_list}
-use Rattle.regex_meaning.specs.Captures.{Answer, answer, answers_from}
+use Rattle.regex_meaning.specs.GroupsByNumberAndName.{Answer, answer, answers_from}
 use Rattle.regex_meaning.specs.SearchAnswers.{first_answer, next_start, answers_on, answer_then_list}
 use Rattle.regex_meaning.specs.Laws.{list_from, match_then_list, IsRange}
 use Rattle.regex_meaning.proofs.Matches.{StandsFrom, stands-first, match_list-unfolds, GoesOnInside, goes-inside}
 use Rattle.regex_meaning.proofs.TextLemmas.{offset-less, offset-le, place_at-offset, offset-place_at, offset-IsBoundary}
 
-module _ (root : Node) (text : Text) (is : IsText text) where
+module _ (root : Node) (text : Text) (is : HasRisingPlaceOffsets text) where
   -- the answers from the offset of a place
   answers-at : (p : ℕ) → p ≤ last_place text → answers_from root text (offset text p) ≡ map (answer root text) (match_list root text p)
   unfolding answers_from

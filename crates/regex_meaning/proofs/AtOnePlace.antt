@@ -5,11 +5,11 @@ use Rattle.std.specs.Option.{option_or}
 use Rattle.std.proofs.lemmas.Bool.{ne_eqb}
 use Rattle.regex_meaning.specs.Tree.{Node}
 use Rattle.regex_meaning.specs.Text.{Text, rightwards}
-use Rattle.regex_meaning.specs.CodeUnitOffsets.{IsText, offset, place_at}
+use Rattle.regex_meaning.specs.CodeUnitOffsets.{HasRisingPlaceOffsets, offset, place_at}
 use Rattle.regex_meaning.specs.Outcomes.{Outcome, outcomes}
 use Rattle.regex_meaning.specs.FirstAndAllMatches.{Found, first_outcome, first_match, match_at, no_groups}
-use Rattle.regex_meaning.specs.Captures.{Answer, answer}
-use Rattle.regex_meaning.specs.Laws.{MatchAtOffsetIsFirstAnswer}
+use Rattle.regex_meaning.specs.GroupsByNumberAndName.{Answer, answer}
+use Rattle.regex_meaning.specs.Laws.{MatchAtIsFirstAnswerIfThere}
 use Rattle.regex_meaning.proofs.Matches.{StandsFrom, first-unfolds, stands-first}
 use Rattle.regex_meaning.proofs.TextLemmas.{offset-less, offset-place_at}
 
@@ -17,7 +17,7 @@ use Rattle.regex_meaning.proofs.TextLemmas.{offset-less, offset-place_at}
 abbrev beginning_at : (at : ℕ) → Answer → Option Answer
 beginning_at at m = if m.range.0 == at then Some m else None
 
-module _ (root : Node) (text : Text) (is : IsText text) where
+module _ (root : Node) (text : Text) (is : HasRisingPlaceOffsets text) where
   -- of the match at a place
   same-start : (at p : ℕ) (m : Found) → offset text p ≡ at → m.start ≡ p → beginning_at at (answer root text m) ≡ Some (answer root text m)
   same-start at p m here start =
@@ -46,5 +46,5 @@ module _ (root : Node) (text : Text) (is : IsText text) where
       of-outcomes at p (outcomes text root rightwards p (no_groups root)) (first_match root text (p + 1)) here.0 (stands-first root text (p + 1))
       ∙ ap (λ m. option_and_then (beginning_at at) (option_map (answer root text) m)) (sym (first-unfolds root text p here.1))
 
-pub matches_at-first : MatchAtOffsetIsFirstAnswer
+pub matches_at-first : MatchAtIsFirstAnswerIfThere
 matches_at-first root text is at = at-place root text is at (place_at text at) refl

@@ -6,17 +6,17 @@ use Rattle.std.proofs.lemmas.Bool.{and_from, lt-ltb}
 use Rattle.std.proofs.lemmas.Str.{chars_from_encodes, IsUtf8-had}
 use lib.Utf8.{scalar, scalars}
 use Rattle.regex_meaning.specs.Text.{is_scalar, is_high_surrogate, is_low_surrogate, decode_surrogate_pair, utf16_characters}
-use Rattle.regex_meaning.specs.CodeUnits.{Encoding, utf8, utf16, ucs2, is_character}
+use Rattle.regex_meaning.specs.CodeUnits.{Encoding, utf8, utf16, ucs2, is_character_in_encoding}
 use Rattle.regex_meaning.proofs.Booleans.{and-left, and-right}
 use Rattle.regex_meaning.proofs.Clean.{is_scalar-of}
 use Rattle.regex_meaning.proofs.Encodings.{small-scalar}
 use Rattle.regex_meaning.proofs.UnitLemmas.{AreUnits}
 
 abbrev pub AreCharacters : Encoding → List ℕ → Type 0
-AreCharacters e cs = list_all (is_character e) cs ≡ true
+AreCharacters e cs = list_all (is_character_in_encoding e) cs ≡ true
 
-one-more : (e : Encoding) (c : ℕ) (cs : List ℕ) → is_character e c ≡ true → AreCharacters e cs → AreCharacters e (c ∷ cs)
-one-more e c cs is rest = and_from (is_character e c) (list_all (is_character e) cs) is rest
+one-more : (e : Encoding) (c : ℕ) (cs : List ℕ) → is_character_in_encoding e c ≡ true → AreCharacters e cs → AreCharacters e (c ∷ cs)
+one-more e c cs is rest = and_from (is_character_in_encoding e c) (list_all (is_character_in_encoding e) cs) is rest
 
 scalars-are : (cs : List ℕ) → scalars cs ≡ true → AreCharacters utf8 cs
 scalars-are [] h = refl
@@ -36,10 +36,10 @@ ucs2-characters [] h = refl
 ucs2-characters (u ∷ units) h =
     one-more ucs2 u units (lt-ltb u 0x1_0000 (h 0 (omega arith))) (ucs2-characters units (λ k less. h (suc k) (omega (arith, less))))
 
-unit-character : (u : ℕ) → u < 0x1_0000 → is_character utf16 u ≡ true
+unit-character : (u : ℕ) → u < 0x1_0000 → is_character_in_encoding utf16 u ≡ true
 unit-character u less = lt-ltb u 0x11_0000 (omega (arith, less))
 
-pair-character : (u v : ℕ) → is_character utf16 (decode_surrogate_pair u v) ≡ true
+pair-character : (u v : ℕ) → is_character_in_encoding utf16 (decode_surrogate_pair u v) ≡ true
 pair-character u v = lt-ltb (decode_surrogate_pair u v) 0x11_0000 (omega arith)
 
 pub utf16-characters : (units : List ℕ) → AreUnits units → AreCharacters utf16 (utf16_characters units)

@@ -12,11 +12,11 @@ use Rattle.regex_meaning.specs.NumberListHelpers.{contains, numbers_from}
 use Rattle.regex_meaning.specs.Tree.{Intervals, Node, char_set, byte_set, byte_sequence, cat, alt, bracket, capture_group, loop, loop_1_char_body}
 use Rattle.regex_meaning.specs.Tree.{every_node_passes, Tree}
 use Rattle.regex_meaning.specs.Text.{is_scalar}
-use Rattle.regex_meaning.specs.WellFormedTrees.{has_text_in_sequence, fits_instructions, IsWellFormed}
+use Rattle.regex_meaning.specs.WellFormedTrees.{has_text_in_sequence, sets_and_strings_fit_instructions, IsWellFormed}
 use Rattle.regex_meaning.proofs.WellFormedLemmas.{clauses}
 use Rattle.regex_meaning.specs.StartPredicate.{AbstractStartPredicate, open_ended, arbitrary, sequence, one_of, byte_sequence_predicate, common_prefix_or_first_bytes, common_prefix}
-use Rattle.regex_meaning.specs.StartPredicate.{first_byte_as_set, union, first_decided, join, abstract_start_predicate, bytes_that_pass, chars_with_first_byte, intersects, first_bytes, code_points}
-use Rattle.regex_meaning.specs.StartPredicate.{IsSound, begins_characters, is_filled, is_anchored, resolved_start_predicate, start_anchored, start_predicate}
+use Rattle.regex_meaning.specs.StartPredicate.{first_byte_as_set, union_of_byte_sets, first_decided, join, abstract_start_predicate, bytes_that_pass, chars_with_first_byte, intersects, first_bytes, code_points_of_class}
+use Rattle.regex_meaning.specs.StartPredicate.{IsSoundStartPredicateOf, begins_characters, is_filled, is_anchored, resolved_start_predicate, start_anchored, start_predicate}
 use Rattle.regex_meaning.proofs.FirstBytes.{in_range-below, in_range-true, true-in_range, first_of_char}
 use Rattle.regex_meaning.proofs.Sound.{all-contains, predicate-holds}
 use Rattle.std.proofs.lemmas.Bool.{or_cases, and_from, or_left, or_right, ltb-true, le-ltb, ne_eqb}
@@ -39,7 +39,7 @@ all-filter ok test (x ∷ xs) h = go (test x) refl (all-filter ok test xs h)
     go true e k = and_from _ _ (h x e) k
     go false e k = k
 
-all-union : (ok : ℕ → Bool) (xs ys : List ℕ) → list_all ok xs ≡ true → list_all ok ys ≡ true → list_all ok (union xs ys) ≡ true
+all-union : (ok : ℕ → Bool) (xs ys : List ℕ) → list_all ok xs ≡ true → list_all ok ys ≡ true → list_all ok (union_of_byte_sets xs ys) ≡ true
 unfolding bytes_that_pass
 all-union ok xs ys h k = all-filter ok (λ b. contains xs b || contains ys b) (numbers_from 0 256) (λ b t. go b (or_cases (contains xs b) (contains ys b) t))
   where
@@ -62,7 +62,7 @@ clean-sequence_or (b ∷ bs) firsts h k = h
 
 clean-join : (x y : AbstractStartPredicate) → Clean x → Clean y → Clean (join x y)
 clean-join (sequence xs) (sequence ys) h k =
-    clean-sequence_or (common_prefix xs ys) (union (first_byte_as_set xs) (first_byte_as_set ys)) (all-shared begins_one xs ys h) (all-union begins_one (first_byte_as_set xs) (first_byte_as_set ys) h k)
+    clean-sequence_or (common_prefix xs ys) (union_of_byte_sets (first_byte_as_set xs) (first_byte_as_set ys)) (all-shared begins_one xs ys h) (all-union begins_one (first_byte_as_set xs) (first_byte_as_set ys) h k)
 clean-join (sequence xs) (one_of ys) h k = all-union begins_one (first_byte_as_set xs) ys h k
 clean-join (one_of xs) (sequence ys) h k = all-union begins_one xs (first_byte_as_set ys) h k
 clean-join (one_of xs) (one_of ys) h k = all-union begins_one xs ys h k
@@ -129,12 +129,12 @@ clean-byte_set members h =
     all-filter begins_one (contains members) (numbers_from 0 256)
     (λ b t. let low = ltb-true b 128 (all-contains (λ c. nat_lt c 128) members b h t) in rw (in_range-below 0x80 0xBF b low))
 
-clean : (node : Node) → IsTrue (every_node_passes has_text_in_sequence node) → IsTrue (every_node_passes fits_instructions node) → Clean (abstract_start_predicate node)
+clean : (node : Node) → IsTrue (every_node_passes has_text_in_sequence node) → IsTrue (every_node_passes sets_and_strings_fit_instructions node) → Clean (abstract_start_predicate node)
 unfolding abstract_start_predicate
 clean (byte_sequence bytes) h k = clean-text bytes (and-right (nat_lt 0 (length bytes)) _ h)
 clean (byte_set members) h k = clean-byte_set members (and-right (nat_le (length members) 4) _ k)
 clean (char_set members) h k = clean-first_bytes (map (λ c. (c, c)) members)
-clean (bracket contents) h k = clean-first_bytes (code_points contents)
+clean (bracket contents) h k = clean-first_bytes (code_points_of_class contents)
 clean (cat first rest) h k =
     clean-then (abstract_start_predicate first) (abstract_start_predicate rest) (clean first (and-left _ _ h) (and-left _ _ k)) (clean rest (and-right _ _ h) (and-right _ _ k))
 clean (alt left right) h k =
@@ -178,5 +178,5 @@ predicate-filled tree = go (not tree.flags.multiline && is_anchored tree.root)
     go true = refl
     go false = filled-start (abstract_start_predicate tree.root)
 
-pub predicate-sound : (tree : Tree) → IsWellFormed tree.root → IsSound (start_predicate tree) tree.root
+pub predicate-sound : (tree : Tree) → IsWellFormed tree.root → IsSoundStartPredicateOf (start_predicate tree) tree.root
 predicate-sound tree w = record { holds = predicate-holds tree w; on_characters = predicate-on_characters tree w; filled = predicate-filled tree }

@@ -8,11 +8,11 @@ use Rattle.std.proofs.lemmas.Bool.{cases_Bool, and_parts}
 use Rattle.std.proofs.lemmas.Str.{chars-IsAscii}
 use mathlib.Core.Logic.{inl, inr}
 use Rattle.regex_meaning.specs.Tree.{Node}
-use Rattle.regex_meaning.specs.Text.{Text, is_scalar, is_lowercase, is_uppercase, to_lowercase, to_uppercase, fold_code_point, fold_char, fold_ascii}
+use Rattle.regex_meaning.specs.Text.{Text, is_scalar, is_lowercase, is_uppercase, to_ascii_lowercase, to_ascii_uppercase, fold_code_point, fold_char, fold_ascii}
 use Rattle.regex_meaning.specs.Text.{offsets_from, one_unit, utf16_width, utf16_characters, utf8_text, ascii_text, utf16_text}
 use Rattle.regex_meaning.specs.CodeUnitOffsets.{place_at}
 use Rattle.regex_meaning.specs.FirstAndAllMatches.{match_list}
-use Rattle.regex_meaning.specs.Captures.{answer, answers_from}
+use Rattle.regex_meaning.specs.GroupsByNumberAndName.{answer, answers_from}
 use Rattle.regex_meaning.proofs.Each.{Each, Each-all}
 use Rattle.regex_meaning.proofs.SameTexts.{match_list-same}
 
@@ -28,7 +28,7 @@ small-scalar c less = rw (le-leb 0 c (omega arith), le-leb c 0xD7FF (omega arith
 kept : (folded c : ℕ) → is_scalar folded ≡ true → (if is_scalar folded then folded else c) ≡ folded
 kept folded c e = rw e refl
 
-lower-kept : (c : ℕ) → (if is_scalar (to_lowercase c) then to_lowercase c else c) ≡ to_lowercase c
+lower-kept : (c : ℕ) → (if is_scalar (to_ascii_lowercase c) then to_ascii_lowercase c else c) ≡ to_ascii_lowercase c
 lower-kept c = elim (cases_Bool (is_uppercase c)) [
   | inl e ↦
       let most = leb-true c 90 (and_parts (nat_le 65 c) (nat_le c 90) e).1 in
@@ -36,7 +36,7 @@ lower-kept c = elim (cases_Bool (is_uppercase c)) [
   | inr e ↦ rw e (same-branches (is_scalar c) c)
 ]
 
-upper-kept : (c : ℕ) → (if is_scalar (to_uppercase c) then to_uppercase c else c) ≡ to_uppercase c
+upper-kept : (c : ℕ) → (if is_scalar (to_ascii_uppercase c) then to_ascii_uppercase c else c) ≡ to_ascii_uppercase c
 upper-kept c = elim (cases_Bool (is_lowercase c)) [
   | inl e ↦
       let most = leb-true c 122 (and_parts (nat_le 97 c) (nat_le c 122) e).1 in

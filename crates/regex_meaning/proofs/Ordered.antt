@@ -6,10 +6,10 @@ use Rattle.std.specs.Option.{option_or}
 use Rattle.std.proofs.lemmas.List.{length-set, length-replicate, length-map, length-append}
 use Rattle.regex_meaning.specs.Tree.{Node, group_ids}
 use Rattle.regex_meaning.specs.Text.{Text, Direction, rightwards, leftwards, last_place}
-use Rattle.regex_meaning.specs.CodeUnitOffsets.{IsText, offset, place_at}
+use Rattle.regex_meaning.specs.CodeUnitOffsets.{HasRisingPlaceOffsets, offset, place_at}
 use Rattle.regex_meaning.specs.Outcomes.{Groups, Outcome, outcomes}
 use Rattle.regex_meaning.specs.FirstAndAllMatches.{Found, no_groups, first_outcome, match_at, first_match, first_match_among, place_behind, matches_from, match_list}
-use Rattle.regex_meaning.specs.Captures.{Answer, answer, answers_from}
+use Rattle.regex_meaning.specs.GroupsByNumberAndName.{Answer, answer, answers_from}
 use Rattle.regex_meaning.specs.SearchAnswers.{first_answer, next_start, answers_on, answer_then_list}
 use Rattle.regex_meaning.specs.Laws.{IsOnward, IsWithinText, IsRange, IsAnswerOf, StandInOrder}
 use Rattle.regex_meaning.proofs.Each.{Each, Each-map, Each-image, Each-set, Each-replicate}
@@ -139,7 +139,7 @@ module _ (root : Node) (text : Text) where
 
 -- ---- Answers
 
-module _ (root : Node) (text : Text) (is : IsText text) where
+module _ (root : Node) (text : Text) (is : HasRisingPlaceOffsets text) where
   -- a range of places is a range of characters
   range-IsRange : (a b : ℕ) → a ≤ b → b ≤ last_place text → IsRange text (offset text a, offset text b)
   range-IsRange a b le inside =

@@ -15,10 +15,10 @@ use Rattle.regex_meaning.specs.Tree.{back_ref, lookaround, loop, loop_1_char_bod
 use Rattle.regex_meaning.specs.Text.{Text, rightwards, is_scalar, character_before, last_place}
 use Rattle.regex_meaning.specs.Outcomes.{Outcome, Groups, Repetition, repetition, bounded_repeat, passes_empty_check, preferred, captured, cleared, accepts}
 use Rattle.regex_meaning.specs.Outcomes.{one_character, spelled, lookaround_outcomes, is_line_boundary, outcomes}
-use Rattle.regex_meaning.specs.WellFormedTrees.{has_text_in_sequence, fits_instructions, IsWellFormed}
+use Rattle.regex_meaning.specs.WellFormedTrees.{has_text_in_sequence, sets_and_strings_fit_instructions, IsWellFormed}
 use Rattle.regex_meaning.proofs.WellFormedLemmas.{clauses}
 use Rattle.regex_meaning.specs.StartPredicate.{AbstractStartPredicate, open_ended, arbitrary, sequence, one_of, byte_sequence_predicate, first_decided, join, abstract_start_predicate, text_bytes_from_place}
-use Rattle.regex_meaning.specs.StartPredicate.{bytes_that_pass, first_bytes, code_points, is_anchored, resolved_start_predicate, start_anchored, start_predicate}
+use Rattle.regex_meaning.specs.StartPredicate.{bytes_that_pass, first_bytes, code_points_of_class, is_anchored, resolved_start_predicate, start_anchored, start_predicate}
 use Rattle.regex_meaning.specs.StartPredicate.{may_start}
 use Rattle.regex_meaning.specs.FirstAndAllMatches.{no_groups}
 use Rattle.regex_meaning.proofs.Each.{Each-append, Each-if, Each-when, Each-filter, Each-map, Each-flat_map, Each-image, Each-all}
@@ -146,7 +146,7 @@ module _ (text : Text) (of_chars : OfChars text) where
       Each-when (λ (o : Outcome). Says (one_of members) (text_bytes_from_place text p) p o.end) _ _
       (λ t. next-says (accepts node) members h text.characters p of_chars t)
 
-  begins : (node : Node) → IsTrue (every_node_passes has_text_in_sequence node) → IsTrue (every_node_passes fits_instructions node)
+  begins : (node : Node) → IsTrue (every_node_passes has_text_in_sequence node) → IsTrue (every_node_passes sets_and_strings_fit_instructions node)
       → (p : ℕ) (g : Groups) → Begins (abstract_start_predicate node) p (outcomes text node rightwards p g)
   unfolding abstract_start_predicate outcomes
   begins empty h k p g = Each-any (Unit {0}) tt (outcomes text empty rightwards p g)
@@ -166,8 +166,8 @@ module _ (text : Text) (of_chars : OfChars text) where
       character-begins (byte_set members) (bytes_that_pass (contains members)) p g
       (λ c f s t. byte_set-begins members (and-right (nat_le (length members) 4) _ k) c f t)
   begins (bracket contents) h k p g =
-      character-begins (bracket contents) (first_bytes (code_points contents)) p g
-      (λ c f s t. first-byte-in (code_points contents) c f (in-bracket contents c s t))
+      character-begins (bracket contents) (first_bytes (code_points_of_class contents)) p g
+      (λ c f s t. first-byte-in (code_points_of_class contents) c f (in-bracket contents c s t))
   begins (byte_sequence bytes) h k p g = sequence-begins bytes (and-right (nat_lt 0 (length bytes)) _ h) p g
   begins (cat first rest) h k p g =
       Each-flat_map (λ o. Says (abstract_start_predicate first) (text_bytes_from_place text p) p o.end) (λ o. Says (first_decided (abstract_start_predicate first) (abstract_start_predicate rest)) (text_bytes_from_place text p) p o.end)

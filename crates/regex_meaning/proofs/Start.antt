@@ -11,8 +11,8 @@ use Rattle.std.specs.Prelude.{min, max}
 use Rattle.regex_meaning.specs.Tree.{Intervals, BracketContents, bracket}
 use Rattle.regex_meaning.specs.Text.{Text, is_scalar}
 use Rattle.regex_meaning.specs.Outcomes.{is_some_and, in_intervals, accepts}
-use Rattle.regex_meaning.specs.StartPredicate.{AbstractStartPredicate, open_ended, arbitrary, sequence, one_of, join, common_prefix_or_first_bytes, common_prefix, union}
-use Rattle.regex_meaning.specs.StartPredicate.{first_byte_as_set, begins_with_one_of, text_bytes_from_place, interval_minus, intervals_minus, code_points, first_bytes, chars_with_first_byte}
+use Rattle.regex_meaning.specs.StartPredicate.{AbstractStartPredicate, open_ended, arbitrary, sequence, one_of, join, common_prefix_or_first_bytes, common_prefix, union_of_byte_sets}
+use Rattle.regex_meaning.specs.StartPredicate.{first_byte_as_set, begins_with_one_of, text_bytes_from_place, interval_minus, intervals_minus, code_points_of_class, first_bytes, chars_with_first_byte}
 use Rattle.regex_meaning.specs.StartPredicate.{intersects}
 use Rattle.regex_meaning.specs.NumberListHelpers.{contains}
 use Rattle.regex_meaning.proofs.FirstBytes.{in_range-true, true-in_range, scalar-below, contains-bytes_where, first_of_char, FirstOf}
@@ -64,11 +64,11 @@ starts-first bytes [] l h = absurd (omega arith)
 starts-first [] (x ∷ xs) l h = grind arith
 starts-first (b ∷ bytes) (x ∷ xs) l h = or_left _ _ (eq-eqb b x (sym (eqb-true x b (and-left (nat_eq x b) _ h))))
 
-begins-union-left : (bytes xs ys : List ℕ) → BeginsInByte bytes → begins_with_one_of xs bytes ≡ true → begins_with_one_of (union xs ys) bytes ≡ true
+begins-union-left : (bytes xs ys : List ℕ) → BeginsInByte bytes → begins_with_one_of xs bytes ≡ true → begins_with_one_of (union_of_byte_sets xs ys) bytes ≡ true
 begins-union-left [] xs ys i h = h
 begins-union-left (b ∷ bytes) xs ys i h = contains-bytes_where (λ c. contains xs c || contains ys c) b i (or_left _ (contains ys b) h)
 
-begins-union-right : (bytes xs ys : List ℕ) → BeginsInByte bytes → begins_with_one_of ys bytes ≡ true → begins_with_one_of (union xs ys) bytes ≡ true
+begins-union-right : (bytes xs ys : List ℕ) → BeginsInByte bytes → begins_with_one_of ys bytes ≡ true → begins_with_one_of (union_of_byte_sets xs ys) bytes ≡ true
 begins-union-right [] xs ys i h = h
 begins-union-right (b ∷ bytes) xs ys i h = contains-bytes_where (λ c. contains xs c || contains ys c) b i (or_right (contains xs b) _ h)
 
@@ -206,7 +206,7 @@ in-singles (d ∷ members) c h = go (c == d) refl (in-singles members c)
     go true e next = let same = eqb-true c d e in or_left _ _ (in_range-true d d c (omega arith) (omega arith))
     go false e next = or_right (is_in_range d d c) _ (next (rw e at h))
 
-pub in-bracket : (contents : BracketContents) (c : ℕ) → is_scalar c ≡ true → accepts (bracket contents) c ≡ true → in_intervals (code_points contents) c ≡ true
+pub in-bracket : (contents : BracketContents) (c : ℕ) → is_scalar c ≡ true → accepts (bracket contents) c ≡ true → in_intervals (code_points_of_class contents) c ≡ true
 in-bracket contents c s h = go contents.invert refl
   where
     go : (b : Bool) → contents.invert ≡ b → in_intervals (if b then intervals_minus ((0, 0x10_FFFF) ∷ []) contents.intervals else contents.intervals) c ≡ true

@@ -7,9 +7,9 @@ use Rattle.std.specs.Option.{option_map_or}
 use Rattle.std.specs.List.{list_all}
 use Rattle.regex_meaning.specs.Tree.{Tree}
 use Rattle.regex_meaning.specs.Text.{Text, last_place}
-use Rattle.regex_meaning.specs.CodeUnitOffsets.{IsText, IsBoundary, offset, place_at}
+use Rattle.regex_meaning.specs.CodeUnitOffsets.{HasRisingPlaceOffsets, IsBoundary, offset, place_at}
 use Rattle.regex_meaning.specs.FirstAndAllMatches.{Found, first_match, place_behind}
-use Rattle.regex_meaning.specs.Captures.{Answer, answer, answers_from}
+use Rattle.regex_meaning.specs.GroupsByNumberAndName.{Answer, answer, answers_from}
 use Rattle.regex_meaning.specs.SearchAnswers.{first_answer, first_found, next_start, answers_on, answer_then_list}
 use Rattle.regex_meaning.specs.OutcomesWithStepTicks.{need, needs, needs_from}
 use Rattle.regex_meaning.specs.Laws.{needs_on, needs_behind}
@@ -70,7 +70,7 @@ module _ (tree : Tree) (text : Text) where
   needs_then (Some m) next = needs_next next
 
   -- the needs from an offset on: that of the first answer, and with it those from where the list goes on
-  pub needs-go_on : (is : IsText text) (start : ℕ) → IsBoundary text start
+  pub needs-go_on : (is : HasRisingPlaceOffsets text) (start : ℕ) → IsBoundary text start
       → needs_of_answers tree text start ≡ need_from tree text start ∷ map (λ n. need_from tree text start + n) (needs_then (first_answer tree.root text start) (next_start tree.root text start))
   unfolding needs
   needs-go_on is start on =
@@ -103,7 +103,7 @@ module _ (tree : Tree) (text : Text) where
 
 -- ---- One search after another
 
-module _ (tree : Tree) (text : Text) (is : IsText text) where
+module _ (tree : Tree) (text : Text) (is : HasRisingPlaceOffsets text) where
   -- an offset from which something is found is a boundary
   boundary : (start : ℕ) (m : Answer) → first_answer tree.root text start ≡ Some m → IsBoundary text start
   boundary start m found = by (place_at text start) refl

@@ -10,7 +10,7 @@ use Rattle.std.specs.Char.{len_utf8}
 use Rattle.std.specs.Str.{chars}
 use Rattle.regex_meaning.specs.Text.{Text, last_place, offsets_from, one_unit, fold_char, fold_ascii, fold_code_point, utf16_width, utf16_characters}
 use Rattle.regex_meaning.specs.Text.{utf8_text, ascii_text, utf16_text, ucs2_text}
-use Rattle.regex_meaning.specs.CodeUnitOffsets.{Rises, IsText, offset, units, place_at, IsBoundary}
+use Rattle.regex_meaning.specs.CodeUnitOffsets.{Rises, HasRisingPlaceOffsets, offset, units, place_at, IsBoundary}
 
 -- ---- Rising lists
 
@@ -53,17 +53,17 @@ none-unless (Some p) h = absurd (h p refl)
 
 module _ (text : Text) where
   -- the offset of a later place is greater
-  pub offset-less : (p q : ℕ) → IsText text → p < q → q ≤ last_place text → offset text p < offset text q
+  pub offset-less : (p q : ℕ) → HasRisingPlaceOffsets text → p < q → q ≤ last_place text → offset text p < offset text q
   offset-less p q is less inside = let all = is.each_place in rises-less text.offsets p q is.rises less (omega arith)
 
-  pub offset-le : (p q : ℕ) → IsText text → p ≤ q → q ≤ last_place text → offset text p ≤ offset text q
+  pub offset-le : (p q : ℕ) → HasRisingPlaceOffsets text → p ≤ q → q ≤ last_place text → offset text p ≤ offset text q
   offset-le p q is le inside = elim (cases_lt p q) [
     | inl less ↦ let l = offset-less p q is less inside in omega arith
     | inr more ↦ let e : p ≡ q = omega arith in rw e (le_refl (offset text q))
   ]
 
   -- no two places have one offset
-  pub offset-injective : (p q : ℕ) → IsText text → p ≤ last_place text → q ≤ last_place text → offset text p ≡ offset text q → p ≡ q
+  pub offset-injective : (p q : ℕ) → HasRisingPlaceOffsets text → p ≤ last_place text → q ≤ last_place text → offset text p ≡ offset text q → p ≡ q
   offset-injective p q is at_p at_q e = elim (cases_order p q) [
     | inl same ↦ same
     | inr (inl less) ↦ let l = offset-less p q is less at_q in absurd (omega arith)
@@ -71,35 +71,35 @@ module _ (text : Text) where
   ]
 
   -- places stand as their offsets do
-  pub place-less : (p q : ℕ) → IsText text → p ≤ last_place text → q ≤ last_place text → offset text p < offset text q → p < q
+  pub place-less : (p q : ℕ) → HasRisingPlaceOffsets text → p ≤ last_place text → q ≤ last_place text → offset text p < offset text q → p < q
   place-less p q is at_p at_q less = elim (cases_lt p q) [
     | inl l ↦ l
     | inr le ↦ let l = offset-le q p is le at_p in absurd (omega arith)
   ]
 
-  pub place-le : (p q : ℕ) → IsText text → p ≤ last_place text → q ≤ last_place text → offset text p ≤ offset text q → p ≤ q
+  pub place-le : (p q : ℕ) → HasRisingPlaceOffsets text → p ≤ last_place text → q ≤ last_place text → offset text p ≤ offset text q → p ≤ q
   place-le p q is at_p at_q le = elim (cases_lt q p) [
     | inl less ↦ let l = offset-less q p is less at_p in absurd (omega arith)
     | inr l ↦ l
   ]
 
   -- the place of a place's offset
-  pub place_at-offset : (p : ℕ) → IsText text → p ≤ last_place text → place_at text (offset text p) ≡ Some p
+  pub place_at-offset : (p : ℕ) → HasRisingPlaceOffsets text → p ≤ last_place text → place_at text (offset text p) ≡ Some p
   place_at-offset p is inside = let all = is.each_place in position-rises text.offsets p is.rises (omega arith)
 
   -- the offset of an offset's place
-  pub offset-place_at : (at p : ℕ) → IsText text → place_at text at ≡ Some p → (offset text p ≡ at) × (p ≤ last_place text)
+  pub offset-place_at : (at p : ℕ) → HasRisingPlaceOffsets text → place_at text at ≡ Some p → (offset text p ≡ at) × (p ≤ last_place text)
   offset-place_at at p is e =
       let found = position-Some (nat_eq at) text.offsets p 0 e in
       let all = is.each_place in
       (sym (eqb-true at (offset text p) found.1), omega arith)
 
   -- a place's offset is a boundary
-  pub offset-IsBoundary : (p : ℕ) → IsText text → p ≤ last_place text → IsBoundary text (offset text p)
+  pub offset-IsBoundary : (p : ℕ) → HasRisingPlaceOffsets text → p ≤ last_place text → IsBoundary text (offset text p)
   offset-IsBoundary p is inside = ap is_some (place_at-offset p is inside)
 
   -- a boundary is the offset of a place
-  pub IsBoundary-place : (at : ℕ) → IsText text → IsBoundary text at
+  pub IsBoundary-place : (at : ℕ) → HasRisingPlaceOffsets text → IsBoundary text at
       → (p : ℕ) × (place_at text at ≡ Some p) × (offset text p ≡ at) × (p ≤ last_place text)
   IsBoundary-place at is h =
       let e = there (place_at text at) h in
@@ -107,7 +107,7 @@ module _ (text : Text) where
       (e.0, e.1, o.0, o.1)
 
   -- no boundary stands past the end
-  pub place_at-past : (at : ℕ) → IsText text → units text < at → place_at text at ≡ None
+  pub place_at-past : (at : ℕ) → HasRisingPlaceOffsets text → units text < at → place_at text at ≡ None
   place_at-past at is past = none-unless (place_at text at) (λ p e.
       let o = offset-place_at at p is e in
       let l = offset-le p (last_place text) is o.1 (le_refl (last_place text)) in
@@ -145,21 +145,21 @@ utf16_width-positive c = grind arith
 
 -- the text of these characters, each of which has a width
 spaced-IsText : (width : ℕ → ℕ) (cs : List ℕ) (unicode : Bool) (fold : ℕ → ℕ) → ((c : ℕ) → 0 < width c)
-    → IsText (record { characters = cs; offsets = offsets_from 0 (map width cs); unicode = unicode; fold = fold })
+    → HasRisingPlaceOffsets (record { characters = cs; offsets = offsets_from 0 (map width cs); unicode = unicode; fold = fold })
 spaced-IsText width cs unicode fold wide = record {
   from_zero = first-offset width cs 0;
   rises = offsets-rise width cs 0 wide;
   each_place = length-offsets width cs 0;
 }
 
-pub utf8_text-IsText : (bytes : List ℕ) (unicode : Bool) → IsText (utf8_text bytes unicode)
+pub utf8_text-IsText : (bytes : List ℕ) (unicode : Bool) → HasRisingPlaceOffsets (utf8_text bytes unicode)
 utf8_text-IsText bytes unicode = spaced-IsText len_utf8 (chars bytes) unicode (fold_char unicode) len_utf8-positive
 
-pub ascii_text-IsText : (bytes : List ℕ) (unicode : Bool) → IsText (ascii_text bytes unicode)
+pub ascii_text-IsText : (bytes : List ℕ) (unicode : Bool) → HasRisingPlaceOffsets (ascii_text bytes unicode)
 ascii_text-IsText bytes unicode = spaced-IsText one_unit bytes unicode (fold_ascii unicode) one_unit-positive
 
-pub utf16_text-IsText : (units : List ℕ) (unicode : Bool) → IsText (utf16_text units unicode)
+pub utf16_text-IsText : (units : List ℕ) (unicode : Bool) → HasRisingPlaceOffsets (utf16_text units unicode)
 utf16_text-IsText units unicode = spaced-IsText utf16_width (utf16_characters units) unicode (fold_code_point unicode) utf16_width-positive
 
-pub ucs2_text-IsText : (units : List ℕ) (unicode : Bool) → IsText (ucs2_text units unicode)
+pub ucs2_text-IsText : (units : List ℕ) (unicode : Bool) → HasRisingPlaceOffsets (ucs2_text units unicode)
 ucs2_text-IsText units unicode = spaced-IsText one_unit units unicode (fold_code_point unicode) one_unit-positive

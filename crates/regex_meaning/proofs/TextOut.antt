@@ -7,7 +7,7 @@ use Rattle.std.proofs.lemmas.Bool.{cases_Bool}
 use mathlib.Core.Logic.{inl, inr}
 use Rattle.regex_meaning.specs.NumberListHelpers.{contains}
 use Rattle.regex_meaning.specs.Tree.{Flags}
-use Rattle.regex_meaning.specs.Captures.{Answer}
+use Rattle.regex_meaning.specs.GroupsByNumberAndName.{Answer}
 use Rattle.regex_meaning.specs.Replace.{expansion, replaced}
 use Rattle.regex_meaning.specs.FlagLettersAndEscaping.{flags_text, flags_from_letters, syntax_characters, with_backslash_if_syntax, escape}
 use Rattle.regex_meaning.specs.Laws.{StandInOrder}

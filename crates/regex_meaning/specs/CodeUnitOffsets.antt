@@ -10,7 +10,7 @@ Rises (x ∷ []) = Unit {0}
 Rises (x ∷ y ∷ more) = (x < y) × Rises (y ∷ more)
 
 -- The offsets of a text begin with 0 and increase, and there is one for each place.
-pub record IsText (text : Text) : Type 0 where
+pub record HasRisingPlaceOffsets (text : Text) : Type 0 where
   pub from_zero : slice_index text.offsets 0 ≡ 0
   pub rises : Rises text.offsets
   pub each_place : length text.offsets ≡ length text.characters + 1

@@ -10,10 +10,10 @@ pub data Encoding : Type 0 where
   ucs2 : Encoding
 
 -- whether a number can be a character of a text in this encoding
-abbrev pub is_character : Encoding → ℕ → Bool
-is_character utf8 c = is_scalar c
-is_character utf16 c = nat_lt c 0x11_0000
-is_character ucs2 c = nat_lt c 0x1_0000
+abbrev pub is_character_in_encoding : Encoding → ℕ → Bool
+is_character_in_encoding utf8 c = is_scalar c
+is_character_in_encoding utf16 c = nat_lt c 0x11_0000
+is_character_in_encoding ucs2 c = nat_lt c 0x1_0000
 
 -- the surrogate pair of a code point from U+10000 on, the high surrogate first
 abbrev pub surrogate_pair : ℕ → List ℕ
@@ -26,8 +26,8 @@ spelled_in utf16 c = if nat_lt c 0x1_0000 then c ∷ [] else surrogate_pair c
 spelled_in ucs2 c = c ∷ []
 
 -- the code units of a text
-abbrev pub units_in : Encoding → Text → List ℕ
-units_in e text = flat_map (spelled_in e) text.characters
+abbrev pub text_units_in_encoding : Encoding → Text → List ℕ
+text_units_in_encoding e text = flat_map (spelled_in e) text.characters
 
 -- The offsets of the text are those of its characters' code units in this encoding.
 pub record IsSpelledIn (e : Encoding) (text : Text) : Type 0 where

@@ -6,14 +6,14 @@ use Rattle.std.specs.Option.{option_or, option_map_or}
 use Rattle.regex_meaning.specs.Tree.{Quantifier, Node, Tree, Flags, group_ids}
 use Rattle.regex_meaning.specs.Text.{Text, Direction, rightwards, leftwards, last_place, is_high_surrogate, is_low_surrogate, is_unit_boundary}
 use Rattle.regex_meaning.specs.Text.{utf8_text, ascii_text, utf16_text, ucs2_text, utf16_characters}
-use Rattle.regex_meaning.specs.CodeUnitOffsets.{IsText, offset, place_at, IsBoundary}
+use Rattle.regex_meaning.specs.CodeUnitOffsets.{HasRisingPlaceOffsets, offset, place_at, IsBoundary}
 use Rattle.regex_meaning.specs.Outcomes.{Groups, repetition, repeat, passes_empty_check, preferred, max_iterations, outcomes}
 use Rattle.regex_meaning.specs.FirstAndAllMatches.{Found, match_at, first_match, place_behind, match_list}
-use Rattle.regex_meaning.specs.Captures.{Answer, answers_from, named_group, named_groups}
+use Rattle.regex_meaning.specs.GroupsByNumberAndName.{Answer, answers_from, named_group, named_groups}
 use Rattle.regex_meaning.specs.SearchAnswers.{first_answer, answer_at, next_start, answer_then_list}
 use Rattle.regex_meaning.specs.Replace.{expansion, replaced}
 use Rattle.regex_meaning.specs.FlagLettersAndEscaping.{flags_text, flags_from_letters, escape}
-use Rattle.regex_meaning.specs.StartPredicate.{start_predicate, IsSound}
+use Rattle.regex_meaning.specs.StartPredicate.{start_predicate, IsSoundStartPredicateOf}
 use Rattle.regex_meaning.specs.WellFormedTrees.{IsWellFormed}
 use Rattle.regex_meaning.specs.OutcomesWithStepTicks.{outcomes_without_ticks, ticked, need, needs_from}
 
@@ -56,8 +56,8 @@ IsWithinText text None = Unit {0}
 IsWithinText text (Some range) = (range.0 ≤ range.1) × (range.1 ≤ last_place text)
 
 -- every outcome has as many groups as there were before
-abbrev pub OutcomesKeepGroups : Type 0
-OutcomesKeepGroups = (text : Text) (node : Node) (d : Direction) (place : ℕ) (groups : Groups)
+abbrev pub OutcomesKeepNumberOfGroups : Type 0
+OutcomesKeepNumberOfGroups = (text : Text) (node : Node) (d : Direction) (place : ℕ) (groups : Groups)
     → Each (λ o. length o.groups ≡ length groups) (outcomes text node d place groups)
 
 -- outcomes and their groups stay within the text
@@ -98,12 +98,12 @@ pub record HasOffsets (text : Text) : Type 0 where
 
 -- in every text each place has one offset and each boundary one place, in the same order
 abbrev pub PlacesHaveOffsets : Type 0
-PlacesHaveOffsets = (text : Text) → IsText text → HasOffsets text
+PlacesHaveOffsets = (text : Text) → HasRisingPlaceOffsets text → HasOffsets text
 
--- the texts of the four encodings satisfy `IsText`
-abbrev pub EncodingsAreTexts : Type 0
-EncodingsAreTexts = (units : List ℕ) (unicode : Bool)
-    → IsText (utf8_text units unicode) × IsText (ascii_text units unicode) × IsText (utf16_text units unicode) × IsText (ucs2_text units unicode)
+-- the texts of the four encodings satisfy `HasRisingPlaceOffsets`
+abbrev pub EncodedTextsHaveRisingOffsets : Type 0
+EncodedTextsHaveRisingOffsets = (units : List ℕ) (unicode : Bool)
+    → HasRisingPlaceOffsets (utf8_text units unicode) × HasRisingPlaceOffsets (ascii_text units unicode) × HasRisingPlaceOffsets (utf16_text units unicode) × HasRisingPlaceOffsets (ucs2_text units unicode)
 
 -- the unit before this offset is a high surrogate and the unit at it a low surrogate
 abbrev pub is_within_pair : List ℕ → ℕ → Bool
@@ -120,12 +120,12 @@ UnitBoundariesAreBoundaries = (units : List ℕ) (unicode : Bool) (i : ℕ)
 
 -- the answers from an offset on are the first answer, followed by those from the next start
 abbrev pub AnswersFromOffsetUnfold : Type 0
-AnswersFromOffsetUnfold = (root : Node) (text : Text) → IsText text → (start : ℕ)
+AnswersFromOffsetUnfold = (root : Node) (text : Text) → HasRisingPlaceOffsets text → (start : ℕ)
     → answers_from root text start ≡ answer_then_list root text (first_answer root text start) (next_start root text start)
 
 -- the next start is a boundary after the start
 abbrev pub NextStartIsAhead : Type 0
-NextStartIsAhead = (root : Node) (text : Text) → IsText text → (start next : ℕ)
+NextStartIsAhead = (root : Node) (text : Text) → HasRisingPlaceOffsets text → (start next : ℕ)
     → next_start root text start ≡ Some next → (start < next) × IsBoundary text next
 
 -- both ends of the range are boundaries, in order
@@ -134,8 +134,8 @@ IsRange text range = (range.0 ≤ range.1) × IsBoundary text range.0 × IsBound
 
 -- the first answer from an offset on is a range of whole characters and begins at that offset or
 -- after it
-abbrev pub AnswersAreWithinText : Type 0
-AnswersAreWithinText = (root : Node) (text : Text) → IsText text → (start : ℕ) (m : Answer)
+abbrev pub FirstAnswerLiesOnBoundaries : Type 0
+FirstAnswerLiesOnBoundaries = (root : Node) (text : Text) → HasRisingPlaceOffsets text → (start : ℕ) (m : Answer)
     → first_answer root text start ≡ Some m → (start ≤ m.range.0) × IsRange text m.range
 
 -- the match and its groups are ranges of whole characters, with an entry for each group of the tree
@@ -145,13 +145,13 @@ pub record IsAnswerOf (root : Node) (text : Text) (m : Answer) : Type 0 where
   pub count : length m.captures ≡ length (group_ids root)
 
 -- the match at an offset is the first answer from there, if that answer begins there
-abbrev pub MatchAtOffsetIsFirstAnswer : Type 0
-MatchAtOffsetIsFirstAnswer = (root : Node) (text : Text) → IsText text → (at : ℕ)
+abbrev pub MatchAtIsFirstAnswerIfThere : Type 0
+MatchAtIsFirstAnswerIfThere = (root : Node) (text : Text) → HasRisingPlaceOffsets text → (at : ℕ)
     → answer_at root text at ≡ option_and_then (λ m. if m.range.0 == at then Some m else None) (first_answer root text at)
 
 -- every answer satisfies `IsAnswerOf`
 abbrev pub AnswersSatisfyIsAnswerOf : Type 0
-AnswersSatisfyIsAnswerOf = (root : Node) (text : Text) → IsText text → (start : ℕ) → Each (IsAnswerOf root text) (answers_from root text start)
+AnswersSatisfyIsAnswerOf = (root : Node) (text : Text) → HasRisingPlaceOffsets text → (start : ℕ) → Each (IsAnswerOf root text) (answers_from root text start)
 
 -- the first answer begins at `from` or after it, and each next one begins after the start of the
 -- one before and not before its end
@@ -162,16 +162,16 @@ StandInOrder from (m ∷ ms) =
 
 -- the starts of answers increase, and no two answers overlap
 abbrev pub AnswersAreOrderedWithoutOverlap : Type 0
-AnswersAreOrderedWithoutOverlap = (root : Node) (text : Text) → IsText text → (start : ℕ) → StandInOrder start (answers_from root text start)
+AnswersAreOrderedWithoutOverlap = (root : Node) (text : Text) → HasRisingPlaceOffsets text → (start : ℕ) → StandInOrder start (answers_from root text start)
 
 -- there is at most one answer more than there are characters from the start on
 abbrev pub AnswerCountIsBounded : Type 0
-AnswerCountIsBounded = (root : Node) (text : Text) → IsText text → (start place : ℕ)
+AnswerCountIsBounded = (root : Node) (text : Text) → HasRisingPlaceOffsets text → (start place : ℕ)
     → place_at text start ≡ Some place → length (answers_from root text start) ≤ last_place text - place + 1
 
 -- a search from the end of a nonempty match yields the rest of the list
 abbrev pub ResumedSearchYieldsRest : Type 0
-ResumedSearchYieldsRest = (root : Node) (text : Text) → IsText text → (start : ℕ) (before : List Answer) (m : Answer) (after : List Answer)
+ResumedSearchYieldsRest = (root : Node) (text : Text) → HasRisingPlaceOffsets text → (start : ℕ) (before : List Answer) (m : Answer) (after : List Answer)
     → answers_from root text start ≡ before ++ m ∷ after → m.range.0 < m.range.1 → answers_from root text m.range.1 ≡ after
 
 -- ---- One text in two encodings
@@ -215,8 +215,8 @@ needs_behind tree text spent found = option_map_or (λ m. needs_on tree text spe
 
 -- the first need is that of the first match or of there being none, and the others continue from
 -- there
-abbrev pub NeedsUnfold : Type 0
-NeedsUnfold = (tree : Tree) (text : Text) (spent place : ℕ)
+abbrev pub NeededStepsUnfoldMatchByMatch : Type 0
+NeededStepsUnfoldMatchByMatch = (tree : Tree) (text : Text) (spent place : ℕ)
     → needs_on tree text spent (Some place)
     ≡ (spent + need tree text place) ∷ needs_behind tree text (spent + need tree text place) (first_match tree.root text place)
 
@@ -230,4 +230,4 @@ NamedGroupAgreesWithNamedGroups = (m : Answer) → Each (λ named. named_group m
 
 -- the start predicate of a well-formed tree rules out no place that has an outcome
 abbrev pub StartPredicateIsSound : Type 0
-StartPredicateIsSound = (tree : Tree) → IsWellFormed tree.root → IsSound (start_predicate tree) tree.root
+StartPredicateIsSound = (tree : Tree) → IsWellFormed tree.root → IsSoundStartPredicateOf (start_predicate tree) tree.root

@@ -10,7 +10,7 @@ pub mod OutcomesWithStepTicks
 pub mod WellFormedTrees
 pub mod CompilationRelation
 pub mod Laws
-pub mod Captures
+pub mod GroupsByNumberAndName
 pub mod SearchAnswers
 pub mod Replace
 pub mod FlagLettersAndEscaping

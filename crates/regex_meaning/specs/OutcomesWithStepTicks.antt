@@ -48,9 +48,9 @@ outcomes_without_ticks (tick ∷ items) = outcomes_without_ticks items
 outcomes_without_ticks (pair o ∷ items) = o ∷ outcomes_without_ticks items
 
 -- whether there is no outcome
-abbrev pub is_empty : List Outcome → Bool
-is_empty [] = true
-is_empty (o ∷ os) = false
+abbrev pub has_no_outcome : List Outcome → Bool
+has_no_outcome [] = true
+has_no_outcome (o ∷ os) = false
 
 -- the outcomes with a tick between neighbours
 abbrev pub with_ticks_between : List Outcome → List TickOrOutcome
@@ -180,7 +180,7 @@ module _ (tree : Tree) (text : Text) where
   ticks_at (place ∷ places) =
       let items = items_at place in
       let later = ticks_at places in
-      ticks_to_first items + (if is_empty (outcomes_without_ticks items) then later else 0)
+      ticks_to_first items + (if has_no_outcome (outcomes_without_ticks items) then later else 0)
 
   -- the number of steps to find the first match from a place on, or that there is none
   unfoldable pub need : ℕ → ℕ

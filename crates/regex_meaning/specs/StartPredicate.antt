@@ -48,8 +48,8 @@ intervals_minus these [] = these
 intervals_minus these (other ∷ others) = intervals_minus (flat_map (interval_minus other) these) others
 
 -- the code points that a class accepts
-abbrev pub code_points : BracketContents → Intervals
-code_points contents = if contents.invert then intervals_minus ((0, 0x10_FFFF) ∷ []) contents.intervals else contents.intervals
+abbrev pub code_points_of_class : BracketContents → Intervals
+code_points_of_class contents = if contents.invert then intervals_minus ((0, 0x10_FFFF) ∷ []) contents.intervals else contents.intervals
 
 -- ---- The predicate of a node
 
@@ -83,8 +83,8 @@ abbrev pub first_byte_as_set : List ℕ → List ℕ
 first_byte_as_set bytes = take 1 bytes
 
 -- the union of two sets of bytes
-abbrev pub union : List ℕ → List ℕ → List ℕ
-union xs ys = bytes_that_pass (λ b. contains xs b || contains ys b)
+abbrev pub union_of_byte_sets : List ℕ → List ℕ → List ℕ
+union_of_byte_sets xs ys = bytes_that_pass (λ b. contains xs b || contains ys b)
 
 -- the common prefix if it is not empty, else the set of first bytes
 abbrev pub common_prefix_or_first_bytes : (front first_bytes : List ℕ) → AbstractStartPredicate
@@ -93,10 +93,10 @@ common_prefix_or_first_bytes (b ∷ bs) first_bytes = sequence (b ∷ bs)
 
 -- the predicate of two alternatives
 abbrev pub join : AbstractStartPredicate → AbstractStartPredicate → AbstractStartPredicate
-join (sequence xs) (sequence ys) = common_prefix_or_first_bytes (common_prefix xs ys) (union (first_byte_as_set xs) (first_byte_as_set ys))
-join (sequence xs) (one_of ys) = one_of (union (first_byte_as_set xs) ys)
-join (one_of xs) (sequence ys) = one_of (union xs (first_byte_as_set ys))
-join (one_of xs) (one_of ys) = one_of (union xs ys)
+join (sequence xs) (sequence ys) = common_prefix_or_first_bytes (common_prefix xs ys) (union_of_byte_sets (first_byte_as_set xs) (first_byte_as_set ys))
+join (sequence xs) (one_of ys) = one_of (union_of_byte_sets (first_byte_as_set xs) ys)
+join (one_of xs) (sequence ys) = one_of (union_of_byte_sets xs (first_byte_as_set ys))
+join (one_of xs) (one_of ys) = one_of (union_of_byte_sets xs ys)
 join _ _ = arbitrary
 
 -- the predicate of a node
@@ -104,7 +104,7 @@ unfoldable pub abstract_start_predicate : Node → AbstractStartPredicate
 abstract_start_predicate (byte_sequence bytes) = byte_sequence_predicate bytes
 abstract_start_predicate (byte_set members) = one_of (bytes_that_pass (contains members))
 abstract_start_predicate (char_set members) = one_of (first_bytes (map (λ c. (c, c)) members))
-abstract_start_predicate (bracket contents) = one_of (first_bytes (code_points contents))
+abstract_start_predicate (bracket contents) = one_of (first_bytes (code_points_of_class contents))
 abstract_start_predicate (cat first rest) = first_decided (abstract_start_predicate first) (abstract_start_predicate rest)
 abstract_start_predicate end_of_cat = open_ended
 abstract_start_predicate (capture_group id name contents) = abstract_start_predicate contents
@@ -178,7 +178,7 @@ is_filled _ = true
 
 -- the predicate allows every place at which the tree has an outcome; besides, its bytes begin
 -- characters, and it is not empty
-pub record IsSound (p : StartPredicate) (root : Node) : Type 0 where
+pub record IsSoundStartPredicateOf (p : StartPredicate) (root : Node) : Type 0 where
   pub holds : (text : Text) (place : ℕ) → IsTrue (list_all is_scalar text.characters) → place ≤ last_place text
       → outcomes text root rightwards place (no_groups root) ≢ [] → IsTrue (may_start p text place)
   pub on_characters : IsTrue (begins_characters p)

@@ -20,19 +20,19 @@ abbrev pub is_uppercase : ℕ → Bool
 is_uppercase c = is_in_range 65 90 c
 
 -- the lowercase letter of `A` to `Z`; any other number is itself
-abbrev pub to_lowercase : ℕ → ℕ
-to_lowercase c = if is_uppercase c then c + 32 else c
+abbrev pub to_ascii_lowercase : ℕ → ℕ
+to_ascii_lowercase c = if is_uppercase c then c + 32 else c
 
 -- the uppercase letter of `a` to `z`; any other number is itself
-abbrev pub to_uppercase : ℕ → ℕ
-to_uppercase c = if is_lowercase c then c - 32 else c
+abbrev pub to_ascii_uppercase : ℕ → ℕ
+to_ascii_uppercase c = if is_lowercase c then c - 32 else c
 
 -- *Canonicalize* (21.2.2.8.2) for these characters: with `unicode`, `A` to `Z` fold to lowercase,
 -- U+017F to `s` and U+212A to `k`; without it, `a` to `z` fold to uppercase. That no others fold is
 -- a rule of this crate.
 unfoldable pub fold_code_point : (unicode : Bool) → ℕ → ℕ
-fold_code_point true c = if c == 0x017F then 115 else if c == 0x212A then 107 else to_lowercase c
-fold_code_point false c = to_uppercase c
+fold_code_point true c = if c == 0x017F then 115 else if c == 0x212A then 107 else to_ascii_lowercase c
+fold_code_point false c = to_ascii_uppercase c
 
 -- the code point beyond ASCII that folds to this letter, if there is one
 abbrev pub nonascii_with_fold : (unicode : Bool) → ℕ → List ℕ
@@ -42,8 +42,8 @@ nonascii_with_fold true folded = if folded == 115 then 0x017F ∷ [] else if fol
 -- all code points with this fold, in increasing order
 abbrev pub all_with_fold : (unicode : Bool) → ℕ → List ℕ
 all_with_fold unicode folded =
-    let upper = to_uppercase folded in
-    let lower = to_lowercase folded in
+    let upper = to_ascii_uppercase folded in
+    let lower = to_ascii_lowercase folded in
     (if upper == lower then folded ∷ [] else upper ∷ lower ∷ []) ++ nonascii_with_fold unicode folded
 
 -- the code points that c matches: c alone, or with `icase` all code points that fold as c does
@@ -91,8 +91,8 @@ fold_char unicode c = let folded = fold_code_point unicode c in if is_scalar fol
 
 -- the fold of a character in an ASCII text
 abbrev pub fold_ascii : (unicode : Bool) → ℕ → ℕ
-fold_ascii true c = to_lowercase c
-fold_ascii false c = to_uppercase c
+fold_ascii true c = to_ascii_lowercase c
+fold_ascii false c = to_ascii_uppercase c
 
 -- the text that the bytes encode in UTF-8 (21.2.2.2 with the flag `u`)
 abbrev pub utf8_text : List ℕ → (unicode : Bool) → Text

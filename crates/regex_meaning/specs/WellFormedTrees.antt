@@ -14,8 +14,8 @@ own_goals goal = 1
 own_goals _ = 0
 
 -- the number of `Goal` nodes in the tree
-abbrev pub number_of_goals : Node → ℕ
-number_of_goals root = fold_nodes ◌+◌ own_goals root
+abbrev pub number_of_goal_nodes : Node → ℕ
+number_of_goal_nodes root = fold_nodes ◌+◌ own_goals root
 
 -- the node is the end of a `Cat`
 abbrev pub is_end_of_cat : Node → Bool
@@ -30,7 +30,7 @@ ends_in_goal _ = false
 
 -- there is exactly one `Goal`, and it is last
 abbrev pub goal_is_last : Node → Bool
-goal_is_last root = number_of_goals root == 1 && ends_in_goal root
+goal_is_last root = number_of_goal_nodes root == 1 && ends_in_goal root
 
 -- each number below the number of groups is the id of exactly one group
 abbrev pub each_id_stands_once : Node → Bool
@@ -57,13 +57,13 @@ refers_to_a_group n (back_ref group icase) = nat_le 1 group && nat_le group n
 refers_to_a_group n _ = true
 
 -- the minimum is at most the maximum, if there is a maximum
-abbrev pub is_in_order : Quantifier → Bool
-is_in_order q = option_map_or (nat_le q.min) q.max true
+abbrev pub is_min_at_most_max : Quantifier → Bool
+is_min_at_most_max q = option_map_or (nat_le q.min) q.max true
 
 -- the minimum of a loop is at most its maximum
 abbrev pub has_order_in_quantifier : Node → Bool
-has_order_in_quantifier (loop q start_group end_group loopee) = is_in_order q
-has_order_in_quantifier (loop_1_char_body q loopee) = is_in_order q
+has_order_in_quantifier (loop q start_group end_group loopee) = is_min_at_most_max q
+has_order_in_quantifier (loop_1_char_body q loopee) = is_min_at_most_max q
 has_order_in_quantifier _ = true
 
 -- the node matches exactly one character
@@ -89,11 +89,11 @@ has_text_in_sequence _ = true
 
 -- sets have at most four members, sets of bytes only ASCII, and code points of strings are at most
 -- U+10FFFF
-abbrev pub fits_instructions : Node → Bool
-fits_instructions (byte_set members) = nat_le (length members) 4 && list_all (λ b. nat_lt b 128) members
-fits_instructions (char_set members) = nat_le (length members) 4
-fits_instructions (string_set strings icase) = list_all (list_all (λ c. nat_le c 0x10_FFFF)) strings
-fits_instructions _ = true
+abbrev pub sets_and_strings_fit_instructions : Node → Bool
+sets_and_strings_fit_instructions (byte_set members) = nat_le (length members) 4 && list_all (λ b. nat_lt b 128) members
+sets_and_strings_fit_instructions (char_set members) = nat_le (length members) 4
+sets_and_strings_fit_instructions (string_set strings icase) = list_all (list_all (λ c. nat_le c 0x10_FFFF)) strings
+sets_and_strings_fit_instructions _ = true
 
 -- the tree satisfies all of these conditions
 unfoldable pub is_well_formed : Node → Bool
@@ -105,7 +105,7 @@ is_well_formed root =
     && every_node_passes has_order_in_quantifier root
     && every_node_passes has_one_character_body root
     && every_node_passes has_text_in_sequence root
-    && every_node_passes fits_instructions root
+    && every_node_passes sets_and_strings_fit_instructions root
 
 -- `is_well_formed` as a proposition
 abbrev pub IsWellFormed : Node → Type 0

@@ -1,9 +1,9 @@
 // Meaning of patterns: the definitions that contracts refer to, and proofs of their laws.
 #![tactic(auto)]
 
-ghost use Rattle.regex_meaning.specs.Laws.{TicksChangeNothing, LoopRepetitionUnfolds, OutcomesEndAheadOfPlace, OutcomesKeepGroups, OutcomesStayInText, FirstMatchUnfolds};
-ghost use Rattle.regex_meaning.specs.Laws.{MatchListUnfolds, NeedsUnfold, PlacesHaveOffsets, EncodingsAreTexts, UnitBoundariesAreBoundaries};
-ghost use Rattle.regex_meaning.specs.Laws.{SameMatchesInUtf16, SameAnswersInAscii, AnswersFromOffsetUnfold, NextStartIsAhead, AnswersAreWithinText, MatchAtOffsetIsFirstAnswer};
+ghost use Rattle.regex_meaning.specs.Laws.{TicksChangeNothing, LoopRepetitionUnfolds, OutcomesEndAheadOfPlace, OutcomesKeepNumberOfGroups, OutcomesStayInText, FirstMatchUnfolds};
+ghost use Rattle.regex_meaning.specs.Laws.{MatchListUnfolds, NeededStepsUnfoldMatchByMatch, PlacesHaveOffsets, EncodedTextsHaveRisingOffsets, UnitBoundariesAreBoundaries};
+ghost use Rattle.regex_meaning.specs.Laws.{SameMatchesInUtf16, SameAnswersInAscii, AnswersFromOffsetUnfold, NextStartIsAhead, FirstAnswerLiesOnBoundaries, MatchAtIsFirstAnswerIfThere};
 ghost use Rattle.regex_meaning.specs.Laws.{AnswersSatisfyIsAnswerOf, AnswersAreOrderedWithoutOverlap, AnswerCountIsBounded, ResumedSearchYieldsRest, NamedGroupAgreesWithNamedGroups};
 ghost use Rattle.regex_meaning.specs.Laws.{ReplacingMatchesByThemselvesChangesNothing, FlagsParseDisplayRoundTrip, EscapeIsInjective, StartPredicateIsSound};
 
@@ -29,7 +29,7 @@ pub fn unit_boundaries_are_boundaries()
 
 /// Proves that every outcome has as many groups as there were before.
 pub fn outcomes_keep_groups()
-    ensures { OutcomesKeepGroups }
+    ensures { OutcomesKeepNumberOfGroups }
 {}
 
 /// Proves that outcomes and their groups stay within the text.
@@ -53,9 +53,9 @@ pub fn places_have_offsets()
     ensures { PlacesHaveOffsets }
 {}
 
-/// Proves that the texts of the four encodings satisfy `IsText`.
+/// Proves that the texts of the four encodings satisfy `HasRisingPlaceOffsets`.
 pub fn encodings_are_texts()
-    ensures { EncodingsAreTexts }
+    ensures { EncodedTextsHaveRisingOffsets }
 {}
 
 /// Proves that the list of answers is the first answer and the list from the next start.
@@ -70,12 +70,12 @@ pub fn next_start_is_ahead()
 
 /// Proves that the first answer is a range of whole characters and does not begin before the start.
 pub fn answers_are_within_text()
-    ensures { AnswersAreWithinText }
+    ensures { FirstAnswerLiesOnBoundaries }
 {}
 
 /// Proves that the match at an offset is the first answer from there, if that answer begins there.
 pub fn match_at_offset_is_first_answer()
-    ensures { MatchAtOffsetIsFirstAnswer }
+    ensures { MatchAtIsFirstAnswerIfThere }
 {}
 
 /// Proves that each range of an answer consists of whole characters, and that an answer has an
@@ -101,7 +101,7 @@ pub fn resumed_search_yields_rest()
 
 /// Proves that needs add up along the list of matches.
 pub fn needs_unfold()
-    ensures { NeedsUnfold }
+    ensures { NeededStepsUnfoldMatchByMatch }
 {}
 
 /// Proves that looking up one name gives the range that the list of all names has for it.

@@ -2,7 +2,7 @@
 use Rattle.std.specs.Prelude.{◌≡◌, ℕ, ◌^◌, ◌-◌, List, [], ◌∷◌, None, refl, true, false}
 use Rattle.regex_meaning.specs.Tree.{goal, char, byte_set, byte_sequence, cat, end_of_cat, alt, lookaround, loop, loop_1_char_body}
 use Rattle.regex_meaning.specs.CompilationRelation.{Insn, Goal, Char, Alt, Jump, EnterLoop, LoopAgain, Loop1CharBody, ByteSeq, Lookbehind, Program, Counters, IsCode}
-use Rattle.regex_meaning.specs.CompilationRelation.{reads_bytes}
+use Rattle.regex_meaning.specs.CompilationRelation.{tree_contains_byte_nodes}
 use Rattle.regex_meaning.specs.StartPredicate.{start_arbitrary}
 use Rattle.regex_meaning_rows.specs.Computing.{times, look, no_flags}
 
@@ -37,11 +37,11 @@ one_character_loop : IsCode (program (Loop1CharBody 0 (2 ^ 64 - 1) true ∷ Char
 unfolding IsCode
 one_character_loop = (mark 2 0, (refl, (refl, refl)), (mark 3 0, (refl, refl), refl))
 
-bytes_in_a_lookaround : reads_bytes (cat (lookaround (look false true 0 0) (byte_sequence (97 ∷ []))) (cat goal end_of_cat)) ≡ true
+bytes_in_a_lookaround : tree_contains_byte_nodes (cat (lookaround (look false true 0 0) (byte_sequence (97 ∷ []))) (cat goal end_of_cat)) ≡ true
 bytes_in_a_lookaround = refl
 
-bytes_in_an_arm : reads_bytes (cat (alt (char 97) (byte_set (97 ∷ []))) (cat goal end_of_cat)) ≡ true
+bytes_in_an_arm : tree_contains_byte_nodes (cat (alt (char 97) (byte_set (97 ∷ []))) (cat goal end_of_cat)) ≡ true
 bytes_in_an_arm = refl
 
-no_bytes : reads_bytes (cat (loop (times 0 None true) 0 0 (char 97)) (cat goal end_of_cat)) ≡ false
+no_bytes : tree_contains_byte_nodes (cat (loop (times 0 None true) 0 0 (char 97)) (cat goal end_of_cat)) ≡ false
 no_bytes = refl

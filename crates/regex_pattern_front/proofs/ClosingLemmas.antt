@@ -9,9 +9,9 @@ use Rattle.std.proofs.lemmas.List.Folds.{list_any-append}
 use Rattle.regex_meaning.specs.NumberListHelpers.{contains}
 use Rattle.regex_meaning.specs.Tree.{Intervals, Flags}
 use Rattle.regex_meaning.specs.Outcomes.{in_intervals}
-use Rattle.regex_meaning.specs.Text.{to_lowercase, to_uppercase, fold_code_point, nonascii_with_fold, all_with_fold, expand_code_point}
+use Rattle.regex_meaning.specs.Text.{to_ascii_lowercase, to_ascii_uppercase, fold_code_point, nonascii_with_fold, all_with_fold, expand_code_point}
 use Rattle.regex_grammar.specs.CharacterClasses.{single_code_point_interval, closed_under_case_folding}
-use Rattle.regex_pattern_front.specs.ClassReaderContracts.{case_variants_if_one_passes, same_fold_passes}
+use Rattle.regex_pattern_front.specs.ClassReaderContracts.{case_variants_if_one_passes, some_case_variant_passes}
 
 -- ---- Letters
 
@@ -31,10 +31,10 @@ moves first last d moved =
     ]
 
 abbrev UpperCases : ℕ → Type 0
-UpperCases d = Moves 97 122 d (d - 32) (to_uppercase d)
+UpperCases d = Moves 97 122 d (d - 32) (to_ascii_uppercase d)
 
 abbrev LowerCases : ℕ → Type 0
-LowerCases d = Moves 65 90 d (d + 32) (to_lowercase d)
+LowerCases d = Moves 65 90 d (d + 32) (to_ascii_lowercase d)
 
 pub upper_cases : (d : ℕ) → UpperCases d
 upper_cases d = moves 97 122 d (d - 32)
@@ -46,11 +46,11 @@ lower_cases d = moves 65 90 d (d + 32)
 AnUpper : ℕ → Type 0
 AnUpper f = (f < 97) ⊎ (122 < f)
 
-an_upper : (c : ℕ) → AnUpper (to_uppercase c)
+an_upper : (c : ℕ) → AnUpper (to_ascii_uppercase c)
 unfolding AnUpper
 an_upper c =
     elim (upper_cases c) [
-      | inl h ↦ let e : to_uppercase c ≡ c - 32 = h.2 in let l : c ≤ 122 = h.1 in inl (omega arith)
+      | inl h ↦ let e : to_ascii_uppercase c ≡ c - 32 = h.2 in let l : c ≤ 122 = h.1 in inl (omega arith)
       | inr h ↦ subst AnUpper (sym h.1) h.0
     ]
 
@@ -66,41 +66,41 @@ either xs ys d e = or_cases (contains xs d) (contains ys d) (sym (list_any-appen
 
 -- the two cases of a fold
 cases_of : ℕ → List ℕ
-cases_of f = if to_uppercase f == to_lowercase f then f ∷ [] else to_uppercase f ∷ to_lowercase f ∷ []
+cases_of f = if to_ascii_uppercase f == to_ascii_lowercase f then f ∷ [] else to_ascii_uppercase f ∷ to_ascii_lowercase f ∷ []
 
 -- one whose cases do not differ is both
-one_case : (f : ℕ) → (to_uppercase f == to_lowercase f) ≡ true → to_uppercase f ≡ f
+one_case : (f : ℕ) → (to_ascii_uppercase f == to_ascii_lowercase f) ≡ true → to_ascii_uppercase f ≡ f
 one_case f s = is (upper_cases f) (lower_cases f)
   where
-    is : UpperCases f → LowerCases f → to_uppercase f ≡ f
+    is : UpperCases f → LowerCases f → to_ascii_uppercase f ≡ f
     is (inl h) (inl k) = let a : 97 ≤ f = h.0 in let b : f ≤ 90 = k.1 in absurd (omega arith)
     is (inl h) (inr k) = eqb-true _ _ s ∙ k.1
     is (inr h) k = h.1
 
-in_cases : (f d : ℕ) → contains (cases_of f) d ≡ true → (d ≡ to_uppercase f) ⊎ (d ≡ to_lowercase f)
+in_cases : (f d : ℕ) → contains (cases_of f) d ≡ true → (d ≡ to_ascii_uppercase f) ⊎ (d ≡ to_ascii_lowercase f)
 unfolding cases_of
-in_cases f d e = by (to_uppercase f == to_lowercase f) refl e
+in_cases f d e = by (to_ascii_uppercase f == to_ascii_lowercase f) refl e
   where
-    by : (b : Bool) → (to_uppercase f == to_lowercase f) ≡ b → contains (if b then f ∷ [] else to_uppercase f ∷ to_lowercase f ∷ []) d ≡ true
-        → (d ≡ to_uppercase f) ⊎ (d ≡ to_lowercase f)
+    by : (b : Bool) → (to_ascii_uppercase f == to_ascii_lowercase f) ≡ b → contains (if b then f ∷ [] else to_ascii_uppercase f ∷ to_ascii_lowercase f ∷ []) d ≡ true
+        → (d ≡ to_ascii_uppercase f) ⊎ (d ≡ to_ascii_lowercase f)
     by true s e = inl (only f d e ∙ sym (one_case f s))
     by false s e = two _ _ d e
 
 -- both are of the cases
-has_both : (f : ℕ) → (contains (cases_of f) (to_uppercase f) ≡ true) × (contains (cases_of f) (to_lowercase f) ≡ true)
+has_both : (f : ℕ) → (contains (cases_of f) (to_ascii_uppercase f) ≡ true) × (contains (cases_of f) (to_ascii_lowercase f) ≡ true)
 unfolding cases_of
-has_both f = by (to_uppercase f == to_lowercase f) refl
+has_both f = by (to_ascii_uppercase f == to_ascii_lowercase f) refl
   where
-    by : (b : Bool) → (to_uppercase f == to_lowercase f) ≡ b
-        → (contains (if b then f ∷ [] else to_uppercase f ∷ to_lowercase f ∷ []) (to_uppercase f) ≡ true)
-        × (contains (if b then f ∷ [] else to_uppercase f ∷ to_lowercase f ∷ []) (to_lowercase f) ≡ true)
+    by : (b : Bool) → (to_ascii_uppercase f == to_ascii_lowercase f) ≡ b
+        → (contains (if b then f ∷ [] else to_ascii_uppercase f ∷ to_ascii_lowercase f ∷ []) (to_ascii_uppercase f) ≡ true)
+        × (contains (if b then f ∷ [] else to_ascii_uppercase f ∷ to_ascii_lowercase f ∷ []) (to_ascii_lowercase f) ≡ true)
     by true s = (
-      or_left (nat_eq (to_uppercase f) f) _ (eq-eqb _ _ (one_case f s)),
-      or_left (nat_eq (to_lowercase f) f) _ (eq-eqb _ _ (sym (eqb-true _ _ s) ∙ one_case f s)),
+      or_left (nat_eq (to_ascii_uppercase f) f) _ (eq-eqb _ _ (one_case f s)),
+      or_left (nat_eq (to_ascii_lowercase f) f) _ (eq-eqb _ _ (sym (eqb-true _ _ s) ∙ one_case f s)),
     )
     by false s = (
-      or_left (nat_eq (to_uppercase f) (to_uppercase f)) _ (eq-eqb (to_uppercase f) _ refl),
-      or_right (nat_eq (to_lowercase f) (to_uppercase f)) _ (or_left (nat_eq (to_lowercase f) (to_lowercase f)) _ (eq-eqb (to_lowercase f) _ refl)),
+      or_left (nat_eq (to_ascii_uppercase f) (to_ascii_uppercase f)) _ (eq-eqb (to_ascii_uppercase f) _ refl),
+      or_right (nat_eq (to_ascii_lowercase f) (to_ascii_uppercase f)) _ (or_left (nat_eq (to_ascii_lowercase f) (to_ascii_lowercase f)) _ (eq-eqb (to_ascii_lowercase f) _ refl)),
     )
 
 with_fold : (unicode : Bool) (f : ℕ) → all_with_fold unicode f ≡ cases_of f ++ nonascii_with_fold unicode f
@@ -110,7 +110,7 @@ with_fold unicode f = refl
 -- ---- The fold of what has this fold
 
 -- the fold with `unicode`, by cases
-fold_plain : (d : ℕ) → (d ≡ 0x017F → ⊥) → (d ≡ 0x212A → ⊥) → fold_code_point true d ≡ to_lowercase d
+fold_plain : (d : ℕ) → (d ≡ 0x017F → ⊥) → (d ≡ 0x212A → ⊥) → fold_code_point true d ≡ to_ascii_lowercase d
 unfolding fold_code_point
 fold_plain d a b = rw (ne_eqb d 0x017F a, ne_eqb d 0x212A b) refl
 
@@ -128,62 +128,62 @@ a_lower c =
             | inl e ↦ rw (ne_eqb c 0x017F ne, eq-eqb c 0x212A e) (inr (omega arith), λ h. omega arith, λ h. omega arith)
             | inr ne' ↦ rw (ne_eqb c 0x017F ne, ne_eqb c 0x212A ne')
                 (elim (lower_cases c) [
-                  | inl h ↦ let e : to_lowercase c ≡ c + 32 = h.2 in let l : 65 ≤ c = h.0 in let m : c ≤ 90 = h.1 in
+                  | inl h ↦ let e : to_ascii_lowercase c ≡ c + 32 = h.2 in let l : 65 ≤ c = h.0 in let m : c ≤ 90 = h.1 in
                       (inr (omega arith), λ k. omega arith, λ k. omega arith)
                   | inr h ↦ let P : ℕ → Type 0 = λ f. ((f < 65) ⊎ (90 < f)) × (f ≡ 0x017F → ⊥) × (f ≡ 0x212A → ⊥) in subst P (sym h.1) (h.0, ne, ne')
                 ])
           ]
     ]
 
-upper_of_case : (f d : ℕ) → AnUpper f → (d ≡ to_uppercase f) ⊎ (d ≡ to_lowercase f) → to_uppercase d ≡ f
+upper_of_case : (f d : ℕ) → AnUpper f → (d ≡ to_ascii_uppercase f) ⊎ (d ≡ to_ascii_lowercase f) → to_ascii_uppercase d ≡ f
 unfolding AnUpper
 upper_of_case f d u h = by u (upper_cases f) (lower_cases f) (upper_cases d) h
   where
-    by : (f < 97) ⊎ (122 < f) → ((97 ≤ f) × (f ≤ 122) × (to_uppercase f ≡ f - 32)) ⊎ (((f < 97) ⊎ (122 < f)) × (to_uppercase f ≡ f))
-        → ((65 ≤ f) × (f ≤ 90) × (to_lowercase f ≡ f + 32)) ⊎ (((f < 65) ⊎ (90 < f)) × (to_lowercase f ≡ f))
-        → ((97 ≤ d) × (d ≤ 122) × (to_uppercase d ≡ d - 32)) ⊎ (((d < 97) ⊎ (122 < d)) × (to_uppercase d ≡ d))
-        → (d ≡ to_uppercase f) ⊎ (d ≡ to_lowercase f) → to_uppercase d ≡ f
+    by : (f < 97) ⊎ (122 < f) → ((97 ≤ f) × (f ≤ 122) × (to_ascii_uppercase f ≡ f - 32)) ⊎ (((f < 97) ⊎ (122 < f)) × (to_ascii_uppercase f ≡ f))
+        → ((65 ≤ f) × (f ≤ 90) × (to_ascii_lowercase f ≡ f + 32)) ⊎ (((f < 65) ⊎ (90 < f)) × (to_ascii_lowercase f ≡ f))
+        → ((97 ≤ d) × (d ≤ 122) × (to_ascii_uppercase d ≡ d - 32)) ⊎ (((d < 97) ⊎ (122 < d)) × (to_ascii_uppercase d ≡ d))
+        → (d ≡ to_ascii_uppercase f) ⊎ (d ≡ to_ascii_lowercase f) → to_ascii_uppercase d ≡ f
     by (inl a) (inl h) l d' k = let x : 97 ≤ f = h.0 in absurd (omega arith)
     by (inr a) (inl h) l d' k = let x : f ≤ 122 = h.1 in absurd (omega arith)
     by u (inr h) l (inr e) (inl k) = e.1 ∙ k ∙ h.1
-    by (inl a) (inr h) l (inl e) (inl k) = let x : 97 ≤ d = e.0 in let y : to_uppercase f ≡ f = h.1 in absurd (omega arith)
-    by (inr a) (inr h) l (inl e) (inl k) = let x : d ≤ 122 = e.1 in let y : to_uppercase f ≡ f = h.1 in absurd (omega arith)
-    by u (inr h) (inl l) (inl e) (inr k) = let x : to_uppercase d ≡ d - 32 = e.2 in let y : to_lowercase f ≡ f + 32 = l.2 in omega arith
-    by u (inr h) (inl l) (inr (inl e, g)) (inr k) = let x : 65 ≤ f = l.0 in let y : to_lowercase f ≡ f + 32 = l.2 in absurd (omega arith)
-    by u (inr h) (inl l) (inr (inr e, g)) (inr k) = let x : f ≤ 90 = l.1 in let y : to_lowercase f ≡ f + 32 = l.2 in absurd (omega arith)
-    by (inl a) (inr h) (inr l) (inl e) (inr k) = let x : 97 ≤ d = e.0 in let y : to_lowercase f ≡ f = l.1 in absurd (omega arith)
-    by (inr a) (inr h) (inr l) (inl e) (inr k) = let x : d ≤ 122 = e.1 in let y : to_lowercase f ≡ f = l.1 in absurd (omega arith)
+    by (inl a) (inr h) l (inl e) (inl k) = let x : 97 ≤ d = e.0 in let y : to_ascii_uppercase f ≡ f = h.1 in absurd (omega arith)
+    by (inr a) (inr h) l (inl e) (inl k) = let x : d ≤ 122 = e.1 in let y : to_ascii_uppercase f ≡ f = h.1 in absurd (omega arith)
+    by u (inr h) (inl l) (inl e) (inr k) = let x : to_ascii_uppercase d ≡ d - 32 = e.2 in let y : to_ascii_lowercase f ≡ f + 32 = l.2 in omega arith
+    by u (inr h) (inl l) (inr (inl e, g)) (inr k) = let x : 65 ≤ f = l.0 in let y : to_ascii_lowercase f ≡ f + 32 = l.2 in absurd (omega arith)
+    by u (inr h) (inl l) (inr (inr e, g)) (inr k) = let x : f ≤ 90 = l.1 in let y : to_ascii_lowercase f ≡ f + 32 = l.2 in absurd (omega arith)
+    by (inl a) (inr h) (inr l) (inl e) (inr k) = let x : 97 ≤ d = e.0 in let y : to_ascii_lowercase f ≡ f = l.1 in absurd (omega arith)
+    by (inr a) (inr h) (inr l) (inl e) (inr k) = let x : d ≤ 122 = e.1 in let y : to_ascii_lowercase f ≡ f = l.1 in absurd (omega arith)
     by u (inr h) (inr l) (inr e) (inr k) = e.1 ∙ k ∙ l.1
 
-lower_of_case : (f d : ℕ) → ALower f → (d ≡ to_uppercase f) ⊎ (d ≡ to_lowercase f) → fold_code_point true d ≡ f
+lower_of_case : (f d : ℕ) → ALower f → (d ≡ to_ascii_uppercase f) ⊎ (d ≡ to_ascii_lowercase f) → fold_code_point true d ≡ f
 unfolding ALower
 lower_of_case f d (u, a, b) h = by u (upper_cases f) (lower_cases f) (lower_cases d) h
   where
-    plain : d ≡ f → fold_code_point true d ≡ to_lowercase d
+    plain : d ≡ f → fold_code_point true d ≡ to_ascii_lowercase d
     plain e = fold_plain d (λ k. a (sym e ∙ k)) (λ k. b (sym e ∙ k))
 
-    by : (f < 65) ⊎ (90 < f) → ((97 ≤ f) × (f ≤ 122) × (to_uppercase f ≡ f - 32)) ⊎ (((f < 97) ⊎ (122 < f)) × (to_uppercase f ≡ f))
-        → ((65 ≤ f) × (f ≤ 90) × (to_lowercase f ≡ f + 32)) ⊎ (((f < 65) ⊎ (90 < f)) × (to_lowercase f ≡ f))
-        → ((65 ≤ d) × (d ≤ 90) × (to_lowercase d ≡ d + 32)) ⊎ (((d < 65) ⊎ (90 < d)) × (to_lowercase d ≡ d))
-        → (d ≡ to_uppercase f) ⊎ (d ≡ to_lowercase f) → fold_code_point true d ≡ f
+    by : (f < 65) ⊎ (90 < f) → ((97 ≤ f) × (f ≤ 122) × (to_ascii_uppercase f ≡ f - 32)) ⊎ (((f < 97) ⊎ (122 < f)) × (to_ascii_uppercase f ≡ f))
+        → ((65 ≤ f) × (f ≤ 90) × (to_ascii_lowercase f ≡ f + 32)) ⊎ (((f < 65) ⊎ (90 < f)) × (to_ascii_lowercase f ≡ f))
+        → ((65 ≤ d) × (d ≤ 90) × (to_ascii_lowercase d ≡ d + 32)) ⊎ (((d < 65) ⊎ (90 < d)) × (to_ascii_lowercase d ≡ d))
+        → (d ≡ to_ascii_uppercase f) ⊎ (d ≡ to_ascii_lowercase f) → fold_code_point true d ≡ f
     by (inl x) h (inl l) d' k = let y : 65 ≤ f = l.0 in absurd (omega arith)
     by (inr x) h (inl l) d' k = let y : f ≤ 90 = l.1 in absurd (omega arith)
     by u h (inr l) (inr e) (inr k) = plain (k ∙ l.1) ∙ e.1 ∙ k ∙ l.1
     by u (inr h) (inr l) (inr e) (inl k) = plain (k ∙ h.1) ∙ e.1 ∙ k ∙ h.1
-    by (inl x) h (inr l) (inl e) (inr k) = let y : 65 ≤ d = e.0 in let z : to_lowercase f ≡ f = l.1 in absurd (omega arith)
-    by (inr x) h (inr l) (inl e) (inr k) = let y : d ≤ 90 = e.1 in let z : to_lowercase f ≡ f = l.1 in absurd (omega arith)
-    by (inl x) (inr h) (inr l) (inl e) (inl k) = let y : 65 ≤ d = e.0 in let z : to_uppercase f ≡ f = h.1 in absurd (omega arith)
-    by (inr x) (inr h) (inr l) (inl e) (inl k) = let y : d ≤ 90 = e.1 in let z : to_uppercase f ≡ f = h.1 in absurd (omega arith)
+    by (inl x) h (inr l) (inl e) (inr k) = let y : 65 ≤ d = e.0 in let z : to_ascii_lowercase f ≡ f = l.1 in absurd (omega arith)
+    by (inr x) h (inr l) (inl e) (inr k) = let y : d ≤ 90 = e.1 in let z : to_ascii_lowercase f ≡ f = l.1 in absurd (omega arith)
+    by (inl x) (inr h) (inr l) (inl e) (inl k) = let y : 65 ≤ d = e.0 in let z : to_ascii_uppercase f ≡ f = h.1 in absurd (omega arith)
+    by (inr x) (inr h) (inr l) (inl e) (inl k) = let y : d ≤ 90 = e.1 in let z : to_ascii_uppercase f ≡ f = h.1 in absurd (omega arith)
     by u (inl h) (inr l) (inl e) (inl k) =
-        let x : to_uppercase f ≡ f - 32 = h.2 in
+        let x : to_ascii_uppercase f ≡ f - 32 = h.2 in
         let y : f ≤ 122 = h.1 in
         let z : 97 ≤ f = h.0 in
-        let w : to_lowercase d ≡ d + 32 = e.2 in
+        let w : to_ascii_lowercase d ≡ d + 32 = e.2 in
         fold_plain d (λ q. omega arith) (λ q. omega arith) ∙ omega arith
     by u (inl h) (inr l) (inr (inl e, g)) (inl k) =
-        let x : to_uppercase f ≡ f - 32 = h.2 in let z : 97 ≤ f = h.0 in absurd (omega arith)
+        let x : to_ascii_uppercase f ≡ f - 32 = h.2 in let z : 97 ≤ f = h.0 in absurd (omega arith)
     by u (inl h) (inr l) (inr (inr e, g)) (inl k) =
-        let x : to_uppercase f ≡ f - 32 = h.2 in let z : f ≤ 122 = h.1 in absurd (omega arith)
+        let x : to_ascii_uppercase f ≡ f - 32 = h.2 in let z : f ≤ 122 = h.1 in absurd (omega arith)
 
 beyond_fold : (f d : ℕ) → contains (nonascii_with_fold true f) d ≡ true → fold_code_point true d ≡ f
 unfolding fold_code_point
@@ -203,7 +203,7 @@ same_fold false c d e = at_false c d e
   where
     at_false : (c d : ℕ) → contains (all_with_fold false (fold_code_point false c)) d ≡ true → fold_code_point false d ≡ fold_code_point false c
     at_false c d e =
-        let f = to_uppercase c in
+        let f = to_ascii_uppercase c in
         ⊎_elim (λ h. upper_of_case f d (an_upper c) (in_cases f d h)) (λ h. absurd (true≢false (sym h)))
         (either (cases_of f) [] d (sym (ap (λ x. contains x d) (with_fold false f)) ∙ e))
 
@@ -228,16 +228,16 @@ own_class unicode d = in_all unicode (fold_code_point unicode d) d (has_own unic
           | inl h ↦
               let a : 97 ≤ d = h.0 in
               let b : d ≤ 122 = h.1 in
-              let e : to_uppercase d ≡ d - 32 = h.2 in
-              elim (lower_cases (to_uppercase d)) [
-                | inl k ↦ let g : to_lowercase (to_uppercase d) ≡ to_uppercase d + 32 = k.2 in
-                    let back : to_lowercase (to_uppercase d) ≡ d = omega arith in
-                    inl (subst (λ x. contains (cases_of (to_uppercase d)) x ≡ true) back (has_both (to_uppercase d)).1)
+              let e : to_ascii_uppercase d ≡ d - 32 = h.2 in
+              elim (lower_cases (to_ascii_uppercase d)) [
+                | inl k ↦ let g : to_ascii_lowercase (to_ascii_uppercase d) ≡ to_ascii_uppercase d + 32 = k.2 in
+                    let back : to_ascii_lowercase (to_ascii_uppercase d) ≡ d = omega arith in
+                    inl (subst (λ x. contains (cases_of (to_ascii_uppercase d)) x ≡ true) back (has_both (to_ascii_uppercase d)).1)
                 | inr k ↦ elim k.0 [ inl x ↦ absurd (omega arith) | inr x ↦ absurd (omega arith) ]
               ]
           | inr h ↦
-              let back : to_uppercase (to_uppercase d) ≡ d = ap to_uppercase h.1 ∙ h.1 in
-              inl (subst (λ x. contains (cases_of (to_uppercase d)) x ≡ true) back (has_both (to_uppercase d)).0)
+              let back : to_ascii_uppercase (to_ascii_uppercase d) ≡ d = ap to_ascii_uppercase h.1 ∙ h.1 in
+              inl (subst (λ x. contains (cases_of (to_ascii_uppercase d)) x ≡ true) back (has_both (to_ascii_uppercase d)).0)
         ]
     has_own true d =
         elim (cases_eq d 0x017F) [
@@ -245,31 +245,31 @@ own_class unicode d = in_all unicode (fold_code_point unicode d) d (has_own unic
           | inr ne ↦
               elim (cases_eq d 0x212A) [
                 | inl e ↦ rw e (inr refl)
-                | inr ne' ↦ let plain : fold_code_point true d ≡ to_lowercase d = fold_plain d ne ne' in inl (plainly plain)
+                | inr ne' ↦ let plain : fold_code_point true d ≡ to_ascii_lowercase d = fold_plain d ne ne' in inl (plainly plain)
               ]
         ]
       where
-        plainly : fold_code_point true d ≡ to_lowercase d → contains (cases_of (fold_code_point true d)) d ≡ true
+        plainly : fold_code_point true d ≡ to_ascii_lowercase d → contains (cases_of (fold_code_point true d)) d ≡ true
         plainly plain =
             elim (lower_cases d) [
               | inl h ↦
                   let a : 65 ≤ d = h.0 in
                   let b : d ≤ 90 = h.1 in
-                  let e : to_lowercase d ≡ d + 32 = h.2 in
+                  let e : to_ascii_lowercase d ≡ d + 32 = h.2 in
                   elim (upper_cases (fold_code_point true d)) [
-                    | inl k ↦ let g : to_uppercase (fold_code_point true d) ≡ fold_code_point true d - 32 = k.2 in
-                        let back : to_uppercase (fold_code_point true d) ≡ d = omega arith in
+                    | inl k ↦ let g : to_ascii_uppercase (fold_code_point true d) ≡ fold_code_point true d - 32 = k.2 in
+                        let back : to_ascii_uppercase (fold_code_point true d) ≡ d = omega arith in
                         subst (λ x. contains (cases_of (fold_code_point true d)) x ≡ true) back (has_both (fold_code_point true d)).0
                     | inr k ↦ elim k.0 [ inl x ↦ absurd (omega arith) | inr x ↦ absurd (omega arith) ]
                   ]
               | inr h ↦
-                  let back : to_lowercase (fold_code_point true d) ≡ d = ap to_lowercase (plain ∙ h.1) ∙ h.1 in
+                  let back : to_ascii_lowercase (fold_code_point true d) ≡ d = ap to_ascii_lowercase (plain ∙ h.1) ∙ h.1 in
                   subst (λ x. contains (cases_of (fold_code_point true d)) x ≡ true) back (has_both (fold_code_point true d)).1
             ]
 
-alone : (f : ℕ) → to_uppercase f ≡ f → to_lowercase f ≡ f → cases_of f ≡ f ∷ []
+alone : (f : ℕ) → to_ascii_uppercase f ≡ f → to_ascii_lowercase f ≡ f → cases_of f ≡ f ∷ []
 unfolding cases_of
-alone f e g = rw (eq-eqb (to_uppercase f) (to_lowercase f) (e ∙ sym g)) refl
+alone f e g = rw (eq-eqb (to_ascii_uppercase f) (to_ascii_lowercase f) (e ∙ sym g)) refl
 
 -- only a letter has the fold of another
 pub letter_or_alone : (unicode : Bool) (d : ℕ)
@@ -283,7 +283,7 @@ letter_or_alone false d = at_false d
 
     at_false : (d : ℕ) → (expand_code_point d true false ≡ d ∷ []) ⊎ ((upper : ℕ) × (65 ≤ upper) × (upper ≤ 90) × (contains (expand_code_point upper true false) d ≡ true))
     at_false d =
-        let f = to_uppercase d in
+        let f = to_ascii_uppercase d in
         elim (lower_cases f) [
           | inl h ↦ let b : f ≤ 90 = h.1 in
               elim (upper_cases f) [
@@ -294,7 +294,7 @@ letter_or_alone false d = at_false d
               elim (upper_cases d) [
                 | inl k ↦ let a : 97 ≤ d = k.0 in let b : d ≤ 122 = k.1 in let e : f ≡ d - 32 = k.2 in
                     elim h.0 [ inl x ↦ absurd (omega arith) | inr x ↦ absurd (omega arith) ]
-                | inr k ↦ inl (with_fold false f ∙ ap (λ x. cases_of x ++ []) k.1 ∙ ap (λ x. x ++ []) (alone d k.1 (ap to_lowercase (sym k.1) ∙ h.1 ∙ k.1)))
+                | inr k ↦ inl (with_fold false f ∙ ap (λ x. cases_of x ++ []) k.1 ∙ ap (λ x. x ++ []) (alone d k.1 (ap to_ascii_lowercase (sym k.1) ∙ h.1 ∙ k.1)))
               ]
         ]
 letter_or_alone true d = at_true d
@@ -309,15 +309,15 @@ letter_or_alone true d = at_true d
         let y : f - 32 ≤ 90 = omega arith in
         (f - 32, x, y, by_fold (f - 32) d (fold_plain (f - 32) (λ q. omega arith) (λ q. omega arith) ∙ back (lower_cases (f - 32)) ∙ e))
       where
-        back : ((65 ≤ f - 32) × (f - 32 ≤ 90) × (to_lowercase (f - 32) ≡ f - 32 + 32)) ⊎ (((f - 32 < 65) ⊎ (90 < f - 32)) × (to_lowercase (f - 32) ≡ f - 32)) → to_lowercase (f - 32) ≡ f
-        back (inl h) = let z : to_lowercase (f - 32) ≡ f - 32 + 32 = h.2 in omega arith
+        back : ((65 ≤ f - 32) × (f - 32 ≤ 90) × (to_ascii_lowercase (f - 32) ≡ f - 32 + 32)) ⊎ (((f - 32 < 65) ⊎ (90 < f - 32)) × (to_ascii_lowercase (f - 32) ≡ f - 32)) → to_ascii_lowercase (f - 32) ≡ f
+        back (inl h) = let z : to_ascii_lowercase (f - 32) ≡ f - 32 + 32 = h.2 in omega arith
         back (inr (inl h, k)) = absurd (omega arith)
         back (inr (inr h, k)) = absurd (omega arith)
 
-    at_plain : (d : ℕ) → fold_code_point true d ≡ to_lowercase d → (expand_code_point d true true ≡ d ∷ []) ⊎ ((upper : ℕ) × (65 ≤ upper) × (upper ≤ 90) × (contains (expand_code_point upper true true) d ≡ true))
+    at_plain : (d : ℕ) → fold_code_point true d ≡ to_ascii_lowercase d → (expand_code_point d true true ≡ d ∷ []) ⊎ ((upper : ℕ) × (65 ≤ upper) × (upper ≤ 90) × (contains (expand_code_point upper true true) d ≡ true))
     at_plain d plain =
         elim (lower_cases d) [
-          | inl h ↦ let a : 65 ≤ d = h.0 in let b : d ≤ 90 = h.1 in let e : to_lowercase d ≡ d + 32 = h.2 in
+          | inl h ↦ let a : 65 ≤ d = h.0 in let b : d ≤ 90 = h.1 in let e : to_ascii_lowercase d ≡ d + 32 = h.2 in
               inr (is_letter d (d + 32) (sym (plain ∙ e)) (omega arith) (omega arith))
           | inr h ↦
               elim (upper_cases d) [
@@ -354,10 +354,10 @@ any-intro test [] d e t = absurd (true≢false (sym e))
 any-intro test (x ∷ xs) d e t =
     ⊎_elim (λ h. or_left (test x) _ (sym (ap test (eqb-true d x h)) ∙ t)) (λ h. or_right (test x) _ (any-intro test xs d h t)) (or_cases (nat_eq d x) _ e)
 
-pub fold-own : (unicode : Bool) (test : ℕ → Bool) (d : ℕ) → test d ≡ true → same_fold_passes unicode test d ≡ true
+pub fold-own : (unicode : Bool) (test : ℕ → Bool) (d : ℕ) → test d ≡ true → some_case_variant_passes unicode test d ≡ true
 fold-own unicode test d t = any-intro test (expand_code_point d true unicode) d (own_class unicode d) t
 
-pub fold-same : (unicode : Bool) (test : ℕ → Bool) (c d : ℕ) → contains (expand_code_point c true unicode) d ≡ true → same_fold_passes unicode test d ≡ same_fold_passes unicode test c
+pub fold-same : (unicode : Bool) (test : ℕ → Bool) (c d : ℕ) → contains (expand_code_point c true unicode) d ≡ true → some_case_variant_passes unicode test d ≡ some_case_variant_passes unicode test c
 fold-same unicode test c d e = ap (list_any test) (same_class unicode c d e)
 
 iff : (a b : Bool) → (a ≡ true → b ≡ true) → (b ≡ true → a ≡ true) → a ≡ b
@@ -386,8 +386,8 @@ closed-twice flags test c = by flags.icase
             either_way false = refl
     by true =
         iff _ _
-        (λ h. let k = any-elim (same_fold_passes flags.unicode test) _ h in sym (fold-same flags.unicode test c k.0 k.1) ∙ k.2)
-        (λ h. fold-own flags.unicode (same_fold_passes flags.unicode test) c h)
+        (λ h. let k = any-elim (some_case_variant_passes flags.unicode test) _ h in sym (fold-same flags.unicode test c k.0 k.1) ∙ k.2)
+        (λ h. fold-own flags.unicode (some_case_variant_passes flags.unicode test) c h)
 
 -- ---- The letters one after another
 
@@ -411,9 +411,9 @@ in_ones (d ∷ ds) c = ap₂ (λ x y. x || y) (in_one c d) (in_ones ds c)
 
 -- the letters below this one are done
 pub record ClosingSoFar (test : ℕ → Bool) (unicode : Bool) (set : Intervals) (next : ℕ) : Type 0 where
-  pub sound : (d : ℕ) → in_intervals set d ≡ true → same_fold_passes unicode test d ≡ true
+  pub sound : (d : ℕ) → in_intervals set d ≡ true → some_case_variant_passes unicode test d ≡ true
   pub kept : (d : ℕ) → test d ≡ true → in_intervals set d ≡ true
-  pub complete : (upper d : ℕ) → 65 ≤ upper → upper < next → same_fold_passes unicode test upper ≡ true
+  pub complete : (upper d : ℕ) → 65 ≤ upper → upper < next → some_case_variant_passes unicode test upper ≡ true
       → contains (expand_code_point upper true unicode) d ≡ true → in_intervals set d ≡ true
 
 pub closing-none : (test : ℕ → Bool) (unicode : Bool) (set : Intervals) → ((d : ℕ) → test d ≡ in_intervals set d) → ClosingSoFar test unicode set 65
@@ -423,8 +423,8 @@ closing-none test unicode set same = record {
   complete = λ upper d low high h k. absurd (omega arith);
 }
 
-in_closing : (test : ℕ → Bool) (unicode : Bool) (next d : ℕ) → in_intervals (case_variants_if_one_passes test next unicode) d ≡ (same_fold_passes unicode test next && contains (expand_code_point next true unicode) d)
-in_closing test unicode next d = by (same_fold_passes unicode test next)
+in_closing : (test : ℕ → Bool) (unicode : Bool) (next d : ℕ) → in_intervals (case_variants_if_one_passes test next unicode) d ≡ (some_case_variant_passes unicode test next && contains (expand_code_point next true unicode) d)
+in_closing test unicode next d = by (some_case_variant_passes unicode test next)
   where
     by : (b : Bool) → in_intervals (if b then map single_code_point_interval (expand_code_point next true unicode) else []) d ≡ (b && contains (expand_code_point next true unicode) d)
     by true = in_ones (expand_code_point next true unicode) d
@@ -434,7 +434,7 @@ pub closing-more : (test : ℕ → Bool) (unicode : Bool) (set new : Intervals) 
     → new ≡ set ++ case_variants_if_one_passes test next unicode → ClosingSoFar test unicode new (next + 1)
 closing-more test unicode set new next s e = record {
   sound = λ d h. ⊎_elim (λ k. s.sound d k)
-      (λ k. let both = and_parts (same_fold_passes unicode test next) _ (sym (in_closing test unicode next d) ∙ k) in
+      (λ k. let both = and_parts (some_case_variant_passes unicode test next) _ (sym (in_closing test unicode next d) ∙ k) in
       fold-same unicode test next d both.1 ∙ both.0)
       (or_cases (in_intervals set d) _ (sym (is d) ∙ h));
   kept = λ d h. is d ∙ or_left _ _ (s.kept d h);
@@ -443,7 +443,7 @@ closing-more test unicode set new next s e = record {
         | inl below ↦ is d ∙ or_left _ _ (s.complete upper d low below h k)
         | inr above ↦ let same : upper ≡ next = omega arith in
             is d ∙ or_right (in_intervals set d) _
-            (in_closing test unicode next d ∙ rw (sym (ap (same_fold_passes unicode test) same) ∙ h, sym (ap (λ x. contains (expand_code_point x true unicode) d) same) ∙ k) refl)
+            (in_closing test unicode next d ∙ rw (sym (ap (some_case_variant_passes unicode test) same) ∙ h, sym (ap (λ x. contains (expand_code_point x true unicode) d) same) ∙ k) refl)
       ];
 }
   where
@@ -451,10 +451,10 @@ closing-more test unicode set new next s e = record {
     is d = ap (λ x. in_intervals x d) e ∙ in_append set (case_variants_if_one_passes test next unicode) d
 
 pub closing-all : (test : ℕ → Bool) (unicode : Bool) (set : Intervals) (next : ℕ) → ClosingSoFar test unicode set next → 91 ≤ next
-    → (d : ℕ) → in_intervals set d ≡ same_fold_passes unicode test d
+    → (d : ℕ) → in_intervals set d ≡ some_case_variant_passes unicode test d
 closing-all test unicode set next s done d = iff _ _ (s.sound d) (λ h. by h (letter_or_alone unicode d))
   where
-    by : same_fold_passes unicode test d ≡ true
+    by : some_case_variant_passes unicode test d ≡ true
         → (expand_code_point d true unicode ≡ d ∷ []) ⊎ ((upper : ℕ) × (65 ≤ upper) × (upper ≤ 90) × (contains (expand_code_point upper true unicode) d ≡ true))
         → in_intervals set d ≡ true
     by h (inl single_code_point_interval) = s.kept d (⊎_elim (λ k. k) (λ k. absurd (true≢false (sym k))) (or_cases (test d) false (sym (ap (list_any test) single_code_point_interval) ∙ h)))

@@ -3,30 +3,30 @@ use Rattle.std.proofs.Common.{◌≡◌, ℕ, ◌+◌, ◌≤◌, List, [], ◌�
 use Rattle.regex_pattern_front.specs.declared.group_stack.OpenGroup.{OpenGroup}
 use Rattle.regex_pattern_front.specs.SubtreeListInvariants.{AreSoundSubtrees}
 use Rattle.regex_pattern_front.specs.declared.parse.Parser.{Parser}
-use Rattle.regex_pattern_front.specs.GroupStackInvariant.{captures, nodes_at, AreOpen, OpenDisjunctionsHaveAllGroups}
+use Rattle.regex_pattern_front.specs.GroupIdsWhileParsing.{captures_opened_by_group_kind, nodes_at, AreOpen, OpenDisjunctionsHaveAllGroups}
 use Rattle.regex_pattern_front.proofs.PartLemmas.{parts-more, empty-list}
 
 pub open-more : (greatest more first inner : ℕ) (os : List OpenGroup) → greatest ≤ more → AreOpen greatest first os inner → AreOpen more first os inner
 open-more greatest more first inner [] less h = h
 open-more greatest more first inner (o ∷ os) less h =
-    (parts-more first o.start greatest more (nodes_at o.outer) less h.0, open-more greatest more (o.start + captures o.opening) inner os less h.1)
+    (parts-more first o.start greatest more (nodes_at o.outer) less h.0, open-more greatest more (o.start + captures_opened_by_group_kind o.opening) inner os less h.1)
 
 pub open-push : (greatest first inner : ℕ) (os : List OpenGroup) (o : OpenGroup) → AreOpen greatest first os inner → AreSoundSubtrees inner o.start greatest (nodes_at o.outer)
-    → AreOpen greatest first (os ++ o ∷ []) (o.start + captures o.opening)
+    → AreOpen greatest first (os ++ o ∷ []) (o.start + captures_opened_by_group_kind o.opening)
 open-push greatest first inner [] o is parts = (rw is parts, refl)
-open-push greatest first inner (p ∷ os) o h parts = (h.0, open-push greatest (p.start + captures p.opening) inner os o h.1 parts)
+open-push greatest first inner (p ∷ os) o h parts = (h.0, open-push greatest (p.start + captures_opened_by_group_kind p.opening) inner os o h.1 parts)
 
 -- what is known of the last
 pub record IsLast (greatest first inner : ℕ) (os : List OpenGroup) (o : OpenGroup) : Type 0 where
   pub middle : ℕ
   pub around : AreOpen greatest first os middle
   pub level : AreSoundSubtrees middle o.start greatest (nodes_at o.outer)
-  pub within : o.start + captures o.opening ≡ inner
+  pub within : o.start + captures_opened_by_group_kind o.opening ≡ inner
 
 pub open-pop : (greatest first inner : ℕ) (os : List OpenGroup) (o : OpenGroup) → AreOpen greatest first (os ++ o ∷ []) inner → IsLast greatest first inner os o
 open-pop greatest first inner [] o h = record { middle = first; around = refl; level = h.0; within = h.1 }
 open-pop greatest first inner (p ∷ os) o h =
-    let last = open-pop greatest (p.start + captures p.opening) inner os o h.1 in
+    let last = open-pop greatest (p.start + captures_opened_by_group_kind p.opening) inner os o h.1 in
     record { middle = last.middle; around = (h.0, last.around); level = last.level; within = last.within }
 
 -- nothing is open

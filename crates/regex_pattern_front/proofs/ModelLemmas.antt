@@ -3,7 +3,7 @@ use Rattle.std.proofs.Common.{◌≡◌, List, [], ◌∷◌, ◌++◌, map, ref
 use Rattle.std.proofs.lemmas.List.{map-append}
 use Rattle.regex_meaning.specs.Tree as tree
 use Rattle.regex_grammar.specs.ReadingStatesAndDigits as grammar
-use Rattle.regex_grammar.specs.ParseStack.{join}
+use Rattle.regex_grammar.specs.ParseStack.{nest_alternatives}
 use Rattle.regex_pattern_front.specs.declared.ir.Node.{Node}
 use Rattle.regex_pattern_front.specs.declared.ir.Node.TheVariants.{Empty}
 use Rattle.regex_pattern_front.specs.AstToSpecTree.{node_of, cat_of}
@@ -18,7 +18,7 @@ join-step [] left last = refl
 join-step (n ∷ []) left last = refl
 join-step (n ∷ m ∷ ns) left last = ap (λ t. tree.alt n t) (join-step (m ∷ ns) left last)
 
-pub join-is : (ns : List tree.Node) (last : tree.Node) → nest_all_alternatives (ns ++ last ∷ []) ≡ join ns last
+pub join-is : (ns : List tree.Node) (last : tree.Node) → nest_all_alternatives (ns ++ last ∷ []) ≡ nest_alternatives ns last
 join-is [] last = refl
 join-is (n ∷ []) last = refl
 join-is (n ∷ m ∷ ns) last = ap (λ t. tree.alt n t) (join-is (m ∷ ns) last)

@@ -3,7 +3,7 @@ use Rattle.std.proofs.Common.{◌≡◌, Bool, false, List, [], ◌∷◌, ℕ, 
 use Rattle.std.proofs.Common.{Box, Option, String}
 use Rattle.regex_meaning.specs.Tree as tree
 use Rattle.regex_pattern_front.specs.AstToSpecTree.{node_of, nodes_of, cat_of}
-use Rattle.regex_pattern_front.specs.OptimizedTrees.{reads_one_character, optimized, as_one_char_loop, rest_of_alternatives, prepend_alternative, restored_alternatives}
+use Rattle.regex_pattern_front.specs.OptimizedTrees.{reads_one_character, optimized, loop_turned_into_char_loop, rest_of_alternatives, first_alternative_before_chain, alternatives_with_links_unreversed}
 use Rattle.regex_pattern_front.specs.declared.ir.Node.{Node, Row_of-Node, end_of-Node, more_of-Node, items-the_row-Node, items_hidden-the_row-Node-0}
 use Rattle.regex_pattern_front.specs.declared.ir.Node.{Cat'}
 use Rattle.regex_pattern_front.specs.declared.ir.Node.TheVariants.{Char, CharSet, ByteSet, Cat, Alt, Bracket, MatchAny, MatchAnyExceptLineTerminator}
@@ -84,28 +84,28 @@ optimized-leaf = ind-Node (λ n. HasNone n → node_of n ≡ optimized (node_of 
 
 -- ---- What a node is not
 
-narrowed-Cat : (v : Vec Node Global) → node_of (Cat v) ≡ as_one_char_loop (node_of (Cat v))
+narrowed-Cat : (v : Vec Node Global) → node_of (Cat v) ≡ loop_turned_into_char_loop (node_of (Cat v))
 narrowed-Cat v = rw (node_of-Cat v) (of v.items)
   where
-    of : (xs : List Node) → cat_of xs ≡ as_one_char_loop (cat_of xs)
+    of : (xs : List Node) → cat_of xs ≡ loop_turned_into_char_loop (cat_of xs)
     of [] = refl
     of (x ∷ xs) = refl
 
 narrowed-rolled : (x : Node-F Node) → ((l : Box Node Global) (q : Quantifier) (groups : Range ℕ) → roll-Node x ≡ Loop l q groups → ⊥)
-    → node_of (roll-Node x) ≡ as_one_char_loop (node_of (roll-Node x))
+    → node_of (roll-Node x) ≡ loop_turned_into_char_loop (node_of (roll-Node x))
 unfolding node_of roll-Node roll
 narrowed-rolled (Node-F.Cat v) h = narrowed-Cat v
 narrowed-rolled (Node-F.Loop l q e) h = absurd (h l q e (sym (rolls-Loop l q e)))
 narrowed-rolled _ h = refl
 
-pub narrowed-other : (n : Node) → ((l : Box Node Global) (q : Quantifier) (groups : Range ℕ) → n ≡ Loop l q groups → ⊥) → node_of n ≡ as_one_char_loop (node_of n)
-narrowed-other = ind-Node (λ n. ((l : Box Node Global) (q : Quantifier) (groups : Range ℕ) → n ≡ Loop l q groups → ⊥) → node_of n ≡ as_one_char_loop (node_of n)) (λ x y is. narrowed-rolled x)
+pub narrowed-other : (n : Node) → ((l : Box Node Global) (q : Quantifier) (groups : Range ℕ) → n ≡ Loop l q groups → ⊥) → node_of n ≡ loop_turned_into_char_loop (node_of n)
+narrowed-other = ind-Node (λ n. ((l : Box Node Global) (q : Quantifier) (groups : Range ℕ) → n ≡ Loop l q groups → ⊥) → node_of n ≡ loop_turned_into_char_loop (node_of n)) (λ x y is. narrowed-rolled x)
 
 -- where there are no alternatives there is no first one
 abbrev pub HasNoFirst : (node rest : tree.Node) → Type 0
 HasNoFirst node rest = record {
   from : node ≡ rest_of_alternatives node;
-  to : rest ≡ prepend_alternative node rest;
+  to : rest ≡ first_alternative_before_chain node rest;
 }
 
 unturned-Cat : (rest : tree.Node) (v : Vec Node Global) → HasNoFirst (node_of (Cat v)) rest
@@ -127,17 +127,17 @@ unturned rest = ind-Node (λ n. ((l r : Box Node Global) → n ≡ Alt l r → �
 -- ---- Alternatives that were turned
 
 pub turned-step : (count : ℕ) (done rest : tree.Node) → 0 < count
-    → restored_alternatives (count - 1) (rest_of_alternatives done) (prepend_alternative done rest) ≡ restored_alternatives count done rest
+    → alternatives_with_links_unreversed (count - 1) (rest_of_alternatives done) (first_alternative_before_chain done rest) ≡ alternatives_with_links_unreversed count done rest
 turned-step zero done rest h = absurd (omega (arith, h))
 turned-step (suc count) done rest h =
     let less : suc count - 1 ≡ count = omega arith in
-    ap (λ n. restored_alternatives n (rest_of_alternatives done) (prepend_alternative done rest)) less
+    ap (λ n. alternatives_with_links_unreversed n (rest_of_alternatives done) (first_alternative_before_chain done rest)) less
 
-pub turned-all : (count : ℕ) (done rest : tree.Node) → count ≡ 0 → restored_alternatives count done rest ≡ tree.alt done rest
+pub turned-all : (count : ℕ) (done rest : tree.Node) → count ≡ 0 → alternatives_with_links_unreversed count done rest ≡ tree.alt done rest
 turned-all count done rest h = rw h refl
 
 pub turned-one : (count : ℕ) (left done rest : tree.Node)
-    → restored_alternatives (count + 1) (tree.alt left done) rest ≡ restored_alternatives count done (tree.alt left rest)
+    → alternatives_with_links_unreversed (count + 1) (tree.alt left done) rest ≡ alternatives_with_links_unreversed count done (tree.alt left rest)
 turned-one count left done rest =
     let more : count + 1 ≡ suc count = omega arith in
-    ap (λ n. restored_alternatives n (tree.alt left done) rest) more
+    ap (λ n. alternatives_with_links_unreversed n (tree.alt left done) rest) more

@@ -8,13 +8,13 @@ use Rattle.regex_meaning.specs.NumberListHelpers.{contains, numbers_from}
 use Rattle.regex_meaning.specs.Tree.{Quantifier, Node, char, char_set, byte_set, byte_sequence, cat, alt, bracket, string_set, match_any}
 use Rattle.regex_meaning.specs.Tree.{match_any_except_line_terminator, capture_group, back_ref, lookaround, loop, loop_1_char_body, group_ids}
 use Rattle.regex_meaning.specs.Tree.{own_id, fold_nodes, every_node_passes}
-use Rattle.regex_meaning.specs.Captures.{group_name_of_id, capturing_group_ids_and_names, group_names_by_id, own_name}
+use Rattle.regex_meaning.specs.GroupsByNumberAndName.{group_name_of_id, capturing_group_ids_and_names, group_names_by_id, own_name}
 use Rattle.regex_meaning.specs.Text.{Text, Direction}
 use Rattle.regex_meaning.specs.Outcomes.{Groups, Outcome, outcomes}
-use Rattle.regex_meaning.specs.CompilationRelation.{reads_bytes, is_byte_node}
-use Rattle.regex_meaning.specs.WellFormedTrees.{number_of_goals, own_goals, is_end_of_cat, ends_in_goal, encloses, names_the_groups_inside, refers_to_a_group}
+use Rattle.regex_meaning.specs.CompilationRelation.{tree_contains_byte_nodes, is_byte_node}
+use Rattle.regex_meaning.specs.WellFormedTrees.{number_of_goal_nodes, own_goals, is_end_of_cat, ends_in_goal, encloses, names_the_groups_inside, refers_to_a_group}
 use Rattle.regex_meaning.specs.WellFormedTrees.{has_order_in_quantifier, is_one_character, has_one_character_body, has_text_in_sequence}
-use Rattle.regex_meaning.specs.WellFormedTrees.{fits_instructions}
+use Rattle.regex_meaning.specs.WellFormedTrees.{sets_and_strings_fit_instructions}
 use Rattle.regex_meaning.proofs.WellFormedLemmas.{clauses, by_clauses}
 use Rattle.regex_pattern_front.specs.OptimizedTrees.{reads_one_character, optimized, OptimizedIsWellFormed, OptimizedHasSameOutcomes}
 use Rattle.regex_pattern_front.specs.OptimizedTrees.{OptimizedHasSameAnswers}
@@ -35,8 +35,8 @@ module _ {A : Type 0} (own : Node → A) where
       go true = one
       go false = many
 
-  module _ (join : A → A → A) (keeps : (n : Node) → own (optimized n) ≡ own n) where
-    gathered-optimized : (n : Node) → fold_nodes join own (optimized n) ≡ fold_nodes join own n
+  module _ (nest_alternatives : A → A → A) (keeps : (n : Node) → own (optimized n) ≡ own n) where
+    gathered-optimized : (n : Node) → fold_nodes nest_alternatives own (optimized n) ≡ fold_nodes nest_alternatives own n
     unfolding optimized
     gathered-optimized (cat first rest) = rw (keeps (cat first rest), gathered-optimized first, gathered-optimized rest)
     gathered-optimized (alt left right) = rw (keeps (alt left right), gathered-optimized left, gathered-optimized right)
@@ -45,8 +45,8 @@ module _ {A : Type 0} (own : Node → A) where
     gathered-optimized (loop q s e loopee) = go (reads_one_character loopee) (keeps (loop q s e loopee)) (gathered-optimized loopee)
       where
         go : (r : Bool) → own (if r then loop_1_char_body q loopee else loop q s e (optimized loopee)) ≡ own (loop q s e loopee)
-            → fold_nodes join own (optimized loopee) ≡ fold_nodes join own loopee
-            → fold_nodes join own (if r then loop_1_char_body q loopee else loop q s e (optimized loopee)) ≡ fold_nodes join own (loop q s e loopee)
+            → fold_nodes nest_alternatives own (optimized loopee) ≡ fold_nodes nest_alternatives own loopee
+            → fold_nodes nest_alternatives own (if r then loop_1_char_body q loopee else loop q s e (optimized loopee)) ≡ fold_nodes nest_alternatives own (loop q s e loopee)
         go true here below = rw here
         go false here below = rw (here, below)
     gathered-optimized (loop_1_char_body q loopee) = rw (keeps (loop_1_char_body q loopee), gathered-optimized loopee)
@@ -64,7 +64,7 @@ own-optimized (loop q s e loopee) = (
 )
 own-optimized _ = (refl, refl, refl, refl)
 
-goal_count-optimized : (n : Node) → number_of_goals (optimized n) ≡ number_of_goals n
+goal_count-optimized : (n : Node) → number_of_goal_nodes (optimized n) ≡ number_of_goal_nodes n
 goal_count-optimized = gathered-optimized own_goals ◌+◌ (λ n. (own-optimized n).0)
 
 pub group_ids-optimized : (n : Node) → group_ids (optimized n) ≡ group_ids n
@@ -73,7 +73,7 @@ group_ids-optimized = gathered-optimized own_id ◌++◌ (λ n. (own-optimized n
 pub named_ids-optimized : (n : Node) → capturing_group_ids_and_names (optimized n) ≡ capturing_group_ids_and_names n
 named_ids-optimized = gathered-optimized own_name ◌++◌ (λ n. (own-optimized n).2)
 
-pub reads_bytes-optimized : (n : Node) → reads_bytes (optimized n) ≡ reads_bytes n
+pub reads_bytes-optimized : (n : Node) → tree_contains_byte_nodes (optimized n) ≡ tree_contains_byte_nodes n
 reads_bytes-optimized = gathered-optimized is_byte_node ◌||◌ (λ n. (own-optimized n).3)
 
 pub names_by_id-optimized : (n : Node) → group_names_by_id (optimized n) ≡ group_names_by_id n
@@ -184,9 +184,9 @@ sequences-optimized (loop q s e loopee) h = of_loop has_text_in_sequence q s e l
 sequences-optimized (byte_sequence bytes) h = h
 sequences-optimized _ h = refl
 
-sets-optimized : (n : Node) → fits_instructions n ≡ true → fits_instructions (optimized n) ≡ true
+sets-optimized : (n : Node) → sets_and_strings_fit_instructions n ≡ true → sets_and_strings_fit_instructions (optimized n) ≡ true
 unfolding optimized
-sets-optimized (loop q s e loopee) h = of_loop fits_instructions q s e loopee (reads_one_character loopee) (λ _. refl) refl
+sets-optimized (loop q s e loopee) h = of_loop sets_and_strings_fit_instructions q s e loopee (reads_one_character loopee) (λ _. refl) refl
 sets-optimized (byte_set members) h = h
 sets-optimized (char_set members) h = h
 sets-optimized (string_set strings icase) h = h
@@ -203,7 +203,7 @@ well_formed-optimized root h =
       quantifiers = every-optimized has_order_in_quantifier quantifiers-optimized root w.quantifiers;
       bodies = every-optimized has_one_character_body bodies-optimized root w.bodies;
       sequences = every-optimized has_text_in_sequence sequences-optimized root w.sequences;
-      sets = every-optimized fits_instructions sets-optimized root w.sets;
+      sets = every-optimized sets_and_strings_fit_instructions sets-optimized root w.sets;
     })
 
 -- ---- Outcomes

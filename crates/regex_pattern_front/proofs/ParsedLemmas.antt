@@ -6,16 +6,16 @@ use Rattle.std.specs.Option.{option_eq}
 use Rattle.std.specs.Result.{IsErrAnd, result_err}
 use Rattle.std.proofs.lemmas.Bool.{eqb-true, eq-eqb}
 use Rattle.regex_meaning.specs.Tree as tree
-use Rattle.regex_grammar.specs.ReadingStatesAndDigits.{RemainingPattern, ParseState, groups_at, begins_with_characters, group_number_of}
-use Rattle.regex_grammar.specs.EscapesNamesQuantifiers.{ValidQuantifier, GroupName, group_name, is_name}
-use Rattle.regex_grammar.specs.ParseStack.{IsTerm, once, repeated, push, empty_disjunction}
+use Rattle.regex_grammar.specs.ReadingStatesAndDigits.{RemainingCodePoints, ParseState, groups_at, begins_with_characters, group_number_of}
+use Rattle.regex_grammar.specs.EscapesNamesQuantifiers.{BeginsQuantifier, ValidQuantifier, GroupName, group_name, is_name}
+use Rattle.regex_grammar.specs.ParseStack.{IsTerm, once, repeated, push_term, empty_disjunction}
 use Rattle.regex_grammar.specs.ParseStack as grammar
-use Rattle.regex_grammar.specs.ParserInvariants.{HasNoTree, group_names_of, AreWithinGroupLimit, with_groups, parse_state, IsParserInvariant}
+use Rattle.regex_grammar.specs.ParserInvariants.{HasNoTreeWithinLimit, group_names_of, AreWithinGroupLimit, with_groups, parse_state, IsParserInvariant}
 use Rattle.regex_grammar.proofs.OneTree.{ends_here}
 use Rattle.regex_grammar.proofs.Leaves.{one_name}
 use Rattle.regex_grammar.proofs.Found.{Ahead}
 use Rattle.regex_grammar.proofs.Standing.{stands-group, stands-named, stands-plain, stands-look, stands-leave, shape, is_look, of_term, of_look}
-use Rattle.regex_grammar.proofs.Standing.{contents_of, wrong-name, group-repeated, look-repeated, stands-begin, too-many, still-open, no-opening}
+use Rattle.regex_grammar.proofs.Standing.{contents_of, wrong-name, group-repeated, look-repeated, stands-begin, still-open, no-opening}
 use Rattle.regex_grammar.proofs.Terms.{NoTermAt, ahead_term, stands-atom, atom-refused, stands-assertion, assertion-refused}
 use Rattle.regex_pattern_front.specs.declared.parser_error.ParseFault.{ParseFault}
 use Rattle.regex_pattern_front.specs.declared.group_openings_and_names.GroupKind.{GroupKind}
@@ -26,26 +26,30 @@ use Rattle.regex_pattern_front.specs.declared.group_stack.OpenGroup.{OpenGroup}
 use Rattle.regex_pattern_front.specs.declared.parse.Parser.{Parser}
 use Rattle.regex_pattern_front.specs.GroupReaderContracts.{AreGroupNumbers, IsOpeningRead, NoneBegins, is_reversed_in, takes_quantifier}
 use Rattle.regex_pattern_front.specs.GrouplessTermContracts.{IsAtomOr}
-use Rattle.regex_pattern_front.specs.GroupStackInvariant.{OpenDisjunctionsHaveAllGroups, captures}
+use Rattle.regex_pattern_front.specs.GroupIdsWhileParsing.{OpenDisjunctionsHaveAllGroups, captures_opened_by_group_kind}
 use Rattle.regex_pattern_front.specs.PartialDisjunctionModel.{disjunction_of}
 use Rattle.regex_pattern_front.specs.ParserContracts.{IsTermWithQuantifier, IsGroupNameRead, is_named_group, around_from, open_group_of, group_kind_of, group_node_around, HasReadPatternUpTo, AdvancesOrHasNoTree}
 use Rattle.regex_pattern_front.specs.ParserContracts.{IsParseResult}
 use Rattle.regex_pattern_front.specs.CodePointReaderContracts.{IsFound, is_syntax_error}
-use Rattle.regex_pattern_front.specs.AstToSpecTree.{node_of, group_name_bytes, quantifier_of, flags_of}
+use Rattle.regex_pattern_front.specs.AstToSpecTree.{node_of, group_name_bytes, spec_quantifier_of, spec_flags_of}
 
-pub stands-once : (is_atom : Bool) (here there : RemainingPattern) (start end : ℕ) (n : Node) (found : Option Quantifier) → is_atom ≡ true → found ≡ None
+pub stands-once : (is_atom : Bool) (here there : RemainingCodePoints) (start end : ℕ) (n : Node) (found : Option Quantifier) → is_atom ≡ true → found ≡ None
     → IsFound here found there → IsTermWithQuantifier is_atom here start end (node_of n) (Ok n) there
 stands-once true here there start end n None e f h = λ opened count. rw h.0 (once h.1)
 stands-once true here there start end n (Some q) e f h = cc
 stands-once false here there start end n found e f h = absurd (true≢false (sym e))
 
-pub is-loop : (is_atom : Bool) (here there : RemainingPattern) (start end : ℕ) (term : tree.Node) (m : Node) (found : Option Quantifier) (q : Quantifier) → is_atom ≡ true → found ≡ Some q
-    → IsFound here found there → node_of m ≡ tree.loop (quantifier_of q) start end term → IsTermWithQuantifier is_atom here start end term (Ok m) there
+pub stands-alone : (is_atom : Bool) (here : RemainingCodePoints) (start end : ℕ) (n : Node) → is_atom ≡ false → ¬ (BeginsQuantifier here) → IsTermWithQuantifier is_atom here start end (node_of n) (Ok n) here
+stands-alone false here start end n e none = (refl, refl, none)
+stands-alone true here start end n e none = absurd (true≢false e)
+
+pub is-loop : (is_atom : Bool) (here there : RemainingCodePoints) (start end : ℕ) (term : tree.Node) (m : Node) (found : Option Quantifier) (q : Quantifier) → is_atom ≡ true → found ≡ Some q
+    → IsFound here found there → node_of m ≡ tree.loop (spec_quantifier_of q) start end term → IsTermWithQuantifier is_atom here start end term (Ok m) there
 is-loop false here there start end term m found q e f h is = absurd (true≢false (sym e))
 is-loop true here there start end term m found q e f h is =
     λ opened count.
-    let k : ValidQuantifier here there (quantifier_of q) = subst (λ x. IsFound here x there) f h in
-    subst (λ x. IsTerm start term (parse_state here opened) (parse_state there opened) x) (sym (is ∙ ap (λ g. tree.loop (quantifier_of q) start g term) (sym count))) (repeated k)
+    let k : ValidQuantifier here there (spec_quantifier_of q) = subst (λ x. IsFound here x there) f h in
+    subst (λ x. IsTerm start term (parse_state here opened) (parse_state there opened) x) (sym (is ∙ ap (λ g. tree.loop (spec_quantifier_of q) start g term) (sym count))) (repeated k)
 
 -- one parenthesis more, the innermost
 pub around-push : (inner : List grammar.OpenGroup) (os : List OpenGroup) (o : OpenGroup) → around_from inner (os ++ o ∷ []) ≡ open_group_of o ∷ around_from inner os
@@ -59,52 +63,52 @@ around-some (i ∷ is) [] h e = cc
 around-some inner (o ∷ os) h e = around-some (open_group_of o ∷ inner) os (omega arith) e
 
 -- the last of them is the innermost
-pub at-last : {flags : tree.Flags} {pattern : RemainingPattern} {references groups : ℕ} {level : grammar.PartialDisjunction} {here : RemainingPattern} (all os : List OpenGroup) (o : OpenGroup) → all ≡ os ++ o ∷ []
+pub at-last : {flags : tree.Flags} {pattern : RemainingCodePoints} {references groups : ℕ} {level : grammar.PartialDisjunction} {here : RemainingCodePoints} (all os : List OpenGroup) (o : OpenGroup) → all ≡ os ++ o ∷ []
     → IsParserInvariant flags pattern references groups (around_from [] all) level here → IsParserInvariant flags pattern references groups (open_group_of o ∷ around_from [] os) level here
 at-last {flags} {pattern} {references} {groups} {level} {here} all os o e s =
     subst (λ x. IsParserInvariant flags pattern references groups x level here) (ap (λ x. around_from [] x) e ∙ around-push [] os o) s
 
 -- ---- Refusals are handed on
 
-pub err-reads : {P : ParseFault → Type 0} {A : Type 0} (here : RemainingPattern) (old new : Parser) (r : Result A ParseFault) (e : ParseFault) → IsErrAnd r P → ((x : ParseFault) → P x → x ≡ e)
-    → (IsTrue (is_syntax_error e) → (pattern : RemainingPattern) → HasReadPatternUpTo pattern here old → HasNoTree (flags_of old.leaves.flags) pattern)
+pub err-reads : {P : ParseFault → Type 0} {A : Type 0} (here : RemainingCodePoints) (old new : Parser) (r : Result A ParseFault) (e : ParseFault) → IsErrAnd r P → ((x : ParseFault) → P x → x ≡ e)
+    → (IsTrue (is_syntax_error e) → (pattern : RemainingCodePoints) → HasReadPatternUpTo pattern here old → HasNoTreeWithinLimit (spec_flags_of old.leaves.flags) pattern)
     → AdvancesOrHasNoTree here old r new
 err-reads here old new (Ok a) e h same none = absurd h
 err-reads here old new (Err x) e h same none = λ r. none (sym (ap is_syntax_error (same x h)) ∙ r)
 
-pub err-parsed : {P : ParseFault → Type 0} {A : Type 0} (of : A → tree.Tree) (flags : tree.Flags) (pattern : RemainingPattern) (r : Result A ParseFault) (e : ParseFault) → IsErrAnd r P
-    → ((x : ParseFault) → P x → x ≡ e) → (IsTrue (is_syntax_error e) → HasNoTree flags pattern) → IsParseResult of flags pattern r
+pub err-parsed : {P : ParseFault → Type 0} {A : Type 0} (of : A → tree.Tree) (flags : tree.Flags) (pattern : RemainingCodePoints) (r : Result A ParseFault) (e : ParseFault) → IsErrAnd r P
+    → ((x : ParseFault) → P x → x ≡ e) → (IsTrue (is_syntax_error e) → HasNoTreeWithinLimit flags pattern) → IsParseResult of flags pattern r
 err-parsed of flags pattern (Ok a) e h same none = absurd h
 err-parsed of flags pattern (Err x) e h same none = λ r. none (sym (ap is_syntax_error (same x h)) ∙ r)
 
 -- ---- All of the pattern
 
 -- it has read on from there to here
-pub record GoesOn (here : RemainingPattern) (old new : Parser) : Type 0 where
+pub record GoesOn (here : RemainingCodePoints) (old new : Parser) : Type 0 where
   pub reading : OpenDisjunctionsHaveAllGroups new
   pub same : new.leaves.flags ≡ old.leaves.flags
-  pub text : (pattern : RemainingPattern) → HasReadPatternUpTo pattern here old → HasReadPatternUpTo pattern new.leaves.reader.rest.now new
+  pub text : (pattern : RemainingCodePoints) → HasReadPatternUpTo pattern here old → HasReadPatternUpTo pattern new.leaves.reader.rest.now new
 
 -- nothing is read
-pub begun : (pattern : RemainingPattern) (p : Parser) → (AreWithinGroupLimit (group_names_of pattern) → AreGroupNumbers p.leaves.numbers (group_names_of pattern)) → p.leaves.references ≡ 0 → p.groups ≡ 0 → p.around.items ≡ []
+pub begun : (pattern : RemainingCodePoints) (p : Parser) → (AreWithinGroupLimit (group_names_of pattern) → AreGroupNumbers p.leaves.numbers (group_names_of pattern)) → p.leaves.references ≡ 0 → p.groups ≡ 0 → p.around.items ≡ []
     → disjunction_of p.level ≡ empty_disjunction false → HasReadPatternUpTo pattern pattern p
 begun pattern p numbers references groups around level = record {
   numbers = numbers;
   few = omega (arith, groups);
-  stands = rw (references, groups, around, level) (stands-begin (flags_of p.leaves.flags) pattern);
+  stands = rw (references, groups, around, level) (stands-begin (spec_flags_of p.leaves.flags) pattern);
 }
 
 -- all is read
-pub read-whole : (pattern : RemainingPattern) (old new : Parser) → HasReadPatternUpTo pattern pattern old → ((whole : RemainingPattern) → HasReadPatternUpTo whole pattern old → HasReadPatternUpTo whole new.leaves.reader.rest.now new) → new.leaves.reader.rest.now ≡ []
+pub read-whole : (pattern : RemainingCodePoints) (old new : Parser) → HasReadPatternUpTo pattern pattern old → ((whole : RemainingCodePoints) → HasReadPatternUpTo whole pattern old → HasReadPatternUpTo whole new.leaves.reader.rest.now new) → new.leaves.reader.rest.now ≡ []
     → HasReadPatternUpTo pattern [] new
 read-whole pattern old new h text e = subst (λ x. HasReadPatternUpTo pattern x new) e (text pattern h)
 
 -- a parenthesis is open at the end
-pub ends-open : {flags : tree.Flags} {pattern : RemainingPattern} {references groups : ℕ} {level : grammar.PartialDisjunction} (os : List OpenGroup) → 0 < length os
-    → IsParserInvariant flags pattern references groups (around_from [] os) level [] → HasNoTree flags pattern
+pub ends-open : {flags : tree.Flags} {pattern : RemainingCodePoints} {references groups : ℕ} {level : grammar.PartialDisjunction} (os : List OpenGroup) → 0 < length os
+    → IsParserInvariant flags pattern references groups (around_from [] os) level [] → HasNoTreeWithinLimit flags pattern
 ends-open {flags} {pattern} {references} {groups} {level} os some s = by (around_from [] os) refl
   where
-    by : (x : List grammar.OpenGroup) → around_from [] os ≡ x → HasNoTree flags pattern
+    by : (x : List grammar.OpenGroup) → around_from [] os ≡ x → HasNoTreeWithinLimit flags pattern
     by [] e = absurd (around-some [] os (omega (arith, some)) e)
     by (o ∷ around) e = still-open (subst (λ x. IsParserInvariant flags pattern references groups x level []) e s)
 
@@ -125,11 +129,11 @@ not-ended false true d e = absurd (true≢false e)
 not-ended false false true e = absurd (true≢false e)
 not-ended false false false e = refl
 
-module _ {flags : tree.Flags} {pattern : RemainingPattern} {old groups : ℕ} {around : List grammar.OpenGroup} {level : grammar.PartialDisjunction} {here : RemainingPattern} (s : IsParserInvariant flags pattern old groups around level here) (new : ℕ) (mid : RemainingPattern) (t : tree.Node) (ahead : Ahead false here mid) (grows : old ≤ new) (more : ends_here here ≡ false) where
+module _ {flags : tree.Flags} {pattern : RemainingCodePoints} {old groups : ℕ} {around : List grammar.OpenGroup} {level : grammar.PartialDisjunction} {here : RemainingCodePoints} (s : IsParserInvariant flags pattern old groups around level here) (new : ℕ) (mid : RemainingCodePoints) (t : tree.Node) (ahead : Ahead false here mid) (grows : old ≤ new) (more : ends_here here ≡ false) where
   pub term-refused : (is_atom : Bool)
       → (AreWithinGroupLimit (group_names_of pattern) → (new ≤ length (group_names_of pattern) → IsAtomOr is_atom (with_groups flags (group_names_of pattern)) here mid t)
       × (length (group_names_of pattern) < new → (length (group_names_of pattern) < old) ⊎ NoTermAt (with_groups flags (group_names_of pattern)) here))
-      → (e : ParseFault) (start end : ℕ) (there : RemainingPattern) → IsTrue (is_syntax_error e) → IsTermWithQuantifier is_atom mid start end t (Err e) there → HasNoTree flags pattern
+      → (e : ParseFault) (start end : ℕ) (there : RemainingCodePoints) → IsTrue (is_syntax_error e) → IsTermWithQuantifier is_atom mid start end t (Err e) there → HasNoTreeWithinLimit flags pattern
   term-refused true leaf e start end there r k =
       atom-refused s new mid t ahead grows more (λ few. (leaf few).1) (λ few. (leaf few).0) (k r).0 (k r).1
   term-refused false leaf e start end there r k = assertion-refused s new mid t ahead grows more (λ few. (leaf few).1) (λ few. (leaf few).0) k
@@ -137,10 +141,10 @@ module _ {flags : tree.Flags} {pattern : RemainingPattern} {old groups : ℕ} {a
   pub term-repeated : (is_atom : Bool)
       → (AreWithinGroupLimit (group_names_of pattern) → (new ≤ length (group_names_of pattern) → IsAtomOr is_atom (with_groups flags (group_names_of pattern)) here mid t)
       × (length (group_names_of pattern) < new → (length (group_names_of pattern) < old) ⊎ NoTermAt (with_groups flags (group_names_of pattern)) here))
-      → (n : Node) (there : RemainingPattern) → IsTermWithQuantifier is_atom mid groups groups t (Ok n) there → IsParserInvariant flags pattern new groups around (push (node_of n) level) there
+      → (n : Node) (there : RemainingCodePoints) → IsTermWithQuantifier is_atom mid groups groups t (Ok n) there → IsParserInvariant flags pattern new groups around (push_term (node_of n) level) there
   term-repeated true leaf n there k = stands-atom s new mid t ahead grows more (λ few. (leaf few).1) (λ few. (leaf few).0) k
   term-repeated false leaf n there k =
-      rw (k.0, k.1) (stands-assertion s new mid t ahead grows more (λ few. (leaf few).1) (λ few. (leaf few).0))
+      rw (k.0, k.1) (stands-assertion s new mid t ahead grows more (λ few. (leaf few).1) (λ few. (leaf few).0) k.2)
 
 -- ---- Parentheses
 
@@ -149,13 +153,13 @@ eq-some None n e = absurd (true≢false (sym e))
 eq-some (Some m) n e = ap Some (eqb-true m n e)
 
 -- the name that was read has the number of this group
-pub name-found : {R : Type 0} (numbers : RemainingPattern → Option ℕ) (groups n : ℕ) (opening : GroupKind) (here there : RemainingPattern) (name : String R) (o : Option ℕ) → opening ≡ Named
+pub name-found : {R : Type 0} (numbers : RemainingCodePoints → Option ℕ) (groups n : ℕ) (opening : GroupKind) (here there : RemainingCodePoints) (name : String R) (o : Option ℕ) → opening ≡ Named
     → GroupName here there (string_bytes name) → o ≡ numbers (string_bytes name) → n ≡ groups → option_eq nat_eq o (Some (n + 1)) ≡ true
     → IsGroupNameRead numbers groups (is_named_group opening) here (Ok (Some name)) there
 name-found numbers groups n opening here there name o f is e g h = rw f (is, sym e ∙ eq-some o (n + 1) h ∙ ap (λ x. Some (x + 1)) g)
 
 -- it has another
-pub name-other : {R : Type 0} (numbers : RemainingPattern → Option ℕ) (groups n : ℕ) (opening : GroupKind) (here there : RemainingPattern) (name : String R) (o : Option ℕ) (x : ParseFault) → opening ≡ Named
+pub name-other : {R : Type 0} (numbers : RemainingCodePoints → Option ℕ) (groups n : ℕ) (opening : GroupKind) (here there : RemainingCodePoints) (name : String R) (o : Option ℕ) (x : ParseFault) → opening ≡ Named
     → GroupName here there (string_bytes name) → o ≡ numbers (string_bytes name) → n ≡ groups → option_eq nat_eq o (Some (n + 1)) ≡ false
     → IsGroupNameRead {R = R} numbers groups (is_named_group opening) here (Err x) there
 name-other numbers groups n opening here there name o x f is e g h =
@@ -163,10 +167,10 @@ name-other numbers groups n opening here there name o x f is e g h =
     let same : o ≡ Some (n + 1) = e ∙ ap numbers (one_name _ _ _ _ _ is k).1 ∙ number ∙ ap (λ y. Some (y + 1)) (sym g) in
     true≢false (sym (ap (λ y. option_eq nat_eq y (Some (n + 1))) same ∙ eq-eqb (n + 1) (n + 1) refl) ∙ h))
 
-letters : {here there name : RemainingPattern} → GroupName here there name → is_name name ≡ true
+letters : {here there name : RemainingCodePoints} → GroupName here there name → is_name name ≡ true
 letters (group_name e f) = f
 
-none-begins : (here : RemainingPattern) → NoneBegins 63 here → begins_with_characters "?" here ≡ false
+none-begins : (here : RemainingCodePoints) → NoneBegins 63 here → begins_with_characters "?" here ≡ false
 none-begins [] h = refl
 none-begins (c ∷ cs) h = by (nat_eq 63 c) refl
   where
@@ -174,24 +178,24 @@ none-begins (c ∷ cs) h = by (nat_eq 63 c) refl
     by true e = absurd (h cs (ap (λ (x : ℕ). x ∷ cs) (sym (eqb-true 63 c e))))
     by false e = rw e refl
 
-module _ {flags : tree.Flags} {pattern : RemainingPattern} {references groups : ℕ} {around : List grammar.OpenGroup} {level : grammar.PartialDisjunction} {here : RemainingPattern} (s : IsParserInvariant flags pattern references groups around level (40 ∷ here)) (mid : RemainingPattern) where
-  pub name-refused : (R : Type 0) (opening : GroupKind) → IsOpeningRead here (Ok opening) mid → (numbers : RemainingPattern → Option ℕ)
-      → (AreWithinGroupLimit (group_names_of pattern) → (x : RemainingPattern) → is_name x ≡ true → numbers x ≡ group_number_of x (group_names_of pattern))
-      → (e : ParseFault) (there : RemainingPattern) → IsTrue (is_syntax_error e) → IsGroupNameRead {R = R} numbers groups (is_named_group opening) mid (Err e) there → HasNoTree flags pattern
+module _ {flags : tree.Flags} {pattern : RemainingCodePoints} {references groups : ℕ} {around : List grammar.OpenGroup} {level : grammar.PartialDisjunction} {here : RemainingCodePoints} (s : IsParserInvariant flags pattern references groups around level (40 ∷ here)) (mid : RemainingCodePoints) where
+  pub name-refused : (R : Type 0) (opening : GroupKind) → IsOpeningRead here (Ok opening) mid → (numbers : RemainingCodePoints → Option ℕ)
+      → (AreWithinGroupLimit (group_names_of pattern) → (x : RemainingCodePoints) → is_name x ≡ true → numbers x ≡ group_number_of x (group_names_of pattern))
+      → (e : ParseFault) (there : RemainingCodePoints) → IsTrue (is_syntax_error e) → IsGroupNameRead {R = R} numbers groups (is_named_group opening) mid (Err e) there → HasNoTreeWithinLimit flags pattern
   name-refused R Named o numbers are e there r k =
       wrong-name (subst (λ x. IsParserInvariant flags pattern references groups around level (40 ∷ x)) o.0 s) o.1 o.2 numbers are (k r)
   name-refused R Capture o numbers are e there r k = absurd (k r)
   name-refused R Plain o numbers are e there r k = absurd (k r)
   name-refused R (Look negate backwards) o numbers are e there r k = absurd (k r)
 
-  pub opening-refused : (rest : RemainingPattern) × (here ≡ 63 ∷ rest) × NoneBegins 58 rest × NoneBegins 60 rest × NoneBegins 33 rest × NoneBegins 61 rest → HasNoTree flags pattern
+  pub opening-refused : (rest : RemainingCodePoints) × (here ≡ 63 ∷ rest) × NoneBegins 58 rest × NoneBegins 60 rest × NoneBegins 33 rest × NoneBegins 61 rest → HasNoTreeWithinLimit flags pattern
   opening-refused k =
       no-opening (subst (λ x. IsParserInvariant flags pattern references groups around level (40 ∷ x)) k.1 s) k.2 k.3 k.4 k.5
 
-  pub entered : {R : Type 0} (opening : GroupKind) → IsOpeningRead here (Ok opening) mid → (numbers : RemainingPattern → Option ℕ)
-      → (AreWithinGroupLimit (group_names_of pattern) → (x : RemainingPattern) → is_name x ≡ true → numbers x ≡ group_number_of x (group_names_of pattern))
-      → (name : Option (String R)) (there : RemainingPattern) → IsGroupNameRead {R = R} numbers groups (is_named_group opening) mid (Ok name) there
-      → IsParserInvariant flags pattern references (groups + captures opening)
+  pub entered : {R : Type 0} (opening : GroupKind) → IsOpeningRead here (Ok opening) mid → (numbers : RemainingCodePoints → Option ℕ)
+      → (AreWithinGroupLimit (group_names_of pattern) → (x : RemainingCodePoints) → is_name x ≡ true → numbers x ≡ group_number_of x (group_names_of pattern))
+      → (name : Option (String R)) (there : RemainingCodePoints) → IsGroupNameRead {R = R} numbers groups (is_named_group opening) mid (Ok name) there
+      → IsParserInvariant flags pattern references (groups + captures_opened_by_group_kind opening)
       (record { outer = level; opened = group_kind_of opening (group_name_bytes name) groups; start = groups } ∷ around)
       (empty_disjunction (is_reversed_in opening level.behind)) there
   entered Capture o numbers are name there k = rw (k.0, k.1, o.0) (stands-group s (none-begins here o.1))
@@ -204,33 +208,35 @@ module _ {flags : tree.Flags} {pattern : RemainingPattern} {references groups : 
       rw k.0 (subst (λ g. IsParserInvariant flags pattern references g (record { outer = level; opened = grammar.looks negate backwards groups; start = groups } ∷ around) (empty_disjunction backwards) mid) (omega arith)
       (stands-look negate backwards (subst (λ x. IsParserInvariant flags pattern references groups around level x) o s)))
 
-pub past-most : {flags : tree.Flags} {pattern : RemainingPattern} {references groups : ℕ} {around : List grammar.OpenGroup} {level : grammar.PartialDisjunction} {here : RemainingPattern}
-    → IsParserInvariant flags pattern references groups around level here → 65535 < groups → HasNoTree flags pattern
-past-most s many =
-    too-many s (let l : length (group_names_of _) ≡ length s.opened + length (group_names_of _) = ap length s.found ∙ length-append s.opened (group_names_of _) in let c : length s.opened ≡ _ = s.count in omega (arith, l, c, many))
+pub past-most : {flags : tree.Flags} {pattern : RemainingCodePoints} {references groups : ℕ} {around : List grammar.OpenGroup} {level : grammar.PartialDisjunction} {here : RemainingCodePoints}
+    → IsParserInvariant flags pattern references groups around level here → 65535 < groups → HasNoTreeWithinLimit flags pattern
+past-most {pattern = pattern} {groups = groups} {here = here} s many few =
+    let l : length (group_names_of pattern) ≡ length s.opened + length (group_names_of here) = ap length s.found ∙ length-append s.opened (group_names_of here) in
+    let c : length s.opened ≡ groups = s.count in
+    absurd (omega (arith, l, c, many, few))
 
-shape-is : (opening : GroupKind) (name : RemainingPattern) (start end : ℕ) (c : tree.Node) (p : ParseState) → groups_at p ≡ end
+shape-is : (opening : GroupKind) (name : RemainingCodePoints) (start end : ℕ) (c : tree.Node) (p : ParseState) → groups_at p ≡ end
     → shape (group_kind_of opening name start) c p ≡ group_node_around opening name start end c
 shape-is Capture name start end c p e = refl
 shape-is Named name start end c p e = refl
 shape-is Plain name start end c p e = refl
 shape-is (Look negate backwards) name start end c p e = rw e refl
 
-looks-at : (opening : GroupKind) (name : RemainingPattern) (start : ℕ) (b : Bool) → takes_quantifier opening ≡ b → is_look (group_kind_of opening name start) ≡ not b
+looks-at : (opening : GroupKind) (name : RemainingCodePoints) (start : ℕ) (b : Bool) → takes_quantifier opening ≡ b → is_look (group_kind_of opening name start) ≡ not b
 looks-at Capture name start b e = ap not e
 looks-at Named name start b e = ap not e
 looks-at Plain name start b e = ap not e
 looks-at (Look negate backwards) name start b e = ap not e
 
-module _ {flags : tree.Flags} {pattern : RemainingPattern} {references groups : ℕ} {around : List grammar.OpenGroup} {level outer : grammar.PartialDisjunction} {here : RemainingPattern} (opening : GroupKind) (name : RemainingPattern) (start : ℕ) (s : IsParserInvariant flags pattern references groups (record { outer = outer; opened = group_kind_of opening name start; start = start } ∷ around) level (41 ∷ here)) where
-  pub leave-refused : (is_atom : Bool) → is_atom ≡ takes_quantifier opening → (t : tree.Node) (e : ParseFault) (from end : ℕ) (there : RemainingPattern) → IsTrue (is_syntax_error e)
-      → IsTermWithQuantifier is_atom here from end t (Err e) there → HasNoTree flags pattern
+module _ {flags : tree.Flags} {pattern : RemainingCodePoints} {references groups : ℕ} {around : List grammar.OpenGroup} {level outer : grammar.PartialDisjunction} {here : RemainingCodePoints} (opening : GroupKind) (name : RemainingCodePoints) (start : ℕ) (s : IsParserInvariant flags pattern references groups (record { outer = outer; opened = group_kind_of opening name start; start = start } ∷ around) level (41 ∷ here)) where
+  pub leave-refused : (is_atom : Bool) → is_atom ≡ takes_quantifier opening → (t : tree.Node) (e : ParseFault) (from end : ℕ) (there : RemainingCodePoints) → IsTrue (is_syntax_error e)
+      → IsTermWithQuantifier is_atom here from end t (Err e) there → HasNoTreeWithinLimit flags pattern
   leave-refused true f t e from end there r k = group-repeated s (looks-at opening name start true (sym f)) (k r).0 (k r).1
   leave-refused false f t e from end there r k = look-repeated s (looks-at opening name start false (sym f)) k
 
-  pub left : (is_atom : Bool) → is_atom ≡ takes_quantifier opening → (n : Node) (there : RemainingPattern)
+  pub left : (is_atom : Bool) → is_atom ≡ takes_quantifier opening → (n : Node) (there : RemainingCodePoints)
       → IsTermWithQuantifier is_atom here start groups (group_node_around opening name start groups (contents_of level)) (Ok n) there
-      → IsParserInvariant flags pattern references groups around (push (node_of n) outer) there
+      → IsParserInvariant flags pattern references groups around (push_term (node_of n) outer) there
   left true f n there k =
       stands-leave s there (node_of n) (ahead_term (k s.opened s.count))
       (of_term (record { outer = outer; opened = group_kind_of opening name start; start = start }) (looks-at opening name start true (sym f))
@@ -238,4 +244,4 @@ module _ {flags : tree.Flags} {pattern : RemainingPattern} {references groups : 
   left false f n there k =
       rw (k.0, k.1 ∙ sym (shape-is opening name start groups (contents_of level) (parse_state here s.opened) s.count))
       (stands-leave s here (shape (group_kind_of opening name start) (contents_of level) (parse_state here s.opened)) refl
-      (of_look (record { outer = outer; opened = group_kind_of opening name start; start = start }) (looks-at opening name start false (sym f))))
+      (of_look (record { outer = outer; opened = group_kind_of opening name start; start = start }) (looks-at opening name start false (sym f)) k.2))

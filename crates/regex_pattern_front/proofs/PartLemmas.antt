@@ -14,10 +14,10 @@ use Rattle.regex_meaning.specs.Tree as tree
 use Rattle.regex_meaning.specs.Tree.{group_ids, every_node_passes, empty, goal, char, char_set, byte_set, byte_sequence, cat, end_of_cat, alt, bracket}
 use Rattle.regex_meaning.specs.Tree.{string_set, match_any, match_any_except_line_terminator, anchor, word_boundary, capture_group, back_ref}
 use Rattle.regex_meaning.specs.Tree.{lookaround, loop, loop_1_char_body, Lookaround, Quantifier}
-use Rattle.regex_meaning.specs.WellFormedTrees.{number_of_goals, is_in_order}
+use Rattle.regex_meaning.specs.WellFormedTrees.{number_of_goal_nodes, is_min_at_most_max}
 use Rattle.regex_pattern_front.specs.declared.ir.Node.{Node}
 use Rattle.regex_pattern_front.specs.AstToSpecTree.{node_of, cat_of}
-use Rattle.regex_pattern_front.specs.SubtreeListInvariants.{is_sound, occurrences_of_id, IsSoundSubtree, AreSoundSubtrees, IsSubtreeMadeOfNodes, KeepsSubtrees}
+use Rattle.regex_pattern_front.specs.SubtreeListInvariants.{is_sound, occurrences_of_id, IsSoundSubtree, AreSoundSubtrees, HasGroupsAndGoalsOfNodes, KeepsSubtrees}
 use Rattle.regex_grammar.proofs.Parts.{every-more, within-none, within-join, sum_by-cons, count_by-append}
 pub use Rattle.regex_grammar.proofs.Parts.{part-leaf, part-group, part-lookaround, part-loop, whole, whole-plain, whole-reads_none}
 
@@ -35,7 +35,7 @@ parts-more first end greatest more xs h a = record { goals = a.goals; count = a.
 pub parts-push : (first middle end greatest more : ℕ) (xs : List Node) (n : Node) → greatest ≤ more
     → AreSoundSubtrees first middle greatest xs → IsSoundSubtree middle end more (node_of n) → AreSoundSubtrees first end more (xs ++ n ∷ [])
 parts-push first middle end greatest more xs n h a p = record {
-  goals = sum_by-append (λ n. number_of_goals (node_of n)) xs (n ∷ []) ∙ (let g = p.goals in let s = a.goals in omega arith);
+  goals = sum_by-append (λ n. number_of_goal_nodes (node_of n)) xs (n ∷ []) ∙ (let g = p.goals in let s = a.goals in omega arith);
   count = rw (sum_by-append (λ n. length (group_ids (node_of n))) xs (n ∷ [])) (let g = p.count in let s = a.count in omega arith);
   ids = λ id.
       let g = p.ids id in
@@ -64,7 +64,7 @@ parts-one first end greatest n a = record {
 
 -- ---- Several nodes made one
 
-pub part-made : (first end greatest : ℕ) (xs : List Node) (n : tree.Node) → IsSubtreeMadeOfNodes xs n → AreSoundSubtrees first end greatest xs → IsSoundSubtree first end greatest n
+pub part-made : (first end greatest : ℕ) (xs : List Node) (n : tree.Node) → HasGroupsAndGoalsOfNodes xs n → AreSoundSubtrees first end greatest xs → IsSoundSubtree first end greatest n
 part-made first end greatest xs n m a = record {
   goals = m.goals ∙ a.goals;
   count = rw m.count a.count;
@@ -72,9 +72,9 @@ part-made first end greatest xs n m a = record {
   sound = m.sound greatest a.sound;
 }
 
-pub parts-made : (xs ys : List Node) (n : Node) → IsSubtreeMadeOfNodes ys (node_of n) → KeepsSubtrees (xs ++ ys) (xs ++ n ∷ [])
+pub parts-made : (xs ys : List Node) (n : Node) → HasGroupsAndGoalsOfNodes ys (node_of n) → KeepsSubtrees (xs ++ ys) (xs ++ n ∷ [])
 parts-made xs ys n m = λ first end greatest a. record {
-  goals = same (λ m. number_of_goals m) m.goals ∙ a.goals;
+  goals = same (λ m. number_of_goal_nodes m) m.goals ∙ a.goals;
   count = rw (same (λ m. length (group_ids m)) m.count) a.count;
   ids = λ id. same (λ m. occurrences_of_id id m) (m.ids id) ∙ a.ids id;
   sound =
@@ -90,15 +90,15 @@ parts-made xs ys n m = λ first end greatest a. record {
         let e1 = sum_by-append (λ m. f (node_of m)) xs ys in
         omega arith
 
-pub made-permuted : (xs ys : List Node) (n : tree.Node) → IsPermutation xs ys → IsSubtreeMadeOfNodes ys n → IsSubtreeMadeOfNodes xs n
+pub made-permuted : (xs ys : List Node) (n : tree.Node) → IsPermutation xs ys → HasGroupsAndGoalsOfNodes ys n → HasGroupsAndGoalsOfNodes xs n
 made-permuted xs ys n h m = record {
-  goals = m.goals ∙ sum_by-IsPermutation (λ n. number_of_goals (node_of n)) xs ys h;
+  goals = m.goals ∙ sum_by-IsPermutation (λ n. number_of_goal_nodes (node_of n)) xs ys h;
   count = m.count ∙ sum_by-IsPermutation (λ n. length (group_ids (node_of n))) xs ys h;
   ids = λ id. m.ids id ∙ sum_by-IsPermutation (λ n. occurrences_of_id id (node_of n)) xs ys h;
   sound = λ greatest all. m.sound greatest (All-permutation (λ n. IsTrue (every_node_passes (is_sound greatest) (node_of n))) xs ys h all);
 }
 
-pub made-alt : (l r : Node) → IsSubtreeMadeOfNodes (l ∷ r ∷ []) (alt (node_of l) (node_of r))
+pub made-alt : (l r : Node) → HasGroupsAndGoalsOfNodes (l ∷ r ∷ []) (alt (node_of l) (node_of r))
 made-alt l r = record {
   goals = omega arith;
   count = let e = length-append (group_ids (node_of l)) (group_ids (node_of r)) in omega arith;
@@ -113,9 +113,9 @@ parts-alt xs l r n is = λ first end greatest a.
 
 -- ---- Nodes round parts
 
-cat-goals : (xs : List Node) → number_of_goals (cat_of xs) ≡ sum_by (λ n. number_of_goals (node_of n)) xs
+cat-goals : (xs : List Node) → number_of_goal_nodes (cat_of xs) ≡ sum_by (λ n. number_of_goal_nodes (node_of n)) xs
 cat-goals [] = refl
-cat-goals (x ∷ xs) = omega (arith, cat-goals xs, sum_by-cons (λ n. number_of_goals (node_of n)) x xs)
+cat-goals (x ∷ xs) = omega (arith, cat-goals xs, sum_by-cons (λ n. number_of_goal_nodes (node_of n)) x xs)
 
 cat-count : (xs : List Node) → length (group_ids (cat_of xs)) ≡ sum_by (λ n. length (group_ids (node_of n))) xs
 cat-count [] = refl
@@ -132,7 +132,7 @@ cat-sound greatest [] all = refl
 cat-sound greatest (x ∷ xs) all =
     and_from _ _ (and_from _ _ refl (all 0 x (omega arith))) (cat-sound greatest xs (λ k d h. all (suc k) d (omega arith)))
 
-pub made-cat : (xs : List Node) → IsSubtreeMadeOfNodes xs (cat_of xs)
+pub made-cat : (xs : List Node) → HasGroupsAndGoalsOfNodes xs (cat_of xs)
 made-cat xs = record { goals = cat-goals xs; count = cat-count xs; ids = λ id. cat-ids id xs; sound = λ greatest all. cat-sound greatest xs all }
 
 -- ---- Empty lists, and counts
@@ -142,6 +142,6 @@ empty-list [] h = refl
 empty-list (x ∷ xs) h = absurd (omega arith)
 
 -- counts in order are in order in the tree
-pub order-from : (min : ℕ) (max : Option ℕ) (greedy : Bool) → ForSome max (λ m. min ≤ m) → is_in_order (record { min = min; max = max; greedy = greedy }) ≡ true
+pub order-from : (min : ℕ) (max : Option ℕ) (greedy : Bool) → ForSome max (λ m. min ≤ m) → is_min_at_most_max (record { min = min; max = max; greedy = greedy }) ≡ true
 order-from min None greedy h = refl
 order-from min (Some m) greedy h = le-leb min m (h m refl)

@@ -3,7 +3,7 @@ use Rattle.std.proofs.Common.{◌≡◌, ℕ, suc, ◌+◌, ◌*◌, ◌<◌, �
 use Rattle.std.proofs.Math.Nat.{mul-le-mul_left, mul-suc, mul_comm}
 use Rattle.regex_meaning.specs.Tree as tree
 use Rattle.regex_meaning.specs.Tree.{cat, alt, capture_group, lookaround, loop, loop_1_char_body}
-use Rattle.regex_pattern_front.specs.IterativeDropMeasure.{rest_size, tree_size, node_size, drop_measure, drop_measure_in, drop_measure_of}
+use Rattle.regex_pattern_front.specs.IterativeDropMeasure.{rest_size, tree_size, node_size, drop_measure, drop_measure_of_size_and_rest, drop_measure_of_node_and_rest}
 use Rattle.regex_pattern_front.specs.AstToSpecTree.{cat_of, node_of}
 use Rattle.regex_pattern_front.specs.declared.ir.Node.{Node}
 
@@ -29,13 +29,13 @@ some-weight (loop_1_char_body q loopee) = omega arith
 some-weight _ = omega arith
 
 -- Of the rest alone less is left.
-pub begun-less : (n node : Node) → drop_measure_of n None < drop_measure_of node (Some n)
+pub begun-less : (n node : Node) → drop_measure_of_node_and_rest n None < drop_measure_of_node_and_rest node (Some n)
 begun-less n node =
     fewer (node_size n + 0) (node_size n) (node_size node + node_size n) (node_size node)
     (omega (arith, some-weight (node_of node))) (omega arith)
 
 -- A node inside one besides which there is nothing.
-pub inside-less : (m n : ℕ) (rest : Option Node) → m < n → drop_measure_in m rest < drop_measure_in n rest
+pub inside-less : (m n : ℕ) (rest : Option Node) → m < n → drop_measure_of_size_and_rest m rest < drop_measure_of_size_and_rest n rest
 inside-less m n rest less = fewer (m + rest_size rest) m (n + rest_size rest) n (omega (arith, less)) (omega arith)
 
 weight-more : (xs : List Node) (x : Node) → tree_size (cat_of (xs ++ x ∷ [])) ≡ tree_size (cat_of xs) + node_size x + 1
@@ -45,7 +45,7 @@ weight-more (y ∷ ys) x = omega (arith, weight-more ys x)
 
 -- The last node of a row.
 pub popped-less : (xs ys : List Node) (x : Node) → xs ≡ ys ++ x ∷ []
-    → drop_measure (node_size x + tree_size (cat_of ys)) (node_size x) < drop_measure_in (tree_size (cat_of xs)) None
+    → drop_measure (node_size x + tree_size (cat_of ys)) (node_size x) < drop_measure_of_size_and_rest (tree_size (cat_of xs)) None
 popped-less xs ys x e =
     fewer (node_size x + tree_size (cat_of ys)) (node_size x) (tree_size (cat_of xs) + 0) (tree_size (cat_of xs))
     (omega (arith, weight-more ys x, ap (λ zs. tree_size (cat_of zs)) e)) (omega arith)
@@ -57,20 +57,20 @@ linked-less a b link =
     rw same (nearer (a + b + 1 + link) a (a + b + 1) (omega arith))
 
 -- The only node of a row.
-pub only-less : (xs ys : List Node) (x : Node) → xs ≡ ys ++ x ∷ [] → drop_measure_of x None < drop_measure_in (tree_size (cat_of xs)) None
+pub only-less : (xs ys : List Node) (x : Node) → xs ≡ ys ++ x ∷ [] → drop_measure_of_node_and_rest x None < drop_measure_of_size_and_rest (tree_size (cat_of xs)) None
 only-less xs ys x e =
     fewer (node_size x + 0) (node_size x) (tree_size (cat_of xs) + 0) (tree_size (cat_of xs))
     (omega (arith, weight-more ys x, ap (λ zs. tree_size (cat_of zs)) e)) (omega arith)
 
 -- A row without nodes, beside which a node waits.
-pub emptied-less : (row : List Node) (node : Node) → drop_measure_of node None < drop_measure_in (tree_size (cat_of row)) (Some node)
+pub emptied-less : (row : List Node) (node : Node) → drop_measure_of_node_and_rest node None < drop_measure_of_size_and_rest (tree_size (cat_of row)) (Some node)
 emptied-less row node =
     fewer (node_size node + 0) (node_size node) (tree_size (cat_of row) + node_size node) (tree_size (cat_of row))
     (omega (arith, some-weight (cat_of row))) (omega arith)
 
 -- Of a row the first node, in whose place the rest comes.
 pub linked-row-less : (first : Node) (xs : List Node) (link : Node)
-    → drop_measure (node_size first + tree_size (cat_of (link ∷ xs))) (node_size first) < drop_measure_in (tree_size (cat_of (first ∷ xs))) (Some link)
+    → drop_measure (node_size first + tree_size (cat_of (link ∷ xs))) (node_size first) < drop_measure_of_size_and_rest (tree_size (cat_of (first ∷ xs))) (Some link)
 unfolding tree_size
 linked-row-less first xs link =
     let a = node_size first in
@@ -79,7 +79,7 @@ linked-row-less first xs link =
     linked-less a b k
 
 pub linked-first-less : (row : List Node) (first link : Node) → 0 < length row → first ≡ get_or row 0 first
-    → drop_measure (node_size first + tree_size (cat_of (slice_set row 0 link))) (node_size first) < drop_measure_in (tree_size (cat_of row)) (Some link)
+    → drop_measure (node_size first + tree_size (cat_of (slice_set row 0 link))) (node_size first) < drop_measure_of_size_and_rest (tree_size (cat_of row)) (Some link)
 linked-first-less [] first link some is = absurd (omega (arith, some))
 linked-first-less (x ∷ xs) first link some is = rw is (linked-row-less x xs link)
 

@@ -12,7 +12,7 @@ use Rattle.std.specs.String.{string_cmp}
 use Rattle.std.specs.Ordering.{nat_cmp}
 use Rattle.std.specs.Cmp.Lexicographic.{slice_cmp}
 use Rattle.std.proofs.lemmas.Map.Text.{btree_map_updates_text}
-use Rattle.regex_grammar.specs.ReadingStatesAndDigits.{RemainingPattern, group_number_of}
+use Rattle.regex_grammar.specs.ReadingStatesAndDigits.{RemainingCodePoints, group_number_of}
 use Rattle.regex_grammar.specs.EscapesNamesQuantifiers.{GroupName, is_name}
 use Rattle.regex_grammar.specs.Grammar.{lookaround_opener}
 use Rattle.regex_grammar.specs.GroupNameScan.{name_of_opened_group, group_name_at, scanned_group_names}
@@ -20,11 +20,11 @@ use Rattle.regex_grammar.proofs.OneTree.{rest_of}
 use Rattle.regex_grammar.proofs.Found.{name-found, none-found}
 use Rattle.regex_pattern_front.specs.declared.group_openings_and_names.GroupNameScanState.{GroupNameScanState}
 use Rattle.regex_pattern_front.specs.CodePointReaderContracts.{IsEaten, IsUnescapedRead}
-use Rattle.regex_pattern_front.specs.GroupReaderContracts.{IsLookaroundSignRead, NoneBegins, in_class_after, names_opened_by, with_name_numbered, AreScanned, ScansGroups, ScansCodePoint}
+use Rattle.regex_pattern_front.specs.GroupReaderContracts.{IsLookaroundPolaritySignRead, NoneBegins, in_class_after, names_opened_by, group_numbers_adding_absent_name, AreScanned, RecordsFurtherGroupsInScan, ScansCodePointAndGroupName}
 
 -- ---- One code point
 
-ahead-step : (k : Bool) (c : ℕ) (rest : RemainingPattern) → c ≢ 92 → scanned_group_names k (c ∷ rest) ≡ names_opened_by k c rest ++ scanned_group_names (in_class_after k c) rest
+ahead-step : (k : Bool) (c : ℕ) (rest : RemainingCodePoints) → c ≢ 92 → scanned_group_names k (c ∷ rest) ≡ names_opened_by k c rest ++ scanned_group_names (in_class_after k c) rest
 unfolding scanned_group_names
 ahead-step k c [] ne = by (nat_eq c 40) (nat_eq c 91) (nat_eq c 93) k
   where
@@ -56,7 +56,7 @@ ahead-step k c (d ∷ rest) ne = rw (ne_eqb c 92 ne) (by (nat_eq c 40) (nat_eq c
     by false false false true f g h = refl
     by false false false false f g h = refl
 
-ahead-escape : (k : Bool) (d : ℕ) (rest : RemainingPattern) → scanned_group_names k (92 ∷ d ∷ rest) ≡ scanned_group_names k rest
+ahead-escape : (k : Bool) (d : ℕ) (rest : RemainingCodePoints) → scanned_group_names k (92 ∷ d ∷ rest) ≡ scanned_group_names k rest
 unfolding scanned_group_names
 ahead-escape k d rest = refl
 
@@ -70,21 +70,21 @@ ahead-none k = refl
 
 -- ---- How a parenthesis opens
 
-first_is_not : (c : ℕ) (here : RemainingPattern) (d : ℕ) → NoneBegins d (c ∷ here) → nat_eq d c ≡ false
+first_is_not : (c : ℕ) (here : RemainingCodePoints) (d : ℕ) → NoneBegins d (c ∷ here) → nat_eq d c ≡ false
 first_is_not c here d h = false_from_ne_true (nat_eq d c) (λ e. h here (ap (λ (x : ℕ). x ∷ here) (sym (eqb-true d c e))))
 
-pub opened-capture : (here : RemainingPattern) → NoneBegins 63 here → name_of_opened_group here ≡ [] ∷ []
+pub opened-capture : (here : RemainingCodePoints) → NoneBegins 63 here → name_of_opened_group here ≡ [] ∷ []
 opened-capture [] h = refl
 opened-capture (c ∷ here) h = rw (first_is_not c here 63 h) refl
 
-pub opened-named : (here rest : RemainingPattern) → here ≡ 63 ∷ 60 ∷ rest → NoneBegins 33 rest → NoneBegins 61 rest → name_of_opened_group here ≡ group_name_at rest ∷ []
+pub opened-named : (here rest : RemainingCodePoints) → here ≡ 63 ∷ 60 ∷ rest → NoneBegins 33 rest → NoneBegins 61 rest → name_of_opened_group here ≡ group_name_at rest ∷ []
 opened-named here [] e n m = rw e refl
 opened-named here (c ∷ rest) e n m = rw (e, first_is_not c rest 61 m, first_is_not c rest 33 n) refl
 
-pub opened-plain : (here rest : RemainingPattern) → here ≡ 63 ∷ 58 ∷ rest → name_of_opened_group here ≡ []
+pub opened-plain : (here rest : RemainingCodePoints) → here ≡ 63 ∷ 58 ∷ rest → name_of_opened_group here ≡ []
 opened-plain here rest e = rw e refl
 
-pub opened-look : (negate backwards : Bool) (here rest : RemainingPattern) → 40 ∷ here ≡ codes (lookaround_opener negate backwards) ++ rest → name_of_opened_group here ≡ []
+pub opened-look : (negate backwards : Bool) (here rest : RemainingCodePoints) → 40 ∷ here ≡ codes (lookaround_opener negate backwards) ++ rest → name_of_opened_group here ≡ []
 opened-look false false here rest e = rw (ap rest_of e) refl
 opened-look true false here rest e = rw (ap rest_of e) refl
 opened-look false true here rest e = rw (ap rest_of e) refl
@@ -92,7 +92,7 @@ opened-look true true here rest e = rw (ap rest_of e) refl
 
 -- ---- Numbers of names
 
-pub number-append : (name : RemainingPattern) (names : List RemainingPattern) (other : RemainingPattern)
+pub number-append : (name : RemainingCodePoints) (names : List RemainingCodePoints) (other : RemainingCodePoints)
     → group_number_of name (names ++ other ∷ []) ≡ (elim (group_number_of name names) [ Some n ↦ Some n | None ↦ if pointwise nat_eq name other then Some (length names + 1) else None ])
 number-append name [] other = by (pointwise nat_eq name other)
   where
@@ -114,12 +114,12 @@ number-append name (x ∷ names) other = by (pointwise nat_eq name x) (group_num
 
 -- ---- The whole text
 
-pub record ScanSoFar (pattern : RemainingPattern) (scan : GroupNameScanState) (rest : RemainingPattern) : Type 0 where
-  pub names : List RemainingPattern
+pub record ScanSoFar (pattern : RemainingCodePoints) (scan : GroupNameScanState) (rest : RemainingCodePoints) : Type 0 where
+  pub names : List RemainingCodePoints
   pub found : scanned_group_names false pattern ≡ names ++ scanned_group_names scan.in_class rest
   pub noted : AreScanned scan names
 
-pub scan-next : (pattern here there : RemainingPattern) (old new : GroupNameScanState) (c : ℕ) → ScanSoFar pattern old here → IsUnescapedRead here (Some c) there → ScansCodePoint old new c there
+pub scan-next : (pattern here there : RemainingCodePoints) (old new : GroupNameScanState) (c : ℕ) → ScanSoFar pattern old here → IsUnescapedRead here (Some c) there → ScansCodePointAndGroupName old new c there
     → ScanSoFar pattern new there
 scan-next pattern here there old new c s (inl u) m =
     let same : in_class_after old.in_class c ≡ old.in_class = rw u.0 refl in
@@ -146,13 +146,13 @@ scan-next pattern here there old new c s (inr (inr u)) m =
       noted = m.1 s.names s.noted;
     }
 
-pub scan-end : (pattern here : RemainingPattern) (scan : GroupNameScanState) → ScanSoFar pattern scan here → here ≡ [] → AreScanned scan (scanned_group_names false pattern)
+pub scan-end : (pattern here : RemainingCodePoints) (scan : GroupNameScanState) → ScanSoFar pattern scan here → here ≡ [] → AreScanned scan (scanned_group_names false pattern)
 scan-end pattern here scan s e =
     subst (λ x. AreScanned scan x)
     (sym (s.found ∙ ap (λ x. s.names ++ scanned_group_names scan.in_class x) e ∙ ap (λ x. s.names ++ x) (ahead-none scan.in_class) ∙ append-nil s.names)) s.noted
 
 -- the words that open a lookaround
-pub look-is : {here a b : RemainingPattern} (d there : RemainingPattern) (negate backwards : Bool) → here ≡ 63 ∷ a → b ≡ a → IsEaten 60 b backwards d → IsLookaroundSignRead d (Some negate) there
+pub look-is : {here a b : RemainingCodePoints} (d there : RemainingCodePoints) (negate backwards : Bool) → here ≡ 63 ∷ a → b ≡ a → IsEaten 60 b backwards d → IsLookaroundPolaritySignRead d (Some negate) there
     → 40 ∷ here ≡ codes (lookaround_opener negate backwards) ++ there
 look-is d there false false e f g h = ap (λ x. 40 ∷ x) (e ∙ ap (λ x. 63 ∷ x) (sym f ∙ sym g.0 ∙ h))
 look-is d there true false e f g h = ap (λ x. 40 ∷ x) (e ∙ ap (λ x. 63 ∷ x) (sym f ∙ sym g.0 ∙ h))
@@ -161,10 +161,10 @@ look-is d there true true e f g h = ap (λ x. 40 ∷ x) (e ∙ ap (λ x. 63 ∷ 
 
 -- ---- What one step notes
 
-noted-same : (old new : GroupNameScanState) (names : List RemainingPattern) → new.numbers ≡ old.numbers → new.groups ≡ old.groups → AreScanned old names → AreScanned new names
-noted-same old new names e f h = λ few. let k = h few in (f ∙ k.0, λ name is. ap (λ m. get_by_text m name) e ∙ k.1 name is)
+noted-same : (old new : GroupNameScanState) (names : List RemainingCodePoints) → new.numbers ≡ old.numbers → new.groups ≡ old.groups → AreScanned old names → AreScanned new names
+noted-same old new names e f h = (f ∙ h.0, λ few name is. ap (λ m. get_by_text m name) e ∙ h.1 few name is)
 
-pub notes-none : (old new : GroupNameScanState) (more : List RemainingPattern) → more ≡ [] → new.numbers ≡ old.numbers → new.groups ≡ old.groups → new.in_class ≡ old.in_class → ScansGroups old new more
+pub notes-none : (old new : GroupNameScanState) (more : List RemainingCodePoints) → more ≡ [] → new.numbers ≡ old.numbers → new.groups ≡ old.groups → new.in_class ≡ old.in_class → RecordsFurtherGroupsInScan old new more
 notes-none old new more none e f g = (
   g,
   λ names h. subst (λ x. AreScanned new (names ++ x)) (sym none) (subst (λ x. AreScanned new x) (sym (append-nil names)) (noted-same old new names e f h)),
@@ -177,23 +177,25 @@ abbrev last : ℕ → Option ℕ → Bool → Option ℕ
 last before o p = elim o [ Some n ↦ Some n | None ↦ if p then Some (before + 1) else None ]
 
 -- a group more, by its name or none
-module _ (old new : GroupNameScanState) (name : RemainingPattern) (groups : new.groups ≡ min (old.groups + 1) (2 ^ 32 - 1)) (in_class : new.in_class ≡ old.in_class)
-    (numbers : (other : RemainingPattern) → is_name other ≡ true → get_by_text new.numbers other
+module _ (old new : GroupNameScanState) (name : RemainingCodePoints) (groups : new.groups ≡ min (old.groups + 1) (2 ^ 32 - 1)) (in_class : new.in_class ≡ old.in_class)
+    (numbers : (other : RemainingCodePoints) → is_name other ≡ true → get_by_text new.numbers other
     ≡ (if is_some (get_by_text old.numbers name) then get_by_text old.numbers other else if pointwise nat_eq name other then Some new.groups else get_by_text old.numbers other))
   where
-    pub notes-one : ScansGroups old new (name ∷ [])
+    pub notes-one : RecordsFurtherGroupsInScan old new (name ∷ [])
     notes-one = (in_class, noted)
       where
-        noted : (names : List RemainingPattern) → AreScanned old names → AreScanned new (names ++ name ∷ [])
-        noted names h few =
-            let long : length (names ++ name ∷ []) ≡ length names + 1 = simp length-append in
-            let k = h (omega arith) in
-            let before : old.groups ≡ length names = k.0 in
-            let now : new.groups ≡ length names + 1 = omega (arith, groups) in
-            (omega (arith, now), λ other is. numbers other is ∙ by names k.1 now other is)
+        noted : (names : List RemainingCodePoints) → AreScanned old names → AreScanned new (names ++ name ∷ [])
+        noted names h =
+            let before : old.groups ≡ min (length names) (2 ^ 32 - 1) = h.0 in (
+              omega (arith, before, groups, long names),
+              λ few other is. numbers other is ∙ by names (h.1 (omega (arith, few, long names))) (omega (arith, before, groups, few, long names)) other is,
+            )
           where
-            by : (names : List RemainingPattern) → ((other : RemainingPattern) → is_name other ≡ true → get_by_text old.numbers other ≡ group_number_of other names) → new.groups ≡ length names + 1
-                → (other : RemainingPattern) → is_name other ≡ true
+            long : (names : List RemainingCodePoints) → length (names ++ name ∷ []) ≡ length names + 1
+            long names = simp length-append
+
+            by : (names : List RemainingCodePoints) → ((other : RemainingCodePoints) → is_name other ≡ true → get_by_text old.numbers other ≡ group_number_of other names) → new.groups ≡ length names + 1
+                → (other : RemainingCodePoints) → is_name other ≡ true
                 → (if is_some (get_by_text old.numbers name) then get_by_text old.numbers other else if pointwise nat_eq name other then Some new.groups else get_by_text old.numbers other)
                 ≡ group_number_of other (names ++ name ∷ [])
             by names are now other is = go (pointwise nat_eq name other) refl
@@ -220,35 +222,49 @@ module _ (old new : GroupNameScanState) (name : RemainingPattern) (groups : new.
                     ap₂ (λ x b. choice new.groups (get_by_text old.numbers name) x b) (are other is) f
                     ∙ kept (get_by_text old.numbers name) (group_number_of other names) (pointwise nat_eq other name) differs ∙ sym (number-append other names name)
 
-pub notes-nameless : (old new : GroupNameScanState) → new.groups ≡ min (old.groups + 1) (2 ^ 32 - 1) → new.in_class ≡ old.in_class → new.numbers ≡ old.numbers → ScansGroups old new ([] ∷ [])
+pub notes-nameless : (old new : GroupNameScanState) → new.groups ≡ min (old.groups + 1) (2 ^ 32 - 1) → new.in_class ≡ old.in_class → new.numbers ≡ old.numbers → RecordsFurtherGroupsInScan old new ([] ∷ [])
 notes-nameless old new e f g =
     notes-one old new [] e f (λ other is. ap (λ m. get_by_text m other) g ∙ by (is_some (get_by_text old.numbers [])) (get_by_text old.numbers other) other is)
   where
-    by : (b : Bool) (o : Option ℕ) (other : RemainingPattern) → is_name other ≡ true → o ≡ (if b then o else if pointwise nat_eq [] other then Some new.groups else o)
+    by : (b : Bool) (o : Option ℕ) (other : RemainingCodePoints) → is_name other ≡ true → o ≡ (if b then o else if pointwise nat_eq [] other then Some new.groups else o)
     by b o [] is = absurd (true≢false (sym is))
     by true o (c ∷ cs) is = refl
     by false o (c ∷ cs) is = refl
 
-pub notes-as : (old new : GroupNameScanState) {more other : List RemainingPattern} → more ≡ other → ScansGroups old new other → ScansGroups old new more
-notes-as old new e h = subst (λ x. ScansGroups old new x) (sym e) h
+pub notes-as : (old new : GroupNameScanState) {more other : List RemainingCodePoints} → more ≡ other → RecordsFurtherGroupsInScan old new other → RecordsFurtherGroupsInScan old new more
+notes-as old new e h = subst (λ x. RecordsFurtherGroupsInScan old new x) (sym e) h
+
+-- a parenthesis that opens a group
+pub notes-opened : (old new : GroupNameScanState) (c : ℕ) (rest : RemainingCodePoints) → c ≢ 91 → c ≢ 93 → (nat_eq c 40 && not old.in_class) ≡ true → RecordsFurtherGroupsInScan old new (name_of_opened_group rest)
+    → ScansCodePointAndGroupName old new c rest
+notes-opened old new c rest other_open other_close opens h = (
+  h.0 ∙ sym same,
+  λ names k. subst (λ x. AreScanned new (names ++ x)) (sym opened) (h.1 names k),
+)
+  where
+    same : in_class_after old.in_class c ≡ old.in_class
+    same = rw (ne_eqb c 91 other_open, ne_eqb c 93 other_close) refl
+
+    opened : names_opened_by old.in_class c rest ≡ name_of_opened_group rest
+    opened = rw opens refl
 
 -- a group with the name that stands here
-pub notes-named : (old new : GroupNameScanState) (here there name : RemainingPattern) (group : ℕ) → GroupName here there name → group ≡ min (old.groups + 1) (2 ^ 32 - 1) → new.groups ≡ group
-    → new.in_class ≡ old.in_class → ((other : RemainingPattern) → get_by_text new.numbers other ≡ with_name_numbered name group (λ x. get_by_text old.numbers x) other)
-    → ScansGroups old new (group_name_at here ∷ [])
+pub notes-named : (old new : GroupNameScanState) (here there name : RemainingCodePoints) (group : ℕ) → GroupName here there name → group ≡ min (old.groups + 1) (2 ^ 32 - 1) → new.groups ≡ group
+    → new.in_class ≡ old.in_class → ((other : RemainingCodePoints) → get_by_text new.numbers other ≡ group_numbers_adding_absent_name name group (λ x. get_by_text old.numbers x) other)
+    → RecordsFurtherGroupsInScan old new (group_name_at here ∷ [])
 notes-named old new here there name group g e is f numbers =
     notes-as old new (ap (λ x. x ∷ []) (name-found here there name g))
-    (notes-one old new name (is ∙ e) f (λ other named. numbers other ∙ ap (λ n. with_name_numbered name n (λ x. get_by_text old.numbers x) other) (sym is)))
+    (notes-one old new name (is ∙ e) f (λ other named. numbers other ∙ ap (λ n. group_numbers_adding_absent_name name n (λ x. get_by_text old.numbers x) other) (sym is)))
 
 -- a group where no name stands
-pub notes-no_name : (old new : GroupNameScanState) (here : RemainingPattern) → ((there name : RemainingPattern) → GroupName here there name → ⊥) → new.groups ≡ min (old.groups + 1) (2 ^ 32 - 1)
-    → new.in_class ≡ old.in_class → new.numbers ≡ old.numbers → ScansGroups old new (group_name_at here ∷ [])
+pub notes-no_name : (old new : GroupNameScanState) (here : RemainingCodePoints) → ((there name : RemainingCodePoints) → GroupName here there name → ⊥) → new.groups ≡ min (old.groups + 1) (2 ^ 32 - 1)
+    → new.in_class ≡ old.in_class → new.numbers ≡ old.numbers → RecordsFurtherGroupsInScan old new (group_name_at here ∷ [])
 notes-no_name old new here none e f g = notes-as old new (ap (λ x. x ∷ []) (none-found here none)) (notes-nameless old new e f g)
 
 -- a name that no other group has
-pub number-inserted : {R : Type 0} (old new : BTreeMap (String R) ℕ) (name : RemainingPattern) (group : ℕ) → is_some (get_by_text old name) ≡ false
+pub number-inserted : {R : Type 0} (old new : BTreeMap (String R) ℕ) (name : RemainingCodePoints) (group : ℕ) → is_some (get_by_text old name) ≡ false
     → UpdatesBy string_cmp (λ k. slice_cmp nat_cmp name (string_bytes k)) old new (Some group)
-    → (other : RemainingPattern) → get_by_text new other ≡ with_name_numbered name group (λ x. get_by_text old x) other
+    → (other : RemainingCodePoints) → get_by_text new other ≡ group_numbers_adding_absent_name name group (λ x. get_by_text old x) other
 number-inserted old new name group none h other =
     btree_map_updates_text name old new (Some group) h other ∙ sym (ap (λ b. if b then get_by_text old other else if bytes_eq name other then Some group else get_by_text old other) none)
 

@@ -18,8 +18,8 @@ anchor_of StartOfLine = tree.start_of_line
 anchor_of EndOfLine = tree.end_of_line
 
 -- a quantifier as that of the definitions
-abbrev pub quantifier_of : Quantifier → tree.Quantifier
-quantifier_of q = record { min = q.min; max = q.max; greedy = q.greedy }
+abbrev pub spec_quantifier_of : Quantifier → tree.Quantifier
+spec_quantifier_of q = record { min = q.min; max = q.max; greedy = q.greedy }
 
 -- a class as that of the definitions
 abbrev pub class_as_spec : BracketContents → tree.BracketContents
@@ -52,8 +52,8 @@ unfoldable mutual
   node_of (LookaroundAssertion' negate backwards start_group end_group p contents) =
       tree.lookaround (record { negate = negate; backwards = backwards; start_group = start_group; end_group = end_group })
       (node_of contents)
-  node_of (Loop' p loopee quant enclosed) = tree.loop (quantifier_of quant) enclosed.start enclosed.end (node_of loopee)
-  node_of (Loop1CharBody' p loopee quant) = tree.loop_1_char_body (quantifier_of quant) (node_of loopee)
+  node_of (Loop' p loopee quant enclosed) = tree.loop (spec_quantifier_of quant) enclosed.start enclosed.end (node_of loopee)
+  node_of (Loop1CharBody' p loopee quant) = tree.loop_1_char_body (spec_quantifier_of quant) (node_of loopee)
 
   pub nodes_of : {m : _} → Row_of-Node m → tree.Node
   nodes_of end_of-Node = tree.end_of_cat
@@ -65,9 +65,9 @@ cat_of [] = tree.end_of_cat
 cat_of (node ∷ nodes) = tree.cat (node_of node) (cat_of nodes)
 
 -- flags as those of the definitions
-abbrev pub flags_of : Flags → tree.Flags
-flags_of f = record { icase = f.icase; multiline = f.multiline; dot_all = f.dot_all; no_opt = f.no_opt; unicode = f.unicode; unicode_sets = f.unicode_sets }
+abbrev pub spec_flags_of : Flags → tree.Flags
+spec_flags_of f = record { icase = f.icase; multiline = f.multiline; dot_all = f.dot_all; no_opt = f.no_opt; unicode = f.unicode; unicode_sets = f.unicode_sets }
 
 -- the tree of a pattern
 abbrev pub tree_of : Regex → tree.Tree
-tree_of re = record { root = node_of re.node; flags = flags_of re.flags }
+tree_of re = record { root = node_of re.node; flags = spec_flags_of re.flags }

@@ -13,5 +13,5 @@ abbrev pub FindsFirstPassingIndex : (ℕ → Bool) → (count : ℕ) → Option 
 FindsFirstPassingIndex test count found = MatchOption found ((k : ℕ) → k < count → test k ≡ false) (IsFirstPassingIndex test count)
 
 -- whether the byte at the index is a member
-abbrev pub member_byte_at_index : (members bytes : List ℕ) → (index : ℕ) → Bool
-member_byte_at_index members bytes index = contains members (slice_index bytes index)
+abbrev pub is_member_byte_at_index : (members bytes : List ℕ) → (index : ℕ) → Bool
+is_member_byte_at_index members bytes index = contains members (slice_index bytes index)

@@ -5,9 +5,9 @@ use Rattle.std.specs.Prelude.{Ok, Err, String, IsTrue, if◌then◌else◌}
 use Rattle.std.specs.Int.{is_in_range}
 use Rattle.std.specs.BTreeMap.{BTreeMap}
 use Rattle.regex_meaning.specs.Tree as tree
-use Rattle.regex_grammar.specs.ReadingStatesAndDigits.{RemainingPattern, ParseState, PatternContext, ◌∈◌, Digits}
+use Rattle.regex_grammar.specs.ReadingStatesAndDigits.{RemainingCodePoints, ParseState, PatternContext, ◌∈◌, Digits}
 use Rattle.regex_grammar.specs.EscapesNamesQuantifiers.{GroupName, BeginsQuantifier}
-use Rattle.regex_grammar.specs.Grammar.{SimpleAtom as AtomLeaf, Term, Assertion}
+use Rattle.regex_grammar.specs.Grammar.{SimpleAtom as AtomLeaf, profile, Term, Assertion}
 use Rattle.regex_grammar.specs.GroupNameScan.{scanned_group_names}
 use Rattle.regex_pattern_front.specs.declared.diagnosis.Cause.{Cause}
 use Rattle.regex_pattern_front.specs.declared.parser_error.ParseFault.{ParseFault}
@@ -17,62 +17,62 @@ use Rattle.regex_pattern_front.specs.declared.ir.AnchorType.TheVariants.{StartOf
 use Rattle.regex_pattern_front.specs.declared.groupless_terms.GrouplessTerm.{GrouplessTerm}
 use Rattle.regex_pattern_front.specs.GroupReaderContracts.{AreGroupNumbers}
 use Rattle.regex_pattern_front.specs.CodePointReaderContracts.{is_syntax_error}
-use Rattle.regex_pattern_front.specs.AstToSpecTree.{node_of, flags_of}
+use Rattle.regex_pattern_front.specs.AstToSpecTree.{node_of, spec_flags_of}
 
 -- the context of a pattern with these flags and groups
-abbrev pub pattern_context : Flags → List RemainingPattern → PatternContext
-pattern_context flags groups = record { flags = flags_of flags; groups = groups }
+abbrev pub pattern_context : Flags → List RemainingCodePoints → PatternContext
+pattern_context flags groups = record { flags = spec_flags_of flags; groups = groups }
 
 -- what the parser can know of the groups: the map has their numbers, and there are not too many
-abbrev pub AreKnownGroupNumbers : {R : Type 0} → BTreeMap (String R) ℕ → List RemainingPattern → Type 0
-AreKnownGroupNumbers numbers groups = AreGroupNumbers numbers groups × (length groups ≤ 65535)
+abbrev pub AreGroupNumbersAndWithinLimit : {R : Type 0} → BTreeMap (String R) ℕ → List RemainingCodePoints → Type 0
+AreGroupNumbersAndWithinLimit numbers groups = AreGroupNumbers numbers groups × (length groups ≤ 65535)
 
 -- the state with this text left and these groups opened
-abbrev pub parse_state_at : RemainingPattern → List RemainingPattern → ParseState
+abbrev pub parse_state_at : RemainingCodePoints → List RemainingCodePoints → ParseState
 parse_state_at here opened = record { text = here; opened = opened }
 
 -- no atom without groups is here
-abbrev pub NoSimpleAtom : PatternContext → (here : RemainingPattern) → Type 0
-NoSimpleAtom w here = (end : RemainingPattern) (n : tree.Node) → AtomLeaf w here end n → ⊥
+abbrev pub NoSimpleAtom : PatternContext → (here : RemainingCodePoints) → Type 0
+NoSimpleAtom w here = (end : RemainingCodePoints) (n : tree.Node) → AtomLeaf w here end n → ⊥
 
 -- no term is here
-abbrev pub NoTerm : PatternContext → (here : RemainingPattern) → Type 0
+abbrev pub NoTerm : PatternContext → (here : RemainingCodePoints) → Type 0
 NoTerm w here =
-    (behind : Bool) (opened : List RemainingPattern) (q : ParseState) (n : tree.Node) → Term w behind (parse_state_at here opened) q n → ⊥
+    (behind : Bool) (opened : List RemainingCodePoints) (q : ParseState) (n : tree.Node) → Term profile w behind (parse_state_at here opened) q n → ⊥
 
 -- an assertion without groups, from here to there
-abbrev pub IsAssertion : PatternContext → (here there : RemainingPattern) → tree.Node → Type 0
-IsAssertion w here there n = (opened : List RemainingPattern) → Assertion w (parse_state_at here opened) (parse_state_at there opened) n
+abbrev pub IsAssertion : PatternContext → (here there : RemainingCodePoints) → tree.Node → Type 0
+IsAssertion w here there n = (opened : List RemainingCodePoints) → Assertion profile w (parse_state_at here opened) (parse_state_at there opened) n
 
 -- an atom or an assertion
-abbrev pub IsAtomOr : (is_atom : Bool) → PatternContext → (here there : RemainingPattern) → tree.Node → Type 0
+abbrev pub IsAtomOr : (is_atom : Bool) → PatternContext → (here there : RemainingCodePoints) → tree.Node → Type 0
 IsAtomOr true w here there n = AtomLeaf w here there n
 IsAtomOr false w here there n = IsAssertion w here there n
 
 -- a term without groups, from here to there
-abbrev pub IsGrouplessTerm : PatternContext → (here : RemainingPattern) → GrouplessTerm → (there : RemainingPattern) → Type 0
+abbrev pub IsGrouplessTerm : PatternContext → (here : RemainingCodePoints) → GrouplessTerm → (there : RemainingCodePoints) → Type 0
 IsGrouplessTerm w here l there = IsAtomOr l.is_atom w here there (node_of l.node)
 
 -- The term is read. If a reference read so far exceeds the number of groups, then an earlier one
 -- did already, or `none` holds. `none` also holds after a syntax error. Nothing is claimed on
 -- allocation failure.
 abbrev pub IsReadOrNot :
-    (none : Type 0) → PatternContext → (here : RemainingPattern) → Result GrouplessTerm ParseFault → (old new : ℕ) → (there : RemainingPattern) → Type 0
+    (none : Type 0) → PatternContext → (here : RemainingCodePoints) → Result GrouplessTerm ParseFault → (old new : ℕ) → (there : RemainingCodePoints) → Type 0
 IsReadOrNot none w here (Ok l) old new there =
     (new ≤ length w.groups → IsGrouplessTerm w here l there) × (length w.groups < new → (length w.groups < old) ⊎ none)
 IsReadOrNot none w here (Err e) old new there = IsTrue (is_syntax_error e) → none
 
 -- an atom is read, or no atom is here
-abbrev pub IsAtomRead : PatternContext → (here : RemainingPattern) → Result GrouplessTerm ParseFault → (old new : ℕ) → (there : RemainingPattern) → Type 0
+abbrev pub IsAtomRead : PatternContext → (here : RemainingCodePoints) → Result GrouplessTerm ParseFault → (old new : ℕ) → (there : RemainingCodePoints) → Type 0
 IsAtomRead w here r old new there = IsReadOrNot (NoSimpleAtom w here) w here r old new there
 
 -- a term is read, or no term is here
-abbrev pub IsGrouplessTermRead : PatternContext → (here : RemainingPattern) → Result GrouplessTerm ParseFault → (old new : ℕ) → (there : RemainingPattern) → Type 0
+abbrev pub IsGrouplessTermRead : PatternContext → (here : RemainingCodePoints) → Result GrouplessTerm ParseFault → (old new : ℕ) → (there : RemainingCodePoints) → Type 0
 IsGrouplessTermRead w here r old new there = IsReadOrNot (NoTerm w here) w here r old new there
 
 -- the text between the two opens no group
-abbrev pub OpensNoGroup : (here there : RemainingPattern) → Type 0
-OpensNoGroup here there = scanned_group_names false here ≡ scanned_group_names false there
+abbrev pub TextBetweenOpensNoGroup : (here there : RemainingCodePoints) → Type 0
+TextBetweenOpensNoGroup here there = scanned_group_names false here ≡ scanned_group_names false there
 
 -- a parenthesis or a `|`, with which no simple term begins
 abbrev pub is_paren_or_bar : ℕ → Bool
@@ -88,25 +88,25 @@ abbrev pub boundary_letter : (invert : Bool) → ℕ
 boundary_letter invert = if invert then 66 else 98
 
 -- `*`, `+` or `?`
-abbrev pub is_quantifier_sign : ℕ → Bool
-is_quantifier_sign c = c ∈ "*+?"
+abbrev pub is_star_plus_or_question : ℕ → Bool
+is_star_plus_or_question c = c ∈ "*+?"
 
 -- `{`, `}` or `]`
-abbrev pub is_brace_or_bracket : ℕ → Bool
-is_brace_or_bracket c = c ∈ "{}]"
+abbrev pub is_brace_or_closing_bracket : ℕ → Bool
+is_brace_or_closing_bracket c = c ∈ "{}]"
 
 -- the term of `^`, `$` or `.`, or the code point is none of them
-abbrev pub IsAnchorOrDotTerm : PatternContext → (c : ℕ) → (there : RemainingPattern) → Option GrouplessTerm → Type 0
-IsAnchorOrDotTerm w c there (Some l) = IsGrouplessTerm w (c ∷ there) l there
-IsAnchorOrDotTerm w c there None = c ∈ "^$." ≡ false
+abbrev pub IsAnchorOrDotTermIfAny : PatternContext → (c : ℕ) → (there : RemainingCodePoints) → Option GrouplessTerm → Type 0
+IsAnchorOrDotTermIfAny w c there (Some l) = IsGrouplessTerm w (c ∷ there) l there
+IsAnchorOrDotTermIfAny w c there None = c ∈ "^$." ≡ false
 
 -- the code point cannot be a term: it belongs to a quantifier, or it is a brace or bracket that is
 -- refused; or it can be a term
-abbrev pub CannotBeTermAlone : (unicode : Bool) (c : ℕ) (there : RemainingPattern) → Option Cause → Type 0
-CannotBeTermAlone unicode c there (Some cause) =
-    (is_quantifier_sign c ≡ true) ⊎ ((is_brace_or_bracket c ≡ true) × ((unicode ≡ true) ⊎ BeginsQuantifier (c ∷ there)))
-CannotBeTermAlone unicode c there None =
-    (is_quantifier_sign c ≡ false) × (is_brace_or_bracket c ≡ true → (unicode ≡ false) × ¬ (BeginsQuantifier (c ∷ there)))
+abbrev pub RefusesCodePointThatIsNoTerm : (unicode : Bool) (c : ℕ) (there : RemainingCodePoints) → Option Cause → Type 0
+RefusesCodePointThatIsNoTerm unicode c there (Some cause) =
+    (is_star_plus_or_question c ≡ true) ⊎ ((is_brace_or_closing_bracket c ≡ true) × ((unicode ≡ true) ⊎ BeginsQuantifier (c ∷ there)))
+RefusesCodePointThatIsNoTerm unicode c there None =
+    (is_star_plus_or_question c ≡ false) × (is_brace_or_closing_bracket c ≡ true → (unicode ≡ false) × ¬ (BeginsQuantifier (c ∷ there)))
 
 -- whether a reference begins with this letter or digit: `k` or `1` to `9`
 abbrev pub begins_backreference : Option ℕ → Bool
@@ -114,36 +114,36 @@ begins_backreference None = false
 begins_backreference (Some c) = c == 107 || is_in_range 49 57 c
 
 -- `<name>`, where the name has this number
-abbrev pub IsNamed : (numbers : RemainingPattern → Option ℕ) → (here there : RemainingPattern) → ℕ → Type 0
+abbrev pub IsNamed : (numbers : RemainingCodePoints → Option ℕ) → (here there : RemainingCodePoints) → ℕ → Type 0
 IsNamed numbers here there n =
-    (a name : RemainingPattern) × (here ≡ codes "<" ++ a) × GroupName a there name × (numbers name ≡ Some n)
+    (a name : RemainingCodePoints) × (here ≡ codes "<" ++ a) × GroupName a there name × (numbers name ≡ Some n)
 
 -- the number of `<name>` is read; after a syntax error no name here has the number of a group.
 -- Nothing is claimed on allocation failure.
-abbrev pub IsNamedReferenceRead : (numbers : RemainingPattern → Option ℕ) → (here : RemainingPattern) → Result ℕ ParseFault → (there : RemainingPattern) → Type 0
-IsNamedReferenceRead numbers here (Ok n) there = IsNamed numbers here there n
-IsNamedReferenceRead numbers here (Err e) there =
-    IsTrue (is_syntax_error e) → (end : RemainingPattern) (n : ℕ) → IsNamed numbers here end n → 0 < n → ⊥
+abbrev pub IsReferencedNameNumberRead : (numbers : RemainingCodePoints → Option ℕ) → (here : RemainingCodePoints) → Result ℕ ParseFault → (there : RemainingCodePoints) → Type 0
+IsReferencedNameNumberRead numbers here (Ok n) there = IsNamed numbers here there n
+IsReferencedNameNumberRead numbers here (Err e) there =
+    IsTrue (is_syntax_error e) → (end : RemainingCodePoints) (n : ℕ) → IsNamed numbers here end n → 0 < n → ⊥
 
 -- the number, if there is one and it is not 0
-abbrev pub IsNonzeroGroupNumber : Option ℕ → Result ℕ ParseFault → Type 0
-IsNonzeroGroupNumber number (Ok n) = (number ≡ Some n) × (0 < n)
-IsNonzeroGroupNumber number (Err e) = (n : ℕ) → number ≡ Some n → 0 < n → ⊥
+abbrev pub IsNumberUnlessMissingOrZero : Option ℕ → Result ℕ ParseFault → Type 0
+IsNumberUnlessMissingOrZero number (Ok n) = (number ≡ Some n) × (0 < n)
+IsNumberUnlessMissingOrZero number (Err e) = (n : ℕ) → number ≡ Some n → 0 < n → ⊥
 
 -- a decimal number is read, or none below 2 ^ 32 is here
-abbrev pub IsDecimalNumberRead : (here : RemainingPattern) → Option ℕ → (there : RemainingPattern) → Type 0
-IsDecimalNumberRead here (Some n) there = Digits 10 here there n
-IsDecimalNumberRead here None there = (end : RemainingPattern) (n : ℕ) → Digits 10 here end n → n < 2 ^ 32 → ⊥
+abbrev pub IsDecimalReadIfItFitsU32 : (here : RemainingCodePoints) → Option ℕ → (there : RemainingCodePoints) → Type 0
+IsDecimalReadIfItFitsU32 here (Some n) there = Digits 10 here there n
+IsDecimalReadIfItFitsU32 here None there = (end : RemainingCodePoints) (n : ℕ) → Digits 10 here end n → n < 2 ^ 32 → ⊥
 
 -- a reference after its backslash, by number or by a name that has this number
-abbrev pub IsReference : (numbers : RemainingPattern → Option ℕ) → (here there : RemainingPattern) → ℕ → Type 0
+abbrev pub IsReference : (numbers : RemainingCodePoints → Option ℕ) → (here there : RemainingCodePoints) → ℕ → Type 0
 IsReference numbers here there n =
     Digits 10 here there n
-    ⊎ ((a name : RemainingPattern) × (here ≡ codes "k<" ++ a) × GroupName a there name × (numbers name ≡ Some n))
+    ⊎ ((a name : RemainingCodePoints) × (here ≡ codes "k<" ++ a) × GroupName a there name × (numbers name ≡ Some n))
 
 -- the number of a reference is read; after a syntax error no reference here is to a group.
 -- Nothing is claimed on allocation failure.
-abbrev pub IsReferenceNumberRead : (numbers : RemainingPattern → Option ℕ) → (here : RemainingPattern) → Result ℕ ParseFault → (there : RemainingPattern) → Type 0
-IsReferenceNumberRead numbers here (Ok n) there = IsReference numbers here there n
-IsReferenceNumberRead numbers here (Err e) there =
-    IsTrue (is_syntax_error e) → (end : RemainingPattern) (n : ℕ) → IsReference numbers here end n → 0 < n → n < 2 ^ 32 → ⊥
+abbrev pub IsReferencedGroupNumberRead : (numbers : RemainingCodePoints → Option ℕ) → (here : RemainingCodePoints) → Result ℕ ParseFault → (there : RemainingCodePoints) → Type 0
+IsReferencedGroupNumberRead numbers here (Ok n) there = IsReference numbers here there n
+IsReferencedGroupNumberRead numbers here (Err e) there =
+    IsTrue (is_syntax_error e) → (end : RemainingCodePoints) (n : ℕ) → IsReference numbers here end n → 0 < n → n < 2 ^ 32 → ⊥

@@ -13,9 +13,9 @@ IntervalsAreInOrder (i ∷ []) = i.0 ≤ i.1
 IntervalsAreInOrder (i ∷ j ∷ more) = (i.0 ≤ i.1) × (i.1 < j.0) × IntervalsAreInOrder (j ∷ more)
 
 -- no interval, or one
-abbrev pub interval_as_list : Option Interval → List (ℕ × ℕ)
-interval_as_list None = []
-interval_as_list (Some i) = interval_of i ∷ []
+abbrev pub optional_interval_as_list : Option Interval → List (ℕ × ℕ)
+optional_interval_as_list None = []
+optional_interval_as_list (Some i) = interval_of i ∷ []
 
 -- whether the interval has a member
 abbrev pub is_nonempty : Interval → Bool

@@ -4,8 +4,8 @@ use Rattle.regex_meaning.specs.Tree as tree
 use Rattle.regex_meaning.specs.Tree.{cat, alt, capture_group, lookaround, loop, loop_1_char_body}
 use Rattle.regex_pattern_front.specs.AstToSpecTree.{node_of}
 use Rattle.regex_pattern_front.specs.declared.ir.Node.{Node}
-use Rattle.regex_pattern_front.specs.declared.ir.DropStep.{DropStep}
-use Rattle.regex_pattern_front.specs.declared.ir.DropStep.TheVariants.{Inside, Row, Nothing}
+use Rattle.regex_pattern_front.specs.declared.ir.NextNodeAndRestToDrop.{NextNodeAndRestToDrop}
+use Rattle.regex_pattern_front.specs.declared.ir.NextNodeAndRestToDrop.TheVariants.{Inside, Row, Nothing}
 
 -- the number of nodes, and of entries of lists
 unfoldable pub tree_size : tree.Node → ℕ
@@ -31,15 +31,15 @@ abbrev pub drop_measure : (all at : ℕ) → ℕ
 drop_measure all at = all * all + at
 
 -- the measure, given the size of the current node and the rest
-abbrev pub drop_measure_in : (at : ℕ) (rest : Option Node) → ℕ
-drop_measure_in at rest = drop_measure (at + rest_size rest) at
+abbrev pub drop_measure_of_size_and_rest : (at : ℕ) (rest : Option Node) → ℕ
+drop_measure_of_size_and_rest at rest = drop_measure (at + rest_size rest) at
 
 -- the measure, given the current node and the rest
-abbrev pub drop_measure_of : Node → (rest : Option Node) → ℕ
-drop_measure_of n rest = drop_measure_in (node_size n) rest
+abbrev pub drop_measure_of_node_and_rest : Node → (rest : Option Node) → ℕ
+drop_measure_of_node_and_rest n rest = drop_measure_of_size_and_rest (node_size n) rest
 
 -- The measure of what is left is below `before`, and a list that is dropped has no nodes.
-abbrev pub DecreasesDropMeasure : DropStep → (before : ℕ) → Type 0
-DecreasesDropMeasure (Inside node rest) before = drop_measure_of node rest < before
-DecreasesDropMeasure (Row row rest) before = (row.items ≡ []) × IfSome rest (λ node. drop_measure_of node None < before)
+abbrev pub DecreasesDropMeasure : NextNodeAndRestToDrop → (before : ℕ) → Type 0
+DecreasesDropMeasure (Inside node rest) before = drop_measure_of_node_and_rest node rest < before
+DecreasesDropMeasure (Row row rest) before = (row.items ≡ []) × IfSome rest (λ node. drop_measure_of_node_and_rest node None < before)
 DecreasesDropMeasure Nothing before = ⊤

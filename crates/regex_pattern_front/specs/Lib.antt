@@ -5,11 +5,12 @@ pub mod FirstPassingIndex
 pub mod OptimizedTrees
 pub mod IterativeDropMeasure
 pub mod SubtreeListInvariants
-pub mod GroupStackInvariant
-pub mod NestingDepth
+pub mod GroupIdsWhileParsing
+pub mod ParenthesisDepth
 pub mod CodePointReaderContracts
 pub mod ClassReaderContracts
 pub mod PartialDisjunctionModel
 pub mod GroupReaderContracts
 pub mod GrouplessTermContracts
 pub mod ParserContracts
+pub mod ParseErrors

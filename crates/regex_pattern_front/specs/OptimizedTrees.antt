@@ -5,7 +5,7 @@ use Rattle.regex_meaning.specs.Tree.{capture_group, lookaround, loop, loop_1_cha
 use Rattle.regex_meaning.specs.Text.{Text, Direction}
 use Rattle.regex_meaning.specs.Outcomes.{Groups, outcomes}
 use Rattle.regex_meaning.specs.WellFormedTrees.{is_well_formed}
-use Rattle.regex_meaning.specs.Captures.{answers_from, capturing_group_ids_and_names}
+use Rattle.regex_meaning.specs.GroupsByNumberAndName.{answers_from, capturing_group_ids_and_names}
 pub use Rattle.regex_grammar.specs.TreesWithoutCharLoops.{has_no_char_loops}
 
 -- whether the node reads one character and accepts it or not
@@ -30,9 +30,9 @@ optimized (loop_1_char_body q loopee) = loop_1_char_body q (optimized loopee)
 optimized node = node
 
 -- a loop as a loop over one character; other nodes are unchanged
-abbrev pub as_one_char_loop : Node → Node
-as_one_char_loop (loop q start_group end_group loopee) = loop_1_char_body q loopee
-as_one_char_loop node = node
+abbrev pub loop_turned_into_char_loop : Node → Node
+loop_turned_into_char_loop (loop q start_group end_group loopee) = loop_1_char_body q loopee
+loop_turned_into_char_loop node = node
 
 -- the alternatives after the first one
 abbrev pub rest_of_alternatives : Node → Node
@@ -40,15 +40,15 @@ rest_of_alternatives (alt left right) = right
 rest_of_alternatives node = node
 
 -- the first alternative of one chain before another chain
-abbrev pub prepend_alternative : (row rest : Node) → Node
-prepend_alternative (alt left right) rest = alt left rest
-prepend_alternative _ rest = rest
+abbrev pub first_alternative_before_chain : (row rest : Node) → Node
+first_alternative_before_chain (alt left right) rest = alt left rest
+first_alternative_before_chain _ rest = rest
 
 -- `count` alternatives whose links were reversed, the last of them first, in their original order
 -- before the rest
-abbrev pub restored_alternatives : (count : ℕ) (done rest : Node) → Node
-restored_alternatives zero done rest = alt done rest
-restored_alternatives (suc count) done rest = restored_alternatives count (rest_of_alternatives done) (prepend_alternative done rest)
+abbrev pub alternatives_with_links_unreversed : (count : ℕ) (done rest : Node) → Node
+alternatives_with_links_unreversed zero done rest = alt done rest
+alternatives_with_links_unreversed (suc count) done rest = alternatives_with_links_unreversed count (rest_of_alternatives done) (first_alternative_before_chain done rest)
 
 -- optimization keeps a tree well formed
 abbrev pub OptimizedIsWellFormed : Type 0

@@ -1,26 +1,28 @@
 -- What the functions of the parser ensure, in terms of the grammar.
-use Rattle.std.specs.Prelude.{◌≡◌, ℕ, ◌+◌, ◌≤◌, Bool, true, false, List, [], ◌∷◌, length, Option, Some, Result, Ok, Err, String, IsTrue}
+use Rattle.std.specs.Prelude.{◌≡◌, ◌⊎◌, ℕ, ◌+◌, ◌≤◌, Bool, true, false, List, [], ◌∷◌, length, Option, Some, Result, Ok, Err, String, IsTrue}
 use Rattle.regex_meaning.specs.Tree as tree
-use Rattle.regex_grammar.specs.ReadingStatesAndDigits.{RemainingPattern}
+use Rattle.regex_grammar.specs.ReadingStatesAndDigits.{RemainingCodePoints}
 use Rattle.regex_grammar.specs.EscapesNamesQuantifiers.{GroupName, BeginsQuantifier, ValidQuantifier}
 use Rattle.regex_grammar.specs.Grammar.{Parses}
 use Rattle.regex_grammar.specs.ParseStack as grammar
-use Rattle.regex_grammar.specs.ParserInvariants.{HasNoTree, group_names_of, AreWithinGroupLimit, parse_state, IsParserInvariant}
+use Rattle.regex_grammar.specs.ParserInvariants.{HasNoTree, HasNoTreeWithinLimit, OpensTooManyGroups, group_names_of, AreWithinGroupLimit, parse_state, IsParserInvariant}
 use Rattle.regex_pattern_front.specs.declared.parser_error.ParseFault.{ParseFault}
 use Rattle.regex_pattern_front.specs.declared.group_openings_and_names.GroupKind.{GroupKind}
 use Rattle.regex_pattern_front.specs.declared.group_openings_and_names.GroupKind.TheVariants.{Capture, Named, Plain, Look}
 use Rattle.regex_pattern_front.specs.declared.ir.Node.{Node}
 use Rattle.regex_pattern_front.specs.declared.group_stack.OpenGroup.{OpenGroup}
 use Rattle.regex_pattern_front.specs.declared.parse.Parser.{Parser}
+use Rattle.regex_pattern_front.specs.declared.parse.Refusal.{Refusal}
+use Rattle.regex_pattern_front.specs.declared.parse.Refusal.TheVariants.{Syntax, TooManyGroups, Memory}
 use Rattle.regex_pattern_front.specs.GroupReaderContracts.{AreGroupNumbers}
 use Rattle.regex_pattern_front.specs.PartialDisjunctionModel.{disjunction_of}
 use Rattle.regex_pattern_front.specs.CodePointReaderContracts.{is_syntax_error}
-use Rattle.regex_pattern_front.specs.AstToSpecTree.{node_of, group_name_bytes, flags_of}
+use Rattle.regex_pattern_front.specs.AstToSpecTree.{node_of, group_name_bytes, spec_flags_of}
 
 -- ---- Open groups
 
 -- the kind of an open group, as in the grammar
-abbrev pub group_kind_of : GroupKind → (name : RemainingPattern) → (start : ℕ) → grammar.OpenGroupKind
+abbrev pub group_kind_of : GroupKind → (name : RemainingCodePoints) → (start : ℕ) → grammar.OpenGroupKind
 group_kind_of Capture name start = grammar.captures start name
 group_kind_of Named name start = grammar.captures start name
 group_kind_of Plain name start = grammar.plain
@@ -36,7 +38,7 @@ around_from inner [] = inner
 around_from inner (o ∷ os) = around_from (open_group_of o ∷ inner) os
 
 -- the node of a group with these contents
-abbrev pub group_node_around : GroupKind → (name : RemainingPattern) → (start end : ℕ) → tree.Node → tree.Node
+abbrev pub group_node_around : GroupKind → (name : RemainingCodePoints) → (start end : ℕ) → tree.Node → tree.Node
 group_node_around Capture name start end contents = tree.capture_group start name contents
 group_node_around Named name start end contents = tree.capture_group start name contents
 group_node_around Plain name start end contents = contents
@@ -46,15 +48,15 @@ group_node_around (Look negate backwards) name start end contents =
 -- ---- Results of functions
 
 -- The result is the term or, if it is an atom with a quantifier, a loop over it. A quantifier is
--- refused if it is out of order or does not follow an atom.
+-- refused if it is out of order or does not follow an atom; so none follows another term.
 abbrev pub IsTermWithQuantifier :
-    (is_atom : Bool) → (here : RemainingPattern) → (start end : ℕ) → tree.Node → Result Node ParseFault → (there : RemainingPattern) → Type 0
+    (is_atom : Bool) → (here : RemainingCodePoints) → (start end : ℕ) → tree.Node → Result Node ParseFault → (there : RemainingCodePoints) → Type 0
 IsTermWithQuantifier true here start end term (Ok n) there =
-    (opened : List RemainingPattern) → length opened ≡ end
+    (opened : List RemainingCodePoints) → length opened ≡ end
     → grammar.IsTerm start term (parse_state here opened) (parse_state there opened) (node_of n)
-IsTermWithQuantifier false here start end term (Ok n) there = (there ≡ here) × (node_of n ≡ term)
+IsTermWithQuantifier false here start end term (Ok n) there = (there ≡ here) × (node_of n ≡ term) × ¬ (BeginsQuantifier here)
 IsTermWithQuantifier true here start end term (Err e) there =
-    IsTrue (is_syntax_error e) → BeginsQuantifier here × ((rest : RemainingPattern) (q : tree.Quantifier) → ValidQuantifier here rest q → ⊥)
+    IsTrue (is_syntax_error e) → BeginsQuantifier here × ((rest : RemainingCodePoints) (q : tree.Quantifier) → ValidQuantifier here rest q → ⊥)
 IsTermWithQuantifier false here start end term (Err e) there = BeginsQuantifier here
 
 -- whether the group has a name
@@ -67,39 +69,55 @@ is_named_group (Look negate backwards) = false
 -- the name of a named group is read and has the number of this group; after a syntax error there is
 -- no such name
 abbrev pub IsGroupNameRead :
-    {R : Type 0} → (numbers : RemainingPattern → Option ℕ) → (groups : ℕ) → (named : Bool) → (here : RemainingPattern)
-    → Result (Option (String R)) ParseFault → (there : RemainingPattern) → Type 0
+    {R : Type 0} → (numbers : RemainingCodePoints → Option ℕ) → (groups : ℕ) → (named : Bool) → (here : RemainingCodePoints)
+    → Result (Option (String R)) ParseFault → (there : RemainingCodePoints) → Type 0
 IsGroupNameRead numbers groups true here (Ok name) there =
     GroupName here there (group_name_bytes name) × (numbers (group_name_bytes name) ≡ Some (groups + 1))
 IsGroupNameRead numbers groups false here (Ok name) there = (there ≡ here) × (group_name_bytes name ≡ [])
 IsGroupNameRead numbers groups true here (Err e) there =
-    IsTrue (is_syntax_error e) → (rest name : RemainingPattern) → GroupName here rest name → numbers name ≡ Some (groups + 1) → ⊥
+    IsTrue (is_syntax_error e) → (rest name : RemainingCodePoints) → GroupName here rest name → numbers name ≡ Some (groups + 1) → ⊥
 IsGroupNameRead numbers groups false here (Err e) there = IsTrue (is_syntax_error e) → ⊥
 
 -- ---- The parser
 
 -- the parser has read the pattern up to `here`
-pub record HasReadPatternUpTo (pattern here : RemainingPattern) (p : Parser) : Type 0 where
+pub record HasReadPatternUpTo (pattern here : RemainingCodePoints) (p : Parser) : Type 0 where
   pub numbers : AreWithinGroupLimit (group_names_of pattern) → AreGroupNumbers p.leaves.numbers (group_names_of pattern)
   pub few : p.groups ≤ 65535
   pub stands :
       let around = around_from [] p.around.items in
-      IsParserInvariant (flags_of p.leaves.flags) pattern p.leaves.references p.groups around (disjunction_of p.level) here
+      IsParserInvariant (spec_flags_of p.leaves.flags) pattern p.leaves.references p.groups around (disjunction_of p.level) here
 
--- The parser has advanced from `here`; after a syntax error the pattern has no tree. Nothing is
--- claimed on allocation failure.
-abbrev pub AdvancesOrHasNoTree : (here : RemainingPattern) → (old : Parser) → {A : Type 0} → Result A ParseFault → (new : Parser) → Type 0
+-- The parser has advanced from `here`; after a syntax error the pattern has no tree, unless it
+-- opens too many groups. Nothing is claimed on allocation failure.
+abbrev pub AdvancesOrHasNoTree : (here : RemainingCodePoints) → (old : Parser) → {A : Type 0} → Result A ParseFault → (new : Parser) → Type 0
 AdvancesOrHasNoTree here old (Ok u) new =
-    (pattern : RemainingPattern) → HasReadPatternUpTo pattern here old → HasReadPatternUpTo pattern new.leaves.reader.rest.now new
+    (pattern : RemainingCodePoints) → HasReadPatternUpTo pattern here old → HasReadPatternUpTo pattern new.leaves.reader.rest.now new
 AdvancesOrHasNoTree here old (Err e) new =
-    IsTrue (is_syntax_error e) → (pattern : RemainingPattern) → HasReadPatternUpTo pattern here old → HasNoTree (flags_of old.leaves.flags) pattern
+    IsTrue (is_syntax_error e) → (pattern : RemainingCodePoints) → HasReadPatternUpTo pattern here old → HasNoTreeWithinLimit (spec_flags_of old.leaves.flags) pattern
 
--- the result is the tree of the pattern; after a syntax error it has none. Allocation failure says
--- nothing.
-abbrev pub IsParseResult : {A : Type 0} → (of : A → tree.Tree) → tree.Flags → (pattern : RemainingPattern) → Result A ParseFault → Type 0
+-- the result is the tree of the pattern; after a syntax error it has none, unless it opens too many
+-- groups. Allocation failure says nothing.
+abbrev pub IsParseResult : {A : Type 0} → (of : A → tree.Tree) → tree.Flags → (pattern : RemainingCodePoints) → Result A ParseFault → Type 0
 IsParseResult of flags pattern (Ok a) = Parses flags pattern (of a)
-IsParseResult of flags pattern (Err e) = IsTrue (is_syntax_error e) → HasNoTree flags pattern
+IsParseResult of flags pattern (Err e) = IsTrue (is_syntax_error e) → HasNoTreeWithinLimit flags pattern
+
+-- what a refusal says of the pattern; allocation failure says nothing
+abbrev pub Refuses : tree.Flags → (pattern : RemainingCodePoints) → Refusal → Type 0
+Refuses flags pattern (Syntax d) = HasNoTree flags pattern
+Refuses flags pattern (TooManyGroups d) = OpensTooManyGroups pattern
+Refuses flags pattern (Memory e) = Unit {0}
+
+-- the place that a refusal reports is one of the pattern
+abbrev pub IsPlacedIn : (pattern : RemainingCodePoints) → Refusal → Type 0
+IsPlacedIn pattern (Syntax d) = d.at ≤ length pattern
+IsPlacedIn pattern (TooManyGroups d) = d.at ≤ length pattern
+IsPlacedIn pattern (Memory e) = Unit {0}
+
+-- the pattern has no tree, or it opens too many groups
+abbrev pub IsTextRefused : tree.Flags → (pattern : RemainingCodePoints) → Type 0
+IsTextRefused flags pattern = HasNoTree flags pattern ⊎ OpensTooManyGroups pattern
 
 -- the tree with this root and these flags
-abbrev pub tree_with_flags : tree.Flags → Node → tree.Tree
-tree_with_flags flags n = record { root = node_of n; flags = flags }
+abbrev pub tree_of_root_and_flags : tree.Flags → Node → tree.Tree
+tree_of_root_and_flags flags n = record { root = node_of n; flags = flags }

@@ -2,7 +2,7 @@
 
 ghost use Rattle.std.specs.Prelude.{◌≡◌, ◌<◌, ◌≤◌, ◌||◌, ◌==◌, ℕ, Bool, List, [], length, slice_index};
 ghost use Rattle.regex_meaning.specs.{NumberListHelpers.{contains}, StartPredicate.{bytes_that_pass}};
-ghost use Rattle.regex_pattern_front.specs.FirstPassingIndex.{FindsFirstPassingIndex, member_byte_at_index};
+ghost use Rattle.regex_pattern_front.specs.FirstPassingIndex.{FindsFirstPassingIndex, is_member_byte_at_index};
 
 /// A set of bytes. Contracts refer to its `members`.
 pub trait ByteSet: Copy {
@@ -13,7 +13,7 @@ pub trait ByteSet: Copy {
         ensures { result ≡ contains (members self.now) byte };
 
     /// Checks whether a character is in the set. A character that is no byte is not in it.
-    fn has_char(&self, c: u32) -> bool
+    fn byte_set_has_char(&self, c: u32) -> bool
         ensures { result ≡ contains (members self.now) c };
 }
 
@@ -73,7 +73,7 @@ impl ByteSet for AsciiBitmap {
     }
 
     #[inline(always)]
-    fn has_char(&self, c: u32) -> bool {
+    fn byte_set_has_char(&self, c: u32) -> bool {
         c < 128 && self.contains(c as u8)
     }
 }
@@ -119,7 +119,7 @@ impl ByteSet for ByteBitmap {
     }
 
     #[inline(always)]
-    fn has_char(&self, c: u32) -> bool {
+    fn byte_set_has_char(&self, c: u32) -> bool {
         c < 256 && self.contains(c as u8)
     }
 }
@@ -137,8 +137,8 @@ impl<ArraySet: SmallArraySet> ByteSet for ByteArraySet<ArraySet> {
     }
 
     #[inline(always)]
-    fn has_char(&self, c: u32) -> bool {
-        self.0.has_char(c)
+    fn byte_set_has_char(&self, c: u32) -> bool {
+        self.0.byte_set_has_char(c)
     }
 }
 
@@ -152,7 +152,7 @@ impl ByteSet for [u8; 1] {
     }
 
     #[inline(always)]
-    fn has_char(&self, c: u32) -> bool {
+    fn byte_set_has_char(&self, c: u32) -> bool {
         let [first] = *self;
         c == first as u32
     }
@@ -168,7 +168,7 @@ impl ByteSet for [u8; 2] {
     }
 
     #[inline(always)]
-    fn has_char(&self, c: u32) -> bool {
+    fn byte_set_has_char(&self, c: u32) -> bool {
         let [first, second] = *self;
         c == first as u32 || c == second as u32
     }
@@ -184,7 +184,7 @@ impl ByteSet for [u8; 3] {
     }
 
     #[inline(always)]
-    fn has_char(&self, c: u32) -> bool {
+    fn byte_set_has_char(&self, c: u32) -> bool {
         let [first, second, third] = *self;
         c == first as u32 || c == second as u32 || c == third as u32
     }
@@ -200,7 +200,7 @@ impl ByteSet for [u8; 4] {
     }
 
     #[inline(always)]
-    fn has_char(&self, c: u32) -> bool {
+    fn byte_set_has_char(&self, c: u32) -> bool {
         let [first, second, third, fourth] = *self;
         c == first as u32 || c == second as u32 || c == third as u32 || c == fourth as u32
     }
@@ -215,7 +215,7 @@ impl SmallArraySet for [u8; 4] {}
 impl ByteSearcher for ByteBitmap {
     ghost use Rattle.regex_pattern_front.specs.ByteSetMembers.{byte_bitmap_bytes};
 
-    ghost stands_at = { λ s bytes. member_byte_at_index (byte_bitmap_bytes s) bytes };
+    ghost stands_at = { λ s bytes. is_member_byte_at_index (byte_bitmap_bytes s) bytes };
 
     #[inline(always)]
     fn find_in(&self, bytes: &[u8]) -> Option<usize> {
@@ -224,7 +224,7 @@ impl ByteSearcher for ByteBitmap {
 }
 
 impl ByteSearcher for [u8; 1] {
-    ghost stands_at = { λ s bytes. member_byte_at_index s bytes };
+    ghost stands_at = { λ s bytes. is_member_byte_at_index s bytes };
 
     #[inline(always)]
     fn find_in(&self, bytes: &[u8]) -> Option<usize> {
@@ -233,7 +233,7 @@ impl ByteSearcher for [u8; 1] {
 }
 
 impl ByteSearcher for [u8; 2] {
-    ghost stands_at = { λ s bytes. member_byte_at_index s bytes };
+    ghost stands_at = { λ s bytes. is_member_byte_at_index s bytes };
 
     #[inline(always)]
     fn find_in(&self, bytes: &[u8]) -> Option<usize> {
@@ -242,7 +242,7 @@ impl ByteSearcher for [u8; 2] {
 }
 
 impl ByteSearcher for [u8; 3] {
-    ghost stands_at = { λ s bytes. member_byte_at_index s bytes };
+    ghost stands_at = { λ s bytes. is_member_byte_at_index s bytes };
 
     #[inline(always)]
     fn find_in(&self, bytes: &[u8]) -> Option<usize> {
@@ -253,7 +253,7 @@ impl ByteSearcher for [u8; 3] {
 // Returns the first index of a byte of the set, or `None` if there is none.
 #[inline(always)]
 fn find_member<S: ByteSet>(set: &S, bytes: &[u8]) -> Option<usize>
-    ensures { FindsFirstPassingIndex (member_byte_at_index (S.members set.now) bytes.now) (length bytes.now) result }
+    ensures { FindsFirstPassingIndex (is_member_byte_at_index (S.members set.now) bytes.now) (length bytes.now) result }
 {
     let mut at = 0;
     while at < bytes.len() {

@@ -2,18 +2,18 @@
 
 ghost use Rattle.std.specs.Prelude.{◌≡◌, ◌≢◌, ◌≤◌, ◌∷◌, ◌++◌, [], Bool, false, ℕ, length, map, option_map, IfOk, OnOk};
 ghost use Rattle.regex_meaning.specs.Outcomes.{in_intervals};
-ghost use Rattle.regex_grammar.specs.CharacterClasses.{class as class_of, single_code_point_interval, CharacterClass, ClassAtom, IsSetOf, is_in_class_member};
+ghost use Rattle.regex_grammar.specs.CharacterClasses.{class as class_of, single_code_point_interval, CharacterClass, ClassAtom, IsSetOf, class_member_contains};
 ghost use Rattle.std.specs.List.{list_any};
-ghost use Rattle.regex_pattern_front.specs.{Intervals.{interval_of}, AstToSpecTree.{class_as_spec, flags_of}, CodePointReaderContracts.{IsReadOrErrorMeansNone, IsReadOr}};
-ghost use Rattle.regex_pattern_front.specs.ClassReaderContracts.{class_escape_set, escape_member, atom_member, escape_of, is_in_any_interval, IsCaseClosure, AddsMembers, IsRangeEndRead};
-ghost use Rattle.regex_pattern_front.specs.ClassReaderContracts.{IsClassMemberRead, AreClassRangesRead, DetectsSetOperation, IsRangeOfTwoAtoms, begins_set_operation, same_fold_passes, case_variants_if_one_passes};
+ghost use Rattle.regex_pattern_front.specs.{Intervals.{interval_of}, AstToSpecTree.{class_as_spec, spec_flags_of}, CodePointReaderContracts.{IsReadAndErrorMeansUnreadable, IsReadOr}};
+ghost use Rattle.regex_pattern_front.specs.ClassReaderContracts.{digit_word_or_space_set, class_member_of_escape, class_member_of_atom, escape_of, is_in_any_interval, IsCaseClosureOfTest, AddsMembers, IsRangeEndRead};
+ghost use Rattle.regex_pattern_front.specs.ClassReaderContracts.{IsClassMemberRead, AreClassRangesRead, FailsExactlyOnSetOperation, AreRangeEndsIfBothCharacters, begins_nested_class_or_operation, some_case_variant_passes, case_variants_if_one_passes};
 
 use crate::code_point_reader::PatternReader;
 use crate::codepointset::{CodePointSet, Interval};
 use crate::diagnosis::Cause;
-use crate::escapes::character_escape;
+use crate::escapes_and_group_names::character_escape;
 use crate::flags::Flags;
-use crate::folding::expand_code_point;
+use crate::folding_and_first_bytes::expand_code_point;
 use crate::parser_error::ParseFault;
 use crate::types::BracketContents;
 use std::alloc::{AllocError, Global};
@@ -103,7 +103,7 @@ enum CharacterClassType {
 impl ClassEscape {
     /// Returns the class escape of this letter, or `None` if it has none.
     pub(crate) fn of(letter: Option<char>) -> Option<ClassEscape>
-        ensures { option_map escape_member result ≡ escape_of letter }
+        ensures { option_map class_member_of_escape result ≡ escape_of letter }
     {
         let (base, invert) = match letter? {
             'd' => (CharacterClassType::Digits, false),
@@ -118,8 +118,12 @@ impl ClassEscape {
     }
 
     /// Returns the class of the escape.
-    pub(crate) fn contents(self, alloc: Global, flags: Flags) -> Result<BracketContents, AllocError>
-        ensures set { IfOk result (λ b. IsSetOf (flags_of flags) (class_of (class_escape_set self.base) false ∷ []) b.cps) }
+    pub(crate) fn bracket_contents_of_escape(
+        self,
+        alloc: Global,
+        flags: Flags,
+    ) -> Result<BracketContents, AllocError>
+        ensures set { IfOk result (λ b. IsSetOf (spec_flags_of flags) (class_of (digit_word_or_space_set self.base) false ∷ []) b.cps) }
         ensures invert { IfOk result (λ b. b.invert ≡ self.invert) }
     {
         Ok(BracketContents {
@@ -130,9 +134,9 @@ impl ClassEscape {
 
     // Returns the code points of the escape.
     fn set(self, alloc: Global, flags: Flags) -> Result<CodePointSet, AllocError>
-        ensures { IfOk result (λ s. (c : ℕ) → in_intervals s c ≡ is_in_class_member (flags_of flags) c (escape_member self)) }
+        ensures { IfOk result (λ s. (c : ℕ) → in_intervals s c ≡ class_member_contains (spec_flags_of flags) c (class_member_of_escape self)) }
     {
-        let contents = self.contents(alloc, flags)?;
+        let contents = self.bracket_contents_of_escape(alloc, flags)?;
         if contents.invert {
             contents.cps.inverted()
         } else {
@@ -143,7 +147,7 @@ impl ClassEscape {
     // Adds the code points of the escape to the intervals.
     fn add_to(self, intervals: &mut Vec<Interval>, flags: Flags) -> Result<(), AllocError>
         ensures { let old = intervals.old.items in let new = intervals.new.items in
-            OnOk result (AddsMembers (flags_of flags) old new (escape_member self ∷ [])) }
+            OnOk result (AddsMembers (spec_flags_of flags) old new (class_member_of_escape self ∷ [])) }
     {
         let set = self.set(*intervals.allocator(), flags)?;
         append_intervals(intervals, set.intervals())
@@ -152,7 +156,7 @@ impl ClassEscape {
 
 impl CharacterClassType {
     fn intervals(self, alloc: Global) -> Result<Vec<Interval>, AllocError>
-        ensures { IfOk result (λ v. map interval_of v.items ≡ class_escape_set self) }
+        ensures { IfOk result (λ v. map interval_of v.items ≡ digit_word_or_space_set self) }
     {
         match self {
             CharacterClassType::Digits => DIGITS.to_vec(alloc),
@@ -180,7 +184,7 @@ pub(crate) fn read_class(
 ) -> Result<BracketContents, ParseFault>
     ensures moves { length reader.new.rest.now ≤ length reader.old.rest.now }
     ensures text { let here = reader.old.rest.now in
-        IsReadOr class_as_spec (CharacterClass (flags_of flags) here) result reader.new.rest.now }
+        IsReadOr class_as_spec (CharacterClass (spec_flags_of flags) here) result reader.new.rest.now }
 {
     if flags.unicode_sets {
         no_set_operation(*reader)?;
@@ -201,7 +205,7 @@ fn ranges(
     flags: Flags,
 ) -> Result<CodePointSet, ParseFault>
     ensures moves { length reader.new.rest.now ≤ length reader.old.rest.now }
-    ensures text { AreClassRangesRead (flags_of flags) reader.old.rest.now result reader.new.rest.now }
+    ensures text { AreClassRangesRead (spec_flags_of flags) reader.old.rest.now result reader.new.rest.now }
 {
     let mut intervals = Vec::new(alloc);
     while let Some(c) = reader.next() {
@@ -215,14 +219,14 @@ fn ranges(
 
 // Returns an error if the class that begins here contains a nested class, `&&` or `--`.
 fn no_set_operation(reader: PatternReader) -> Result<(), ParseFault>
-    ensures { DetectsSetOperation reader.entry.rest.now result }
+    ensures { FailsExactlyOnSetOperation reader.entry.rest.now result }
 {
     let mut ahead = reader;
-    while let Some(c) = ahead.read_escape_as_backslash() {
+    while let Some(c) = ahead.read_next_and_skip_escaped() {
         if c == ']' as u32 {
             return Ok(());
         }
-        if begins_set_operation(c, ahead.peek()) {
+        if begins_nested_class_or_operation(c, ahead.peek()) {
             return Err(ahead.error_at_last_read(Cause::SetOperation));
         }
     }
@@ -230,8 +234,8 @@ fn no_set_operation(reader: PatternReader) -> Result<(), ParseFault>
 }
 
 // Checks whether a nested class or a set operation begins with this code point, given the next one.
-fn begins_set_operation(c: u32, next: Option<char>) -> bool
-    ensures { result ≡ begins_set_operation c next }
+fn begins_nested_class_or_operation(c: u32, next: Option<char>) -> bool
+    ensures { result ≡ begins_nested_class_or_operation c next }
 {
     match char::from_u32(c) {
         Some('[') => true,
@@ -259,13 +263,13 @@ fn read_member(
     requires { c ≢ 93 }
     ensures moves { length reader.new.rest.now ≤ length reader.old.rest.now }
     ensures text { let here = c ∷ reader.old.rest.now in let there = reader.new.rest.now in
-        IsClassMemberRead (flags_of flags) here intervals.old.items result intervals.new.items there }
+        IsClassMemberRead (spec_flags_of flags) here intervals.old.items result intervals.new.items there }
 {
     let start = *reader;
     let first = read_atom(reader, c, flags)?;
     let mut ahead = *reader;
     let Some(second) = range_end(&mut ahead, flags)? else {
-        add(intervals, first, flags)?;
+        add_class_atom(intervals, first, flags)?;
         return Ok(());
     };
     *reader = ahead;
@@ -276,15 +280,15 @@ fn read_member(
         intervals.push(Interval { first, last })?;
         return Ok(());
     }
-    add(intervals, first, flags)?;
-    add(intervals, ClassAtomValue::Character('-' as u32), flags)?;
-    add(intervals, second, flags)?;
+    add_class_atom(intervals, first, flags)?;
+    add_class_atom(intervals, ClassAtomValue::Character('-' as u32), flags)?;
+    add_class_atom(intervals, second, flags)?;
     Ok(())
 }
 
 // Returns the ends of a range, if both atoms are characters.
 fn range_ends_of_atoms(first: ClassAtomValue, second: ClassAtomValue) -> Option<(u32, u32)>
-    ensures { IsRangeOfTwoAtoms first second result }
+    ensures { AreRangeEndsIfBothCharacters first second result }
 {
     let ClassAtomValue::Character(first) = first else {
         return None;
@@ -299,7 +303,7 @@ fn range_ends_of_atoms(first: ClassAtomValue, second: ClassAtomValue) -> Option<
 // last character of the class.
 fn range_end(reader: &mut PatternReader, flags: Flags) -> Result<Option<ClassAtomValue>, ParseFault>
     ensures moves { length reader.new.rest.now ≤ length reader.old.rest.now }
-    ensures text { IsRangeEndRead (flags_of flags) reader.old.rest.now result reader.new.rest.now }
+    ensures text { IsRangeEndRead (spec_flags_of flags) reader.old.rest.now result reader.new.rest.now }
 {
     if !reader.eat('-') {
         return Ok(None);
@@ -315,7 +319,7 @@ fn read_atom(reader: &mut PatternReader, c: u32, flags: Flags) -> Result<ClassAt
     requires { c ≢ 93 }
     ensures moves { length reader.new.rest.now ≤ length reader.old.rest.now }
     ensures text { let here = c ∷ reader.old.rest.now in
-        IsReadOrErrorMeansNone atom_member (ClassAtom (flags_of flags) here) result reader.new.rest.now }
+        IsReadAndErrorMeansUnreadable class_member_of_atom (ClassAtom (spec_flags_of flags) here) result reader.new.rest.now }
 {
     if c != '\\' as u32 {
         return Ok(ClassAtomValue::Character(c));
@@ -330,9 +334,13 @@ fn read_atom(reader: &mut PatternReader, c: u32, flags: Flags) -> Result<ClassAt
     Ok(ClassAtomValue::Character(character_escape(reader, flags.unicode)?))
 }
 
-fn add(intervals: &mut Vec<Interval>, atom: ClassAtomValue, flags: Flags) -> Result<(), AllocError>
+fn add_class_atom(
+    intervals: &mut Vec<Interval>,
+    atom: ClassAtomValue,
+    flags: Flags,
+) -> Result<(), AllocError>
     ensures { let old = intervals.old.items in let new = intervals.new.items in
-        OnOk result (AddsMembers (flags_of flags) old new (atom_member atom ∷ [])) }
+        OnOk result (AddsMembers (spec_flags_of flags) old new (class_member_of_atom atom ∷ [])) }
 {
     match atom {
         ClassAtomValue::Character(c) => intervals.push(Interval { first: c, last: c })?,
@@ -344,7 +352,7 @@ fn add(intervals: &mut Vec<Interval>, atom: ClassAtomValue, flags: Flags) -> Res
 // Returns the set of these intervals, with `icase` together with all code points that fold as a
 // member does.
 fn case_closed(mut intervals: Vec<Interval>, flags: Flags) -> Result<CodePointSet, AllocError>
-    ensures { IfOk result (λ s. IsCaseClosure (flags_of flags) (is_in_any_interval intervals.items) s) }
+    ensures { IfOk result (λ s. IsCaseClosureOfTest (spec_flags_of flags) (is_in_any_interval intervals.items) s) }
 {
     let alloc = *intervals.allocator();
     let set = CodePointSet::from_intervals(alloc, &intervals)?;
@@ -363,7 +371,7 @@ fn add_case_variants(
     unicode: bool,
 ) -> Result<(), AllocError>
     ensures { OnOk result (((c : ℕ) → in_intervals set.now c ≡ is_in_any_interval intervals.old.items c)
-        → (c : ℕ) → is_in_any_interval intervals.new.items c ≡ same_fold_passes unicode (in_intervals set.now) c) }
+        → (c : ℕ) → is_in_any_interval intervals.new.items c ≡ some_case_variant_passes unicode (in_intervals set.now) c) }
 {
     for upper in 'A' as u32..'Z' as u32 + 1 {
         close_over(intervals, set, upper, unicode)?;

@@ -1,11 +1,11 @@
 //! A reader of the code points of a pattern.
 
-ghost use Rattle.std.specs.Prelude.{◌≡◌, ◌<◌, ◌≤◌, ◌∷◌, ◌↔◌, length, IsTrue, IsSome, false, OnOk, IfOk};
+ghost use Rattle.std.specs.Prelude.{◌≡◌, ◌<◌, ◌≤◌, ◌∷◌, ◌↔◌, length, IsTrue, IsSome, false, OnOk, IfOk, IfErr};
 ghost use Rattle.std.specs.Option.{ForSome};
-ghost use Rattle.regex_meaning.specs.WellFormedTrees.{is_in_order};
+ghost use Rattle.regex_meaning.specs.WellFormedTrees.{is_min_at_most_max};
 ghost use Rattle.regex_grammar.specs.EscapesNamesQuantifiers.{BeginsQuantifier};
 ghost use Rattle.regex_pattern_front.specs.CodePointReaderContracts.{IsUnescapedRead, IsNext, peeked, IsEaten, IsDigitRead, IsNumberRead, IsHexRead, AreQuantifierCountsRead};
-ghost use Rattle.regex_pattern_front.specs.CodePointReaderContracts.{IsQuantifierMaximumRead, IsBracesQuantifierRead, IsQuantifierPrefixRead, IsQuantifierRead};
+ghost use Rattle.regex_pattern_front.specs.CodePointReaderContracts.{IsQuantifierMaximumRead, IsBracesQuantifierRead, IsQuantifierPrefixRead, IsQuantifierRead, is_syntax_error};
 
 use crate::diagnosis::Cause;
 use crate::ir::Quantifier;
@@ -19,12 +19,14 @@ pub(crate) struct PatternReader<'p> {
 
 impl PatternReader<'_> {
     /// Returns the number of code points that are left, including the last one that was read.
-    pub(crate) fn count_left_with_last(&self) -> usize {
+    pub(crate) fn count_code_points_from_last_read(&self) -> usize {
         self.rest.len().saturating_add(1)
     }
 
     /// Returns the error for what begins here.
-    pub(crate) fn error_here(&self, cause: Cause) -> ParseFault {
+    pub(crate) fn error_here(&self, cause: Cause) -> ParseFault
+        ensures { IsTrue (is_syntax_error result) }
+    {
         ParseFault::Refused {
             cause,
             left: self.rest.len(),
@@ -32,10 +34,12 @@ impl PatternReader<'_> {
     }
 
     /// Returns the error for what begins with the last code point that was read.
-    pub(crate) fn error_at_last_read(&self, cause: Cause) -> ParseFault {
+    pub(crate) fn error_at_last_read(&self, cause: Cause) -> ParseFault
+        ensures { IsTrue (is_syntax_error result) }
+    {
         ParseFault::Refused {
             cause,
-            left: self.count_left_with_last(),
+            left: self.count_code_points_from_last_read(),
         }
     }
 
@@ -61,7 +65,7 @@ impl PatternReader<'_> {
     }
 
     /// Reads the next code point or escape; of an escape it returns the backslash.
-    pub(crate) fn read_escape_as_backslash(&mut self) -> Option<u32>
+    pub(crate) fn read_next_and_skip_escaped(&mut self) -> Option<u32>
         ensures moves { length self.new.rest.now ≤ length self.old.rest.now }
         ensures read { IsSome result → length self.new.rest.now < length self.old.rest.now }
         ensures text { IsUnescapedRead self.old.rest.now result self.new.rest.now }
@@ -90,7 +94,7 @@ impl PatternReader<'_> {
     }
 
     /// Reads a digit in this base and returns its value.
-    pub(crate) fn digit(&mut self, radix: u32) -> Option<u32>
+    pub(crate) fn read_digit_in_base(&mut self, radix: u32) -> Option<u32>
         requires least { 2 ≤ radix }
         requires most { radix ≤ 36 }
         ensures moves { length self.new.rest.now ≤ length self.old.rest.now }
@@ -105,15 +109,15 @@ impl PatternReader<'_> {
 
     /// Reads the digits of a number in this base. The value saturates at `usize::MAX`. Returns
     /// `None` if there is no digit.
-    pub(crate) fn number(&mut self, radix: u32) -> Option<usize>
+    pub(crate) fn read_number_in_base(&mut self, radix: u32) -> Option<usize>
         requires least { 2 ≤ radix }
         requires most { radix ≤ 36 }
         ensures moves { length self.new.rest.now ≤ length self.old.rest.now }
         ensures read { IsSome result → length self.new.rest.now < length self.old.rest.now }
         ensures text { IsNumberRead radix usize.MAX self.old.rest.now result self.new.rest.now }
     {
-        let mut value = self.digit(radix)? as usize;
-        while let Some(digit) = self.digit(radix) {
+        let mut value = self.read_digit_in_base(radix)? as usize;
+        while let Some(digit) = self.read_digit_in_base(radix) {
             value = value
                 .saturating_mul(radix as usize)
                 .saturating_add(digit as usize);
@@ -128,7 +132,9 @@ impl PatternReader<'_> {
     {
         let mut value = 0u32;
         for _ in 0..count {
-            value = value.saturating_mul(16).saturating_add(self.digit(16)?);
+            value = value
+                .saturating_mul(16)
+                .saturating_add(self.read_digit_in_base(16)?);
         }
         Some(value)
     }
@@ -161,7 +167,7 @@ impl PatternReader<'_> {
         ensures moves { length self.new.rest.now ≤ length self.old.rest.now }
         ensures text { AreQuantifierCountsRead self.old.rest.now result self.new.rest.now }
     {
-        let min = self.number(10)?;
+        let min = self.read_number_in_base(10)?;
         let max = self.most(min);
         if self.eat('}') {
             Some((min, max))
@@ -177,7 +183,7 @@ impl PatternReader<'_> {
         ensures text { IsQuantifierMaximumRead min self.old.rest.now result self.new.rest.now }
     {
         if self.eat(',') {
-            self.number(10)
+            self.read_number_in_base(10)
         } else {
             Some(min)
         }
@@ -188,7 +194,7 @@ impl PatternReader<'_> {
         ensures { IsTrue result ↔ BeginsQuantifier self.now.rest.now }
     {
         let mut ahead = *self;
-        !matches!(ahead.quantifier(), Ok(None))
+        !matches!(ahead.read_quantifier(), Ok(None))
     }
 
     // Reads the minimum and maximum of a quantifier, without the question mark that may follow.
@@ -208,10 +214,11 @@ impl PatternReader<'_> {
     }
 
     /// Reads a quantifier, if one begins here. Its minimum is at most its maximum.
-    pub(crate) fn quantifier(&mut self) -> Result<Option<Quantifier>, ParseFault>
+    pub(crate) fn read_quantifier(&mut self) -> Result<Option<Quantifier>, ParseFault>
         ensures moves { length self.new.rest.now ≤ length self.old.rest.now }
         ensures ordered { IfOk result (λ found. ForSome found (λ q. ForSome q.max (λ max. q.min ≤ max))) }
         ensures text { IsQuantifierRead self.old.rest.now result self.new.rest.now }
+        ensures syntax { IfErr result (λ e. IsTrue (is_syntax_error e)) }
     {
         let start = *self;
         let Some((min, max)) = self.prefix() else {
@@ -227,7 +234,7 @@ impl PatternReader<'_> {
 
 // Checks whether the minimum is at most the maximum, if there is one.
 fn are_in_order(min: usize, max: Option<usize>) -> bool
-    ensures { result ≡ is_in_order (record { min = min; max = max; greedy = false }) }
+    ensures { result ≡ is_min_at_most_max (record { min = min; max = max; greedy = false }) }
 {
     match max {
         Some(max) => min <= max,

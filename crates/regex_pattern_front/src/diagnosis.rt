@@ -1,11 +1,11 @@
-//! Diagnoses: what is wrong with a text that is no pattern, and where.
+//! Diagnoses: what is wrong with a text that is refused, and where.
 
 ghost use Rattle.std.specs.Prelude.{◌≡◌, IsCharBoundary, chars, drop};
 
 use std::fmt;
 use thiserror::Error;
 
-/// What is wrong with a text that is no pattern.
+/// What is wrong with a text that is refused.
 #[derive(Clone, Copy, Debug, PartialEq, Eq, Error)]
 pub enum Cause {
     /// A parenthesis that is not closed.
@@ -14,12 +14,25 @@ pub enum Cause {
     /// A closing parenthesis without an opening one.
     #[error("unopened group")]
     UnopenedGroup,
-    /// `(?` followed by what begins no kind of group.
+    /// `(?` followed by what begins no kind of group and no feature that has a cause of its own.
     #[error("unknown kind of group")]
     InvalidGroup,
-    /// More capturing groups than are allowed.
-    #[error("too many groups")]
-    TooManyGroups,
+    /// `(?i)`, `(?i:`, `(?-i:` and the like: `(?` before one of `i m s u x -`.
+    #[error("modifiers are not supported")]
+    Modifiers,
+    /// `(?>`.
+    #[error("atomic groups are not supported")]
+    AtomicGroup,
+    /// `(?#`.
+    #[error("comments are not supported")]
+    Comment,
+    /// `(?P`, as in `(?P<n>a)` and `(?P=n)`.
+    #[error("(?P is not supported, write (?<n> or \\k<n>")]
+    PythonGroup,
+    /// More capturing groups than the limit of 65,535; `groups` is their number, and `u32::MAX` also
+    /// stands for more. It is reported whatever else is wrong with the text.
+    #[error("too many groups ({groups} of at most 65535)")]
+    TooManyGroups { groups: u32 },
     /// A quantifier with no term before it, or after another quantifier.
     #[error("nothing to repeat")]
     NothingToRepeat,
@@ -38,9 +51,13 @@ pub enum Cause {
     /// With `unicode_sets`, a nested class, `&&` or `--`.
     #[error("set operations are not supported")]
     SetOperation,
-    /// A backslash before a letter or digit with which no escape begins.
+    /// A backslash before an ASCII letter or digit with which no escape begins. Escapes begin with
+    /// `b B d D f k n r s S t u v w W x` and with digits; in a class `B` and `k` begin none.
     #[error("unknown escape")]
     UnknownEscape,
+    /// `\A`, `\z` or `\Z`.
+    #[error("text anchors are not supported, write ^ or $")]
+    TextAnchor,
     /// `\p` or `\P`.
     #[error("property escapes are not supported")]
     PropertyEscape,
@@ -63,35 +80,44 @@ pub enum Cause {
     /// A backslash at the end of the text.
     #[error("nothing to escape")]
     NothingToEscape,
-    /// A reference to a group that the pattern does not have.
+    /// A reference to a group number that the pattern does not have.
     #[error("no such group")]
     NoSuchGroup,
+    /// A reference to a name that no group of the pattern has.
+    #[error("no group has this name")]
+    NoSuchName,
     /// `\k` without a `<` after it.
     #[error("reference without a name")]
     MissingName,
-    /// A code point that is not allowed in a name, or not at this position of it.
+    /// An ASCII character that is not allowed in a name, or not at this position of it.
     #[error("invalid name")]
     InvalidName,
+    /// A code point past U+007F in a name.
+    #[error("names beyond ASCII are not supported")]
+    NameBeyondAscii,
     /// A name that is not closed.
     #[error("unclosed name")]
     UnclosedName,
     /// The name of an earlier group.
     #[error("duplicate name")]
     DuplicateName,
-    /// With `unicode`, a `]`, `{` or `}` without its partner.
+    /// With `unicode`, a `{` with which no quantifier begins.
+    #[error("incomplete quantifier")]
+    IncompleteQuantifier,
+    /// With `unicode`, a `]` or `}` without its partner.
     #[error("lone bracket")]
     LoneBracket,
 }
 
-/// What is wrong with a text that is no pattern, and where. It displays as `unclosed group at 3`.
+/// What is wrong with a text that is refused, and where. It displays as `unclosed group at 3`.
 #[derive(Clone, Copy, Debug, PartialEq, Eq, Error)]
 #[error("{cause} at {at}")]
 pub struct Diagnosis {
     /// What is wrong.
     pub cause: Cause,
     /// Index of the code point with which the error begins. For an unclosed name this is the `<`,
-    /// for an invalid name the code point that is not allowed, and for a duplicate name its first
-    /// letter.
+    /// for an invalid name the code point that is not allowed, for a duplicate name its first
+    /// letter, and for too many groups the parenthesis of the first group past the limit.
     pub at: usize,
 }
 
@@ -117,8 +143,8 @@ impl Diagnosis {
     pub fn below(self, pattern: &[u32]) -> CaretDiagnosis<'_> {
         let (before, behind) = pattern.split_at(self.at.min(pattern.len()));
         CaretDiagnosis {
-            before: PatternLinePiece::CodePoints(last_line(before)),
-            behind: PatternLinePiece::CodePoints(first_line(behind)),
+            before: LinePartAsCodePointsOrText::CodePoints(last_line(before)),
+            behind: LinePartAsCodePointsOrText::CodePoints(first_line(behind)),
             cause: self.cause,
         }
     }
@@ -127,10 +153,10 @@ impl Diagnosis {
     pub fn below_text(self, pattern: &str) -> CaretDiagnosis<'_> {
         let (before, behind) = pattern.split_at(self.offset_in(pattern));
         CaretDiagnosis {
-            before: PatternLinePiece::Text(
+            before: LinePartAsCodePointsOrText::Text(
                 before.rsplit_once('\n').map_or(before, |(_, line)| line),
             ),
-            behind: PatternLinePiece::Text(
+            behind: LinePartAsCodePointsOrText::Text(
                 behind.split_once('\n').map_or(behind, |(line, _)| line),
             ),
             cause: self.cause,
@@ -142,8 +168,8 @@ impl Diagnosis {
 #[derive(Clone, Copy, Debug)]
 pub struct CaretDiagnosis<'p> {
     // The line before the error, and from the error on.
-    before: PatternLinePiece<'p>,
-    behind: PatternLinePiece<'p>,
+    before: LinePartAsCodePointsOrText<'p>,
+    behind: LinePartAsCodePointsOrText<'p>,
     cause: Cause,
 }
 
@@ -161,27 +187,27 @@ impl fmt::Display for CaretDiagnosis<'_> {
 
 // A piece of a line of a pattern.
 #[derive(Clone, Copy, Debug)]
-enum PatternLinePiece<'p> {
+enum LinePartAsCodePointsOrText<'p> {
     CodePoints(&'p [u32]),
     Text(&'p str),
 }
 
-impl PatternLinePiece<'_> {
+impl LinePartAsCodePointsOrText<'_> {
     fn columns(self) -> usize {
         match self {
-            PatternLinePiece::CodePoints(points) => points.len(),
-            PatternLinePiece::Text(text) => text.chars().count(),
+            LinePartAsCodePointsOrText::CodePoints(points) => points.len(),
+            LinePartAsCodePointsOrText::Text(text) => text.chars().count(),
         }
     }
 
     fn write<W: fmt::Write>(self, f: &mut fmt::Formatter<W>) -> fmt::Result {
         match self {
-            PatternLinePiece::CodePoints(points) => {
+            LinePartAsCodePointsOrText::CodePoints(points) => {
                 for c in points {
                     write!(f, "{}", shown(*c))?;
                 }
             }
-            PatternLinePiece::Text(text) => {
+            LinePartAsCodePointsOrText::Text(text) => {
                 for c in text.chars() {
                     write!(f, "{}", shown(u32::from(c)))?;
                 }

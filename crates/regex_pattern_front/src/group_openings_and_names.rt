@@ -1,15 +1,16 @@
 //! Groups: how they open, and a scan for the names of all groups of a pattern.
 
-ghost use Rattle.std.specs.Prelude.{◌≡◌, ◌≤◌, ◌∷◌, ◌==◌, ◌&&◌, not, [], false, length, string_bytes, IfOk, OnOk};
-ghost use Rattle.regex_grammar.specs.{GroupNameScan.{group_name_at, name_of_opened_group, scanned_group_names}, ReadingStatesAndDigits.{RemainingPattern}};
-ghost use Rattle.regex_pattern_front.specs.GroupReaderContracts.{IsLookaroundSignRead, IsOpeningRead, AreGroupNumbers, ScansGroups, ScansCodePoint, with_name_numbered};
+ghost use Rattle.std.specs.Prelude.{◌≡◌, ◌≤◌, ◌∷◌, ◌==◌, ◌&&◌, not, [], false, length, string_bytes, IfErr, IfOk, IsTrue, OnOk};
+ghost use Rattle.regex_grammar.specs.{GroupNameScan.{group_name_at, name_of_opened_group, scanned_group_names}, ReadingStatesAndDigits.{RemainingCodePoints}};
+ghost use Rattle.regex_pattern_front.specs.GroupReaderContracts.{IsLookaroundPolaritySignRead, IsOpeningRead, AreCountedAndNumbered, RecordsFurtherGroupsInScan, ScansCodePointAndGroupName, group_numbers_adding_absent_name};
+ghost use Rattle.regex_pattern_front.specs.CodePointReaderContracts.{is_syntax_error};
 ghost use Rattle.std.specs.BTreeMap.{get_by_text};
 
 use crate::code_point_reader::PatternReader;
 use crate::diagnosis::Cause;
-use crate::escapes::name;
+use crate::escapes_and_group_names::name;
 use crate::parser_error::ParseFault;
-use crate::types::CaptureGroupID;
+use crate::types::{CaptureGroupID, MAX_CAPTURE_GROUPS};
 use std::alloc::{AllocError, Global};
 use std::collections::BTreeMap;
 
@@ -27,11 +28,11 @@ pub(crate) enum GroupKind {
 }
 
 impl GroupKind {
-    ghost use Rattle.regex_pattern_front.specs.{GroupReaderContracts.{is_reversed_in, takes_quantifier}, GroupStackInvariant.{captures}};
+    ghost use Rattle.regex_pattern_front.specs.{GroupReaderContracts.{is_reversed_in, takes_quantifier}, GroupIdsWhileParsing.{captures_opened_by_group_kind}};
 
     /// Returns the number of capturing groups that it opens: 0 or 1.
-    pub(crate) fn captures(self) -> CaptureGroupID
-        ensures { result ≡ captures self }
+    pub(crate) fn captures_opened_by_group_kind(self) -> CaptureGroupID
+        ensures { result ≡ captures_opened_by_group_kind self }
     {
         match self {
             GroupKind::Capture | GroupKind::Named => 1,
@@ -62,6 +63,7 @@ impl GroupKind {
 pub(crate) fn read_group_kind(reader: &mut PatternReader) -> Result<GroupKind, ParseFault>
     ensures moves { length reader.new.rest.now ≤ length reader.old.rest.now }
     ensures text { IsOpeningRead reader.old.rest.now result reader.new.rest.now }
+    ensures syntax { IfErr result (λ e. IsTrue (is_syntax_error e)) }
 {
     let start = *reader;
     if !reader.eat('?') {
@@ -77,14 +79,25 @@ pub(crate) fn read_group_kind(reader: &mut PatternReader) -> Result<GroupKind, P
     if backwards {
         Ok(GroupKind::Named)
     } else {
-        Err(start.error_at_last_read(Cause::InvalidGroup))
+        Err(start.error_at_last_read(invalid_group_cause(reader.peek())))
+    }
+}
+
+// Returns the cause for a `(?` that opens no group; `next` follows it.
+fn invalid_group_cause(next: Option<char>) -> Cause {
+    match next {
+        Some('i' | 'm' | 's' | 'u' | 'x' | '-') => Cause::Modifiers,
+        Some('>') => Cause::AtomicGroup,
+        Some('#') => Cause::Comment,
+        Some('P') => Cause::PythonGroup,
+        _ => Cause::InvalidGroup,
     }
 }
 
 // Reads the sign of a lookaround and returns whether it negates; `None` if there is no sign.
 fn read_lookaround_sign(reader: &mut PatternReader) -> Option<bool>
     ensures moves { length reader.new.rest.now ≤ length reader.old.rest.now }
-    ensures text { IsLookaroundSignRead reader.old.rest.now result reader.new.rest.now }
+    ensures text { IsLookaroundPolaritySignRead reader.old.rest.now result reader.new.rest.now }
 {
     if reader.eat('!') {
         return Some(true);
@@ -95,15 +108,22 @@ fn read_lookaround_sign(reader: &mut PatternReader) -> Option<bool>
 /// The numbers of named groups, by name. Groups count from 1.
 pub(crate) type GroupNumbers = BTreeMap<String, u32>;
 
-/// Scans a whole pattern for the names of its groups, since a reference may precede its group. A
-/// name that occurs twice is that of the first group. Syntax errors are skipped here: the parser
-/// reports them.
-pub(crate) fn group_numbers_by_name(
-    alloc: Global,
-    pattern: &[u32],
-) -> Result<GroupNumbers, AllocError>
-    ensures { let names = scanned_group_names false pattern.now in
-        IfOk result (λ numbers. length names ≤ 65535 → AreGroupNumbers numbers names) }
+/// What a scan finds of the groups of a whole pattern, before it is parsed.
+#[derive(Drop)]
+pub(crate) struct ScannedGroups {
+    pub(crate) numbers: GroupNumbers,
+    /// Number of capturing groups; `u32::MAX` also stands for more.
+    pub(crate) count: u32,
+    /// Number of code points that are left where the first group opens that has no id; 0 if each
+    /// has one.
+    pub(crate) left_at_excess: usize,
+}
+
+/// Scans a whole pattern for its groups and their names, since a reference may precede its group,
+/// and too many groups are refused before the pattern is parsed. A name that occurs twice is that
+/// of the first group. Syntax errors are skipped here: the parser reports them.
+pub(crate) fn scan_groups(alloc: Global, pattern: &[u32]) -> Result<ScannedGroups, AllocError>
+    ensures { IfOk result (λ found. AreCountedAndNumbered found.count found.numbers (scanned_group_names false pattern.now)) }
 {
     let mut scan = GroupNameScanState {
         numbers: BTreeMap::new(alloc),
@@ -111,10 +131,16 @@ pub(crate) fn group_numbers_by_name(
         in_class: false,
     };
     let mut reader = PatternReader { rest: pattern };
-    while let Some(c) = reader.read_escape_as_backslash() {
-        scan.step(alloc, c, reader)?;
+    let mut left_at_excess = pattern.len();
+    while let Some(c) = reader.read_next_and_skip_escaped() {
+        scan.scan_code_point(alloc, c, reader)?;
+        left_at_excess = scan.left_at_excess(reader.rest.len(), left_at_excess);
     }
-    Ok(scan.numbers)
+    Ok(ScannedGroups {
+        numbers: scan.numbers,
+        count: scan.groups,
+        left_at_excess,
+    })
 }
 
 // State of the scan: the numbers of the names, the number of groups, and whether a class is open.
@@ -127,8 +153,13 @@ struct GroupNameScanState {
 
 impl GroupNameScanState {
     // Processes a code point; the reader is after it.
-    fn step(&mut self, alloc: Global, c: u32, reader: PatternReader) -> Result<(), AllocError>
-        ensures { OnOk result (ScansCodePoint self.old self.new c reader.entry.rest.now) }
+    fn scan_code_point(
+        &mut self,
+        alloc: Global,
+        c: u32,
+        reader: PatternReader,
+    ) -> Result<(), AllocError>
+        ensures { OnOk result (ScansCodePointAndGroupName self.old self.new c reader.entry.rest.now) }
     {
         if c == '[' as u32 {
             self.in_class = true;
@@ -144,6 +175,16 @@ impl GroupNameScanState {
         self.note_group(alloc, reader)
     }
 
+    // Returns how many code points are left where the first group opens that has no id: as many as
+    // are left now, unless the scan is past it.
+    fn left_at_excess(&self, left: usize, before: usize) -> usize {
+        if self.groups <= MAX_CAPTURE_GROUPS as u32 {
+            left
+        } else {
+            before
+        }
+    }
+
     // Checks whether the code point may open a group.
     fn may_open(&self, c: u32) -> bool
         ensures { result ≡ (c == 40 && not self.now.in_class) }
@@ -153,7 +194,7 @@ impl GroupNameScanState {
 
     // Records a group whose parenthesis is just before the reader.
     fn note_group(&mut self, alloc: Global, mut reader: PatternReader) -> Result<(), AllocError>
-        ensures { OnOk result (ScansGroups self.old self.new (name_of_opened_group reader.entry.rest.now)) }
+        ensures { OnOk result (RecordsFurtherGroupsInScan self.old self.new (name_of_opened_group reader.entry.rest.now)) }
     {
         match read_group_kind(&mut reader) {
             Ok(GroupKind::Capture) => {
@@ -169,7 +210,7 @@ impl GroupNameScanState {
 
     // Records a group and its name, which is read here, unless an earlier group has the name.
     fn note_name(&mut self, alloc: Global, mut reader: PatternReader) -> Result<(), AllocError>
-        ensures { OnOk result (ScansGroups self.old self.new (group_name_at reader.entry.rest.now ∷ [])) }
+        ensures { OnOk result (RecordsFurtherGroupsInScan self.old self.new (group_name_at reader.entry.rest.now ∷ [])) }
     {
         self.groups = self.groups.saturating_add(1);
         match name(alloc, &mut reader) {
@@ -182,8 +223,8 @@ impl GroupNameScanState {
     // Gives the last group this name, unless an earlier group has it.
     fn number(&mut self, name: String) -> Result<(), AllocError>
         ensures same { OnOk result ((self.new.groups ≡ self.old.groups) × (self.new.in_class ≡ self.old.in_class)) }
-        ensures numbers { OnOk result ((other : RemainingPattern) → get_by_text self.new.numbers other
-            ≡ with_name_numbered (string_bytes name) self.old.groups (λ x. get_by_text self.old.numbers x) other) }
+        ensures numbers { OnOk result ((other : RemainingCodePoints) → get_by_text self.new.numbers other
+            ≡ group_numbers_adding_absent_name (string_bytes name) self.old.groups (λ x. get_by_text self.old.numbers x) other) }
     {
         if self.numbers.contains_key(name.as_str()) {
             return Ok(());

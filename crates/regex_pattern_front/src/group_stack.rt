@@ -2,9 +2,9 @@
 //! groups around it.
 
 ghost use Rattle.std.specs.Prelude.{◌≡◌, IfOk, OnOk, [], ◌∷◌, ◌++◌, map};
-ghost use Rattle.regex_pattern_front.specs.{AstToSpecTree.{node_of}, SubtreeListInvariants.{IsSubtreeMadeOfNodes, JoinsSubtrees, KeepsSubtrees}, GroupStackInvariant.{nodes_at}};
+ghost use Rattle.regex_pattern_front.specs.{AstToSpecTree.{node_of}, SubtreeListInvariants.{HasGroupsAndGoalsOfNodes, SoundSubtreesMakeSoundNode, KeepsSubtrees}, GroupIdsWhileParsing.{nodes_at}};
 ghost use Rattle.regex_pattern_front.specs.PartialDisjunctionModel.{disjunction_of, nest_all_alternatives};
-ghost use Rattle.regex_grammar.specs.{ParseStack.{empty_disjunction, push, end_alternative, join}, ReadingStatesAndDigits.{arm}};
+ghost use Rattle.regex_grammar.specs.{ParseStack.{empty_disjunction, push_term, end_alternative, nest_alternatives}, ReadingStatesAndDigits.{arm}};
 
 use crate::group_openings_and_names::GroupKind;
 use crate::ir::Node;
@@ -49,7 +49,7 @@ impl PartialDisjunction {
     }
 
     /// Returns whether its terms are stored in reverse order.
-    pub(crate) fn behind(&self) -> bool
+    pub(crate) fn are_terms_reversed(&self) -> bool
         ensures { result ≡ self.now.behind }
     {
         self.behind
@@ -58,7 +58,7 @@ impl PartialDisjunction {
     /// Adds a term to the current alternative.
     pub(crate) fn push(&mut self, term: Node) -> Result<(), AllocError>
         ensures parts { OnOk result (nodes_at self.new ≡ nodes_at self.old ++ term ∷ []) }
-        ensures level { OnOk result (disjunction_of self.new ≡ push (node_of term) (disjunction_of self.old)) }
+        ensures level { OnOk result (disjunction_of self.new ≡ push_term (node_of term) (disjunction_of self.old)) }
     {
         self.terms.push(term)?;
         Ok(())
@@ -77,18 +77,18 @@ impl PartialDisjunction {
     }
 
     /// Returns the node of the disjunction: its alternatives, nested to the right.
-    pub(crate) fn joined(mut self) -> Result<Node, AllocError>
-        ensures parts { IfOk result (λ n. JoinsSubtrees (nodes_at self) (node_of n)) }
-        ensures node { let l = disjunction_of self in IfOk result (λ n. node_of n ≡ join l.arms (arm l.behind l.terms)) }
+    pub(crate) fn into_alternation_node(mut self) -> Result<Node, AllocError>
+        ensures parts { IfOk result (λ n. SoundSubtreesMakeSoundNode (nodes_at self) (node_of n)) }
+        ensures node { let l = disjunction_of self in IfOk result (λ n. node_of n ≡ nest_alternatives l.arms (arm l.behind l.terms)) }
     {
         self.end_alternative()?;
-        join(self.arms)
+        nest_alternatives(self.arms)
     }
 }
 
 // Returns the sequence of the terms.
 fn cat(mut terms: Vec<Node>, behind: bool) -> Node
-    ensures parts { IsSubtreeMadeOfNodes terms.items (node_of result) }
+    ensures parts { HasGroupsAndGoalsOfNodes terms.items (node_of result) }
     ensures arm { node_of result ≡ arm behind (map node_of terms.items) }
 {
     if behind {
@@ -98,8 +98,8 @@ fn cat(mut terms: Vec<Node>, behind: bool) -> Node
 }
 
 // Nests the alternatives to the right; an empty list is the empty pattern.
-fn join(mut alternatives: Vec<Node>) -> Result<Node, AllocError>
-    ensures parts { IfOk result (λ n. JoinsSubtrees alternatives.items (node_of n)) }
+fn nest_alternatives(mut alternatives: Vec<Node>) -> Result<Node, AllocError>
+    ensures parts { IfOk result (λ n. SoundSubtreesMakeSoundNode alternatives.items (node_of n)) }
     ensures node { IfOk result (λ n. node_of n ≡ nest_all_alternatives (map node_of alternatives.items)) }
 {
     let alloc = *alternatives.allocator();

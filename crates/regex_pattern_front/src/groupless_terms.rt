@@ -1,20 +1,20 @@
 //! Terms that contain no group.
 
-ghost use Rattle.std.specs.Prelude.{◌≡◌, ℕ, ◌<◌, ◌≤◌, max, length, IfOk, IfErr, IfSome, List, ◌∷◌, true, false};
+ghost use Rattle.std.specs.Prelude.{◌≡◌, ℕ, ◌<◌, ◌≤◌, max, length, IfOk, IfErr, IfSome, IsTrue, List, ◌∷◌, true, false};
 ghost use Rattle.std.specs.BTreeMap.{get_by_text};
 ghost use Rattle.regex_meaning.specs.Tree.{bracket as bracket_of, back_ref};
-ghost use Rattle.regex_grammar.specs.{ReadingStatesAndDigits.{RemainingPattern}, Grammar.{character_node}};
-ghost use Rattle.regex_pattern_front.specs.{AstToSpecTree.{node_of, flags_of, class_as_spec}, SubtreeListInvariants.{IsSoundLeaf}, CodePointReaderContracts.{is_syntax_error}};
-ghost use Rattle.regex_pattern_front.specs.GrouplessTermContracts.{pattern_context, AreKnownGroupNumbers, IsGrouplessTerm, IsGrouplessTermRead, IsAtomRead, OpensNoGroup, IsAnchorOrDotTerm, CannotBeTermAlone, is_paren_or_bar};
-ghost use Rattle.regex_pattern_front.specs.GrouplessTermContracts.{is_quantifier_sign, is_brace_or_bracket, begins_backreference, anchor_sign, boundary_letter, IsReferenceNumberRead, IsNamedReferenceRead};
-ghost use Rattle.regex_pattern_front.specs.GrouplessTermContracts.{IsNonzeroGroupNumber, IsDecimalNumberRead};
+ghost use Rattle.regex_grammar.specs.{ReadingStatesAndDigits.{RemainingCodePoints}, Grammar.{character_node}};
+ghost use Rattle.regex_pattern_front.specs.{AstToSpecTree.{node_of, spec_flags_of, class_as_spec}, SubtreeListInvariants.{IsSoundGrouplessTree}, CodePointReaderContracts.{is_syntax_error}};
+ghost use Rattle.regex_pattern_front.specs.GrouplessTermContracts.{pattern_context, AreGroupNumbersAndWithinLimit, IsGrouplessTerm, IsGrouplessTermRead, IsAtomRead, TextBetweenOpensNoGroup, IsAnchorOrDotTermIfAny, RefusesCodePointThatIsNoTerm, is_paren_or_bar};
+ghost use Rattle.regex_pattern_front.specs.GrouplessTermContracts.{is_star_plus_or_question, is_brace_or_closing_bracket, begins_backreference, anchor_sign, boundary_letter, IsReferencedGroupNumberRead, IsReferencedNameNumberRead};
+ghost use Rattle.regex_pattern_front.specs.GrouplessTermContracts.{IsNumberUnlessMissingOrZero, IsDecimalReadIfItFitsU32};
 
 use crate::classes::{ClassEscape, read_class};
 use crate::code_point_reader::PatternReader;
 use crate::diagnosis::Cause;
-use crate::escapes::{character_escape, name};
+use crate::escapes_and_group_names::{character_escape, name};
 use crate::flags::Flags;
-use crate::folding::expand_code_point;
+use crate::folding_and_first_bytes::expand_code_point;
 use crate::group_openings_and_names::GroupNumbers;
 use crate::ir::{AnchorType, Node};
 use crate::parser_error::ParseFault;
@@ -43,14 +43,14 @@ pub(crate) struct GrouplessTerm {
 
 impl GrouplessTermReader<'_> {
     /// Reads the term that begins with this code point, which is no parenthesis.
-    pub(crate) fn leaf(&mut self, c: u32) -> Result<GrouplessTerm, ParseFault>
+    pub(crate) fn read_term_without_group(&mut self, c: u32) -> Result<GrouplessTerm, ParseFault>
         ensures moves { length self.new.reader.rest.now ≤ length self.old.reader.rest.now }
-        ensures leaf { IfOk result (λ l. IsSoundLeaf self.new.references (node_of l.node)) }
+        ensures leaf { IfOk result (λ l. IsSoundGrouplessTree self.new.references (node_of l.node)) }
         ensures references { self.old.references ≤ self.new.references }
         ensures same { (self.new.flags ≡ self.old.flags) × (self.new.numbers ≡ self.old.numbers) }
         ensures passed { is_paren_or_bar c ≡ false
-            → IfOk result (λ l. OpensNoGroup (c ∷ self.old.reader.rest.now) self.new.reader.rest.now) }
-        ensures text { is_paren_or_bar c ≡ false → (groups : List RemainingPattern) → AreKnownGroupNumbers self.old.numbers groups
+            → IfOk result (λ l. TextBetweenOpensNoGroup (c ∷ self.old.reader.rest.now) self.new.reader.rest.now) }
+        ensures text { is_paren_or_bar c ≡ false → (groups : List RemainingCodePoints) → AreGroupNumbersAndWithinLimit self.old.numbers groups
             → IsGrouplessTermRead (pattern_context self.old.flags groups) (c ∷ self.old.reader.rest.now) result self.old.references
             self.new.references self.new.reader.rest.now }
     {
@@ -72,9 +72,9 @@ impl GrouplessTermReader<'_> {
 
     // Returns the term of `^`, `$` or `.`, or `None` for any other code point.
     fn sign(&self, c: u32) -> Option<GrouplessTerm>
-        ensures leaf { IfSome result (λ l. (greatest : ℕ) → IsSoundLeaf greatest (node_of l.node)) }
-        ensures text { (groups : List RemainingPattern) (there : RemainingPattern)
-            → IsAnchorOrDotTerm (pattern_context self.now.flags groups) c there result }
+        ensures leaf { IfSome result (λ l. (greatest : ℕ) → IsSoundGrouplessTree greatest (node_of l.node)) }
+        ensures text { (groups : List RemainingCodePoints) (there : RemainingCodePoints)
+            → IsAnchorOrDotTermIfAny (pattern_context self.now.flags groups) c there result }
     {
         if c == '^' as u32 {
             Some(self.anchor(AnchorType::StartOfLine))
@@ -89,27 +89,27 @@ impl GrouplessTermReader<'_> {
 
     // Returns the error if this code point, the last one read, is no term by itself.
     fn wrong_alone(&self, c: u32) -> Option<Cause>
-        ensures { CannotBeTermAlone self.now.flags.unicode c self.now.reader.rest.now result }
+        ensures { RefusesCodePointThatIsNoTerm self.now.flags.unicode c self.now.reader.rest.now result }
     {
-        if is_quantifier_sign(c) {
+        if is_star_plus_or_question(c) {
             return Some(Cause::NothingToRepeat);
         }
-        if !is_brace_or_bracket(c) {
+        if !is_brace_or_closing_bracket(c) {
             return None;
         }
         if c == '{' as u32 && self.reader.begins_braces_quantifier() {
             return Some(Cause::NothingToRepeat);
         }
         if self.flags.unicode {
-            Some(Cause::LoneBracket)
+            Some(lone_bracket_cause(c))
         } else {
             None
         }
     }
 
     fn anchor(&self, anchor_type: AnchorType) -> GrouplessTerm
-        ensures leaf { (greatest : ℕ) → IsSoundLeaf greatest (node_of result.node) }
-        ensures text { (groups : List RemainingPattern) (there : RemainingPattern)
+        ensures leaf { (greatest : ℕ) → IsSoundGrouplessTree greatest (node_of result.node) }
+        ensures text { (groups : List RemainingCodePoints) (there : RemainingCodePoints)
             → IsGrouplessTerm (pattern_context self.now.flags groups) (anchor_sign anchor_type ∷ there) result there }
     {
         GrouplessTerm {
@@ -122,8 +122,8 @@ impl GrouplessTermReader<'_> {
     }
 
     fn dot(&self) -> GrouplessTerm
-        ensures leaf { (greatest : ℕ) → IsSoundLeaf greatest (node_of result.node) }
-        ensures text { (groups : List RemainingPattern) (there : RemainingPattern)
+        ensures leaf { (greatest : ℕ) → IsSoundGrouplessTree greatest (node_of result.node) }
+        ensures text { (groups : List RemainingCodePoints) (there : RemainingCodePoints)
             → IsGrouplessTerm (pattern_context self.now.flags groups) (46 ∷ there) result there }
     {
         if self.flags.dot_all {
@@ -136,9 +136,9 @@ impl GrouplessTermReader<'_> {
     // Returns the term of a character: with `icase`, if several code points have its fold, the set
     // of them.
     fn character(&self, c: u32) -> Result<GrouplessTerm, ParseFault>
-        ensures leaf { IfOk result (λ l. (greatest : ℕ) → IsSoundLeaf greatest (node_of l.node)) }
+        ensures leaf { IfOk result (λ l. (greatest : ℕ) → IsSoundGrouplessTree greatest (node_of l.node)) }
         ensures atom { IfOk result (λ l. l.is_atom ≡ true) }
-        ensures node { IfOk result (λ l. node_of l.node ≡ character_node (flags_of self.now.flags) c) }
+        ensures node { IfOk result (λ l. node_of l.node ≡ character_node (spec_flags_of self.now.flags) c) }
         ensures memory { IfErr result (λ e. is_syntax_error e ≡ false) }
     {
         let members = expand_code_point(self.alloc, c, self.flags.icase, self.flags.unicode)?;
@@ -152,11 +152,11 @@ impl GrouplessTermReader<'_> {
     // Reads a term after its backslash.
     fn escape(&mut self) -> Result<GrouplessTerm, ParseFault>
         ensures moves { length self.new.reader.rest.now ≤ length self.old.reader.rest.now }
-        ensures leaf { IfOk result (λ l. IsSoundLeaf self.new.references (node_of l.node)) }
+        ensures leaf { IfOk result (λ l. IsSoundGrouplessTree self.new.references (node_of l.node)) }
         ensures references { self.old.references ≤ self.new.references }
         ensures same { (self.new.flags ≡ self.old.flags) × (self.new.numbers ≡ self.old.numbers) }
-        ensures passed { IfOk result (λ l. OpensNoGroup (92 ∷ self.old.reader.rest.now) self.new.reader.rest.now) }
-        ensures text { (groups : List RemainingPattern) → AreKnownGroupNumbers self.old.numbers groups
+        ensures passed { IfOk result (λ l. TextBetweenOpensNoGroup (92 ∷ self.old.reader.rest.now) self.new.reader.rest.now) }
+        ensures text { (groups : List RemainingCodePoints) → AreGroupNumbersAndWithinLimit self.old.numbers groups
             → IsGrouplessTermRead (pattern_context self.old.flags groups) (92 ∷ self.old.reader.rest.now) result self.old.references
             self.new.references self.new.reader.rest.now }
     {
@@ -172,22 +172,22 @@ impl GrouplessTermReader<'_> {
     // Reads an atom after its backslash (ECMA-262, 21.2.1 `AtomEscape`).
     fn atom_escape(&mut self) -> Result<GrouplessTerm, ParseFault>
         ensures moves { length self.new.reader.rest.now ≤ length self.old.reader.rest.now }
-        ensures leaf { IfOk result (λ l. IsSoundLeaf self.new.references (node_of l.node)) }
+        ensures leaf { IfOk result (λ l. IsSoundGrouplessTree self.new.references (node_of l.node)) }
         ensures references { self.old.references ≤ self.new.references }
         ensures same { (self.new.flags ≡ self.old.flags) × (self.new.numbers ≡ self.old.numbers) }
-        ensures passed { IfOk result (λ l. OpensNoGroup (92 ∷ self.old.reader.rest.now) self.new.reader.rest.now) }
-        ensures text { (groups : List RemainingPattern) → AreKnownGroupNumbers self.old.numbers groups
+        ensures passed { IfOk result (λ l. TextBetweenOpensNoGroup (92 ∷ self.old.reader.rest.now) self.new.reader.rest.now) }
+        ensures text { (groups : List RemainingCodePoints) → AreGroupNumbersAndWithinLimit self.old.numbers groups
             → IsAtomRead (pattern_context self.old.flags groups) (92 ∷ self.old.reader.rest.now) result self.old.references
             self.new.references self.new.reader.rest.now }
     {
         let letter = self.reader.peek();
         if let Some(escape) = ClassEscape::of(letter) {
             let _ = self.reader.next();
-            let contents = escape.contents(self.alloc, self.flags)?;
+            let contents = escape.bracket_contents_of_escape(self.alloc, self.flags)?;
             return Ok(bracket(contents));
         }
         if begins_backreference(letter) {
-            let left = self.reader.count_left_with_last();
+            let left = self.reader.count_code_points_from_last_read();
             let group = group_number(self.alloc, &mut self.reader, &self.numbers)?;
             return Ok(self.reference(group, left));
         }
@@ -196,8 +196,8 @@ impl GrouplessTermReader<'_> {
     }
 
     fn boundary(&self, invert: bool) -> GrouplessTerm
-        ensures leaf { (greatest : ℕ) → IsSoundLeaf greatest (node_of result.node) }
-        ensures text { (groups : List RemainingPattern) (there : RemainingPattern)
+        ensures leaf { (greatest : ℕ) → IsSoundGrouplessTree greatest (node_of result.node) }
+        ensures text { (groups : List RemainingCodePoints) (there : RemainingCodePoints)
             → IsGrouplessTerm (pattern_context self.now.flags groups) (92 ∷ boundary_letter invert ∷ there) result there }
     {
         GrouplessTerm {
@@ -212,7 +212,7 @@ impl GrouplessTermReader<'_> {
     // Returns a reference to a group; `left` code points are left from the reference on.
     fn reference(&mut self, group: u32, left: usize) -> GrouplessTerm
         requires { 0 < group }
-        ensures leaf { IsSoundLeaf self.new.references (node_of result.node) }
+        ensures leaf { IsSoundGrouplessTree self.new.references (node_of result.node) }
         ensures moves { self.new.reader ≡ self.old.reader }
         ensures references { self.new.references ≡ max self.old.references group }
         ensures same { (self.new.flags ≡ self.old.flags) × (self.new.numbers ≡ self.old.numbers) }
@@ -234,17 +234,26 @@ impl GrouplessTermReader<'_> {
 }
 
 // Checks whether the code point is `*`, `+` or `?`.
-fn is_quantifier_sign(c: u32) -> bool
-    ensures { result ≡ is_quantifier_sign c }
+fn is_star_plus_or_question(c: u32) -> bool
+    ensures { result ≡ is_star_plus_or_question c }
 {
     c == '*' as u32 || c == '+' as u32 || c == '?' as u32
 }
 
 // Checks whether the code point is `{`, `}` or `]`.
-fn is_brace_or_bracket(c: u32) -> bool
-    ensures { result ≡ is_brace_or_bracket c }
+fn is_brace_or_closing_bracket(c: u32) -> bool
+    ensures { result ≡ is_brace_or_closing_bracket c }
 {
     c == '{' as u32 || c == '}' as u32 || c == ']' as u32
+}
+
+// Returns the cause for a `{`, `}` or `]` that belongs to no quantifier or class.
+fn lone_bracket_cause(c: u32) -> Cause {
+    if c == '{' as u32 {
+        Cause::IncompleteQuantifier
+    } else {
+        Cause::LoneBracket
+    }
 }
 
 // Checks whether a reference to a group begins with this letter or digit.
@@ -268,7 +277,7 @@ fn atom(node: Node) -> GrouplessTerm
 }
 
 fn bracket(contents: BracketContents) -> GrouplessTerm
-    ensures leaf { (greatest : ℕ) → IsSoundLeaf greatest (node_of result.node) }
+    ensures leaf { (greatest : ℕ) → IsSoundGrouplessTree greatest (node_of result.node) }
     ensures atom { result.is_atom ≡ true }
     ensures node { node_of result.node ≡ bracket_of (class_as_spec contents) }
 {
@@ -283,13 +292,13 @@ fn group_number(
 ) -> Result<u32, ParseFault>
     ensures moves { length reader.new.rest.now ≤ length reader.old.rest.now }
     ensures counts_from_one { IfOk result (λ group. 0 < group) }
-    ensures text { IsReferenceNumberRead (λ x. get_by_text numbers.now x) reader.old.rest.now result reader.new.rest.now }
+    ensures text { IsReferencedGroupNumberRead (λ x. get_by_text numbers.now x) reader.old.rest.now result reader.new.rest.now }
 {
     let start = *reader;
     if reader.eat('k') {
         read_name_reference(alloc, start, reader, numbers)
     } else {
-        counted(start, decimal(reader))
+        nonzero_group_number(start, decimal(reader), Cause::NoSuchGroup)
     }
 }
 
@@ -302,32 +311,38 @@ fn read_name_reference(
 ) -> Result<u32, ParseFault>
     ensures moves { length reader.new.rest.now ≤ length reader.old.rest.now }
     ensures counts_from_one { IfOk result (λ group. 0 < group) }
-    ensures text { IsNamedReferenceRead (λ x. get_by_text numbers.now x) reader.old.rest.now result reader.new.rest.now }
+    ensures text { IsReferencedNameNumberRead (λ x. get_by_text numbers.now x) reader.old.rest.now result reader.new.rest.now }
 {
     if !reader.eat('<') {
         return Err(start.error_at_last_read(Cause::MissingName));
     }
     let name = name(alloc, reader)?;
-    counted(start, numbers.get(name.as_str()).copied())
+    let number = numbers.get(name.as_str()).copied();
+    nonzero_group_number(start, number, Cause::NoSuchName)
 }
 
 // Returns the number of a group, counted from 1, or the error for the reference that begins just
 // before `start`.
-fn counted(start: PatternReader, number: Option<u32>) -> Result<u32, ParseFault>
-    ensures { IsNonzeroGroupNumber number result }
+fn nonzero_group_number(
+    start: PatternReader,
+    number: Option<u32>,
+    cause: Cause,
+) -> Result<u32, ParseFault>
+    ensures counts { IsNumberUnlessMissingOrZero number result }
+    ensures syntax { IfErr result (λ e. IsTrue (is_syntax_error e)) }
 {
     match number {
         Some(number) if number > 0 => Ok(number),
-        _ => Err(start.error_at_last_read(Cause::NoSuchGroup)),
+        _ => Err(start.error_at_last_read(cause)),
     }
 }
 
 // Reads a decimal number; `None` if there is none or it is past `u32::MAX`.
 fn decimal(reader: &mut PatternReader) -> Option<u32>
     ensures moves { length reader.new.rest.now ≤ length reader.old.rest.now }
-    ensures text { IsDecimalNumberRead reader.old.rest.now result reader.new.rest.now }
+    ensures text { IsDecimalReadIfItFitsU32 reader.old.rest.now result reader.new.rest.now }
 {
-    let n = reader.number(10)?;
+    let n = reader.read_number_in_base(10)?;
     if n <= u32::MAX as usize {
         Some(n as u32)
     } else {

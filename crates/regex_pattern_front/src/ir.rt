@@ -1,7 +1,7 @@
 //! The pattern tree.
 
 ghost use Rattle.std.specs.Prelude.{◌≡◌, ◌+◌, Some, None};
-ghost use Rattle.regex_pattern_front.specs.{IterativeDropMeasure.{DecreasesDropMeasure, tree_size, node_size, drop_measure_in, drop_measure_of}, AstToSpecTree.{cat_of}, declared.ir.Node.{Node}};
+ghost use Rattle.regex_pattern_front.specs.{IterativeDropMeasure.{DecreasesDropMeasure, tree_size, node_size, drop_measure_of_size_and_rest, drop_measure_of_node_and_rest}, AstToSpecTree.{cat_of}, declared.ir.Node.{Node}};
 
 use crate::flags::Flags;
 use crate::types::{BracketContents, CaptureGroupID};
@@ -102,12 +102,12 @@ pub enum Node {
 }
 
 impl Node {
-    ghost use Rattle.regex_pattern_front.specs.{OptimizedTrees.{as_one_char_loop}, AstToSpecTree.{node_of}};
+    ghost use Rattle.regex_pattern_front.specs.{OptimizedTrees.{loop_turned_into_char_loop}, AstToSpecTree.{node_of}};
 
     // Turns a loop into a loop over one character, which names no groups. Other nodes stay as they
     // are.
-    pub(crate) fn as_one_char_loop(self) -> Node
-        ensures { node_of result ≡ as_one_char_loop (node_of self) }
+    pub(crate) fn loop_turned_into_char_loop(self) -> Node
+        ensures { node_of result ≡ loop_turned_into_char_loop (node_of self) }
     {
         match self {
             Node::Loop {
@@ -120,8 +120,8 @@ impl Node {
     }
 
     // Separates the node from its children, for `Drop`.
-    fn parted(self, rest: Option<Node>) -> DropStep
-        ensures { DecreasesDropMeasure result (drop_measure_of self rest) }
+    fn parted(self, rest: Option<Node>) -> NextNodeAndRestToDrop
+        ensures { DecreasesDropMeasure result (drop_measure_of_node_and_rest self rest) }
     {
         match self {
             Node::Cat(children) => parted_row(children, rest),
@@ -130,51 +130,51 @@ impl Node {
                 id: _,
                 contents,
                 name: _,
-            } => DropStep::Inside(Box::into_inner(contents), rest),
+            } => NextNodeAndRestToDrop::Inside(Box::into_inner(contents), rest),
             Node::LookaroundAssertion {
                 negate: _,
                 backwards: _,
                 start_group: _,
                 end_group: _,
                 contents,
-            } => DropStep::Inside(Box::into_inner(contents), rest),
+            } => NextNodeAndRestToDrop::Inside(Box::into_inner(contents), rest),
             Node::Loop {
                 loopee,
                 quant: _,
                 enclosed_groups: _,
-            } => DropStep::Inside(Box::into_inner(loopee), rest),
-            Node::Loop1CharBody { loopee, quant: _ } => DropStep::Inside(
+            } => NextNodeAndRestToDrop::Inside(Box::into_inner(loopee), rest),
+            Node::Loop1CharBody { loopee, quant: _ } => NextNodeAndRestToDrop::Inside(
                 Box::into_inner(loopee),
                 rest,
             ),
-            Node::CharSet(_) => begun(rest),
-            Node::ByteSet(_) => begun(rest),
-            Node::ByteSequence(_) => begun(rest),
-            Node::Bracket(_) => begun(rest),
+            Node::CharSet(_) => continue_drop_with_rest(rest),
+            Node::ByteSet(_) => continue_drop_with_rest(rest),
+            Node::ByteSequence(_) => continue_drop_with_rest(rest),
+            Node::Bracket(_) => continue_drop_with_rest(rest),
             Node::StringSet {
                 alternatives: _,
                 icase: _,
-            } => begun(rest),
-            Node::Empty => begun(rest),
-            Node::Goal => begun(rest),
-            Node::Char { c: _ } => begun(rest),
-            Node::MatchAny => begun(rest),
-            Node::MatchAnyExceptLineTerminator => begun(rest),
+            } => continue_drop_with_rest(rest),
+            Node::Empty => continue_drop_with_rest(rest),
+            Node::Goal => continue_drop_with_rest(rest),
+            Node::Char { c: _ } => continue_drop_with_rest(rest),
+            Node::MatchAny => continue_drop_with_rest(rest),
+            Node::MatchAnyExceptLineTerminator => continue_drop_with_rest(rest),
             Node::Anchor {
                 anchor_type: _,
                 multiline: _,
-            } => begun(rest),
+            } => continue_drop_with_rest(rest),
             Node::WordBoundary {
                 invert: _,
                 unicode_icase: _,
-            } => begun(rest),
-            Node::BackRef { group: _, icase: _ } => begun(rest),
+            } => continue_drop_with_rest(rest),
+            Node::BackRef { group: _, icase: _ } => continue_drop_with_rest(rest),
         }
     }
 }
 
 // The result of separating a node from its children.
-enum DropStep {
+enum NextNodeAndRestToDrop {
     // A child, and the rest.
     Inside(Node, Option<Node>),
     // A list without nodes, and the rest.
@@ -191,37 +191,37 @@ impl Drop for Node {
         let mut rest = None;
         loop {
             match self.parted(rest) {
-                DropStep::Inside(node, others) => {
+                NextNodeAndRestToDrop::Inside(node, others) => {
                     self = node;
                     rest = others;
                 }
-                DropStep::Row(_row, others) => match others {
+                NextNodeAndRestToDrop::Row(_row, others) => match others {
                     Some(node) => {
                         self = node;
                         rest = None;
                     }
                     None => return,
                 },
-                DropStep::Nothing => return,
+                NextNodeAndRestToDrop::Nothing => return,
             }
         }
     }
 }
 
 // Continues with the rest.
-fn begun(rest: Option<Node>) -> DropStep
-    ensures { (node : Node) → DecreasesDropMeasure result (drop_measure_of node rest) }
+fn continue_drop_with_rest(rest: Option<Node>) -> NextNodeAndRestToDrop
+    ensures { (node : Node) → DecreasesDropMeasure result (drop_measure_of_node_and_rest node rest) }
 {
     match rest {
-        Some(node) => DropStep::Inside(node, None),
-        None => DropStep::Nothing,
+        Some(node) => NextNodeAndRestToDrop::Inside(node, None),
+        None => NextNodeAndRestToDrop::Nothing,
     }
 }
 
 // Separates the last node of a list or, if there is a rest, the first one, and puts the rest in its
 // position, so that the rest is reached last.
-fn parted_row(children: Vec<Node>, rest: Option<Node>) -> DropStep
-    ensures { DecreasesDropMeasure result (drop_measure_in (tree_size (cat_of children.items)) rest) }
+fn parted_row(children: Vec<Node>, rest: Option<Node>) -> NextNodeAndRestToDrop
+    ensures { DecreasesDropMeasure result (drop_measure_of_size_and_rest (tree_size (cat_of children.items)) rest) }
 {
     match rest {
         None => popped(children),
@@ -229,39 +229,43 @@ fn parted_row(children: Vec<Node>, rest: Option<Node>) -> DropStep
     }
 }
 
-fn popped(mut children: Vec<Node>) -> DropStep
-    ensures { DecreasesDropMeasure result (drop_measure_in (tree_size (cat_of children.items)) None) }
+fn popped(mut children: Vec<Node>) -> NextNodeAndRestToDrop
+    ensures { DecreasesDropMeasure result (drop_measure_of_size_and_rest (tree_size (cat_of children.items)) None) }
 {
     let Some(node) = children.pop() else {
-        return DropStep::Row(children, None);
+        return NextNodeAndRestToDrop::Row(children, None);
     };
     if children.is_empty() {
-        return DropStep::Row(children, Some(node));
+        return NextNodeAndRestToDrop::Row(children, Some(node));
     }
-    DropStep::Inside(node, Some(Node::Cat(children)))
+    NextNodeAndRestToDrop::Inside(node, Some(Node::Cat(children)))
 }
 
-fn linked(mut children: Vec<Node>, link: Node) -> DropStep
-    ensures { DecreasesDropMeasure result (drop_measure_in (tree_size (cat_of children.items)) (Some link)) }
+fn linked(mut children: Vec<Node>, link: Node) -> NextNodeAndRestToDrop
+    ensures { DecreasesDropMeasure result (drop_measure_of_size_and_rest (tree_size (cat_of children.items)) (Some link)) }
 {
     if children.is_empty() {
-        return DropStep::Row(children, Some(link));
+        return NextNodeAndRestToDrop::Row(children, Some(link));
     }
     let node = mem::replace(&mut children[0], link);
-    DropStep::Inside(node, Some(Node::Cat(children)))
+    NextNodeAndRestToDrop::Inside(node, Some(Node::Cat(children)))
 }
 
 // Separates the right alternative or, if there is a rest, the left one, and puts the rest in its
 // position.
-fn parted_alternatives(mut left: Box<Node>, right: Box<Node>, rest: Option<Node>) -> DropStep
+fn parted_alternatives(
+    mut left: Box<Node>,
+    right: Box<Node>,
+    rest: Option<Node>,
+) -> NextNodeAndRestToDrop
     ensures { let both = node_size left.value + node_size right.value + 1 in
-        DecreasesDropMeasure result (drop_measure_in both rest) }
+        DecreasesDropMeasure result (drop_measure_of_size_and_rest both rest) }
 {
     match rest {
-        None => DropStep::Inside(Box::into_inner(right), Some(Box::into_inner(left))),
+        None => NextNodeAndRestToDrop::Inside(Box::into_inner(right), Some(Box::into_inner(left))),
         Some(link) => {
             let node = mem::replace(&mut *left, link);
-            DropStep::Inside(node, Some(Node::Alt(left, right)))
+            NextNodeAndRestToDrop::Inside(node, Some(Node::Alt(left, right)))
         }
     }
 }

@@ -1,54 +1,50 @@
 //! The parser: from the text of a pattern to its tree.
 
-ghost use Rattle.std.specs.Prelude.{◌≡◌, ℕ, ◌+◌, ◌≤◌, ◌∷◌, [], false, length, IfOk, IfErr, IfSome, OnOk, IsTrue, None, Err};
-ghost use Rattle.regex_meaning.specs.{CompilationRelation.{reads_bytes}, Tree.{Tree}, WellFormedTrees.{is_well_formed}};
-ghost use Rattle.regex_pattern_front.specs.{AstToSpecTree.{node_of, tree_of, flags_of, group_name_bytes}, OptimizedTrees.{has_no_char_loops}, SubtreeListInvariants.{IsSoundSubtree}};
-ghost use Rattle.regex_pattern_front.specs.GroupStackInvariant.{OpenDisjunctionsHaveAllGroups, captures};
-ghost use Rattle.regex_pattern_front.specs.ParserContracts.{HasReadPatternUpTo, IsGroupNameRead, IsParseResult, IsTermWithQuantifier, AdvancesOrHasNoTree, is_named_group, group_node_around, tree_with_flags};
-ghost use Rattle.regex_pattern_front.specs.{declared.parse.ParseError.TheVariants.{Memory, Syntax}, GrouplessTermContracts.{is_paren_or_bar}};
-ghost use Rattle.regex_grammar.specs.{Grammar.{Parses}, ReadingStatesAndDigits.{RemainingPattern}, ParserInvariants.{HasNoTree}};
+ghost use Rattle.std.specs.Prelude.{◌≡◌, ℕ, ◌+◌, ◌≤◌, ◌∷◌, [], false, length, IfOk, IfErr, IfSome, OnOk, IsTrue, None};
+ghost use Rattle.regex_meaning.specs.{CompilationRelation.{tree_contains_byte_nodes}, Tree.{Tree}, WellFormedTrees.{is_well_formed}};
+ghost use Rattle.regex_pattern_front.specs.{AstToSpecTree.{node_of, tree_of, spec_flags_of, group_name_bytes}, OptimizedTrees.{has_no_char_loops}, SubtreeListInvariants.{IsSoundSubtree}};
+ghost use Rattle.regex_pattern_front.specs.GroupIdsWhileParsing.{OpenDisjunctionsHaveAllGroups, captures_opened_by_group_kind};
+ghost use Rattle.regex_pattern_front.specs.ParserContracts.{HasReadPatternUpTo, IsGroupNameRead, IsParseResult, IsTermWithQuantifier, AdvancesOrHasNoTree, is_named_group, group_node_around, tree_of_root_and_flags};
+ghost use Rattle.regex_pattern_front.specs.ParserContracts.{IsTextRefused, Refuses, IsPlacedIn};
+ghost use Rattle.regex_pattern_front.specs.{GrouplessTermContracts.{is_paren_or_bar}, GroupReaderContracts.{AreGroupNumbers}, ParseErrors.{IsParseErrorOf}};
+ghost use Rattle.regex_grammar.specs.{Grammar.{Parses}, ReadingStatesAndDigits.{RemainingCodePoints}, ParserInvariants.{AreWithinGroupLimit, group_names_of}};
 ghost use Rattle.std.specs.BTreeMap.{get_by_text};
 
 use crate::code_point_reader::PatternReader;
 use crate::diagnosis::{Cause, Diagnosis};
-use crate::escapes::name;
+use crate::escapes_and_group_names::name;
 use crate::flags::Flags;
-use crate::group_openings_and_names::{GroupKind, group_numbers_by_name, read_group_kind};
+use crate::group_openings_and_names::{GroupKind, GroupNumbers, read_group_kind, scan_groups};
 use crate::group_stack::{OpenGroup, PartialDisjunction};
 use crate::groupless_terms::{GrouplessTerm, GrouplessTermReader};
 use crate::ir::{Node, Regex};
 use crate::parser_error::ParseFault;
-use crate::types::CaptureGroupID;
-use std::alloc::{AllocError, AllocFailed, Global};
+use crate::types::{CaptureGroupID, MAX_CAPTURE_GROUPS};
+use std::alloc::{AllocError, Global};
 use std::mem;
 use std::ops::Range;
 use thiserror::Error;
 
-/// Why a pattern has no tree.
+/// Why a pattern is refused.
 #[derive(Clone, Copy, Debug, PartialEq, Eq, Error)]
 pub enum ParseError {
-    /// The text is no pattern.
-    #[error("the text is no pattern")]
-    Syntax,
+    /// The text is no pattern; the diagnosis says what is wrong with it, and where.
+    #[error("{0}")]
+    Syntax(Diagnosis),
+    /// The text opens more than 65,535 capturing groups.
+    #[error("too many groups")]
+    TooManyGroups,
     /// Allocation failure.
     #[error("out of memory")]
     Memory,
 }
 
-impl From<AllocError> for ParseError {
-    ghost from_gives = { λ _ e. e ≡ Memory };
-
-    fn from(_: AllocError) -> Self {
-        ParseError::Memory
-    }
-}
-
-impl<T: Drop> From<AllocFailed<T>> for ParseError {
-    ghost from_gives = { λ _ e. e ≡ Memory };
-
-    fn from(_: AllocFailed<T>) -> Self {
-        ParseError::Memory
-    }
+// Why a pattern is refused, with the diagnosis.
+#[derive(Clone, Copy)]
+enum Refusal {
+    Syntax(Diagnosis),
+    TooManyGroups(Diagnosis),
+    Memory(AllocError),
 }
 
 /// Parses a pattern and returns its tree, which has the flags given.
@@ -62,24 +58,31 @@ impl<T: Drop> From<AllocFailed<T>> for ParseError {
 ///
 /// # Errors
 ///
-/// `Syntax` if the grammar (`regex_grammar`) has no tree for the text, and `Memory` on allocation
-/// failure. `diagnose` reports what is wrong with a text, and where.
+/// - `TooManyGroups` if the text opens more than 65,535 groups, whatever else is wrong with it.
+///   These are the parentheses outside escapes and classes that open a capturing group, so each
+///   tree of the text has as many groups. `diagnose` reports how many there are.
+/// - `Syntax` if it does not, and the grammar (`regex_grammar`) has no tree for it, with the
+///   diagnosis that `parse_or_diagnose` reports.
+/// - `Memory` on allocation failure.
 pub fn try_parse(alloc: Global, pattern: &[u32], flags: Flags) -> Result<Regex, ParseError>
     ensures flags { IfOk result (λ re. re.flags ≡ flags) }
     ensures well_formed { IfOk result (λ re. IsTrue (is_well_formed (tree_of re).root)) }
-    ensures characters { IfOk result (λ re. reads_bytes (tree_of re).root ≡ false) }
+    ensures characters { IfOk result (λ re. tree_contains_byte_nodes (tree_of re).root ≡ false) }
     ensures plain { IfOk result (λ re. IsTrue (has_no_char_loops (tree_of re).root)) }
-    ensures tree { IfOk result (λ re. Parses (flags_of flags) pattern.now (tree_of re)) }
-    ensures refused { result ≡ Err Syntax → HasNoTree (flags_of flags) pattern.now }
+    ensures tree { IfOk result (λ re. Parses (spec_flags_of flags) pattern.now (tree_of re)) }
+    ensures within { IfOk result (λ re. AreWithinGroupLimit (group_names_of pattern.now)) }
+    ensures refused { IfErr result (IsParseErrorOf (spec_flags_of flags) pattern.now) }
 {
-    match read_pattern(alloc, pattern, flags)? {
+    match read(alloc, pattern, flags) {
         Ok(re) => Ok(re),
-        Err(_) => Err(ParseError::Syntax),
+        Err(Refusal::Syntax(diagnosis)) => Err(ParseError::Syntax(diagnosis)),
+        Err(Refusal::TooManyGroups(_)) => Err(ParseError::TooManyGroups),
+        Err(Refusal::Memory(_)) => Err(ParseError::Memory),
     }
 }
 
-/// Returns what is wrong with a text that is no pattern, and where, as `read_pattern` reports it;
-/// `None` if the text is a pattern.
+/// Returns what is wrong with a text that is refused, and where, as `parse_or_diagnose` reports it;
+/// `None` if `try_parse` returns its tree.
 ///
 /// # Errors
 ///
@@ -90,56 +93,94 @@ pub fn diagnose(
     flags: Flags,
 ) -> Result<Option<Diagnosis>, AllocError>
     ensures place { IfOk result (λ found. IfSome found (λ d. d.at ≤ length pattern.now)) }
-    ensures tells { let flags = flags_of flags in IfOk result (λ found.
-        IfSome found (λ d. HasNoTree flags pattern.now)
+    ensures tells { let flags = spec_flags_of flags in IfOk result (λ found.
+        IfSome found (λ d. IsTextRefused flags pattern.now)
         × (found ≡ None → (tree : Tree) × Parses flags pattern.now tree)) }
 {
-    Ok(read_pattern(alloc, pattern, flags)?.err())
+    Ok(parse_or_diagnose(alloc, pattern, flags)?.err())
 }
 
 /// Parses a pattern and returns its tree as `try_parse` does, or a diagnosis of what is wrong with
-/// the text. The text is not read again for the diagnosis. It reports the first error. But an
-/// unclosed group, and a reference to a missing group, are detected only at the end: then it
-/// reports the innermost group, or the reference with the greatest number.
+/// the text. The text is not read again for the diagnosis. It reports too many groups, and
+/// otherwise the first error. But an unclosed group, and a reference to a missing group, are
+/// detected only at the end: then it reports the innermost group, or the reference with the
+/// greatest number.
 ///
 /// # Errors
 ///
 /// Returns an error on allocation failure.
-pub fn read_pattern(
+pub fn parse_or_diagnose(
     alloc: Global,
     pattern: &[u32],
     flags: Flags,
 ) -> Result<Result<Regex, Diagnosis>, AllocError>
     ensures flags { IfOk result (λ read. IfOk read (λ re. re.flags ≡ flags)) }
     ensures well_formed { IfOk result (λ read. IfOk read (λ re. IsTrue (is_well_formed (tree_of re).root))) }
-    ensures characters { IfOk result (λ read. IfOk read (λ re. reads_bytes (tree_of re).root ≡ false)) }
+    ensures characters { IfOk result (λ read. IfOk read (λ re. tree_contains_byte_nodes (tree_of re).root ≡ false)) }
     ensures plain { IfOk result (λ read. IfOk read (λ re. IsTrue (has_no_char_loops (tree_of re).root))) }
     ensures place { IfOk result (λ read. IfErr read (λ d. d.at ≤ length pattern.now)) }
-    ensures tree { let flags = flags_of flags in IfOk result (λ read.
-        IfOk read (λ re. Parses flags pattern.now (tree_of re)) × IfErr read (λ d. HasNoTree flags pattern.now)) }
+    ensures tree { let flags = spec_flags_of flags in IfOk result (λ read.
+        IfOk read (λ re. Parses flags pattern.now (tree_of re)) × IfErr read (λ d. IsTextRefused flags pattern.now)) }
 {
-    match parse_to_tree(alloc, pattern, flags) {
+    match read(alloc, pattern, flags) {
         Ok(re) => Ok(Ok(re)),
-        Err(ParseFault::Refused { cause, left }) => Ok(Err(Diagnosis {
-            cause,
-            at: pattern.len().saturating_sub(left),
-        })),
-        Err(ParseFault::Memory(refused)) => Err(refused),
+        Err(Refusal::Syntax(diagnosis)) => Ok(Err(diagnosis)),
+        Err(Refusal::TooManyGroups(diagnosis)) => Ok(Err(diagnosis)),
+        Err(Refusal::Memory(refused)) => Err(refused),
     }
 }
 
-fn parse_to_tree(alloc: Global, pattern: &[u32], flags: Flags) -> Result<Regex, ParseFault>
+// Parses a pattern after a scan for its groups, or returns why it is refused.
+fn read(alloc: Global, pattern: &[u32], flags: Flags) -> Result<Regex, Refusal>
     ensures flags { IfOk result (λ re. re.flags ≡ flags) }
     ensures well_formed { IfOk result (λ re. IsTrue (is_well_formed (tree_of re).root)) }
-    ensures characters { IfOk result (λ re. reads_bytes (tree_of re).root ≡ false) }
+    ensures characters { IfOk result (λ re. tree_contains_byte_nodes (tree_of re).root ≡ false) }
     ensures plain { IfOk result (λ re. IsTrue (has_no_char_loops (tree_of re).root)) }
-    ensures tree { IsParseResult tree_of (flags_of flags) pattern.now result }
+    ensures tree { IfOk result (λ re. Parses (spec_flags_of flags) pattern.now (tree_of re)) }
+    ensures within { IfOk result (λ re. AreWithinGroupLimit (group_names_of pattern.now)) }
+    ensures refused { IfErr result (Refuses (spec_flags_of flags) pattern.now) }
+    ensures place { IfErr result (IsPlacedIn pattern.now) }
+{
+    let found = match scan_groups(alloc, pattern) {
+        Ok(found) => found,
+        Err(refused) => return Err(Refusal::Memory(refused)),
+    };
+    if found.count > MAX_CAPTURE_GROUPS as u32 {
+        let groups = found.count;
+        return Err(Refusal::TooManyGroups(Diagnosis {
+            cause: Cause::TooManyGroups { groups },
+            at: pattern.len().saturating_sub(found.left_at_excess),
+        }));
+    }
+    match parse_to_tree(alloc, pattern, flags, found.numbers) {
+        Ok(re) => Ok(re),
+        Err(ParseFault::Refused { cause, left }) => Err(Refusal::Syntax(Diagnosis {
+            cause,
+            at: pattern.len().saturating_sub(left),
+        })),
+        Err(ParseFault::Memory(refused)) => Err(Refusal::Memory(refused)),
+    }
+}
+
+// Parses a pattern whose named groups have these numbers.
+fn parse_to_tree(
+    alloc: Global,
+    pattern: &[u32],
+    flags: Flags,
+    numbers: GroupNumbers,
+) -> Result<Regex, ParseFault>
+    ensures flags { IfOk result (λ re. re.flags ≡ flags) }
+    ensures well_formed { IfOk result (λ re. IsTrue (is_well_formed (tree_of re).root)) }
+    ensures characters { IfOk result (λ re. tree_contains_byte_nodes (tree_of re).root ≡ false) }
+    ensures plain { IfOk result (λ re. IsTrue (has_no_char_loops (tree_of re).root)) }
+    ensures tree { let names = group_names_of pattern.now in
+        (AreWithinGroupLimit names → AreGroupNumbers numbers names) → IsParseResult tree_of (spec_flags_of flags) pattern.now result }
 {
     let mut parser = Parser {
         leaves: GrouplessTermReader {
             alloc,
             flags,
-            numbers: group_numbers_by_name(alloc, pattern)?,
+            numbers,
             reader: PatternReader { rest: pattern },
             references: 0,
             reference_left: 0,
@@ -173,13 +214,13 @@ impl Parser<'_> {
         ensures text { AdvancesOrHasNoTree self.old.leaves.reader.rest.now self.old result self.new }
     {
         while let Some(c) = self.leaves.reader.next() {
-            self.step(c)?;
+            self.read_what_code_point_begins(c)?;
         }
         Ok(())
     }
 
     // Reads what begins with this code point: a `|`, a parenthesis or a term.
-    fn step(&mut self, c: u32) -> Result<(), ParseFault>
+    fn read_what_code_point_begins(&mut self, c: u32) -> Result<(), ParseFault>
         requires { OpenDisjunctionsHaveAllGroups self.old }
         ensures reading { OnOk result (OpenDisjunctionsHaveAllGroups self.new) }
         ensures moves { length self.new.leaves.reader.rest.now ≤ length self.old.leaves.reader.rest.now }
@@ -202,7 +243,7 @@ impl Parser<'_> {
         ensures same { self.new.leaves.flags ≡ self.old.leaves.flags }
         ensures text { is_paren_or_bar c ≡ false → AdvancesOrHasNoTree (c ∷ self.old.leaves.reader.rest.now) self.old result self.new }
     {
-        let GrouplessTerm { node, is_atom } = self.leaves.leaf(c)?;
+        let GrouplessTerm { node, is_atom } = self.leaves.read_term_without_group(c)?;
         let groups = self.groups..self.groups;
         let node = quantified(&mut self.leaves, node, groups, is_atom)?;
         self.level.push(node)?;
@@ -222,18 +263,22 @@ impl Parser<'_> {
         let parenthesis = self.leaves.reader;
         let opening = read_group_kind(&mut self.leaves.reader)?;
         let name = read_unused_group_name(&mut self.leaves, opening, start)?;
-        let more = opening.captures();
+        let more = opening.captures_opened_by_group_kind();
         if more > CaptureGroupID::MAX - start {
-            return Err(parenthesis.error_at_last_read(Cause::TooManyGroups));
+            let groups = u32::from(start) + 1;
+            return Err(parenthesis.error_at_last_read(Cause::TooManyGroups { groups }));
         }
         self.groups = start + more;
-        let inner = PartialDisjunction::new(alloc, opening.reverses_terms(self.level.behind()));
+        let inner = PartialDisjunction::new(
+            alloc,
+            opening.reverses_terms(self.level.are_terms_reversed()),
+        );
         self.around.push(OpenGroup {
             outer: mem::replace(&mut self.level, inner),
             opening,
             name,
             start,
-            left: parenthesis.count_left_with_last(),
+            left: parenthesis.count_code_points_from_last_read(),
         })?;
         Ok(())
     }
@@ -258,7 +303,7 @@ impl Parser<'_> {
         else {
             return Err(self.leaves.reader.error_at_last_read(Cause::UnopenedGroup));
         };
-        let contents = mem::replace(&mut self.level, outer).joined()?;
+        let contents = mem::replace(&mut self.level, outer).into_alternation_node()?;
         let end = self.groups;
         let node = enclosed(self.leaves.alloc, opening, name, contents, start..end)?;
         let node = quantified(&mut self.leaves, node, start..end, opening.is_atom())?;
@@ -278,10 +323,10 @@ impl Parser<'_> {
     fn finish(self) -> Result<Node, ParseFault>
         requires { OpenDisjunctionsHaveAllGroups self }
         ensures well_formed { IfOk result (λ n. IsTrue (is_well_formed (node_of n))) }
-        ensures characters { IfOk result (λ n. reads_bytes (node_of n) ≡ false) }
+        ensures characters { IfOk result (λ n. tree_contains_byte_nodes (node_of n) ≡ false) }
         ensures plain { IfOk result (λ n. IsTrue (has_no_char_loops (node_of n))) }
-        ensures tree { let flags = flags_of self.entry.leaves.flags in
-            (pattern : RemainingPattern) → HasReadPatternUpTo pattern [] self.entry → IsParseResult (tree_with_flags flags) flags pattern result }
+        ensures tree { let flags = spec_flags_of self.entry.leaves.flags in
+            (pattern : RemainingCodePoints) → HasReadPatternUpTo pattern [] self.entry → IsParseResult (tree_of_root_and_flags flags) flags pattern result }
     {
         if !self.around.is_empty() {
             return Err(self.unclosed());
@@ -293,7 +338,7 @@ impl Parser<'_> {
             });
         }
         let alloc = self.leaves.alloc;
-        let node = self.level.joined()?;
+        let node = self.level.into_alternation_node()?;
         Ok(Node::Cat(vec![in alloc; node, Node::Goal]?))
     }
 }
@@ -307,7 +352,7 @@ fn enclosed(
     groups: Range<CaptureGroupID>,
 ) -> Result<Node, AllocError>
     ensures part { IfOk result (λ n. (greatest : ℕ)
-        → IsSoundSubtree (groups.start + captures opening) groups.end greatest (node_of contents)
+        → IsSoundSubtree (groups.start + captures_opened_by_group_kind opening) groups.end greatest (node_of contents)
         → IsSoundSubtree groups.start groups.end greatest (node_of n)) }
     ensures node { IfOk result (λ n. node_of n
         ≡ group_node_around opening (group_name_bytes name) groups.start groups.end (node_of contents)) }
@@ -352,7 +397,7 @@ fn quantified(
             Ok(term)
         };
     }
-    match leaves.reader.quantifier()? {
+    match leaves.reader.read_quantifier()? {
         None => Ok(term),
         Some(quant) => Ok(Node::Loop {
             loopee: Box::new(leaves.alloc, term)?,

@@ -10,7 +10,16 @@ pub(crate) const CAUSES: &str = r":é😀(a|b → unclosed group at 2
 :é|b) → unopened group at 3
 :é(?a) → unknown kind of group at 1
 :(? → unknown kind of group at 0
-:😀(?>a) → unknown kind of group at 1
+:(?|a|b) → unknown kind of group at 0
+:(?'n'a) → unknown kind of group at 0
+:😀(?>a) → atomic groups are not supported at 1
+:a(?#b)c → comments are not supported at 1
+:é(?i)a → modifiers are not supported at 1
+:b(?i:a) → modifiers are not supported at 1
+:(?-i:a) → modifiers are not supported at 0
+u:a(?ms-i:b) → modifiers are not supported at 1
+:é(?P<n>a) → (?P is not supported, write (?<n> or \k<n> at 1
+:(?<n>a)(?P=n) → (?P is not supported, write (?<n> or \k<n> at 7
 :* → nothing to repeat at 0
 :é|+a → nothing to repeat at 2
 :(?:?) → nothing to repeat at 3
@@ -38,6 +47,12 @@ v:é[a[b]] → set operations are not supported at 3
 v:[a&&b] → set operations are not supported at 2
 v:[\[a--b] → set operations are not supported at 4
 :é\a → unknown escape at 1
+:ab\h+ → unknown escape at 2
+u:é\h → unknown escape at 1
+:(a|\e) → unknown escape at 3
+:ab|\Aa → text anchors are not supported, write ^ or $ at 3
+:é\z → text anchors are not supported, write ^ or $ at 1
+u:😀b\Z → text anchors are not supported, write ^ or $ at 2
 :[\B] → unknown escape at 1
 :[\k] → unknown escape at 1
 :[\8] → unknown escape at 1
@@ -61,13 +76,20 @@ u:é\u{110000} → no code point is so great at 1
 :\2(a)\3 → no such group at 5
 :\3(a)\3\2 → no such group at 0
 :\4294967297 → no such group at 0
-:(?<n>a)\k<m> → no such group at 7
-:(?<n>\k<m>)(?<1>) → no such group at 5
+:(?<n>a)\k<m> → no group has this name at 7
+:(?<n>\k<m>)(?<1>) → no group has this name at 5
+:é\k<n> → no group has this name at 1
+:(a)\k<n>|b → no group has this name at 3
+u:\k<n>(b) → no group has this name at 0
 :é\k → reference without a name at 1
 :(?<n>a)\kn → reference without a name at 7
 :é(?<1>a) → invalid name at 4
 :(?<>a) → invalid name at 3
-:(?<é>a) → invalid name at 3
+:(?<é>a) → names beyond ASCII are not supported at 3
+:b(?<aé>a) → names beyond ASCII are not supported at 5
+u:(?<😀>a) → names beyond ASCII are not supported at 3
+:(?<n>a)\k<é> → names beyond ASCII are not supported at 10
+:(?<\u0061>a) → invalid name at 3
 :(?<a-b>a) → invalid name at 4
 :\k<> → invalid name at 3
 :é(?<a → unclosed name at 3
@@ -77,8 +99,13 @@ u:é\u{110000} → no code point is so great at 1
 :*(?<n>a)(?<n>b) → nothing to repeat at 0
 u:é] → lone bracket at 1
 u:} → lone bracket at 0
-u:a{ → lone bracket at 1
-u:a{,1} → lone bracket at 1
+u:é{}} → incomplete quantifier at 1
+u:a{ → incomplete quantifier at 1
+u:a{1 → incomplete quantifier at 1
+u:é|b{1,2 → incomplete quantifier at 3
+u:a{,1} → incomplete quantifier at 1
+u:{ → incomplete quantifier at 0
+:a{1 → a pattern
 :é]}{ → a pattern
 :\k<n>(?<n>a) → a pattern
 v:[&\-\--] → a pattern";

@@ -5,18 +5,19 @@ use crate::patterns::{add, code_points, flags_of};
 use crate::table::PATTERNS;
 use regex_pattern_front::diagnosis::{Cause, Diagnosis};
 use regex_pattern_front::flags::Flags;
-use regex_pattern_front::parse::{ParseError, diagnose, read_pattern, try_parse};
+use regex_pattern_front::parse::{ParseError, diagnose, parse_or_diagnose, try_parse};
 use std::alloc::{AllocError, Global};
 use std::process::Abort;
 use std::test::Fail;
 
-fn write_told(text: &mut String, row: &str) -> Result<(), AllocError> {
+// The error of a text is written, an allocation failure as well.
+fn write_error(text: &mut String, row: &str) -> Result<(), AllocError> {
     let alloc = *text.allocator();
     let (letters, pattern) = row.split_once(':').unwrap_or((row, "no colon"));
     let pattern = code_points(alloc, pattern)?;
-    match diagnose(alloc, &pattern, flags_of(letters))? {
-        Some(diagnosis) => write!(text, "{diagnosis}"),
-        None => text.push_str("a pattern"),
+    match try_parse(alloc, &pattern, flags_of(letters)) {
+        Ok(_) => text.push_str("a pattern"),
+        Err(error) => write!(text, "{error}"),
     }
 }
 
@@ -25,45 +26,64 @@ fn causes_have_these_places(rt: HostRuntime) -> Result<(), Fail> {
     for line in CAUSES.lines() {
         let (row, wanted) = line.split_once(" → ").unwrap_or((line, "no arrow"));
         let mut found = String::new(rt.alloc());
-        write_told(&mut found, row)?;
+        write_error(&mut found, row)?;
         assert!(rt; found.as_str() == wanted, "{found} at {line}");
     }
     Ok(())
 }
 
-// Whether something is wrong with a text exactly where it has no tree, and both calls that tell it tell the same.
-fn is_told_where_refused(alloc: Global, row: &str) -> Result<bool, AllocError> {
+// Whether the three calls that tell what is wrong with a text tell the same. No row has too many groups.
+fn is_told_alike(alloc: Global, row: &str) -> Result<bool, AllocError> {
     let (letters, pattern) = row.split_once(':').unwrap_or((row, "no colon"));
     let pattern = code_points(alloc, pattern)?;
     let flags = flags_of(letters);
-    let is_refused = match try_parse(alloc, &pattern, flags) {
-        Ok(_) => false,
-        Err(ParseError::Syntax) => true,
+    let told = diagnose(alloc, &pattern, flags)?;
+    let is_same = match try_parse(alloc, &pattern, flags) {
+        Ok(_) => told.is_none(),
+        Err(ParseError::Syntax(diagnosis)) => told == Some(diagnosis),
+        Err(ParseError::TooManyGroups) => false,
         Err(ParseError::Memory) => return Err(AllocError),
     };
-    let told = diagnose(alloc, &pattern, flags)?;
-    Ok(told.is_some() == is_refused && told == read_pattern(alloc, &pattern, flags)?.err())
+    Ok(is_same && told == parse_or_diagnose(alloc, &pattern, flags)?.err())
 }
 
 #[test]
 fn causes_are_told_where_patterns_are_refused(rt: HostRuntime) -> Result<(), Fail> {
     for line in PATTERNS.lines() {
         let (row, _) = line.split_once(" → ").unwrap_or((line, ""));
-        assert!(rt; is_told_where_refused(rt.alloc(), row)?, "{line}");
+        assert!(rt; is_told_alike(rt.alloc(), row)?, "{line}");
     }
     Ok(())
 }
 
+// What is wrong with the piece, 65,536 times the other piece, and the last piece.
+fn told_around(alloc: Global, pieces: [&str; 3]) -> Result<Option<Diagnosis>, AllocError> {
+    let mut pattern = code_points(alloc, pieces[0])?;
+    add(&mut pattern, pieces[1], 65536)?;
+    add(&mut pattern, pieces[2], 1)?;
+    diagnose(alloc, &pattern, Flags::default())
+}
+
+// Pieces as above, the number of groups that are told, and the place.
+const TOO_MANY: [([&str; 3], u32, usize); 3] = [
+    (["", "()", ""], 65536, 131_070),
+    ([")\\((?:[(]", "(?<a>", "(("], 65538, 327_684),
+    ([")", "(", "*+"], 65536, 65536),
+];
+
 #[test]
-fn one_group_is_too_many(rt: HostRuntime) -> Result<(), Fail> {
-    let mut pattern = Vec::new(rt.alloc());
-    add(&mut pattern, "()", 65536)?;
-    let told = diagnose(rt.alloc(), &pattern, Flags::default())?;
-    let wanted = Diagnosis {
-        cause: Cause::TooManyGroups,
-        at: 131_070,
-    };
-    assert!(rt; told == Some(wanted));
+fn one_group_is_too_many_whatever_else_is_wrong(rt: HostRuntime) -> Result<(), Fail> {
+    for (pieces, groups, at) in TOO_MANY {
+        let wanted = Diagnosis {
+            cause: Cause::TooManyGroups { groups },
+            at,
+        };
+        assert!(rt;
+            told_around(rt.alloc(), pieces)? == Some(wanted),
+            "{}",
+            pieces[1]
+        );
+    }
     Ok(())
 }
 
@@ -146,12 +166,21 @@ fn places_are_shown(rt: HostRuntime) -> Result<(), Fail> {
 #[test]
 fn refusals_are_shown(rt: HostRuntime) -> Result<(), Fail> {
     let mut found = String::new(rt.alloc());
-    write!(found, "{}, {}", ParseError::Syntax, ParseError::Memory)?;
-    assert!(rt; found.as_str() == "the text is no pattern, out of memory");
     let beyond = Diagnosis {
         cause: Cause::UnclosedName,
         at: 9,
     };
+    let syntax = ParseError::Syntax(beyond);
+    write!(
+        found,
+        "{syntax}, {}, {}",
+        ParseError::TooManyGroups,
+        ParseError::Memory
+    )?;
+    assert!(rt; found.as_str() == "unclosed name at 9, too many groups, out of memory");
+    let mut cause = String::new(rt.alloc());
+    write!(cause, "{}", Cause::TooManyGroups { groups: 65536 })?;
+    assert!(rt; cause.as_str() == "too many groups (65536 of at most 65535)");
     let mut shown = String::new(rt.alloc());
     write!(shown, "{}", beyond.below(&[0xD800, 0x61]))?;
     assert!(rt; shown.as_str() == "\u{FFFD}a\n  ^ unclosed name");

@@ -25,7 +25,7 @@ pub(crate) fn flags_of(letters: &str) -> Flags {
 fn tree(alloc: Global, pattern: &[u32], letters: &str) -> Result<Option<Regex>, AllocError> {
     match try_parse(alloc, pattern, flags_of(letters)) {
         Ok(re) => Ok(Some(re)),
-        Err(ParseError::Syntax) => Ok(None),
+        Err(ParseError::Syntax(_) | ParseError::TooManyGroups) => Ok(None),
         Err(ParseError::Memory) => Err(AllocError),
     }
 }
@@ -78,17 +78,17 @@ pub(crate) fn add(pattern: &mut Vec<u32>, piece: &str, count: usize) -> Result<(
     Ok(())
 }
 
-// Whether a pattern of so many groups is refused.
-fn is_refused(alloc: Global, groups: usize) -> Result<bool, AllocError> {
+// Why a pattern of so many groups is refused, if it is.
+fn refusal_of(alloc: Global, groups: usize) -> Result<Option<ParseError>, AllocError> {
     let mut pattern = Vec::new(alloc);
     add(&mut pattern, "()", groups)?;
-    Ok(tree(alloc, &pattern, "")?.is_none())
+    Ok(try_parse(alloc, &pattern, flags_of("")).err())
 }
 
 #[test]
 fn groups_have_a_limit(rt: HostRuntime) -> Result<(), Fail> {
-    assert!(rt; !is_refused(rt.alloc(), 65535)?);
-    assert!(rt; is_refused(rt.alloc(), 65536)?);
+    assert!(rt; refusal_of(rt.alloc(), 65535)?.is_none());
+    assert!(rt; refusal_of(rt.alloc(), 65536)? == Some(ParseError::TooManyGroups));
     Ok(())
 }
 

@@ -4,7 +4,9 @@ use regex_pattern_front::bytesearch::{
     AsciiBitmap, ByteArraySet, ByteBitmap, ByteSearcher, ByteSet,
 };
 use regex_pattern_front::codepointset::{CodePointSet, Interval};
-use regex_pattern_front::folding::{add_utf8_first_bytes_to_bitmap, utf8_first_byte};
+use regex_pattern_front::folding_and_first_bytes::{
+    add_utf8_first_bytes_to_bitmap, utf8_first_byte,
+};
 use regex_pattern_front::types::BracketContents;
 use std::process::Abort;
 use std::test::Fail;
@@ -28,8 +30,16 @@ fn sets_are_searched(rt: HostRuntime) {
         &mut bytes,
     );
     assert!(rt; bytes.contains(0x7F) && bytes.contains(0xC2) && !bytes.contains(0xC3));
-    assert!(rt; ascii.has_char(0x61) && !ascii.has_char(0xE1) && !ascii.has_char(0x161));
-    assert!(rt; bytes.has_char(0x7F) && bytes.has_char(0xC2) && !bytes.has_char(0x1C2));
+    assert!(rt;
+        ascii.byte_set_has_char(0x61)
+            && !ascii.byte_set_has_char(0xE1)
+            && !ascii.byte_set_has_char(0x161)
+    );
+    assert!(rt;
+        bytes.byte_set_has_char(0x7F)
+            && bytes.byte_set_has_char(0xC2)
+            && !bytes.byte_set_has_char(0x1C2)
+    );
     let first_bytes = [0x20AC, 0xD800, 0x10_FFFF, 0x11_0000, u32::MAX].map(utf8_first_byte);
     assert_eq!(rt; first_bytes, [0xE2, 0xED, 0xF4, 0xFF, 0xFF]);
     let found = [
@@ -40,8 +50,12 @@ fn sets_are_searched(rt: HostRuntime) {
     ];
     assert_eq!(rt; found, [Some(1), Some(2), Some(1), None]);
     let few = ByteArraySet([b'a', b'a', b'b', b'c']);
-    assert!(rt; few.contains(b'c') && few.has_char(0x63) && !few.has_char(0x163));
-    assert!(rt; [b'a'].has_char(0x61) && [b'a', b'b'].has_char(0x62) && [1, 2, 3].has_char(3));
+    assert!(rt; few.contains(b'c') && few.byte_set_has_char(0x63) && !few.byte_set_has_char(0x163));
+    assert!(rt;
+        [b'a'].byte_set_has_char(0x61)
+            && [b'a', b'b'].byte_set_has_char(0x62)
+            && [1, 2, 3].byte_set_has_char(3)
+    );
 }
 
 #[test]

@@ -5,21 +5,21 @@ use Rattle.std.specs.Prelude.{◌==◌, ◌^◌, IfSome, Option}
 use Rattle.std.proofs.lemmas.Bool.{eqb-false, ne_eqb, true_from_ne_false, true≢false}
 use Rattle.regex_meaning.specs.NumberListHelpers.{numbers_from}
 use Rattle.regex_meaning.specs.Text.{Text, Direction, rightwards, leftwards, last_place, moved}
-use Rattle.regex_meaning.specs.CodeUnitOffsets.{IsText, offset, units}
+use Rattle.regex_meaning.specs.CodeUnitOffsets.{HasRisingPlaceOffsets, offset, units}
 use Rattle.regex_meaning.specs.CompilationRelation.{Program}
 use Rattle.regex_meaning.proofs.Each.{Each, Each-map, Each-reverse}
 use Rattle.regex_meaning.proofs.TextLemmas.{place_at-offset, offset-place_at}
-use Rattle.regress_input.specs.ReadsFromOffset.{reading_direction}
+use Rattle.regress_input.specs.ReadsFromOffset.{direction_of_forward_flag}
 use Rattle.regress_machine.specs.Machine.{State, Thread, waiting, first_runs_others_wait}
 use Rattle.regress_machine.proofs.Beside.{moved-zero}
 use Rattle.regress_machine.proofs.Inside.{offset-inside}
 use Rattle.regress_machine.proofs.Run.{numbers_between}
 use Rattle.regress_simulation.specs.CharLoopExitStates.{behind, fewest_first, most_first}
 use Rattle.regress_memo_laws.specs.Bisimulation.{Relation, AlikeThreads}
-use Rattle.regress_memo_laws.specs.Liveness.{IsPassedOrCurrent, Agree, outermost, ReadsAsBytes}
+use Rattle.regress_memo_laws.specs.Liveness.{IsOffsetPassedOrCurrent, Agree, outermost, ReadsAsBytes}
 use Rattle.regress_memo_laws.specs.LoopDataKeyCodes.{plan_code, key_of, HasSlotsOfProgram}
 use Rattle.regress_memo_laws.specs.MemoKeys.{IsSoundState}
-use Rattle.regress_memo_laws.specs.MemoPlans.{plan_taken}
+use Rattle.regress_memo_laws.specs.MemoPlanChecksAndGuarantees.{plan_taken}
 use Rattle.regress_memo_laws.specs.CharLoopMemoKeys.{char_loop_greediness_at, CharLoopRecords, run_key}
 use Rattle.regress_memo_laws.specs.CharLoopThreads.{passing}
 use Rattle.regress_memo_laws.specs.MemoSearch.{Key, KeyStandsFor}
@@ -35,10 +35,10 @@ use Rattle.regress_memo_analysis.proofs.WholeLemmas.{ledgers-serve, not-recorded
 use Rattle.regress_memo.specs.Laws.{analysis_keys}
 use Rattle.regress_memo.specs.MemoContents.{memo_key_at}
 use Rattle.regress_memo.proofs.LawLemmas.{keys-are-there}
-use Rattle.regress_scan.specs.SearchInputs.{SearchInput, program_of}
-use Rattle.regress_backtrack.specs.declared.control.ThreadPos.{ThreadPos}
+use Rattle.regress_scan.specs.TreePlanAndText.{SearchInput, program_of}
+use Rattle.regress_backtrack.specs.declared.thread_position_and_control.ThreadPos.{ThreadPos}
 use Rattle.regress_backtrack.specs.declared.failure_memo.RecordKey.{RecordKey as Stored}
-use Rattle.regress_backtrack.specs.State.{StateModel, machine_state_of}
+use Rattle.regress_backtrack.specs.State.{StateModel, current_thread_state_of}
 use Rattle.regress_backtrack.specs.FailuresInMemoTable.{scheme_of}
 use Rattle.regress_backtrack.specs.FailureMemo.{MemoScheme, AreFailuresRight, IsLoopRestKey, loop_rest, as_key}
 use Rattle.regress_backtrack.specs.MemoizedCharLoops.{DecidesLoopRest}
@@ -46,11 +46,11 @@ use Rattle.regress_backtrack.proofs.MemoKeys.{agrees-itself, heads}
 
 -- ---- Offsets that are passed
 
-passed-on : (d : Direction) (e p q : ℕ) → IsPassedOrCurrent d e p → IsPassedOrCurrent d p q → IsPassedOrCurrent d e q
+passed-on : (d : Direction) (e p q : ℕ) → IsOffsetPassedOrCurrent d e p → IsOffsetPassedOrCurrent d p q → IsOffsetPassedOrCurrent d e q
 passed-on rightwards e p q a b = omega (arith, a, b)
 passed-on leftwards e p q a b = omega (arith, a, b)
 
-still-apart : (d : Direction) (e p q : ℕ) → IsPassedOrCurrent d e p → IsPassedOrCurrent d p q → (e == p) ≡ false → (e == q) ≡ false
+still-apart : (d : Direction) (e p q : ℕ) → IsOffsetPassedOrCurrent d e p → IsOffsetPassedOrCurrent d p q → (e == p) ≡ false → (e == q) ≡ false
 still-apart rightwards e p q a b n = ne_eqb e q (λ same. eqb-false e p n (omega (arith, a, b, same)))
 still-apart leftwards e p q a b n = ne_eqb e q (λ same. eqb-false e p n (omega (arith, a, b, same)))
 
@@ -67,7 +67,7 @@ module _ (R : Relation) (f : ℕ → State) where
 
 -- ---- Sound states further on
 
-module _ (t : MemoAnalysis) (text : Text) (is : IsText text) (d : Direction) (test : ℕ → Bool) (place : ℕ) (within : place ≤ last_place text) (s : State) where
+module _ (t : MemoAnalysis) (text : Text) (is : HasRisingPlaceOffsets text) (d : Direction) (test : ℕ → Bool) (place : ℕ) (within : place ≤ last_place text) (s : State) where
   abbrev at-place : ℕ → State
   at-place n = behind text d place s n
 
@@ -79,7 +79,7 @@ module _ (t : MemoAnalysis) (text : Text) (is : IsText text) (d : Direction) (te
         let few = passing-left text test d place within in
         let m = moves-on text is d (offset text place) place n (place_at-offset text place is within) (omega (arith, few, le)) in
         let here : (at-place 0).pos ≡ offset text place = ap (offset text) (moved-zero text d place) in
-        let passed : IsPassedOrCurrent d x.entry (offset text place) = subst (λ p. IsPassedOrCurrent d x.entry p) here y.passed in
+        let passed : IsOffsetPassedOrCurrent d x.entry (offset text place) = subst (λ p. IsOffsetPassedOrCurrent d x.entry p) here y.passed in
         record {
           passed = passed-on d x.entry (offset text place) (at-place n).pos passed m.passed;
           moved = λ asked. still-apart d x.entry (offset text place) (at-place n).pos passed m.passed (subst (λ p. (x.entry == p) ≡ false) here (y.moved asked));
@@ -110,7 +110,7 @@ module _ (t : MemoAnalysis) (text : Text) (is : IsText text) (d : Direction) (te
 
 -- ---- Keys
 
-module _ (program : Program) (text : Text) (t : MemoAnalysis) (of : IsAnalysisOf program t) (is : IsText text) (bytes : ReadsAsBytes program text) (fits : units text < 2 ^ 63) where
+module _ (program : Program) (text : Text) (t : MemoAnalysis) (of : IsAnalysisOf program t) (is : HasRisingPlaceOffsets text) (bytes : ReadsAsBytes program text) (fits : units text < 2 ^ 63) where
   run-records : (d : Direction) (k : Key) (ts : List Thread) → (r : IsLoopRestKey program text (scheme_of t) d k ts)
       → CharLoopRecords program (liveness_of t) (key_code_questions_of t) (insn_direction t) (recorded t) d r.test r.greedy r.state.ip
   run-records d k ts r =
@@ -150,13 +150,13 @@ module _ (program : Program) (text : Text) (t : MemoAnalysis) (of : IsAnalysisOf
 
 -- ---- What is told of what a run leaves
 
-module _ (w : SearchInput) (is : IsText w.text) (t : MemoAnalysis) (failed : Key → Bool) (right : AreFailuresRight w (scheme_of t) failed) (forward : Bool) (from : ThreadPos) (h : StateModel) where
+module _ (w : SearchInput) (is : HasRisingPlaceOffsets w.text) (t : MemoAnalysis) (failed : Key → Bool) (right : AreFailuresRight w (scheme_of t) failed) (forward : Bool) (from : ThreadPos) (h : StateModel) where
   -- the key of a state at its body tells of it
-  pub rest-tells : (k : Key) → memo_key_at t (machine_state_of h (from.ip + 1) from.at) ≡ Some k → (insn_analysis_of t (from.ip + 1)).records ≡ true → (insn_analysis_of t (from.ip + 1)).forward ≡ forward
-      → (insn_analysis_of t (from.ip + 2)).forward ≡ forward → HasSlotsOfProgram (program_of w) (machine_state_of h from.ip from.at)
-      → IsSoundState (liveness_of t) (units w.text) (insn_direction t (from.ip + 2)) (machine_state_of h (from.ip + 2) from.at) → DecidesLoopRest w (scheme_of t) forward from k h
+  pub rest-tells : (k : Key) → memo_key_at t (current_thread_state_of h (from.ip + 1) from.at) ≡ Some k → (insn_analysis_of t (from.ip + 1)).records ≡ true → (insn_analysis_of t (from.ip + 1)).forward ≡ forward
+      → (insn_analysis_of t (from.ip + 2)).forward ≡ forward → HasSlotsOfProgram (program_of w) (current_thread_state_of h from.ip from.at)
+      → IsSoundState (liveness_of t) (units w.text) (insn_direction t (from.ip + 2)) (current_thread_state_of h (from.ip + 2) from.at) → DecidesLoopRest w (scheme_of t) forward from k h
   rest-tells k is_key records goes beyond of sound ts r =
-      right.runs (reading_direction forward) k ts
+      right.runs (direction_of_forward_flag forward) k ts
       (record {
         state = s;
         least = r.least;
@@ -167,26 +167,26 @@ module _ (w : SearchInput) (is : IsText w.text) (t : MemoAnalysis) (failed : Key
         body = r.body;
         within = stands.1;
         records = records;
-        goes = heads (insn_analysis_of t (from.ip + 1)).forward ∙ ap (λ b. reading_direction b) goes;
-        key = sym same_key ∙ ap (λ o. key_of (plan_code (key_code_questions_of t)) (machine_state_of h (from.ip + 1) o)) (sym stands.0);
+        goes = heads (insn_analysis_of t (from.ip + 1)).forward ∙ ap (λ b. direction_of_forward_flag b) goes;
+        key = sym same_key ∙ ap (λ o. key_of (plan_code (key_code_questions_of t)) (current_thread_state_of h (from.ip + 1) o)) (sym stands.0);
         of = of;
         sound =
-            subst (λ o. IsSoundState (liveness_of t) (units w.text) (reading_direction forward) (machine_state_of h (from.ip + 2) o))
-            (sym (ap (offset w.text) (moved-zero w.text (reading_direction forward) r.place) ∙ stands.0))
-            (subst (λ d. IsSoundState (liveness_of t) (units w.text) d (machine_state_of h (from.ip + 2) from.at)) (heads (insn_analysis_of t (from.ip + 2)).forward ∙ ap (λ b. reading_direction b) beyond) sound);
+            subst (λ o. IsSoundState (liveness_of t) (units w.text) (direction_of_forward_flag forward) (current_thread_state_of h (from.ip + 2) o))
+            (sym (ap (offset w.text) (moved-zero w.text (direction_of_forward_flag forward) r.place) ∙ stands.0))
+            (subst (λ d. IsSoundState (liveness_of t) (units w.text) d (current_thread_state_of h (from.ip + 2) from.at)) (heads (insn_analysis_of t (from.ip + 2)).forward ∙ ap (λ b. direction_of_forward_flag b) beyond) sound);
         are = r.are;
       })
     where
       s : State
-      s = machine_state_of h from.ip from.at
+      s = current_thread_state_of h from.ip from.at
 
       stands : (offset w.text r.place ≡ from.at) × (r.place ≤ last_place w.text)
       stands = offset-place_at w.text from.at r.place is r.at
 
-      same_key : key_of (plan_code (key_code_questions_of t)) (machine_state_of h (from.ip + 1) from.at) ≡ k
+      same_key : key_of (plan_code (key_code_questions_of t)) (current_thread_state_of h (from.ip + 1) from.at) ≡ k
       same_key =
-          let made : Some (key_of (plan_code (key_code_questions_of t)) (machine_state_of h (from.ip + 1) from.at)) ≡ Some k =
-          ap (λ b. if b then Some (key_of (plan_code (key_code_questions_of t)) (machine_state_of h (from.ip + 1) from.at)) else None) (sym records) ∙ is_key in cc
+          let made : Some (key_of (plan_code (key_code_questions_of t)) (current_thread_state_of h (from.ip + 1) from.at)) ≡ Some k =
+          ap (λ b. if b then Some (key_of (plan_code (key_code_questions_of t)) (current_thread_state_of h (from.ip + 1) from.at)) else None) (sym records) ∙ is_key in cc
 
 -- a mark's key is the memory's
 pub stored-rest : (w : SearchInput) (t : MemoScheme) (forward : Bool) (from : ThreadPos) (h : StateModel) (key : Key) (o : Option Stored)

@@ -7,23 +7,23 @@ use Rattle.std.specs.List.{list_all, starts_with}
 use Rattle.regex_meaning.specs.NumberListHelpers.{contains, numbers_from}
 use Rattle.regex_meaning.specs.Tree.{Tree}
 use Rattle.regex_meaning.specs.Text.{Text, rightwards, last_place, is_scalar}
-use Rattle.regex_meaning.specs.CodeUnitOffsets.{IsText, IsBoundary, offset, read, units}
+use Rattle.regex_meaning.specs.CodeUnitOffsets.{HasRisingPlaceOffsets, IsBoundary, offset, read, units}
 use Rattle.regex_meaning.specs.StartPredicate.{StartPredicate, start_arbitrary, start_byte_set, start_byte_sequence, start_anchored, start_predicate}
 use Rattle.regex_meaning.specs.StartPredicate.{may_start, begins_with_one_of, text_bytes_from_place}
 use Rattle.regex_meaning.specs.OutcomesWithStepTicks.{tried_places}
-use Rattle.regex_meaning.specs.CodeUnits.{Encoding, utf8, utf16, ucs2, is_character}
+use Rattle.regex_meaning.specs.CodeUnits.{Encoding, utf8, utf16, ucs2, is_character_in_encoding}
 use Rattle.regex_meaning.specs.WellFormedTrees.{is_well_formed}
 use Rattle.regex_meaning.proofs.TextLemmas.{IsBoundary-place, offset-IsBoundary, place_at-offset}
-use Rattle.regress_input.specs.ReadsFromOffset.{end_if_matched, past_bytes, place, if_byte_units, has_byte_units, IsInUtf8}
-use Rattle.regress_machine.specs.TextsForBytePrograms.{ReadsBytes}
+use Rattle.regress_input.specs.ReadsFromOffset.{end_if_matched, past_bytes_if_next, place, read_if_units_are_bytes, has_byte_units, IsInUtf8}
+use Rattle.regress_machine.specs.TextsForBytePrograms.{HasUtf8CharactersAndOffsets}
 use Rattle.regress_machine.proofs.Utf8.{bytes_near-side, offset-inside}
-use Rattle.regress_exec.specs.Attempts.{IsNextCandidate, NoMatchAt, NoMatchStartsBetween, is_anchored_predicate, first_of_places, first_filtered_start, next_filtered_start, filtered_start_after}
+use Rattle.regress_exec.specs.Attempts.{NextStartSkipsNoMatch, NoMatchAt, NoMatchStartsBetween, is_anchored_predicate, first_of_places, first_filtered_start, next_filtered_start, filtered_start_after}
 use Rattle.regress_exec.proofs.Skips.{untried}
 use Rattle.regress_exec.proofs.FirstMatch.{read-inside, read-end}
 use Rattle.regress_exec.proofs.Anchored.{ruled-out, anchored-behind, one-on}
 use Rattle.regress_scan.proofs.Readers.{literal-read}
 use Rattle.regress_machine.specs.Machine.{State, go_if, has_bytes}
-use Rattle.regress_backtrack.specs.StartsAcceptedByPredicate.{lets_through, IsFirstTried, IsNextTried}
+use Rattle.regress_backtrack.specs.StartsTriedUnderStepLimit.{lets_through, IsFirstTried, IsNextTried}
 
 -- ---- What stands at a place
 
@@ -48,7 +48,7 @@ same-go false false x y e = refl
 same-go true false x y e = cc
 same-go false true x y e = cc
 
-module _ (text : Text) (is : IsText text) (reads : ReadsBytes text) where
+module _ (text : Text) (is : HasRisingPlaceOffsets text) (reads : HasUtf8CharactersAndOffsets text) where
   -- a boundary's place
   place-of : (at : ℕ) → IsBoundary text at → (offset text (place text at) ≡ at) × (place text at ≤ last_place text)
   place-of at on =
@@ -67,7 +67,7 @@ module _ (text : Text) (is : IsText text) (reads : ReadsBytes text) where
       ap (is_member members) (get-first at (encode_utf8_all text.characters) ∙ ap (λ (l : List ℕ). slice_get l 0) (bytes-there at on))
       ∙ sym (begins-first members (text_bytes_from_place text (place text at)))
 
-  pub sequence-there : (bytes : List ℕ) (at : ℕ) (found : Bool) (to : ℕ) → IsBoundary text at → end_if_matched found to ≡ past_bytes (encode_utf8_all text.characters) bytes rightwards at
+  pub sequence-there : (bytes : List ℕ) (at : ℕ) (found : Bool) (to : ℕ) → IsBoundary text at → end_if_matched found to ≡ past_bytes_if_next (encode_utf8_all text.characters) bytes rightwards at
       → found ≡ starts_with nat_eq (text_bytes_from_place text (place text at)) bytes
   sequence-there bytes at found to on led =
       let p = place-of at on in
@@ -78,26 +78,26 @@ module _ (text : Text) (is : IsText text) (reads : ReadsBytes text) where
 
   -- the same of what is read where units are bytes
   pub begins-read : (are_bytes : Bool) → IsTrue are_bytes → (members : List ℕ) (at : ℕ) → IsBoundary text at → (byte : Option ℕ)
-      → byte ≡ if_byte_units are_bytes (slice_get (encode_utf8_all text.characters) at) → is_member members byte ≡ begins_with_one_of members (text_bytes_from_place text (place text at))
+      → byte ≡ read_if_units_are_bytes are_bytes (slice_get (encode_utf8_all text.characters) at) → is_member members byte ≡ begins_with_one_of members (text_bytes_from_place text (place text at))
   begins-read true sure members at on byte e = ap (is_member members) e ∙ begins-there members at on
   begins-read false sure members at on byte e = cc
 
   pub sequence-read : (are_bytes : Bool) → IsTrue are_bytes → (bytes : List ℕ) (at : ℕ) (found : Bool) (to : ℕ) → IsBoundary text at
-      → end_if_matched found to ≡ if_byte_units are_bytes (past_bytes (encode_utf8_all text.characters) bytes rightwards at) → found ≡ starts_with nat_eq (text_bytes_from_place text (place text at)) bytes
+      → end_if_matched found to ≡ read_if_units_are_bytes are_bytes (past_bytes_if_next (encode_utf8_all text.characters) bytes rightwards at) → found ≡ starts_with nat_eq (text_bytes_from_place text (place text at)) bytes
   sequence-read true sure bytes at found to on led = sequence-there bytes at found to on led
   sequence-read false sure bytes at found to on led = cc
 
 -- a text whose units are bytes is one of bytes
-pub reads-bytes : (e : Encoding) (are_bytes : Bool) (text : Text) → are_bytes ≡ has_byte_units e → IsTrue are_bytes → IsTrue (list_all (is_character e) text.characters)
-    → (IsTrue are_bytes → IsInUtf8 text) → ReadsBytes text
+pub reads-bytes : (e : Encoding) (are_bytes : Bool) (text : Text) → are_bytes ≡ has_byte_units e → IsTrue are_bytes → IsTrue (list_all (is_character_in_encoding e) text.characters)
+    → (IsTrue are_bytes → IsInUtf8 text) → HasUtf8CharactersAndOffsets text
 reads-bytes utf8 are_bytes text by sure characters spelled = record { scalars = characters; offsets = (spelled sure).offsets }
 reads-bytes utf16 are_bytes text by sure characters spelled = cc
 reads-bytes ucs2 are_bytes text by sure characters spelled = cc
 
 -- the byte that is read at a boundary of one
-pub begins-here : (e : Encoding) {are_bytes : Bool} {text : Text} → are_bytes ≡ has_byte_units e → IsTrue are_bytes → IsTrue (list_all (is_character e) text.characters)
-    → (IsTrue are_bytes → IsInUtf8 text) → IsText text → (members : List ℕ) (at : ℕ) → IsBoundary text at → (byte : Option ℕ)
-    → byte ≡ if_byte_units are_bytes (slice_get (encode_utf8_all text.characters) at) → is_member members byte ≡ begins_with_one_of members (text_bytes_from_place text (place text at))
+pub begins-here : (e : Encoding) {are_bytes : Bool} {text : Text} → are_bytes ≡ has_byte_units e → IsTrue are_bytes → IsTrue (list_all (is_character_in_encoding e) text.characters)
+    → (IsTrue are_bytes → IsInUtf8 text) → HasRisingPlaceOffsets text → (members : List ℕ) (at : ℕ) → IsBoundary text at → (byte : Option ℕ)
+    → byte ≡ read_if_units_are_bytes are_bytes (slice_get (encode_utf8_all text.characters) at) → is_member members byte ≡ begins_with_one_of members (text_bytes_from_place text (place text at))
 begins-here e {are_bytes = are} {text = text} by sure characters spelled is =
     begins-read text is (reads-bytes e are text by sure characters spelled) are sure
 
@@ -131,7 +131,7 @@ behind-open start_anchored tree text at e = cc
 
 -- ---- The first place that is tried
 
-module _ (tree : Tree) (text : Text) (is : IsText text) where
+module _ (tree : Tree) (text : Text) (is : HasRisingPlaceOffsets text) where
   abbrev among : StartPredicate → (n p : ℕ) → List ℕ
   among s n p = filter (may_start s text) (numbers_from p n)
 
@@ -208,7 +208,7 @@ module _ (tree : Tree) (text : Text) (is : IsText text) where
 
   -- ---- No match begins at a place that is left out
 
-  composed : (from to : ℕ) (next : Option ℕ) → IsNextCandidate tree text from (Some to) → IsNextCandidate tree text to next → IsNextCandidate tree text from next
+  composed : (from to : ℕ) (next : Option ℕ) → NextStartSkipsNoMatch tree text from (Some to) → NextStartSkipsNoMatch tree text to next → NextStartSkipsNoMatch tree text from next
   composed from to None a b = λ x boundary le less. elim (cases_lt x to) [
     | inl before ↦ a.2 x boundary le before
     | inr behind ↦ b x boundary behind less
@@ -228,7 +228,7 @@ module _ (tree : Tree) (text : Text) (is : IsText text) where
     | inr within ↦ let same : at ≡ x = omega (arith, within, le) in subst (NoMatchAt tree text) same vain
   ]
 
-  with-vain : (at : ℕ) (next : Option ℕ) → NoMatchAt tree text at → IsNextCandidate tree text (at + 1) next → IsNextCandidate tree text at next
+  with-vain : (at : ℕ) (next : Option ℕ) → NoMatchAt tree text at → NextStartSkipsNoMatch tree text (at + 1) next → NextStartSkipsNoMatch tree text at next
   with-vain at None vain none = none-with at (units text + 1) vain none
   with-vain at (Some to) vain n = (n.0, (let l = n.1 in omega (arith, l)), none-with at to vain n.2)
 
@@ -242,32 +242,32 @@ module _ (tree : Tree) (text : Text) (is : IsText text) where
     vain-there : (p : ℕ) → p ≤ last_place text → lets_through (start_predicate tree) text p ≡ false → NoMatchAt tree text (offset text p)
     vain-there p inside h = ruled-out tree text is well_formed scalars (offset text p) p (place_at-offset text p is inside) inside (not-let (start_predicate tree) refl p h)
 
-    let-through : (p : ℕ) → p ≤ last_place text → lets_through (start_predicate tree) text p ≡ true → IsNextCandidate tree text (offset text p) (first_filtered_start tree text (offset text p))
-    let-through p inside h = subst (IsNextCandidate tree text (offset text p)) (sym (here (start_predicate tree) refl p inside h)) (
+    let-through : (p : ℕ) → p ≤ last_place text → lets_through (start_predicate tree) text p ≡ true → NextStartSkipsNoMatch tree text (offset text p) (first_filtered_start tree text (offset text p))
+    let-through p inside h = subst (NextStartSkipsNoMatch tree text (offset text p)) (sym (here (start_predicate tree) refl p inside h)) (
       offset-IsBoundary text p is inside,
       omega arith,
       λ x boundary le less. absurd (omega (arith, le, less)),
     )
 
     left-out-last : (p : ℕ) → p ≤ last_place text → last_place text ≤ p → lets_through (start_predicate tree) text p ≡ false
-        → IsNextCandidate tree text (offset text p) (first_filtered_start tree text (offset text p))
+        → NextStartSkipsNoMatch tree text (offset text p) (first_filtered_start tree text (offset text p))
     left-out-last p inside past h =
         let end = read-end tree text is p inside past in
         let none : first_filtered_start tree text (offset text p) ≡ None = on (start_predicate tree) refl p inside h ∙ ap (option_and_then (λ (r : ℕ × ℕ). first_filtered_start tree text r.1)) end in
-        let behind : IsNextCandidate tree text (offset text p + 1) None =
-        subst (λ o. IsNextCandidate tree text (offset text p + 1) (option_map (λ (r : ℕ × ℕ). r.1) o)) end (one-on tree text is (offset text p) (offset-IsBoundary text p is inside)) in
-        subst (IsNextCandidate tree text (offset text p)) (sym none) (with-vain (offset text p) None (vain-there p inside h) behind)
+        let behind : NextStartSkipsNoMatch tree text (offset text p + 1) None =
+        subst (λ o. NextStartSkipsNoMatch tree text (offset text p + 1) (option_map (λ (r : ℕ × ℕ). r.1) o)) end (one-on tree text is (offset text p) (offset-IsBoundary text p is inside)) in
+        subst (NextStartSkipsNoMatch tree text (offset text p)) (sym none) (with-vain (offset text p) None (vain-there p inside h) behind)
 
     left-out : (p : ℕ) → p < last_place text → lets_through (start_predicate tree) text p ≡ false
-        → IsNextCandidate tree text (offset text (p + 1)) (first_filtered_start tree text (offset text (p + 1))) → IsNextCandidate tree text (offset text p) (first_filtered_start tree text (offset text p))
+        → NextStartSkipsNoMatch tree text (offset text (p + 1)) (first_filtered_start tree text (offset text (p + 1))) → NextStartSkipsNoMatch tree text (offset text p) (first_filtered_start tree text (offset text p))
     left-out p less h later =
         let inside : p ≤ last_place text = omega (arith, less) in
         let next = read-inside tree text is p less in
         let same : first_filtered_start tree text (offset text p) ≡ first_filtered_start tree text (offset text (p + 1)) =
         on (start_predicate tree) refl p inside h ∙ ap (option_and_then (λ (r : ℕ × ℕ). first_filtered_start tree text r.1)) next.1 in
-        let step : IsNextCandidate tree text (offset text p + 1) (Some (offset text (p + 1))) =
-        subst (λ o. IsNextCandidate tree text (offset text p + 1) (option_map (λ (r : ℕ × ℕ). r.1) o)) next.1 (one-on tree text is (offset text p) (offset-IsBoundary text p is inside)) in
-        subst (IsNextCandidate tree text (offset text p)) (sym same)
+        let step : NextStartSkipsNoMatch tree text (offset text p + 1) (Some (offset text (p + 1))) =
+        subst (λ o. NextStartSkipsNoMatch tree text (offset text p + 1) (option_map (λ (r : ℕ × ℕ). r.1) o)) next.1 (one-on tree text is (offset text p) (offset-IsBoundary text p is inside)) in
+        subst (NextStartSkipsNoMatch tree text (offset text p)) (sym same)
         (with-vain (offset text p) (first_filtered_start tree text (offset text (p + 1))) (vain-there p inside h)
         (composed (offset text p + 1) (offset text (p + 1)) (first_filtered_start tree text (offset text (p + 1))) step later))
 
@@ -275,49 +275,49 @@ module _ (tree : Tree) (text : Text) (is : IsText text) where
     by-cases true f g = f refl
     by-cases false f g = g refl
 
-    next-from : (n p : ℕ) → p + n ≡ last_place text → IsNextCandidate tree text (offset text p) (first_filtered_start tree text (offset text p))
+    next-from : (n p : ℕ) → p + n ≡ last_place text → NextStartSkipsNoMatch tree text (offset text p) (first_filtered_start tree text (offset text p))
     next-from zero p whole = by-cases (lets_through (start_predicate tree) text p) (let-through p (omega (arith, whole))) (left-out-last p (omega (arith, whole)) (omega (arith, whole)))
     next-from (suc n) p whole =
         by-cases (lets_through (start_predicate tree) text p) (let-through p (omega (arith, whole)))
         (λ h. left-out p (omega (arith, whole)) h (next-from n (p + 1) (omega (arith, whole))))
 
-    pub tried-is_next : (at : ℕ) → IsBoundary text at → IsNextCandidate tree text at (first_filtered_start tree text at)
+    pub tried-is_next : (at : ℕ) → IsBoundary text at → NextStartSkipsNoMatch tree text at (first_filtered_start tree text at)
     tried-is_next at b =
         let p = IsBoundary-place text at is b in
         let inside = p.3 in
-        subst (λ a. IsNextCandidate tree text a (first_filtered_start tree text a)) p.2 (next-from (last_place text - p.0) p.0 (omega (arith, inside)))
+        subst (λ a. NextStartSkipsNoMatch tree text a (first_filtered_start tree text a)) p.2 (next-from (last_place text - p.0) p.0 (omega (arith, inside)))
 
-    pub behind-is_next : (at : ℕ) → IsBoundary text at → IsNextCandidate tree text (at + 1) (next_filtered_start tree text at)
+    pub behind-is_next : (at : ℕ) → IsBoundary text at → NextStartSkipsNoMatch tree text (at + 1) (next_filtered_start tree text at)
     behind-is_next at b = by (start_predicate tree) refl
       where
-        after : (r : Option (ℕ × ℕ)) → read text rightwards at ≡ r → IsNextCandidate tree text (at + 1) (option_and_then (λ (r : ℕ × ℕ). first_filtered_start tree text r.1) r)
-        after None q = subst (λ o. IsNextCandidate tree text (at + 1) (option_map (λ (r : ℕ × ℕ). r.1) o)) q (one-on tree text is at b)
+        after : (r : Option (ℕ × ℕ)) → read text rightwards at ≡ r → NextStartSkipsNoMatch tree text (at + 1) (option_and_then (λ (r : ℕ × ℕ). first_filtered_start tree text r.1) r)
+        after None q = subst (λ o. NextStartSkipsNoMatch tree text (at + 1) (option_map (λ (r : ℕ × ℕ). r.1) o)) q (one-on tree text is at b)
         after (Some r) q =
-            let step : IsNextCandidate tree text (at + 1) (Some r.1) = subst (λ o. IsNextCandidate tree text (at + 1) (option_map (λ (r : ℕ × ℕ). r.1) o)) q (one-on tree text is at b) in
+            let step : NextStartSkipsNoMatch tree text (at + 1) (Some r.1) = subst (λ o. NextStartSkipsNoMatch tree text (at + 1) (option_map (λ (r : ℕ × ℕ). r.1) o)) q (one-on tree text is at b) in
             composed (at + 1) r.1 (first_filtered_start tree text r.1) step (tried-is_next r.1 step.0)
 
         open-by : (s : StartPredicate) → start_predicate tree ≡ s → filtered_start_after s tree text at ≡ option_and_then (λ (r : ℕ × ℕ). first_filtered_start tree text r.1) (read text rightwards at)
-            → IsNextCandidate tree text (at + 1) (next_filtered_start tree text at)
-        open-by s e q = subst (IsNextCandidate tree text (at + 1)) (sym (ap (λ s. filtered_start_after s tree text at) e ∙ q)) (after (read text rightwards at) refl)
+            → NextStartSkipsNoMatch tree text (at + 1) (next_filtered_start tree text at)
+        open-by s e q = subst (NextStartSkipsNoMatch tree text (at + 1)) (sym (ap (λ s. filtered_start_after s tree text at) e ∙ q)) (after (read text rightwards at) refl)
 
-        by : (s : StartPredicate) → start_predicate tree ≡ s → IsNextCandidate tree text (at + 1) (next_filtered_start tree text at)
+        by : (s : StartPredicate) → start_predicate tree ≡ s → NextStartSkipsNoMatch tree text (at + 1) (next_filtered_start tree text at)
         by start_arbitrary e = open-by start_arbitrary e refl
         by (start_byte_set members) e = open-by (start_byte_set members) e refl
         by (start_byte_sequence bytes) e = open-by (start_byte_sequence bytes) e refl
-        by start_anchored e = subst (IsNextCandidate tree text (at + 1)) (sym (ap (λ s. filtered_start_after s tree text at) e)) (anchored-behind tree text is well_formed scalars e at)
+        by start_anchored e = subst (NextStartSkipsNoMatch tree text (at + 1)) (sym (ap (λ s. filtered_start_after s tree text at) e)) (anchored-behind tree text is well_formed scalars e at)
 
-module _ (s : StartPredicate) (text : Text) (is : IsText text) (scalars : IsTrue (list_all is_scalar text.characters)) where
+module _ (s : StartPredicate) (text : Text) (is : HasRisingPlaceOffsets text) (scalars : IsTrue (list_all is_scalar text.characters)) where
   -- by its predicate
   pub is-first : (from : ℕ) (next : Option ℕ) → IsBoundary text from → ((tree : Tree) → start_predicate tree ≡ s → next ≡ first_filtered_start tree text from) → IsFirstTried s text from next
   is-first from next b e = λ tree p. record {
     counted = e tree p;
-    skips = λ w. subst (IsNextCandidate tree text from) (sym (e tree p)) (tried-is_next tree text is w scalars from b);
+    skips = λ w. subst (NextStartSkipsNoMatch tree text from) (sym (e tree p)) (tried-is_next tree text is w scalars from b);
   }
 
   is-next : (at : ℕ) (next : Option ℕ) → IsBoundary text at → ((tree : Tree) → start_predicate tree ≡ s → next ≡ next_filtered_start tree text at) → IsNextTried s text at next
   is-next at next b e = λ tree p. record {
     counted = e tree p;
-    skips = λ w. subst (IsNextCandidate tree text (at + 1)) (sym (e tree p)) (behind-is_next tree text is w scalars at b);
+    skips = λ w. subst (NextStartSkipsNoMatch tree text (at + 1)) (sym (e tree p)) (behind-is_next tree text is w scalars at b);
   }
 
   -- none where one place alone is tried

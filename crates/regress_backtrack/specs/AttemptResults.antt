@@ -1,22 +1,22 @@
 -- What an attempt at an offset returns, and the steps it takes.
 use Rattle.std.specs.Prelude.{◌≡◌, ℕ, ◌+◌, length, Bool, Option, Result}
 use Rattle.regex_meaning.specs.Tree.{Tree}
-use Rattle.regress_program.specs.CodeOfTrees.{compiled}
-use Rattle.regress_exec.specs.Attempts.{match_end_at, end_with_groups, ticks_from}
-use Rattle.regress_exec.specs.StepCosts.{CostsSteps, AllocFailureCostsOneStep}
+use Rattle.regress_program.specs.CompilationOfTreesAsFunction.{compiled}
+use Rattle.regress_exec.specs.Attempts.{match_end_and_groups_at, end_with_groups, ticks_of_attempt_at}
+use Rattle.regress_exec.specs.BudgetAndContinuationAfterSearch.{SpendsNeedOrReachesLimit, AllocFailureCostsOneStep}
 use Rattle.regress_exec.specs.declared.exec.SearchError.{SearchError}
-use Rattle.regress_backtrack.specs.State.{StateModel, machine_state_of}
-use Rattle.regress_scan.specs.SearchInputs.{SearchInput}
+use Rattle.regress_backtrack.specs.State.{StateModel, current_thread_state_of}
+use Rattle.regress_scan.specs.TreePlanAndText.{SearchInput}
 use Rattle.regress_backtrack.specs.StepsTakenFromBudget.{Budget, step_limit}
 
 -- The end is that of the first outcome at the offset, and the state holds its groups; `None` if
 -- there is no outcome.
 abbrev pub HasMatchEndAndGroups : {P : Type 0} → (offset : P → ℕ) → SearchInput → (at : ℕ) → (after : StateModel) → Option P → Type 0
-HasMatchEndAndGroups offset w at after end = end_with_groups offset end (machine_state_of after 0 0).groups ≡ match_end_at w.tree w.text at
+HasMatchEndAndGroups offset w at after end = end_with_groups offset end (current_thread_state_of after 0 0).groups ≡ match_end_and_groups_at w.tree w.text at
 
 -- The steps left are reduced by those up to the first outcome at the offset, or do not suffice.
 abbrev pub CostsStepsAt : {X : Type 0} → SearchInput → (at : ℕ) → (counts : Bool) → (before : Budget) → Result X SearchError → (after : Budget) → Type 0
-CostsStepsAt w at counts before answer after = CostsSteps (ticks_from w.tree w.text at) (step_limit counts before) answer (step_limit counts after)
+CostsStepsAt w at counts before answer after = SpendsNeedOrReachesLimit (ticks_of_attempt_at w.tree w.text at) (step_limit counts before) answer (step_limit counts after)
 
 -- The state has a slot for each group and loop of the tree.
 abbrev pub HasSlots : Tree → StateModel → Type 0

@@ -5,7 +5,7 @@ use Rattle.regress_memo_analysis.specs.AnalysisContents.{liveness_of, key_code_q
 use Rattle.regress_memo.specs.Laws.{analysis_keys}
 use Rattle.regress_memo.specs.MemoContents.{has_failure}
 use Rattle.regress_memo.specs.MemoContractView.{MemoView}
-use Rattle.regress_scan.specs.SearchInputs.{SearchInput}
+use Rattle.regress_scan.specs.TreePlanAndText.{SearchInput}
 use Rattle.regress_backtrack.specs.FailureMemo.{MemoScheme, AreFailuresRight, scheme_in, failed_in}
 
 -- The scheme of a memo analysis: its liveness and its keys.

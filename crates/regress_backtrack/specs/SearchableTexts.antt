@@ -3,11 +3,11 @@ use Rattle.std.specs.Prelude.{◌≡◌, IsTrue}
 use Rattle.regex_meaning.specs.Tree.{Tree}
 use Rattle.regex_meaning.specs.Text.{Text}
 use Rattle.regex_meaning.specs.WellFormedTrees.{is_well_formed}
-use Rattle.regress_machine.specs.TextsForBytePrograms.{ReadsBytes, reads_bytes}
+use Rattle.regress_machine.specs.TextsForBytePrograms.{HasUtf8CharactersAndOffsets, tree_contains_byte_nodes}
 
 -- The tree is well formed. The text is read as its flags say, and in bytes where the program reads
 -- bytes.
-pub record CanBeSearched (tree : Tree) (text : Text) : Type 0 where
+pub record TreeCanSearchText (tree : Tree) (text : Text) : Type 0 where
   pub well_formed : IsTrue (is_well_formed tree.root)
   pub unicode : text.unicode ≡ tree.flags.unicode
-  pub bytes : IsTrue (reads_bytes tree.root) → ReadsBytes text
+  pub bytes : IsTrue (tree_contains_byte_nodes tree.root) → HasUtf8CharactersAndOffsets text

@@ -2,28 +2,28 @@
 
 ghost use Rattle.std.specs.Prelude.{◌≡◌, IfOk, None, false, map, option_map};
 ghost use Rattle.regex_meaning.specs.CodeUnitOffsets.{IsBoundary};
-ghost use Rattle.regress_exec.specs.{Attempts.{ticks_from}, StepCosts.{CostsSteps, refusal_cause, ErrorReportsItsCause}};
+ghost use Rattle.regress_exec.specs.{Attempts.{ticks_of_attempt_at}, BudgetAndContinuationAfterSearch.{SpendsNeedOrReachesLimit, step_limit_or_memory_error, ResultTellsIfStepLimitReached}};
 ghost use Rattle.regress_plan.specs.InsnsAsSpecInsns.{spec_insn_of};
-ghost use Rattle.regress_scan.specs.SearchInputs.{program_of};
+ghost use Rattle.regress_scan.specs.TreePlanAndText.{program_of};
 ghost use Rattle.regress_backtrack.specs.{AttemptResults.{HasMatchEndAndGroups, CostsStepsAt, TakesIfSlots}, MemoizedExecution.{IsMemoSound, KeepsMemoSound}, Interpreter.{IfDone}};
-ghost use Rattle.regress_backtrack.specs.{FailuresInMemoTable.{IsMemoRight}, SearchableTexts.{CanBeSearched}};
+ghost use Rattle.regress_backtrack.specs.{FailuresInMemoTable.{IsMemoRight}, SearchableTexts.{TreeCanSearchText}};
 
-use crate::control::ThreadPos;
 use crate::failure_memo::{DoneOrStopped, FailureMemo, StepsAndMemo};
 use crate::failures_in_memo_table::{MemoizedRetryState, enable_memo};
-use crate::interpreter::run_search;
+use crate::interpreter::search_rightwards_from_op;
 use crate::state::BacktrackState;
 use crate::step_and_work_budgets::{SearchStopped, StepCounter};
+use crate::thread_position_and_control::ThreadPos;
 use regress_exec::exec::SearchError;
 use regress_input::indexing::InputIndexer;
 use regress_plan::insn::Insn;
-use regress_scan::search_context::{PositionOf, SearchContext, position_in};
+use regress_scan::search_context::{PositionOf, SearchContext, position_of_offset_in};
 
 // Returns why a search stopped: steps were refused, or else allocation failed.
 fn cause<S: StepCounter>(steps: &S) -> SearchError
-    ensures { result ≡ refusal_cause (S.budget steps.now).out }
+    ensures { result ≡ step_limit_or_memory_error (S.budget steps.now).out }
 {
-    if steps.is_out_of_steps() {
+    if steps.steps_were_refused() {
         SearchError::StepLimit
     } else {
         SearchError::Memory
@@ -36,7 +36,7 @@ fn end_position<W: SearchContext>(planned: &W, end: Option<usize>) -> Option<Pos
     ensures { option_map (λ p. W.Input.Position.offset p) result ≡ end }
 {
     match end {
-        Some(end) => Some(position_in(planned, end)),
+        Some(end) => Some(position_of_offset_in(planned, end)),
         None => None,
     }
 }
@@ -51,7 +51,7 @@ pub(crate) fn attempt<W: SearchContext, S: StepCounter, M: FailureMemo>(
     course: &mut StepsAndMemo<S, M>,
 ) -> Result<Option<PositionOf<W>>, SearchError>
     requires can { let w = W.searching planned.now in
-        CanBeSearched w.tree w.text × IsBoundary w.text (W.Input.Position.offset pos) }
+        TreeCanSearchText w.tree w.text × IsBoundary w.text (W.Input.Position.offset pos) }
     requires sound { IsMemoSound S.StepCounter M.FailureMemo (W.searching planned.now) course.old.memo }
     requires fresh { (S.budget course.old.steps).out ≡ false }
     ensures found { let at = W.Input.Position.offset in
@@ -60,15 +60,15 @@ pub(crate) fn attempt<W: SearchContext, S: StepCounter, M: FailureMemo>(
         (S.budget course.old.steps) result (S.budget course.new.steps) }
     ensures begun { TakesIfSlots (W.searching planned.now) memory.new S.COUNTS
         (S.budget course.old.steps) result (S.budget course.new.steps) }
-    ensures cause { ErrorReportsItsCause result (S.budget course.new.steps).out }
+    ensures cause { ResultTellsIfStepLimitReached result (S.budget course.new.steps).out }
     ensures sound { KeepsMemoSound S.StepCounter M.FailureMemo (W.searching planned.now) course.old.memo course.new.memo }
 {
     let at = planned.input().pos_to_offset(pos);
     let groups = planned.program().groups() as usize;
-    let loops = planned.loops() as usize;
+    let loops = planned.number_of_loops() as usize;
     memory.begin(groups, loops, at)?;
     let start = ThreadPos { ip: 0, at };
-    match run_search(planned, start, memory, course) {
+    match search_rightwards_from_op(planned, start, memory, course) {
         Ok(end) => Ok(end_position(planned, end)),
         Err(SearchStopped) => Err(cause(&course.steps)),
     }
@@ -87,7 +87,7 @@ fn attempt_with_memo<W: SearchContext>(
     came: &mut Option<PositionOf<W>>,
 ) -> DoneOrStopped
     requires can { let w = W.searching planned.now in
-        CanBeSearched w.tree w.text × IsBoundary w.text (W.Input.Position.offset pos) }
+        TreeCanSearchText w.tree w.text × IsBoundary w.text (W.Input.Position.offset pos) }
     requires insns { map spec_insn_of insns.now ≡ (program_of (W.searching planned.now)).insns }
     requires right { IsMemoRight (λ memo. memo.value) (W.searching planned.now) again.old.course.memo }
     ensures found { let at = W.Input.Position.offset in
@@ -115,14 +115,14 @@ pub(crate) fn retry_with_memo<W: SearchContext>(
     came: &mut Option<PositionOf<W>>,
 ) -> Result<Option<PositionOf<W>>, SearchError>
     requires can { let w = W.searching planned.now in
-        CanBeSearched w.tree w.text × IsBoundary w.text (W.Input.Position.offset pos) }
+        TreeCanSearchText w.tree w.text × IsBoundary w.text (W.Input.Position.offset pos) }
     requires insns { map spec_insn_of insns.now ≡ (program_of (W.searching planned.now)).insns }
     requires right { IsMemoRight (λ memo. memo.value) (W.searching planned.now) again.old.course.memo }
     ensures found { let at = W.Input.Position.offset in
         IfOk result (HasMatchEndAndGroups at (W.searching planned.now) (at pos) memory.new) }
     ensures steps { let w = W.searching planned.now in
-        CostsSteps (ticks_from w.tree w.text (W.Input.Position.offset pos)) None result None }
-    ensures cause { ErrorReportsItsCause result false }
+        SpendsNeedOrReachesLimit (ticks_of_attempt_at w.tree w.text (W.Input.Position.offset pos)) None result None }
+    ensures cause { ResultTellsIfStepLimitReached result false }
     ensures right { IsMemoRight (λ memo. memo.value) (W.searching planned.now) again.new.course.memo }
 {
     match attempt_with_memo(planned, insns, pos, memory, again, came) {

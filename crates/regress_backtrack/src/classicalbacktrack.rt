@@ -4,31 +4,31 @@ ghost use Rattle.std.specs.Prelude.{◌≡◌, ◌≤◌, IsAscii, IfOk, option_
 ghost use Rattle.std.proofs.Props.{props};
 ghost use Rattle.regex_meaning.specs.{CodeUnitOffsets.{IsBoundary}, Text.{ascii_text, utf8_text, utf16_text, ucs2_text}};
 ghost use Rattle.regex_pattern_front.specs.AstToSpecTree.{tree_of};
-ghost use Rattle.regress_exec.specs.{Attempts.{IsNextCandidate, NoMatchAt}, Executors.{ReadsBytesAsAscii, StartsWithoutStepLimit, AcceptsAllAsciiTexts}};
-ghost use Rattle.regress_machine.specs.SearchResults.{ProgramCanSearchText};
+ghost use Rattle.regress_exec.specs.{Attempts.{NextStartSkipsNoMatch, NoMatchAt}, Executors.{ReadsBytesAsAscii, StartsWithoutStepLimit, AcceptsAllAsciiTexts}};
+ghost use Rattle.regress_machine.specs.SearchResults.{TreeProgramCanSearchText};
 ghost use Rattle.regress_plan.specs.TableKeysOfUnits.{has_16_bit_units};
-ghost use Rattle.regress_scan.specs.SearchInputs.{program_of};
+ghost use Rattle.regress_scan.specs.TreePlanAndText.{program_of};
 ghost use Rattle.regress_memo.specs.MemoContents.{has_failure};
-ghost use Rattle.regress_program.specs.CodeOfTrees.{compiled};
-ghost use Rattle.regress_backtrack.specs.{State.{machine_state_of}, FailuresInMemoTable.{scheme_of}, ProgramsAndPlans.{executed_tree_of}};
+ghost use Rattle.regress_program.specs.CompilationOfTreesAsFunction.{compiled};
+ghost use Rattle.regress_backtrack.specs.{State.{current_thread_state_of}, FailuresInMemoTable.{scheme_of}, ProgramsAndPlans.{executed_tree_of}};
 ghost use Rattle.regress_backtrack.specs.FailureMemo.{AreFailuresRightIn, scheme_in, failed_in};
 
 use crate::attempts::{attempt, retry_with_memo};
 use crate::failure_memo::{NoMemo, StepsAndMemo};
 use crate::failures_in_memo_table::MemoizedRetryState;
-use crate::next_start::next_start;
+use crate::next_start::first_candidate_start_from;
 use crate::program_plan_and_text::{ProgramAndPlan, ProgramPlanAndText};
 use crate::state::BacktrackState;
 use crate::step_and_work_budgets::{Unlimited, WorkBounded};
 pub use crate::step_limited::LimitedExecutor;
-use regress_exec::exec::{Executor, MatchProducer, SearchError, Searcher};
+use regress_exec::exec::{Executor, MatchProducer, ProducerFromProgramAndText, SearchError};
 use regress_exec::program_and_input::ProgramAndInput;
 use regress_exec::search_loop::AnchoredSearch;
 use regress_input::indexing::{AsciiInput, InputIndexer, Ucs2Input, Utf8Input, Utf16Input};
 use regress_input::position::PositionType;
 use regress_program::insn::{CompiledRegex, CompiledUnits, Program};
 use regress_scan::leading_char_loop::{leading_loop_max_char_units, skip_leading_char_loop};
-use regress_scan::search_context::{PositionOf, SearchContext, offset_in, position_in};
+use regress_scan::search_context::{PositionOf, SearchContext, offset_in, position_of_offset_in};
 use std::alloc::AllocError;
 
 /// Executes a program's plan over a text. It keeps one state, and undoes a thread's changes to it
@@ -91,13 +91,13 @@ impl<'r, Input: InputIndexer> BacktrackExecutor<'r, Input> {
             search,
             memory: BacktrackState::new(alloc),
             free: StepsAndMemo {
-                steps: WorkBounded::up_to(work),
+                steps: WorkBounded::work_counter_with_limit(work),
                 memo: NoMemo,
                 end: None,
             },
             again: MemoizedRetryState {
                 course: StepsAndMemo {
-                    steps: Unlimited::up_to(0),
+                    steps: Unlimited::work_counter_with_limit(0),
                     memo: None,
                     end: None,
                 },
@@ -122,7 +122,7 @@ impl<'r, Input: InputIndexer> BacktrackExecutor<'r, Input> {
         ensures tree { tree_of self.new.search.program.regex ≡ tree_of self.old.search.program.regex }
         ensures text { Input.text self.new.search.searched.input ≡ Input.text self.old.search.searched.input }
     {
-        self.free.steps = WorkBounded::spent();
+        self.free.steps = WorkBounded::exhausted_work_counter();
     }
 }
 
@@ -131,12 +131,12 @@ impl<'r, Input: InputIndexer> BacktrackExecutor<'r, Input> {
 #[inline(always)]
 fn next_candidate_start<W: SearchContext>(planned: &W, from: PositionOf<W>) -> Option<PositionOf<W>>
     requires at { IsBoundary (W.searching planned.now).text (W.Input.Position.offset from) }
-    requires can { let w = W.searching planned.now in ProgramCanSearchText (program_of w) w.tree w.text }
+    requires can { let w = W.searching planned.now in TreeProgramCanSearchText (program_of w) w.tree w.text }
     ensures { let w = W.searching planned.now in let at = W.Input.Position.offset in
-        IsNextCandidate w.tree w.text (at from) (option_map at result) }
+        NextStartSkipsNoMatch w.tree w.text (at from) (option_map at result) }
 {
-    match next_start(planned, offset_in(planned, from)) {
-        Some(at) => Some(position_in(planned, at)),
+    match first_candidate_start_from(planned, offset_in(planned, from)) {
+        Some(at) => Some(position_of_offset_in(planned, at)),
         None => None,
     }
 }
@@ -152,19 +152,19 @@ fn next_start_past_loop<W: SearchContext>(
     requires tried { IsBoundary (W.searching planned.now).text (W.Input.Position.offset tried) }
     requires at { IsBoundary (W.searching planned.now).text (W.Input.Position.offset from) }
     requires ahead { W.Input.Position.offset tried ≤ W.Input.Position.offset from }
-    requires can { let w = W.searching planned.now in ProgramCanSearchText (program_of w) w.tree w.text }
+    requires can { let w = W.searching planned.now in TreeProgramCanSearchText (program_of w) w.tree w.text }
     requires vain { let w = W.searching planned.now in
         NoMatchAt w.tree w.text (W.Input.Position.offset tried) }
     ensures { let w = W.searching planned.now in let at = W.Input.Position.offset in
-        IsNextCandidate w.tree w.text (at from) (option_map at result) }
+        NextStartSkipsNoMatch w.tree w.text (at from) (option_map at result) }
 {
-    planned.plan_fits_program();
+    planned.lemma_plan_fits_program();
     let past = skip_leading_char_loop(planned, offset_in(planned, tried));
     let start = offset_in(planned, from);
     if past <= start {
         return Some(from);
     }
-    next_candidate_start(planned, position_in(planned, past))
+    next_candidate_start(planned, position_of_offset_in(planned, past))
 }
 
 impl<'r, Input: InputIndexer> AnchoredSearch for BacktrackExecutor<'r, Input> {
@@ -174,7 +174,7 @@ impl<'r, Input: InputIndexer> AnchoredSearch for BacktrackExecutor<'r, Input> {
 
     ghost text = { λ e. Input.text e.search.searched.input };
 
-    ghost groups = { λ e. (machine_state_of e.memory 0 0).groups };
+    ghost groups = { λ e. (current_thread_state_of e.memory 0 0).groups };
 
     ghost is_text = { λ e. Input.is_text e.search.searched.input };
 
@@ -227,15 +227,15 @@ impl<'r, Input: InputIndexer> AnchoredSearch for BacktrackExecutor<'r, Input> {
         Some((left + start, left + end))
     }
 
-    fn start_from(&self, pos: Input::Position) -> Option<Input::Position> {
+    fn first_start_to_try_from(&self, pos: Input::Position) -> Option<Input::Position> {
         if self.search.searched.is_anchored() {
             return Some(pos);
         }
         next_candidate_start(&self.search, pos)
     }
 
-    fn start_after(&self, tried: Input::Position) -> Option<Input::Position> {
-        let next = self.search.searched.next_candidate(tried)?;
+    fn next_start_to_try_after(&self, tried: Input::Position) -> Option<Input::Position> {
+        let next = self.search.searched.position_after_failed_attempt(tried)?;
         let to = next_candidate_start(&self.search, next)?;
         if self.goes_over(tried, to) {
             return next_start_past_loop(&self.search, tried, to);
@@ -254,8 +254,8 @@ impl<'r, 't> BacktrackExecutor<'r, Utf16Input<'t>> {
         ensures { let producer = ⟦<BacktrackExecutor<'r, Utf16Input<'t>> as MatchProducer>⟧ in
             IfOk result (StartsWithoutStepLimit producer (tree_of re.now) (utf16_text text.now)) }
     {
-        let program = ProgramAndPlan::plan_program_for_units(re);
-        Ok(BacktrackExecutor::from_parts(program, ProgramAndInput::in_utf16(re, text)))
+        let program = ProgramAndPlan::new_16_bit_program_and_plan(re);
+        Ok(BacktrackExecutor::from_parts(program, ProgramAndInput::pair_with_utf16_text(re, text)))
     }
 }
 
@@ -270,12 +270,12 @@ impl<'r, 't> BacktrackExecutor<'r, Ucs2Input<'t>> {
         ensures { let producer = ⟦<BacktrackExecutor<'r, Ucs2Input<'t>> as MatchProducer>⟧ in
             IfOk result (StartsWithoutStepLimit producer (tree_of re.now) (ucs2_text text.now)) }
     {
-        let program = ProgramAndPlan::plan_program_for_units(re);
-        Ok(BacktrackExecutor::from_parts(program, ProgramAndInput::in_ucs2(re, text)))
+        let program = ProgramAndPlan::new_16_bit_program_and_plan(re);
+        Ok(BacktrackExecutor::from_parts(program, ProgramAndInput::pair_with_ucs2_text(re, text)))
     }
 }
 
-impl<'r, 't> Searcher<'r> for BacktrackExecutor<'r, Utf8Input<'t>> {
+impl<'r, 't> ProducerFromProgramAndText<'r> for BacktrackExecutor<'r, Utf8Input<'t>> {
     type Text = &'t str;
 
     ghost can_search = { λ _. ⊤ };
@@ -283,12 +283,12 @@ impl<'r, 't> Searcher<'r> for BacktrackExecutor<'r, Utf8Input<'t>> {
     ghost text_of = { λ text. utf8_text text.now };
 
     fn new(re: &'r CompiledRegex, text: &'t str) -> Result<Self, AllocError> {
-        let program = ProgramAndPlan::plan_program_for_bytes(re);
-        Ok(BacktrackExecutor::from_parts(program, ProgramAndInput::in_utf8(re, text)))
+        let program = ProgramAndPlan::new_byte_program_and_plan(re);
+        Ok(BacktrackExecutor::from_parts(program, ProgramAndInput::pair_with_utf8_text(re, text)))
     }
 }
 
-impl<'r, 't> Searcher<'r> for BacktrackExecutor<'r, AsciiInput<'t>> {
+impl<'r, 't> ProducerFromProgramAndText<'r> for BacktrackExecutor<'r, AsciiInput<'t>> {
     type Text = &'t str;
 
     // `is_ascii` tests this.
@@ -297,8 +297,8 @@ impl<'r, 't> Searcher<'r> for BacktrackExecutor<'r, AsciiInput<'t>> {
     ghost text_of = { λ text. ascii_text text.now };
 
     fn new(re: &'r CompiledRegex, text: &'t str) -> Result<Self, AllocError> {
-        let program = ProgramAndPlan::plan_program_for_bytes(re);
-        Ok(BacktrackExecutor::from_parts(program, ProgramAndInput::in_ascii(re, text)))
+        let program = ProgramAndPlan::new_byte_program_and_plan(re);
+        Ok(BacktrackExecutor::from_parts(program, ProgramAndInput::pair_with_ascii_text(re, text)))
     }
 }
 
@@ -322,12 +322,12 @@ type OfAscii = <OverAscii as Executor<'static, 'static>>::AsAscii;
 /// States that the `AsAscii` type of the executor over UTF-8 accepts every ASCII text and reads
 /// each of its bytes as a character.
 pub fn ascii_is_read_in_bytes()
-    ensures takes { AcceptsAllAsciiTexts ⟦<OfUtf8 as Searcher<'static>>⟧.can_search }
-    ensures reads { ReadsBytesAsAscii ⟦<OfUtf8 as Searcher<'static>>⟧.text_of }
+    ensures takes { AcceptsAllAsciiTexts ⟦<OfUtf8 as ProducerFromProgramAndText<'static>>⟧.can_search }
+    ensures reads { ReadsBytesAsAscii ⟦<OfUtf8 as ProducerFromProgramAndText<'static>>⟧.text_of }
 {}
 
 /// States the same of the `AsAscii` type of the executor over ASCII.
 pub fn ascii_stays_in_bytes()
-    ensures takes { AcceptsAllAsciiTexts ⟦<OfAscii as Searcher<'static>>⟧.can_search }
-    ensures reads { ReadsBytesAsAscii ⟦<OfAscii as Searcher<'static>>⟧.text_of }
+    ensures takes { AcceptsAllAsciiTexts ⟦<OfAscii as ProducerFromProgramAndText<'static>>⟧.can_search }
+    ensures reads { ReadsBytesAsAscii ⟦<OfAscii as ProducerFromProgramAndText<'static>>⟧.text_of }
 {}

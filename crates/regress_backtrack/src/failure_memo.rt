@@ -4,11 +4,11 @@ ghost use Rattle.std.specs.Prelude.{◌≡◌, ◌≤◌, ◌⊎◌, ◌∷◌, 
 ghost use Rattle.regex_meaning.specs.CodeUnitOffsets.{units};
 ghost use Rattle.regress_memo_laws.specs.MemoSearch.{Key as KeyOf};
 ghost use Rattle.regress_machine.specs.Machine.{running};
-ghost use Rattle.regress_backtrack.specs.{State.{machine_state_of}, MemoizedCharLoops.{DecidesLoopRest}, FailureMemo.{MemoScheme, AreFailuresRight, IsKeyOf, as_key, no_scheme}};
+ghost use Rattle.regress_backtrack.specs.{State.{current_thread_state_of}, MemoizedCharLoops.{DecidesLoopRest}, FailureMemo.{MemoScheme, AreFailuresRight, IsKeyOf, as_key, no_scheme}};
 
-use crate::control::DirectedPos;
 use crate::state::BacktrackState;
 use crate::step_and_work_budgets::StepCounter;
+use crate::thread_position_and_control::DirectedThreadPos;
 use regress_scan::search_context::SearchContext;
 
 /// A memo key as choice points hold it: an instruction and an offset, with a code for the state of
@@ -31,24 +31,27 @@ pub trait FailureMemo {
 
     ghost failed: { Self → KeyOf → Bool };
 
+    // the memo has a place for the key
+    ghost has_key: { Self → KeyOf → Type 0 };
+
     /// Returns the key of a thread, if it has one.
     fn key_at<W: SearchContext>(
         &self,
         planned: &W,
-        thread: DirectedPos,
+        thread: DirectedThreadPos,
         memory: &BacktrackState,
     ) -> Option<RecordKey>
         requires right { AreFailuresRight (W.searching planned.now) (terms self.now) (failed self.now) }
         requires inside { thread.here.at ≤ units (W.searching planned.now).text }
         ensures { IfSome result (λ k. IsKeyOf (W.searching planned.now) (terms self.now) thread.forward (as_key k)
-            (running (machine_state_of memory.now thread.here.ip thread.here.at) ∷ [])) };
+            (running (current_thread_state_of memory.now thread.here.ip thread.here.at) ∷ [])) };
 
     /// Returns the key of the rest of a char loop without a maximum from an offset on, if it has
     /// one.
     fn loop_rest_key<W: SearchContext>(
         &self,
         planned: &W,
-        run: DirectedPos,
+        run: DirectedThreadPos,
         memory: &BacktrackState,
     ) -> Option<RecordKey>
         requires right { AreFailuresRight (W.searching planned.now) (terms self.now) (failed self.now) }
@@ -59,10 +62,12 @@ pub trait FailureMemo {
     fn is_known_to_fail(&self, key: RecordKey) -> bool
         ensures { result ≡ failed self.now (as_key key) };
 
-    /// Records that a key has failed.
+    /// Records that a key has failed, if the memo has it.
     fn record_key_failed(&mut self, key: RecordKey)
         ensures terms { terms self.new ≡ terms self.old }
-        ensures failed { (k : KeyOf) → failed self.new k ≡ true → (failed self.old k ≡ true) ⊎ (k ≡ as_key key) };
+        ensures failed { (k : KeyOf) → failed self.new k ≡ true → (failed self.old k ≡ true) ⊎ (k ≡ as_key key) }
+        ensures recorded { has_key self.old (as_key key) → failed self.new (as_key key) ≡ true }
+        ensures kept { (k : KeyOf) → failed self.old k ≡ true → failed self.new k ≡ true };
 }
 
 /// The step counter of a search, and its failure memo.
@@ -96,11 +101,13 @@ impl FailureMemo for NoMemo {
 
     ghost failed = { λ _ _. false };
 
+    ghost has_key = { λ _ _. ⊥ };
+
     #[inline(always)]
     fn key_at<W: SearchContext>(
         &self,
         _: &W,
-        _: DirectedPos,
+        _: DirectedThreadPos,
         _: &BacktrackState,
     ) -> Option<RecordKey> {
         None
@@ -110,7 +117,7 @@ impl FailureMemo for NoMemo {
     fn loop_rest_key<W: SearchContext>(
         &self,
         _: &W,
-        _: DirectedPos,
+        _: DirectedThreadPos,
         _: &BacktrackState,
     ) -> Option<RecordKey> {
         None

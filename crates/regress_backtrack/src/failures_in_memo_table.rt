@@ -2,35 +2,36 @@
 
 ghost use Rattle.std.specs.Prelude.{◌≡◌, ℕ, true, false, None, is_some, IfOk, IfSome, map};
 ghost use Rattle.regress_memo_laws.specs.{LoopDataKeyCodes.{HasSlotsOfProgram}, CharLoopMemoKeys.{char_loop_greediness_at, insn_before}};
+ghost use Rattle.regress_memo_analysis.specs.CheckedAnalysis.{MemoKeyHasBit};
 ghost use Rattle.regress_memo.specs.MemoContents.{has_failure, as_key as key_known};
 ghost use Rattle.regress_plan.specs.{InsnsAsSpecInsns.{spec_insn_of}, Plans.{char_loop_of}};
-ghost use Rattle.regress_scan.specs.SearchInputs.{program_of};
-ghost use Rattle.regress_backtrack.specs.{State.{machine_state_of}, FailuresInMemoTable.{scheme_of, IsMemoRight}, FailureMemo.{as_key, scheme_in, failed_in}};
+ghost use Rattle.regress_scan.specs.TreePlanAndText.{program_of};
+ghost use Rattle.regress_backtrack.specs.{State.{current_thread_state_of}, FailuresInMemoTable.{scheme_of, IsMemoRight}, FailureMemo.{as_key, scheme_in, failed_in, has_key_in}};
 
-use crate::control::DirectedPos;
 use crate::failure_memo::{FailureMemo, RecordKey, StepsAndMemo};
 use crate::state::BacktrackState;
 use crate::step_and_work_budgets::Unlimited;
+use crate::thread_position_and_control::DirectedThreadPos;
 use regex_pattern_front::types::LoopID;
-use regress_memo::memo::{MemoKey as Known, MemoTable};
+use regress_memo::memo::{MemoTable, ThreadMemoKey as Known};
 use regress_memo_analysis::analysis::MemoAnalysis;
-use regress_memo_analysis::key_codes::{LoopState, LoopStates};
+use regress_memo_analysis::key_codes::{IterationStatesOfAllLoops, LoopCountAndIterationStart};
 use regress_plan::insn::Insn;
 use regress_plan::ops::Op;
 use regress_scan::search_context::{SearchContext, text_end};
 use std::alloc::{AllocError, Global};
 
-impl LoopStates for BacktrackState {
-    ghost rounds = { λ m. (machine_state_of m 0 0).loops };
+impl IterationStatesOfAllLoops for BacktrackState {
+    ghost rounds = { λ m. (current_thread_state_of m 0 0).loops };
 
     #[inline(always)]
-    fn round(&self, id: LoopID) -> Option<LoopState> {
+    fn iteration_state_of_loop(&self, id: LoopID) -> Option<LoopCountAndIterationStart> {
         let id = usize::from(id);
-        if id >= self.loop_count() {
+        if id >= self.number_of_loops() {
             return None;
         }
         let held = self.loop_data(id);
-        Some(LoopState {
+        Some(LoopCountAndIterationStart {
             iters: held.from,
             entry: held.at,
         })
@@ -47,9 +48,9 @@ fn is_loop_body<W: SearchContext>(planned: &W, ip: usize) -> bool
     if ip == 0 {
         return false;
     }
-    planned.plan_fits_program();
+    planned.lemma_plan_fits_program();
     match planned.op_at(ip - 1) {
-        Some(op) => op.run().is_some(),
+        Some(op) => op.as_char_loop().is_some(),
         None => false,
     }
 }
@@ -58,10 +59,10 @@ fn is_loop_body<W: SearchContext>(planned: &W, ip: usize) -> bool
 #[inline(always)]
 fn has_all_slots<W: SearchContext>(planned: &W, memory: &BacktrackState) -> bool
     ensures { result ≡ true → (ip at : ℕ)
-        → HasSlotsOfProgram (program_of (W.searching planned.now)) (machine_state_of memory.now ip at) }
+        → HasSlotsOfProgram (program_of (W.searching planned.now)) (current_thread_state_of memory.now ip at) }
 {
     memory.group_count() == planned.program().groups() as usize
-        && memory.loop_count() == planned.loops() as usize
+        && memory.number_of_loops() == planned.number_of_loops() as usize
 }
 
 impl FailureMemo for MemoTable {
@@ -73,15 +74,17 @@ impl FailureMemo for MemoTable {
 
     ghost failed = { λ m. has_failure m };
 
+    ghost has_key = { λ m k. MemoKeyHasBit m.memo_analysis m.places k };
+
     #[inline(always)]
     fn key_at<W: SearchContext>(
         &self,
         planned: &W,
-        thread: DirectedPos,
+        thread: DirectedThreadPos,
         memory: &BacktrackState,
     ) -> Option<RecordKey> {
-        let DirectedPos { here, forward } = thread;
-        let line = self.memo_analysis().line(here.ip);
+        let DirectedThreadPos { here, forward } = thread;
+        let line = self.memo_analysis().insn_analysis_at(here.ip);
         if !line.records || line.forward != forward || is_loop_body(planned, here.ip) {
             return None;
         }
@@ -103,7 +106,7 @@ impl FailureMemo for MemoTable {
     fn loop_rest_key<W: SearchContext>(
         &self,
         planned: &W,
-        run: DirectedPos,
+        run: DirectedThreadPos,
         memory: &BacktrackState,
     ) -> Option<RecordKey> {
         let (from, forward) = (run.here, run.forward);
@@ -111,11 +114,13 @@ impl FailureMemo for MemoTable {
             return None;
         }
         let (body, behind) = (from.ip + 1, from.ip + 2);
-        let line = self.memo_analysis().line(body);
+        let line = self.memo_analysis().insn_analysis_at(body);
         if !line.records || line.forward != forward {
             return None;
         }
-        if self.memo_analysis().line(behind).forward != forward || !has_all_slots(planned, memory) {
+        if self.memo_analysis().insn_analysis_at(behind).forward != forward
+            || !has_all_slots(planned, memory)
+        {
             return None;
         }
         let end = text_end(planned);
@@ -181,11 +186,13 @@ impl<M: FailureMemo> FailureMemo for Option<Box<M>> {
 
     ghost failed = { failed_in (λ memo. M.failed memo.value) };
 
+    ghost has_key = { has_key_in (λ memo. M.has_key memo.value) };
+
     #[inline(always)]
     fn key_at<W: SearchContext>(
         &self,
         planned: &W,
-        thread: DirectedPos,
+        thread: DirectedThreadPos,
         memory: &BacktrackState,
     ) -> Option<RecordKey> {
         match self {
@@ -198,7 +205,7 @@ impl<M: FailureMemo> FailureMemo for Option<Box<M>> {
     fn loop_rest_key<W: SearchContext>(
         &self,
         planned: &W,
-        run: DirectedPos,
+        run: DirectedThreadPos,
         memory: &BacktrackState,
     ) -> Option<RecordKey> {
         match self {
@@ -264,7 +271,8 @@ fn new_memo<W: SearchContext>(
     requires { map spec_insn_of insns.now ≡ (program_of (W.searching planned.now)).insns }
     ensures { IfOk result (IsMemoRight (λ memo. memo.value) (W.searching planned.now)) }
 {
-    let Some(memo_analysis) = MemoAnalysis::new(alloc, insns, planned.loops() as usize)? else {
+    let Some(memo_analysis) = MemoAnalysis::new(alloc, insns, planned.number_of_loops() as usize)?
+    else {
         return Ok(None);
     };
     let Some(memo) = MemoTable::new(alloc, memo_analysis, text_end(planned) + 1, false)? else {

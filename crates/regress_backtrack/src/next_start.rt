@@ -1,9 +1,9 @@
 //! The next candidate start of a search.
 
 ghost use Rattle.regex_meaning.specs.CodeUnitOffsets.{IsBoundary};
-ghost use Rattle.regress_exec.specs.Attempts.{IsNextCandidate};
-ghost use Rattle.regress_machine.specs.SearchResults.{ProgramCanSearchText};
-ghost use Rattle.regress_scan.specs.{SearchInputs.{program_of}, StartSearch.{IsFirstCandidate}};
+ghost use Rattle.regress_exec.specs.Attempts.{NextStartSkipsNoMatch};
+ghost use Rattle.regress_machine.specs.SearchResults.{TreeProgramCanSearchText};
+ghost use Rattle.regress_scan.specs.{TreePlanAndText.{program_of}, StartSearch.{IsFirstCandidate}};
 
 use regress_scan::search_context::SearchContext;
 use regress_scan::start_search::first_candidate;
@@ -11,12 +11,15 @@ use regress_scan::start_search::first_candidate;
 /// Returns the first candidate start at or after an offset, by the plan; `None` if no match begins
 /// from there on.
 #[inline(always)]
-pub(crate) fn next_start<W: SearchContext>(planned: &W, from: usize) -> Option<usize>
+pub(crate) fn first_candidate_start_from<W: SearchContext>(
+    planned: &W,
+    from: usize,
+) -> Option<usize>
     requires at { IsBoundary (W.searching planned.now).text from }
-    requires can { let w = W.searching planned.now in ProgramCanSearchText (program_of w) w.tree w.text }
+    requires can { let w = W.searching planned.now in TreeProgramCanSearchText (program_of w) w.tree w.text }
     ensures first { IsFirstCandidate (W.searching planned.now) from result }
-    ensures next { let w = W.searching planned.now in IsNextCandidate w.tree w.text from result }
+    ensures next { let w = W.searching planned.now in NextStartSkipsNoMatch w.tree w.text from result }
 {
-    planned.plan_fits_program();
+    planned.lemma_plan_fits_program();
     first_candidate(planned, from)
 }

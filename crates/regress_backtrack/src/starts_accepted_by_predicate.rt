@@ -7,8 +7,8 @@ ghost use Rattle.std.specs.List.{starts_with};
 ghost use Rattle.regex_meaning.specs.{CodeUnitOffsets.{IsBoundary}, StartPredicate.{begins_with_one_of, text_bytes_from_place}};
 ghost use Rattle.regress_exec.specs.Attempts.{is_anchored_predicate};
 ghost use Rattle.regress_input.specs.ReadsFromOffset.{place};
-ghost use Rattle.regress_program.specs.InsnMeanings.{start_predicate_of};
-ghost use Rattle.regress_backtrack.specs.StartsAcceptedByPredicate.{lets_through as lets, IsFirstTried, IsNextTried};
+ghost use Rattle.regress_program.specs.InsnMeanings.{spec_start_predicate_of};
+ghost use Rattle.regress_backtrack.specs.StartsTriedUnderStepLimit.{lets_through as lets, IsFirstTried, IsNextTried};
 
 use regex_pattern_front::bytesearch::ByteSet;
 use regress_input::cursor::Forward;
@@ -54,7 +54,7 @@ fn lets_through<Input: InputIndexer>(
     requires at { IsBoundary (Input.text input.now) (Input.Position.offset at) }
     requires bytes { IsTrue Input.Units.ARE_BYTES }
     ensures { let text = Input.text input.now in
-        result ≡ lets (start_predicate_of start.now) text (place text (Input.Position.offset at)) }
+        result ≡ lets (spec_start_predicate_of start.now) text (place text (Input.Position.offset at)) }
 {
     match start {
         StartPredicate::Arbitrary | StartPredicate::StartAnchored => true,
@@ -75,7 +75,7 @@ pub(crate) fn first_start_to_try<Input: InputIndexer>(
     requires at { IsBoundary (Input.text input.now) (Input.Position.offset from) }
     requires bytes { IsTrue Input.Units.ARE_BYTES }
     ensures { let at = Input.Position.offset in
-        IsFirstTried (start_predicate_of start.now) (Input.text input.now) (at from) (option_map at result) }
+        IsFirstTried (spec_start_predicate_of start.now) (Input.text input.now) (at from) (option_map at result) }
 {
     let mut next = Some(from);
     'places: while let Some(at) = next {
@@ -90,7 +90,7 @@ pub(crate) fn first_start_to_try<Input: InputIndexer>(
 // Checks whether only one position is tried.
 #[inline(always)]
 fn is_anchored(start: &StartPredicate) -> bool
-    ensures { result ≡ is_anchored_predicate (start_predicate_of start.now) }
+    ensures { result ≡ is_anchored_predicate (spec_start_predicate_of start.now) }
 {
     matches!(start, StartPredicate::StartAnchored)
 }
@@ -104,7 +104,7 @@ pub(crate) fn next_start_to_try<Input: InputIndexer>(
     requires at { IsBoundary (Input.text input.now) (Input.Position.offset tried) }
     requires bytes { IsTrue Input.Units.ARE_BYTES }
     ensures { let at = Input.Position.offset in
-        IsNextTried (start_predicate_of start.now) (Input.text input.now) (at tried) (option_map at result) }
+        IsNextTried (spec_start_predicate_of start.now) (Input.text input.now) (at tried) (option_map at result) }
 {
     if is_anchored(start) {
         return None;

@@ -1,10 +1,10 @@
 //! The state of a search: slots, an undo log of the values they had, and the choice points.
 
 ghost use Rattle.std.specs.Prelude.{◌≡◌, ◌≢◌, ◌<◌, ◌≤◌, ◌+◌, ◌-◌, ◌^◌, ◌++◌, ℕ, [], ◌∷◌, length, take, map, slice_get, slice_set, Some, true, false, OnOk, OnErr, IfOk};
-ghost use Rattle.regress_backtrack.specs.State.{StateModel, undone, IsStateInvariant, initial_slot as first_slot_at, seen, seen_change, AreUnsetAndUnlogged, undo_entry_of};
-ghost use Rattle.regress_backtrack.specs.State.{last_mark_log as noted_since, initial_state, machine_state_of, loop_data_in_slot, with_choice_point_list, IsUndone, SetsSlot, ChangesStateUndoably, with_group_open};
-ghost use Rattle.regress_backtrack.specs.State.{without_group_range, with_group_range, with_loop_iteration};
-ghost use Rattle.regress_backtrack.specs.UndoLogAppends.{HasLogRoomOrIsLogged, IsLoggedUnderNumber};
+ghost use Rattle.regress_backtrack.specs.State.{StateModel, undone, IsStateInvariant, initial_slot as first_slot_at, logical_slot_value, seen_change, AreUnsetAndUnlogged, undo_entry_of};
+ghost use Rattle.regress_backtrack.specs.State.{last_mark_log as noted_since, initial_state, current_thread_state_of, loop_data_in_slot, with_choice_point_list, IsUndone, SetsSlot, ChangesStateUndoably, with_group_open};
+ghost use Rattle.regress_backtrack.specs.State.{state_with_group_unset, with_group_range, with_loop_iteration};
+ghost use Rattle.regress_backtrack.specs.UndoLogging.{HasLogRoomOrIsLogged, IsLoggedUnlessAlreadySinceChoicePoint};
 
 use crate::lookaround_frames::LookaroundFrame;
 use std::alloc::{AllocError, Global};
@@ -15,7 +15,7 @@ use std::mem;
 /// range in offsets, if it has one. For a loop: the offset at which the current iteration began,
 /// and in `from` the number of finished iterations.
 #[derive(Clone, Copy)]
-pub struct GroupOrLoopSlot {
+pub struct GroupOrLoopState {
     pub at: usize,
     pub from: usize,
     pub to: usize,
@@ -30,7 +30,7 @@ pub struct GroupOrLoopSlot {
 /// as it is if it comes before the slot's number.
 #[derive(Clone, Copy)]
 pub struct UndoEntry {
-    pub old: GroupOrLoopSlot,
+    pub old: GroupOrLoopState,
     pub slot: usize,
 }
 
@@ -71,7 +71,7 @@ pub struct BacktrackState {
     groups: usize,
     // The offset at which the search began.
     begun: usize,
-    slots: Vec<GroupOrLoopSlot>,
+    slots: Vec<GroupOrLoopState>,
     log: Vec<UndoEntry>,
     log_len: usize,
     // The number of changes that are logged whatever slots they are of.
@@ -87,7 +87,7 @@ impl Model for BacktrackState {
 
     ghost view = { λ m. record {
       groups = m.groups;
-      slots = map (seen m.begun) m.slots.items;
+      slots = map (logical_slot_value m.begun) m.slots.items;
       log = map (seen_change m.begun) (take m.log_len m.log.items);
       marks = take m.marked m.marks.items;
     } };
@@ -97,7 +97,7 @@ impl Model for BacktrackState {
 
 // Fills the elements of a vector that are not used yet. If a vector were extended with the value to
 // be stored, that value would have to be in memory first, whether there is room or not.
-const NO_SLOT: GroupOrLoopSlot = GroupOrLoopSlot {
+const NO_SLOT: GroupOrLoopState = GroupOrLoopState {
     at: 0,
     from: 0,
     to: 0,
@@ -138,7 +138,7 @@ fn grow<T: Copy + Drop>(row: &mut Vec<T>, value: T) -> Result<(), AllocError>
 {
     let len = row.len();
     if len < 0x4000_0000_0000_0000 {
-        row.resize(len + at_most(len, MOST_MORE) + 8, value)
+        row.resize(len + smaller_of(len, MOST_MORE) + 8, value)
     } else {
         row.push(value)?;
         Ok(())
@@ -196,7 +196,7 @@ fn grow_log(log: &mut Vec<UndoEntry>, free: &mut usize, used: usize) -> Result<(
     ensures free { free.new ≤ length log.new.items }
 {
     lengthen(log, used)?;
-    *free = at_most(log.len(), ALL_NOTED);
+    *free = smaller_of(log.len(), ALL_NOTED);
     Ok(())
 }
 
@@ -216,7 +216,7 @@ fn lengthen(log: &mut Vec<UndoEntry>, used: usize) -> Result<(), AllocError>
 }
 
 #[inline(always)]
-fn at_most(number: usize, most: usize) -> usize
+fn smaller_of(number: usize, most: usize) -> usize
     ensures { result ≤ number }
 {
     if number < most { number } else { most }
@@ -230,13 +230,13 @@ fn log_change(
     log_len: &mut usize,
     free: &mut usize,
     marks: &[ChoicePoint],
-    slots: &[GroupOrLoopSlot],
+    slots: &[GroupOrLoopState],
     slot: usize,
 ) -> Result<u32, AllocError>
     requires log_len { log_len.old ≤ length log.old.items }
     requires free { free.old ≤ length log.old.items }
     requires slot { slot < length slots.now }
-    ensures noted { IfOk result (IsLoggedUnderNumber (undo_entry_of slots.now slot) (noted_since marks.now)
+    ensures noted { IfOk result (IsLoggedUnlessAlreadySinceChoicePoint (undo_entry_of slots.now slot) (noted_since marks.now)
         log_len.old log.old.items log_len.new log.new.items) }
     ensures refused { OnErr result ((log_len.new ≡ log_len.old)
         × (take log_len.old log.new.items ≡ take log_len.old log.old.items)) }
@@ -258,7 +258,7 @@ fn log_change(
 
 // Makes the number of slots equal to `count`.
 #[inline(always)]
-fn fit_slots(slots: &mut Vec<GroupOrLoopSlot>, count: usize) -> Result<(), AllocError>
+fn fit_slots(slots: &mut Vec<GroupOrLoopState>, count: usize) -> Result<(), AllocError>
     ensures made { OnOk result (length slots.new.items ≡ count) }
     ensures fresh { AreUnsetAndUnlogged slots.old.items → AreUnsetAndUnlogged slots.new.items }
     ensures refused { OnErr result (length slots.new.items ≢ count) }
@@ -273,7 +273,7 @@ fn fit_slots(slots: &mut Vec<GroupOrLoopSlot>, count: usize) -> Result<(), Alloc
 // Makes the number of slots equal to `count`, which is less or more than it was.
 #[cold]
 #[inline(never)]
-fn make(slots: &mut Vec<GroupOrLoopSlot>, count: usize) -> Result<(), AllocError>
+fn make(slots: &mut Vec<GroupOrLoopState>, count: usize) -> Result<(), AllocError>
     ensures made { OnOk result (length slots.new.items ≡ count) }
     ensures fresh { AreUnsetAndUnlogged slots.old.items → AreUnsetAndUnlogged slots.new.items }
     ensures refused { OnErr result (slots.new.items ≡ slots.old.items) }
@@ -288,16 +288,16 @@ fn make(slots: &mut Vec<GroupOrLoopSlot>, count: usize) -> Result<(), AllocError
 
 // Returns the value of a slot before a search from an offset.
 #[inline(always)]
-fn initial_slot(at: usize) -> GroupOrLoopSlot
+fn initial_slot(at: usize) -> GroupOrLoopState
     ensures { result ≡ first_slot_at at }
 {
-    GroupOrLoopSlot { at, ..NO_SLOT }
+    GroupOrLoopState { at, ..NO_SLOT }
 }
 
 // Resets all slots, so that none is set.
 #[cold]
 #[inline(never)]
-fn wipe(slots: &mut Vec<GroupOrLoopSlot>)
+fn wipe(slots: &mut Vec<GroupOrLoopState>)
     ensures fresh { AreUnsetAndUnlogged slots.new.items }
     ensures length { length slots.new.items ≡ length slots.old.items }
 {
@@ -362,7 +362,7 @@ impl BacktrackState {
     // Sets a slot and logs what it held. After the first `free` changes it is logged only if it was
     // not logged since the last choice point. On allocation failure nothing is changed.
     #[inline(always)]
-    fn set(&mut self, slot: usize, value: GroupOrLoopSlot) -> Result<(), AllocError>
+    fn set(&mut self, slot: usize, value: GroupOrLoopState) -> Result<(), AllocError>
         requires slot { slot < length self.old.slots }
         requires is_set { value.is_set ≡ true }
         requires noted { value.noted ≡ 0 }
@@ -377,20 +377,20 @@ impl BacktrackState {
             &self.slots,
             slot,
         )?;
-        self.slots[slot] = GroupOrLoopSlot { noted, ..value };
+        self.slots[slot] = GroupOrLoopState { noted, ..value };
         Ok(())
     }
 
     // Returns the value of a slot.
     #[inline(always)]
-    fn held(&self, slot: usize) -> GroupOrLoopSlot
+    fn value_of_slot(&self, slot: usize) -> GroupOrLoopState
         requires { slot < length self.now.slots }
         ensures slot { slice_get self.now.slots slot ≡ Some result }
         ensures noted { result.noted ≡ 0 }
     {
         let held = self.slots[slot];
         if held.is_set {
-            GroupOrLoopSlot { noted: 0, ..held }
+            GroupOrLoopState { noted: 0, ..held }
         } else {
             initial_slot(self.begun)
         }
@@ -430,7 +430,7 @@ impl BacktrackState {
 
     /// Returns the number of choice points.
     #[inline(always)]
-    pub fn marked(&self) -> usize
+    pub fn choice_point_count(&self) -> usize
         ensures { result ≡ length self.now.marks }
     {
         self.marked
@@ -438,7 +438,7 @@ impl BacktrackState {
 
     /// Pushes a choice point. On allocation failure nothing is changed.
     #[inline(always)]
-    pub fn mark(&mut self, mark: ChoicePoint) -> Result<(), AllocError>
+    pub fn append_choice_point(&mut self, mark: ChoicePoint) -> Result<(), AllocError>
         ensures marked { OnOk result (self.new ≡ with_choice_point_list (self.old.marks ++ mark ∷ []) self.old) }
         ensures refused { OnErr result (self.new ≡ self.old) }
     {
@@ -452,7 +452,7 @@ impl BacktrackState {
 
     /// Returns the choice point with this index.
     #[inline(always)]
-    pub fn mark_at_index(&self, index: usize) -> ChoicePoint
+    pub fn choice_point_at_index(&self, index: usize) -> ChoicePoint
         requires { index < length self.now.marks }
         ensures { slice_get self.now.marks index ≡ Some result }
     {
@@ -461,7 +461,7 @@ impl BacktrackState {
 
     /// Keeps the first `len` choice points and drops the others.
     #[inline(always)]
-    pub fn truncate_marks(&mut self, len: usize)
+    pub fn truncate_choice_points(&mut self, len: usize)
         requires { len ≤ length self.old.marks }
         ensures { self.new ≡ with_choice_point_list (take len self.old.marks) self.old }
     {
@@ -470,7 +470,7 @@ impl BacktrackState {
 
     /// Replaces the choice point with this index.
     #[inline(always)]
-    pub fn replace_mark(&mut self, index: usize, mark: ChoicePoint)
+    pub fn replace_choice_point(&mut self, index: usize, mark: ChoicePoint)
         requires { index < length self.old.marks }
         ensures { self.new ≡ with_choice_point_list (slice_set self.old.marks index mark) self.old }
     {
@@ -508,7 +508,7 @@ impl BacktrackState {
         ensures opened { OnOk result (ChangesStateUndoably (with_group_open id at) self.old self.new) }
         ensures refused { OnErr result (self.new ≡ self.old) }
     {
-        let opened = GroupOrLoopSlot {
+        let opened = GroupOrLoopState {
             at,
             is_set: true,
             ..NO_SLOT
@@ -521,14 +521,14 @@ impl BacktrackState {
     #[inline(always)]
     pub fn reset_group(&mut self, id: usize) -> Result<(), AllocError>
         requires { id < self.old.groups }
-        ensures reset { OnOk result (ChangesStateUndoably (without_group_range id) self.old self.new) }
+        ensures reset { OnOk result (ChangesStateUndoably (state_with_group_unset id) self.old self.new) }
         ensures refused { OnErr result (self.new ≡ self.old) }
     {
         let _laid_out = self.groups;
-        let reset = GroupOrLoopSlot {
+        let reset = GroupOrLoopState {
             has_range: false,
             is_set: true,
-            ..self.held(id)
+            ..self.value_of_slot(id)
         };
         self.set(id, reset)
     }
@@ -541,12 +541,12 @@ impl BacktrackState {
         ensures refused { OnErr result (self.new ≡ self.old) }
     {
         let _laid_out = self.groups;
-        let closed = GroupOrLoopSlot {
+        let closed = GroupOrLoopState {
             from,
             to,
             has_range: true,
             is_set: true,
-            ..self.held(id)
+            ..self.value_of_slot(id)
         };
         self.set(id, closed)
     }
@@ -555,26 +555,26 @@ impl BacktrackState {
     #[inline(always)]
     pub fn group_open_offset(&self, id: usize) -> usize
         requires { id < self.now.groups }
-        ensures { slice_get (machine_state_of self.now 0 0).starts id ≡ Some result }
+        ensures { slice_get (current_thread_state_of self.now 0 0).starts id ≡ Some result }
     {
         let _laid_out = self.groups;
-        self.held(id).at
+        self.value_of_slot(id).at
     }
 
     /// Returns the number of groups.
     #[inline(always)]
     pub fn group_count(&self) -> usize
         ensures groups { result ≡ self.now.groups }
-        ensures length { result ≡ length (machine_state_of self.now 0 0).groups }
+        ensures length { result ≡ length (current_thread_state_of self.now 0 0).groups }
     {
         self.groups
     }
 
     /// Returns the number of loops.
     #[inline(always)]
-    pub fn loop_count(&self) -> usize
+    pub fn number_of_loops(&self) -> usize
         ensures loops { self.now.groups + result ≡ length self.now.slots }
-        ensures length { result ≡ length (machine_state_of self.now 0 0).loops }
+        ensures length { result ≡ length (current_thread_state_of self.now 0 0).loops }
     {
         self.slots.len() - self.groups
     }
@@ -583,10 +583,10 @@ impl BacktrackState {
     #[inline(always)]
     pub fn captured_range_of(&self, id: usize) -> Option<(usize, usize)>
         requires { id < self.now.groups }
-        ensures { slice_get (machine_state_of self.now 0 0).groups id ≡ Some result }
+        ensures { slice_get (current_thread_state_of self.now 0 0).groups id ≡ Some result }
     {
         let _laid_out = self.groups;
-        let slot = self.held(id);
+        let slot = self.value_of_slot(id);
         if slot.has_range {
             Some((slot.from, slot.to))
         } else {
@@ -603,7 +603,7 @@ impl BacktrackState {
         ensures entered { OnOk result (ChangesStateUndoably (with_loop_iteration id k at) self.old self.new) }
         ensures refused { OnErr result (self.new ≡ self.old) }
     {
-        let entered = GroupOrLoopSlot {
+        let entered = GroupOrLoopState {
             at,
             from: k,
             is_set: true,
@@ -615,10 +615,10 @@ impl BacktrackState {
     /// Returns the slot of a loop: its finished iterations, and the offset at which the current one
     /// began.
     #[inline(always)]
-    pub fn loop_data(&self, id: usize) -> GroupOrLoopSlot
+    pub fn loop_data(&self, id: usize) -> GroupOrLoopState
         requires { self.now.groups + id < length self.now.slots }
-        ensures { slice_get (machine_state_of self.now 0 0).loops id ≡ Some (loop_data_in_slot result) }
+        ensures { slice_get (current_thread_state_of self.now 0 0).loops id ≡ Some (loop_data_in_slot result) }
     {
-        self.held(self.groups + id)
+        self.value_of_slot(self.groups + id)
     }
 }

@@ -1,7 +1,7 @@
 //! Budgets of a search: the number of steps it may take, and the amount of work it may do.
 
 ghost use Rattle.std.specs.Prelude.{◌≡◌, ◌<◌, ◌+◌, ◌⊎◌, ℕ, Bool, true, false, OnOk, OnErr, IsTrue};
-ghost use Rattle.regress_backtrack.specs.StepsTakenFromBudget.{Budget, AreStepsTaken, AreStepsRefused};
+ghost use Rattle.regress_backtrack.specs.StepsTakenFromBudget.{Budget, AreStepsTakenFromBudget, AreStepsRefused};
 
 use std::alloc::AllocError;
 
@@ -33,23 +33,23 @@ pub trait StepCounter: Copy {
 
     /// Takes a number of steps if as many are left. If not, returns `Err`, and none are left then.
     fn take(&mut self, steps: usize) -> Result<(), SearchStopped>
-        ensures taken { OnOk result (AreStepsTaken COUNTS steps (budget self.old) (budget self.new)) }
+        ensures taken { OnOk result (AreStepsTakenFromBudget COUNTS steps (budget self.old) (budget self.new)) }
         ensures refused { OnErr result (AreStepsRefused COUNTS steps (budget self.old) (budget self.new)) };
 
     /// Charges one backtrack: takes one step and does some work. Returns `Err` if too much work was
     /// done or no step was left.
     fn backtrack(&mut self) -> Result<(), SearchStopped>
-        ensures taken { OnOk result (AreStepsTaken COUNTS 1 (budget self.old) (budget self.new)) }
-        ensures stopped { OnErr result (AreStepsTaken COUNTS 1 (budget self.old) (budget self.new)
+        ensures taken { OnOk result (AreStepsTakenFromBudget COUNTS 1 (budget self.old) (budget self.new)) }
+        ensures stopped { OnErr result (AreStepsTakenFromBudget COUNTS 1 (budget self.old) (budget self.new)
             ⊎ AreStepsRefused COUNTS 1 (budget self.old) (budget self.new)) };
 
     /// Charges a number of units read by one operation, or of choice points dropped at once. This
     /// is work if they are many.
-    fn read(&mut self, units: usize)
+    fn charge_units_read(&mut self, units: usize)
         ensures { budget self.new ≡ budget self.old };
 
     /// Returns whether steps were refused.
-    fn is_out_of_steps(&self) -> bool
+    fn steps_were_refused(&self) -> bool
         ensures { result ≡ (budget self.now).out };
 }
 
@@ -76,13 +76,13 @@ pub type Unlimited = UnlimitedStepCounter<false>;
 impl<const BOUND: bool> UnlimitedStepCounter<BOUND> {
     /// Creates a counter that allows this much work.
     #[inline(always)]
-    pub fn up_to(work: u64) -> Self {
+    pub fn work_counter_with_limit(work: u64) -> Self {
         UnlimitedStepCounter { work }
     }
 
     /// Creates a counter whose work is already spent.
     #[inline(always)]
-    pub fn spent() -> Self {
+    pub fn exhausted_work_counter() -> Self {
         UnlimitedStepCounter { work: BELOW_ZERO }
     }
 
@@ -121,14 +121,14 @@ impl<const BOUND: bool> StepCounter for UnlimitedStepCounter<BOUND> {
     }
 
     #[inline(always)]
-    fn read(&mut self, units: usize) {
+    fn charge_units_read(&mut self, units: usize) {
         if BOUND && units >= LONG {
             self.work = self.work.wrapping_sub(units as u64);
         }
     }
 
     #[inline(always)]
-    fn is_out_of_steps(&self) -> bool {
+    fn steps_were_refused(&self) -> bool {
         false
     }
 }
@@ -167,10 +167,10 @@ impl StepCounter for LimitedStepCounter {
     }
 
     #[inline(always)]
-    fn read(&mut self, _units: usize) {}
+    fn charge_units_read(&mut self, _units: usize) {}
 
     #[inline(always)]
-    fn is_out_of_steps(&self) -> bool {
+    fn steps_were_refused(&self) -> bool {
         self.out
     }
 }

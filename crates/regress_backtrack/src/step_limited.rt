@@ -4,15 +4,15 @@ ghost use Rattle.std.specs.Prelude.{◌≡◌, IfOk, Some};
 ghost use Rattle.regex_meaning.specs.{StartPredicate.{start_predicate}, Text.{utf8_text}};
 ghost use Rattle.regex_meaning.proofs.TextLemmas.{utf8_text-IsText};
 ghost use Rattle.regex_pattern_front.specs.AstToSpecTree.{tree_of};
-ghost use Rattle.regress_program.specs.InsnMeanings.{start_predicate_of};
-ghost use Rattle.regress_backtrack.specs.{State.{machine_state_of}, AttemptResults.{HasSlots}};
+ghost use Rattle.regress_program.specs.InsnMeanings.{spec_start_predicate_of};
+ghost use Rattle.regress_backtrack.specs.{State.{current_thread_state_of}, AttemptResults.{HasSlots}};
 
 use crate::attempts::attempt;
 use crate::classicalbacktrack::BacktrackExecutor;
 use crate::failure_memo::{NoMemo, StepsAndMemo};
 use crate::starts_accepted_by_predicate::{first_start_to_try, next_start_to_try};
 use crate::step_and_work_budgets::LimitedStepCounter;
-use regress_exec::exec::{MatchProducer, SearchError, Searcher};
+use regress_exec::exec::{MatchProducer, ProducerFromProgramAndText, SearchError};
 use regress_exec::search_loop::AnchoredSearch;
 use regress_input::indexing::{InputIndexer, Utf8Input};
 use regress_program::insn::{CompiledRegex, Program, StartPredicate};
@@ -27,7 +27,7 @@ pub struct LimitedExecutor<'r, 't> {
     start: &'r StartPredicate,
     // The steps that are left, and whether the last attempt was refused some.
     steps: LimitedStepCounter,
-    ghost predicted: { start_predicate (tree_of executor.search.program.regex) ≡ start_predicate_of start.now },
+    ghost predicted: { start_predicate (tree_of executor.search.program.regex) ≡ spec_start_predicate_of start.now },
 }
 
 impl<'r, 't> LimitedExecutor<'r, 't> {
@@ -76,7 +76,7 @@ impl<'r, 't> AnchoredSearch for LimitedExecutor<'r, 't> {
 
     ghost has_begun = { λ e. HasSlots (tree_of e.executor.search.program.regex) e.executor.memory };
 
-    ghost groups = { λ e. (machine_state_of e.executor.memory 0 0).groups };
+    ghost groups = { λ e. (current_thread_state_of e.executor.memory 0 0).groups };
 
     ghost is_text = { λ e. utf8_text-IsText e.executor.search.searched.input.input.now
         e.executor.search.searched.input.unicode };
@@ -124,14 +124,14 @@ impl<'r, 't> AnchoredSearch for LimitedExecutor<'r, 't> {
         self.executor.group(id)
     }
 
-    fn start_from(
+    fn first_start_to_try_from(
         &self,
         pos: <Utf8Input<'t> as InputIndexer>::Position,
     ) -> Option<<Utf8Input<'t> as InputIndexer>::Position> {
         first_start_to_try(&self.executor.search.searched.input, self.start, pos)
     }
 
-    fn start_after(
+    fn next_start_to_try_after(
         &self,
         tried: <Utf8Input<'t> as InputIndexer>::Position,
     ) -> Option<<Utf8Input<'t> as InputIndexer>::Position> {

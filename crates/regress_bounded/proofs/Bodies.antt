@@ -6,9 +6,9 @@ use Rattle.regex_pattern_front.specs.AstToSpecTree.{tree_of}
 use Rattle.regex_pattern_front.specs.declared.ir.Regex.{Regex}
 use Rattle.regress_plan.specs.InsnsAsSpecInsns.{spec_insn_of}
 use Rattle.regress_plan.specs.declared.insn.Insn.{Insn}
-use Rattle.regress_program.specs.CodeOfTrees.{compiled}
-use Rattle.regress_program.specs.SearchableTexts.{IsByteText}
-use Rattle.regress_machine.specs.TextsForBytePrograms.{reads_bytes}
+use Rattle.regress_program.specs.CompilationOfTreesAsFunction.{compiled}
+use Rattle.regress_program.specs.TextsSearchableByBytePrograms.{IsByteText}
+use Rattle.regress_machine.specs.TextsForBytePrograms.{tree_contains_byte_nodes}
 use Rattle.regex_meaning.specs.Text.{Text}
 use Rattle.regress_machine.specs.Machine.{Next, goes, with_some, test_of}
 use Rattle.regress_machine.specs.InsnEffects.{IsNotStuck}
@@ -38,6 +38,6 @@ module _ (re : Regex) (insns : List Insn) (code : map spec_insn_of insns ≡ (co
   body-fits short = let below = body-below in omega (arith, below, short)
 
 -- it is spelled as the text is, where the program reads bytes in a text of them
-pub body-spelled : (re : Regex) {text : Text} {are_bytes : Bool} → (IsTrue (reads_bytes (tree_of re).root) → IsByteText text are_bytes) → (ip : ℕ) (body : Insn)
+pub body-spelled : (re : Regex) {text : Text} {are_bytes : Bool} → (IsTrue (tree_contains_byte_nodes (tree_of re).root) → IsByteText text are_bytes) → (ip : ℕ) (body : Insn)
     → slice_get (compiled (tree_of re)).insns (ip + 1) ≡ Some (spec_insn_of body) → ByteInsnHasByteText body text are_bytes
 body-spelled re bytes ip body is = λ literal. bytes (literal-reads (tree_of re) (ip + 1) (spec_insn_of body) is literal)

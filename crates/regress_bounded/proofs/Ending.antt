@@ -4,14 +4,14 @@ use Rattle.std.specs.Prelude.{option_map, Result, Ok, Err, IsSome}
 use Rattle.std.proofs.Math.Logic.{∥∥₁_map, ∥∥₁_elim, ∥∥₁_prop}
 use Rattle.std.proofs.Props.{props}
 use Rattle.regex_meaning.specs.Text.{Text, rightwards}
-use Rattle.regex_meaning.specs.CodeUnitOffsets.{IsText, IsBoundary, units}
+use Rattle.regex_meaning.specs.CodeUnitOffsets.{HasRisingPlaceOffsets, IsBoundary, units}
 use Rattle.regex_meaning.specs.Tree.{Tree}
-use Rattle.regress_program.specs.CodeOfTrees.{compiled}
+use Rattle.regress_program.specs.CompilationOfTreesAsFunction.{compiled}
 use Rattle.regress_input.proofs.Places.{boundary_inside}
-use Rattle.regress_exec.specs.Attempts.{match_end_at, steps_for_attempt, search_from}
+use Rattle.regress_exec.specs.Attempts.{match_end_and_groups_at, steps_for_attempt, search_from}
 use Rattle.regress_exec.proofs.Attempts.{begins}
 use Rattle.regex_meaning.specs.CompilationRelation.{Program}
-use Rattle.regress_machine.specs.SearchResults.{state_before_first_insn, end_of, ProgramCanSearchText}
+use Rattle.regress_machine.specs.SearchResults.{state_before_first_insn, end_of, TreeProgramCanSearchText}
 use Rattle.regress_machine.specs.InsnEffects.{end_of_search}
 use Rattle.regress_machine.specs.Machine as machine
 use Rattle.regress_machine.specs.Machine.{running, ends, Found, search}
@@ -26,15 +26,15 @@ use Rattle.regress_memo.specs.MemoContractView.{MemoView}
 use Rattle.regress_memo.proofs.LawLemmas.{memos-are-true}
 use Rattle.regress_scan.proofs.Reach.{some-of}
 use Rattle.regress_memo.specs.MemoSearchCosts.{HasCome}
-use Rattle.regress_exec.specs.WorkLimits.{next_attempt_offset}
-use Rattle.regress_bounded.specs.declared.work_budget.WorkBudget.{WorkBudget}
-use Rattle.regress_bounded.specs.declared.work_budget.AttemptAbortReason.{AttemptAbortReason}
-use Rattle.regress_bounded.specs.declared.work_budget.AttemptAbortReason.TheVariants.{Work}
+use Rattle.regress_exec.specs.WorkLimits.{least_offset_after_match}
+use Rattle.regress_bounded.specs.declared.memo_and_work_budget.MemoAndWorkBudget.{MemoAndWorkBudget}
+use Rattle.regress_bounded.specs.declared.memo_and_work_budget.AttemptAbortReason.{AttemptAbortReason}
+use Rattle.regress_bounded.specs.declared.memo_and_work_budget.AttemptAbortReason.TheVariants.{Work}
 use Rattle.regress_pikevm.specs.InsnEffects.{end_and_groups}
 use Rattle.regress_pikevm.proofs.Remains.{map-end}
 use Rattle.regress_pikevm.specs.declared.pikevm.states.State.{State}
 use Rattle.regress_bounded.specs.ProgramWorkBounds.{HasBound, work_per_unit}
-use Rattle.regress_bounded.specs.SearchStateEntries.{IsPaid, IsRight, IsMemoRight, AttemptBeginning, AttemptBeginsWith, Stands, IsStanding, IsOver, MayStop, EndsAt, Runs, front_of}
+use Rattle.regress_bounded.specs.SearchStateEntries.{IsPaid, IsRight, IsMemoRight, AttemptStartAndResult, AttemptBeginsWithMemoAndBudget, Stands, IsStanding, IsOver, MayStop, EndsAt, Runs, front_of}
 use Rattle.regress_bounded.specs.WorkCosts.{HasWalked, IsWalked, IsTrying}
 use Rattle.regress_pikevm.specs.States.{state_of}
 use Rattle.regress_bounded.specs.SuccessiveAttempts.{Walked, HasWalked as AreWalked}
@@ -46,7 +46,7 @@ use Rattle.regress_bounded.proofs.Standing as standing
 -- ---- It begins
 
 module _ {P : Type 0} {offset : P → ℕ} {program : Program} {text : Text} where
-  pub begins-stands : {at : ℕ} {c : WorkBudget} {b : AttemptBeginning} (start : State P) → IsText text → IsBoundary text at → state_of offset start ≡ state_before_first_insn program at → AttemptBeginsWith program text at c b
+  pub begins-stands : {at : ℕ} {c : MemoAndWorkBudget} {b : AttemptStartAndResult} (start : State P) → HasRisingPlaceOffsets text → IsBoundary text at → state_of offset start ≡ state_before_first_insn program at → AttemptBeginsWithMemoAndBudget program text at c b
       → Stands offset program text b (front_of offset (Some start)) [] c
   begins-stands {at} {c} {b} start is_text on is h =
       let right = h.right in
@@ -71,12 +71,12 @@ module _ {P : Type 0} {offset : P → ℕ} {program : Program} {text : Text} whe
 
 module _ {P : Type 0} (offset : P → ℕ) (program : Program) (text : Text) where
   -- one that has what is known as its memory
-  record Attempt (at : ℕ) (c : WorkBudget) (searched : Option Found) : Type 0 where
-    begin : AttemptBeginning
-    begins : AttemptBeginsWith program text at c begin
+  record Attempt (at : ℕ) (c : MemoAndWorkBudget) (searched : Option Found) : Type 0 where
+    begin : AttemptStartAndResult
+    begins : AttemptBeginsWithMemoAndBudget program text at c begin
     found : searched ≡ Some begin.found
 
-  attempt-begins : (at turns : ℕ) (c : WorkBudget) → IsRight program text c.memo → IsSome (search program text turns rightwards (first_row program at))
+  attempt-begins : (at turns : ℕ) (c : MemoAndWorkBudget) → IsRight program text c.memo → IsSome (search program text turns rightwards (first_row program at))
       → Attempt at c (search program text turns rightwards (first_row program at))
   attempt-begins at turns c right answers =
       let f = some-of (search program text turns rightwards (first_row program at)) answers in
@@ -89,7 +89,7 @@ module _ {P : Type 0} (offset : P → ℕ) (program : Program) (text : Text) whe
 
   -- ---- What it finds
 
-  module _ (b : AttemptBeginning) (c : WorkBudget) where
+  module _ (b : AttemptStartAndResult) (c : MemoAndWorkBudget) where
     nothing-found : Stands offset program text b [] [] c → b.found.end ≡ None
     nothing-found h =
         let none : h.row ≡ [] = row-none offset program text h.row h.is in
@@ -102,28 +102,28 @@ module _ {P : Type 0} (offset : P → ℕ) (program : Program) (text : Text) whe
         standing.then-ends program text c.memo.memo_analysis s.right.paid b s.is_memory s.answers s.work s.now h.from (state_of offset end) s.row s.comes h.ends
 
   -- its end is inside the text
-  end-inside : (b : AttemptBeginning) (c : WorkBudget) (end : State P) → EndsAt offset program text b end c → offset end.pos ≤ units text
+  end-inside : (b : AttemptStartAndResult) (c : MemoAndWorkBudget) (end : State P) → EndsAt offset program text b end c → offset end.pos ≤ units text
   end-inside b c end h =
       let own : offset end.pos ≡ h.from.pos = ap (λ (u : machine.State). u.pos) (ends-itself program text rightwards h.from (state_of offset end) h.ends) in
       let within = h.stands.comes.keyed.0.sound.within in
       omega (arith, own, within)
 
-  runs-found : (b : AttemptBeginning) (c : WorkBudget) (end : Option (State P)) → Runs offset program text b (Ok end) c → b.found.end ≡ option_map (λ e. state_of offset e) end
+  runs-found : (b : AttemptStartAndResult) (c : MemoAndWorkBudget) (end : Option (State P)) → Runs offset program text b (Ok end) c → b.found.end ≡ option_map (λ e. state_of offset e) end
   runs-found b c None h = nothing-found b c h
   runs-found b c (Some e) h = end-found b c e h
 
   -- ---- What the next ones may do
 
-  module _ (at ahead : ℕ) (old new : WorkBudget) (same : new.memo.memo_analysis ≡ old.memo.memo_analysis) (walked : Walked program text old ahead) (le : ahead ≤ at) (inside : at ≤ units text)
+  module _ (at ahead : ℕ) (old new : MemoAndWorkBudget) (same : new.memo.memo_analysis ≡ old.memo.memo_analysis) (walked : Walked program text old ahead) (le : ahead ≤ at) (inside : at ≤ units text)
       (answered : Answers program text rightwards (first_row program at)) where
     abbrev t : MemoAnalysis
     t = new.memo.memo_analysis
 
     -- the attempt from what was known
-    abbrev its : AttemptBeginning
+    abbrev its : AttemptStartAndResult
     its = record { at = at; memory = walked.walked.memory; total = old.left; turns = answered.turns; found = answered.found }
 
-    its-begins : IsRight program text old.memo → AttemptBeginsWith program text at old its
+    its-begins : IsRight program text old.memo → AttemptBeginsWithMemoAndBudget program text at old its
     its-begins right = record { right = right; at = refl; is_memory = walked.walked.has.is; holds = walked.walked.holds; total = refl; answers = answered.searches }
 
     has : HasWalked program text t ahead walked.done walked.walked.memory
@@ -158,7 +158,7 @@ module _ {P : Type 0} (offset : P → ℕ) (program : Program) (text : Text) whe
           }
 
       -- a match ends it
-      walked-found : (end : State P) → EndsAt offset program text its end new → Walked program text new (next_attempt_offset at (offset end.pos))
+      walked-found : (end : State P) → EndsAt offset program text its end new → Walked program text new (least_offset_after_match at (offset end.pos))
       walked-found end h =
           let s = h.stands in
           let own : offset end.pos ≡ h.from.pos = ap (λ (u : machine.State). u.pos) (ends-itself program text rightwards h.from (state_of offset end) h.ends) in
@@ -168,7 +168,7 @@ module _ {P : Type 0} (offset : P → ℕ) (program : Program) (text : Text) whe
             done = walked.done + s.work;
             walked = then-ends program t paid.memo_analysis text paid.is_text paid.bytes paid.short (has_failure new.memo) at walked.done s.work (running h.from) s.row answered
                 (trying (has_failure new.memo) s.work s.now (tried (running h.from) ∷ s.row) s.comes s.holds)
-                (next_attempt_offset at (offset end.pos)) (let a = on.0 in omega (arith, a, own)) on.1;
+                (least_offset_after_match at (offset end.pos)) (let a = on.0 in omega (arith, a, own)) on.1;
             enough = still-enough s.work s.spent;
           }
 
@@ -187,7 +187,7 @@ module _ {P : Type 0} (offset : P → ℕ) (program : Program) (text : Text) whe
 
 -- ---- Before the first one
 
-module _ (program : Program) (text : Text) (is_text : IsText text) (bytes : ReadsAsBytes program text) (short : units text < 2 ^ 63) (t : MemoAnalysis) (has : HasBound program t)
+module _ (program : Program) (text : Text) (is_text : HasRisingPlaceOffsets text) (bytes : ReadsAsBytes program text) (short : units text < 2 ^ 63) (t : MemoAnalysis) (has : HasBound program t)
     (m : MemoView) (begun : IsEmptyMemo t (units text + 1) false m) where
   its-paid : IsPaid program text t
   its-paid = record { memo_analysis = has.memo_analysis; bounded = has.bounded; no_look = has.no_look; is_text = is_text; bytes = bytes; short = short }
@@ -204,25 +204,25 @@ module _ (program : Program) (text : Text) (is_text : IsText text) (bytes : Read
   }
 
 -- the search of an attempt answers
-answered-at : (tree : Tree) (text : Text) → ProgramCanSearchText (compiled tree) tree text → (at : ℕ) → IsBoundary text at → Answers (compiled tree) text rightwards (first_row (compiled tree) at)
+answered-at : (tree : Tree) (text : Text) → TreeProgramCanSearchText (compiled tree) tree text → (at : ℕ) → IsBoundary text at → Answers (compiled tree) text rightwards (first_row (compiled tree) at)
 answered-at tree text can at on =
     let s = some-of (search_from tree text at rightwards (state_before_first_insn (compiled tree) at)) (begins tree text at can on).answers in
     record { turns = steps_for_attempt tree text at; found = s.0; searches = s.1 }
 
 -- ---- What an attempt comes to, by all that begin so
 
-module _ {P : Type 0} (offset : P → ℕ) {tree : Tree} {text : Text} (can : ProgramCanSearchText (compiled tree) tree text) (at : ℕ) (on : IsBoundary text at) (old : WorkBudget) where
+module _ {P : Type 0} (offset : P → ℕ) {tree : Tree} {text : Text} (can : TreeProgramCanSearchText (compiled tree) tree text) (at : ℕ) (on : IsBoundary text at) (old : MemoAndWorkBudget) where
   first : IsRight (compiled tree) text old.memo → Attempt offset (compiled tree) text at old (search (compiled tree) text (steps_for_attempt tree text at) rightwards (first_row (compiled tree) at))
   first right = attempt-begins offset (compiled tree) text at (steps_for_attempt tree text at) old right (begins tree text at can on).answers
 
   -- it stands so at its start
-  pub attempt-stands : IsText text → IsMemoRight (compiled tree) text old.memo → (start : State P) → state_of offset start ≡ state_before_first_insn (compiled tree) at
+  pub attempt-stands : HasRisingPlaceOffsets text → IsMemoRight (compiled tree) text old.memo → (start : State P) → state_of offset start ≡ state_before_first_insn (compiled tree) at
       → IsStanding offset (compiled tree) text (front_of offset (Some start)) [] old
   attempt-stands is knows start begun = ∥∥₁_map knows (λ right. let x = first right in record { begin = x.begin; stands = begins-stands start is on begun x.begins })
 
-  module _ (new : WorkBudget) where
+  module _ (new : MemoAndWorkBudget) where
     abbrev ByRuns : Result (Option (State P)) AttemptAbortReason → Type 0
-    ByRuns r = (b : AttemptBeginning) → AttemptBeginsWith (compiled tree) text at old b → Runs offset (compiled tree) text b r new
+    ByRuns r = (b : AttemptStartAndResult) → AttemptBeginsWithMemoAndBudget (compiled tree) text at old b → Runs offset (compiled tree) text b r new
 
     -- an end that is found is inside the text
     pub found-inside : {found : Option (State P)} {end : State P} → found ≡ Some end → IsMemoRight (compiled tree) text old.memo → ByRuns (Ok found) → offset end.pos ≤ units text
@@ -231,7 +231,7 @@ module _ {P : Type 0} (offset : P → ℕ) {tree : Tree} {text : Text} (can : Pr
         ∥∥₁_elim knows (Prim.hlevel props) (λ right. let x = first right in end-inside offset (compiled tree) text x.begin new end (by x.begin x.begins))
 
     -- what is found is what the tree finds
-    pub found-all : (end : Option (State P)) → IsMemoRight (compiled tree) text old.memo → ByRuns (Ok end) → end_and_groups offset end ≡ match_end_at tree text at
+    pub found-all : (end : Option (State P)) → IsMemoRight (compiled tree) text old.memo → ByRuns (Ok end) → end_and_groups offset end ≡ match_end_and_groups_at tree text at
     found-all end knows runs =
         ∥∥₁_elim knows (Prim.hlevel props) (λ right.
         let x = first right in
@@ -246,15 +246,15 @@ module _ {P : Type 0} (offset : P → ℕ) {tree : Tree} {text : Text} (can : Pr
 
     -- ---- In turn
 
-    module _ {ahead : ℕ} (is : IsText text) (knows : IsMemoRight (compiled tree) text old.memo) (same : new.memo.memo_analysis ≡ old.memo.memo_analysis)
+    module _ {ahead : ℕ} (is : HasRisingPlaceOffsets text) (knows : IsMemoRight (compiled tree) text old.memo) (same : new.memo.memo_analysis ≡ old.memo.memo_analysis)
         (walked : AreWalked (compiled tree) text old ahead) (le : ahead ≤ at) where
       inside : at ≤ units text
       inside = boundary_inside text is at on
 
-      abbrev from : Walked (compiled tree) text old ahead → AttemptBeginning
+      abbrev from : Walked (compiled tree) text old ahead → AttemptStartAndResult
       from w = its offset (compiled tree) text at ahead old new same w le inside (answered-at tree text can at on)
 
-      from-begins : (w : Walked (compiled tree) text old ahead) → IsRight (compiled tree) text old.memo → AttemptBeginsWith (compiled tree) text at old (from w)
+      from-begins : (w : Walked (compiled tree) text old ahead) → IsRight (compiled tree) text old.memo → AttemptBeginsWithMemoAndBudget (compiled tree) text at old (from w)
       from-begins w right = its-begins offset (compiled tree) text at ahead old new same w le inside (answered-at tree text can at on) right
 
       -- none is found
@@ -266,7 +266,7 @@ module _ {P : Type 0} (offset : P → ℕ) {tree : Tree} {text : Text} (can : Pr
           walked-none offset (compiled tree) text at ahead old new same w le inside (answered-at tree text can at on) ends.right.paid ends))
 
       -- one is
-      pub on-by-found : {found : Option (State P)} {end : State P} → found ≡ Some end → ByRuns (Ok found) → AreWalked (compiled tree) text new (next_attempt_offset at (offset end.pos))
+      pub on-by-found : {found : Option (State P)} {end : State P} → found ≡ Some end → ByRuns (Ok found) → AreWalked (compiled tree) text new (least_offset_after_match at (offset end.pos))
       on-by-found {end = end} found_is runs =
           let by = subst (λ o. ByRuns (Ok o)) found_is runs in
           ∥∥₁_elim knows ∥∥₁_prop (λ right. ∥∥₁_map walked (λ w.

@@ -6,7 +6,7 @@ use Rattle.std.proofs.lemmas.Bool.{cases_lt}
 use Rattle.std.proofs.Math.Logic.{∥∥₁_elim}
 use Rattle.std.proofs.Props.{props}
 use Rattle.regex_meaning.specs.Text.{Text, rightwards, last_place, moved}
-use Rattle.regex_meaning.specs.CodeUnitOffsets.{IsText, IsBoundary, place_at, units, offset as text_offset}
+use Rattle.regex_meaning.specs.CodeUnitOffsets.{HasRisingPlaceOffsets, IsBoundary, place_at, units, offset as text_offset}
 use Rattle.regex_meaning.specs.CompilationRelation.{Program}
 use Rattle.regex_meaning.proofs.Options.{some-same}
 use Rattle.regex_meaning.proofs.TextLemmas.{IsBoundary-place, offset-IsBoundary, offset-less, offset-le}
@@ -14,18 +14,18 @@ use Rattle.regress_input.specs.ReadsFromOffset.{end_if_matched, past_if}
 use Rattle.regress_plan.specs.InsnsAsSpecInsns.{spec_insn_of}
 use Rattle.regress_machine.specs.Machine as machine
 use Rattle.regress_machine.specs.Machine.{waiting, test_of}
-use Rattle.regress_machine.specs.InsnEffects.{after_loop_at}
+use Rattle.regress_machine.specs.InsnEffects.{state_after_char_loop_at}
 use Rattle.regress_machine.proofs.Beside.{moved-zero}
 use Rattle.regress_simulation.specs.CharLoopExitStates.{behind}
 use Rattle.regress_memo_laws.specs.LoopDataKeyCodes.{plan_code}
 use Rattle.regress_memo_laws.specs.MemoSearch.{Key, Entry, tried, noted}
 use Rattle.regress_memo_analysis.specs.AnalysisContents.{key_code_questions_of, insn_direction}
-use Rattle.regress_memo.specs.declared.memo.MemoKey.{MemoKey as Stored}
+use Rattle.regress_memo.specs.declared.memo.ThreadMemoKey.{ThreadMemoKey as Stored}
 use Rattle.regress_memo.specs.MemoContents.{as_key, memo_key_at, has_failure}
 use Rattle.regress_memo.specs.MemoContractView.{MemoView}
 use Rattle.regress_scan.proofs.Reach.{some-of}
 use Rattle.regress_scan.proofs.StopSets.{places-few}
-use Rattle.regress_bounded.specs.declared.pending_stack.UnboundedLoop.{UnboundedLoop}
+use Rattle.regress_bounded.specs.declared.pending_stack.UnboundedCharLoop.{UnboundedCharLoop}
 use Rattle.regress_bounded.specs.declared.pending_stack.StackEntry.{StackEntry}
 use Rattle.regress_bounded.specs.declared.pending_stack.StackEntry.TheVariants.{Thread as AsThread, Record as AsRecord}
 use Rattle.regress_pikevm.specs.declared.pikevm.states.State.{State}
@@ -45,7 +45,7 @@ pub record OneFurther {P : Type 0} (offset : P → ℕ) (text : Text) (at next :
   pub more : offset at < offset next
   pub inside : offset next ≤ units text
 
-module _ {P : Type 0} (offset : P → ℕ) (text : Text) (is : IsText text) where
+module _ {P : Type 0} (offset : P → ℕ) (text : Text) (is : HasRisingPlaceOffsets text) where
   one-further : (test : ℕ → Bool) (at next : P) (found : Bool) → IsBoundary text (offset at) → found ≡ true → end_if_matched found (offset next) ≡ past_if text test rightwards (offset at)
       → OneFurther offset text at next
   one-further test at next found h passes led =
@@ -99,7 +99,7 @@ same-keys j k ip at code =
     let c : record { ip = k.ip; at = k.at; code = j.code } ≡ k = ap (λ n. record { ip = k.ip; at = k.at; code = n }) code in
     a ∙ b ∙ c
 
-module _ {P : Type 0} {offset : P → ℕ} {program : Program} {text : Text} {run : UnboundedLoop} (state : State P) (here : IsRunHere offset program text run true (state_of offset state)) where
+module _ {P : Type 0} {offset : P → ℕ} {program : Program} {text : Text} {run : UnboundedCharLoop} (state : State P) (here : IsRunHere offset program text run true (state_of offset state)) where
   abbrev s : machine.State
   s = state_of offset state
 
@@ -137,7 +137,7 @@ module _ {P : Type 0} {offset : P → ℕ} {program : Program} {text : Text} {ru
         from r = some-same _ _ (sym (ap (option_map as_key) is_key) ∙ told ∙ ap (λ x. memo_key_at m.memo_analysis (record s { ip = s.ip + 1; pos = x })) same ∙ key-there r test e place n)
 
     -- there is one
-    pub key-some : (test : ℕ → Bool) → test_of program (Some (spec_insn_of run.body)) ≡ Some test → IsText text → (at : ℕ) → IsBoundary text at → (found : Option Stored) → found ≡ None
+    pub key-some : (test : ℕ → Bool) → test_of program (Some (spec_insn_of run.body)) ≡ Some test → HasRisingPlaceOffsets text → (at : ℕ) → IsBoundary text at → (found : Option Stored) → found ≡ None
         → option_map as_key found ≡ memo_key_at m.memo_analysis (record s { ip = s.ip + 1; pos = at }) → ⊥
     key-some test e is at h found none told = ∥∥₁_elim knows (Prim.hlevel props) (λ r. never r)
       where
@@ -186,12 +186,12 @@ module _ {P : Type 0} {offset : P → ℕ} {program : Program} {text : Text} {ru
 
     module _ (test : ℕ → Bool) (e : test_of program (Some (spec_insn_of run.body)) ≡ Some test) (place : ℕ) (old mid : List (StackEntry P)) (at : P) (n : ℕ)
         (found : Option Stored) (key : Stored) (is_key : found ≡ Some key) (told : option_map as_key found ≡ memo_key_at m.memo_analysis (record s { ip = s.ip + 1; pos = offset at })) (h : Goes test place old mid at n) (unknown : has_failure m (as_key key) ≡ false)
-        (there : State P) (is_there : state_of offset there ≡ after_loop_at (offset at) s) where
+        (there : State P) (is_there : state_of offset there ≡ state_after_char_loop_at (offset at) s) where
       its-key : as_key key ≡ key-of test place n
       its-key = key-found test e place n (offset at) found key is_key told h.past.at
 
       place-behind : state_of offset there ≡ behind text rightwards place s n
-      place-behind = is_there ∙ ap (λ x. after_loop_at x s) h.past.at
+      place-behind = is_there ∙ ap (λ x. state_after_char_loop_at x s) h.past.at
 
       more-unknown : (j : ℕ) → run.least ≤ j → j < n + 1 → has_failure m (key-of test place j) ≡ false
       more-unknown j le less = elim (cases_lt j n) [
@@ -212,7 +212,7 @@ module _ {P : Type 0} {offset : P → ℕ} {program : Program} {text : Text} {ru
           (record { threads = threads; is = ap (λ k. noted k threads) (sym its-key) }) (h.wait.rows row r)
 
       -- it is the last one
-      pub furthest-all : (next : P) (passes : Bool) → IsText text → passes ≡ false → end_if_matched passes (offset next) ≡ past_if text test rightwards (offset at) → (new : List (StackEntry P))
+      pub furthest-all : (next : P) (passes : Bool) → HasRisingPlaceOffsets text → passes ≡ false → end_if_matched passes (offset next) ≡ past_if text test rightwards (offset at) → (new : List (StackEntry P))
           → new ≡ mid ++ AsRecord key ∷ [] → ScansWithMemo offset program text m.memo_analysis (has_failure m) test place s run.least old new (Some there, n)
       furthest-all next passes is_text fails led new same =
           let sum = h.past.sum in
@@ -226,7 +226,7 @@ module _ {P : Type 0} {offset : P → ℕ} {program : Program} {text : Text} {ru
           }
 
       -- it waits, and the next one is gone on from
-      pub furthest-more : (next : P) (passes : Bool) → IsText text → passes ≡ true → end_if_matched passes (offset next) ≡ past_if text test rightwards (offset at) → (new : List (StackEntry P))
+      pub furthest-more : (next : P) (passes : Bool) → HasRisingPlaceOffsets text → passes ≡ true → end_if_matched passes (offset next) ≡ past_if text test rightwards (offset at) → (new : List (StackEntry P))
           → new ≡ (mid ++ AsRecord key ∷ []) ++ AsThread there ∷ [] → Goes test place old new next (n + 1)
       furthest-more next passes is_text on_it led new same =
           let on = past-more offset text is_text test place n at next passes h.past on_it led in

@@ -1,7 +1,7 @@
 -- A turn at a greedy run without a maximum, where there are as many characters as it needs: what it comes to.
 use Rattle.std.proofs.Common.{◌≡◌, ◌≤◌, ℕ, ◌+◌, ◌-◌, Bool, true, List, [], ◌∷◌, ◌++◌, Option, Some, None, subst, arith}
 use Rattle.regex_meaning.specs.Text.{Text, rightwards}
-use Rattle.regex_meaning.specs.CodeUnitOffsets.{IsText, units}
+use Rattle.regex_meaning.specs.CodeUnitOffsets.{HasRisingPlaceOffsets, units}
 use Rattle.regex_meaning.specs.CompilationRelation.{Program}
 use Rattle.regress_plan.specs.InsnsAsSpecInsns.{spec_insn_of}
 use Rattle.regress_machine.specs.Machine as machine
@@ -9,18 +9,18 @@ use Rattle.regress_machine.specs.Machine.{running, test_of}
 use Rattle.regress_memo_laws.specs.CharLoopThreads.{passing}
 use Rattle.regress_memo_laws.specs.MemoSearch.{Entry, tried, noted}
 use Rattle.regress_memo.specs.MemoContents.{has_failure}
-use Rattle.regress_bounded.specs.declared.work_budget.WorkBudget.{WorkBudget}
-use Rattle.regress_bounded.specs.declared.pending_stack.UnboundedLoop.{UnboundedLoop}
+use Rattle.regress_bounded.specs.declared.memo_and_work_budget.MemoAndWorkBudget.{MemoAndWorkBudget}
+use Rattle.regress_bounded.specs.declared.pending_stack.UnboundedCharLoop.{UnboundedCharLoop}
 use Rattle.regress_bounded.specs.declared.pending_stack.StackEntry.{StackEntry}
 use Rattle.regress_pikevm.specs.declared.pikevm.states.State.{State}
-use Rattle.regress_bounded.specs.SearchStateEntries.{AttemptBeginning, IsRow, IsRunHere, ScansWithMemo, IsPast, Stands, IsOver, front_of}
+use Rattle.regress_bounded.specs.SearchStateEntries.{AttemptStartAndResult, IsRow, IsRunHere, ScansWithMemo, IsPast, Stands, IsOver, front_of}
 use Rattle.regress_bounded.specs.BudgetSpending.{IsTakenFromBudget, IsBudgetExhausted}
 use Rattle.regress_bounded.specs.WorkCosts.{IsEndless, key_on, row_on, row_of_places}
 use Rattle.regress_bounded.proofs.Lazily.{few-passed, PassesOver, endless-by}
 use Rattle.regress_bounded.proofs.Meeting.{greedy-met-known, greedy-met-all}
 use Rattle.regress_bounded.proofs.Standing.{on, goes-on, is-over}
 
-module _ {P : Type 0} {offset : P → ℕ} {program : Program} {text : Text} {run : UnboundedLoop} {s : machine.State} {passed : ℕ} {pos : P} (p : PassesOver offset program text run s passed pos)
+module _ {P : Type 0} {offset : P → ℕ} {program : Program} {text : Text} {run : UnboundedCharLoop} {s : machine.State} {passed : ℕ} {pos : P} (p : PassesOver offset program text run s passed pos)
     (le : run.least ≤ passed) where
   -- where all are there that are needed, the position is behind so many
   pub all-passed : IsPast offset text p.test p.place run.least pos
@@ -29,7 +29,7 @@ module _ {P : Type 0} {offset : P → ℕ} {program : Program} {text : Text} {ru
       let same : passed ≡ run.least = omega (arith, few, le) in
       subst (λ n. IsPast offset text p.test p.place n pos) same p.over.past
 
-  module _ (c : WorkBudget) (old new : List (StackEntry P)) (next : Option (State P)) (n : ℕ) where
+  module _ (c : MemoAndWorkBudget) (old new : List (StackEntry P)) (next : Option (State P)) (n : ℕ) where
     abbrev Meets : (test : ℕ → Bool) (place : ℕ) → Option (State P) → Type 0
     Meets test place next = ScansWithMemo offset program text c.memo.memo_analysis (has_failure c.memo) test place s run.least old new (next, n)
 
@@ -37,7 +37,7 @@ module _ {P : Type 0} {offset : P → ℕ} {program : Program} {text : Text} {ru
     abbrev pub HasMet : Type 0
     HasMet = (test : ℕ → Bool) (place : ℕ) → test_of program (Some (spec_insn_of run.body)) ≡ Some test → IsPast offset text test place run.least pos → Meets test place next
 
-    pub met-few : IsText text → HasMet → n ≤ units text
+    pub met-few : HasRisingPlaceOffsets text → HasMet → n ≤ units text
     met-few is_text met =
         let few = few-passed text is_text p.test p.place p.inside in
         let reached = passes next (met p.test p.place p.tests all-passed) in
@@ -48,14 +48,14 @@ module _ {P : Type 0} {offset : P → ℕ} {program : Program} {text : Text} {ru
         passes (Some here) w = let e = w.all in omega (arith, e)
 
 -- a row behind the thread that goes on, if one does, in so much work
-record Met {P : Type 0} (offset : P → ℕ) (program : Program) (text : Text) (s : machine.State) {stack : List (StackEntry P)} {c : WorkBudget} (b : AttemptBeginning)
+record Met {P : Type 0} (offset : P → ℕ) (program : Program) (text : Text) (s : machine.State) {stack : List (StackEntry P)} {c : MemoAndWorkBudget} (b : AttemptStartAndResult)
     (h : Stands offset program text b (tried (running s) ∷ []) stack c) (next : Option (State P)) (new : List (StackEntry P)) (n : ℕ) : Type 0 where
   row : List Entry
   comes : on offset program text b s h (n + 2) (front_of offset next ++ row)
   is : IsRow offset program text new row
 
-module _ {P : Type 0} {offset : P → ℕ} {program : Program} {text : Text} {b : AttemptBeginning} {s : machine.State} {stack : List (StackEntry P)} {c : WorkBudget}
-    (h : Stands offset program text b (tried (running s) ∷ []) stack c) {run : UnboundedLoop} (here : IsRunHere offset program text run true s)
+module _ {P : Type 0} {offset : P → ℕ} {program : Program} {text : Text} {b : AttemptStartAndResult} {s : machine.State} {stack : List (StackEntry P)} {c : MemoAndWorkBudget}
+    (h : Stands offset program text b (tried (running s) ∷ []) stack c) {run : UnboundedCharLoop} (here : IsRunHere offset program text run true s)
     {passed : ℕ} {pos : P} (p : PassesOver offset program text run s passed pos) (le : run.least ≤ passed) (new : List (StackEntry P)) (next : Option (State P)) (n : ℕ)
     (met : HasMet p le c stack new next n) where
   abbrev endless : IsEndless program s p.test run.least true
@@ -79,8 +79,8 @@ module _ {P : Type 0} {offset : P → ℕ} {program : Program} {text : Text} {b 
         is = w.rows h.row h.is;
       }
 
-  pub met-over : (c' : WorkBudget) → c'.memo ≡ c.memo → IsBudgetExhausted (n + 2) c.left c'.left → IsOver offset program text b c'
+  pub met-over : (c' : MemoAndWorkBudget) → c'.memo ≡ c.memo → IsBudgetExhausted (n + 2) c.left c'.left → IsOver offset program text b c'
   met-over c' same spent = is-over offset program text b h (front_of offset next ++ comes-to.row) (n + 2) c' comes-to.comes same spent
 
-  pub met-goes : (c' : WorkBudget) → c'.memo ≡ c.memo → IsTakenFromBudget (n + 2) c.left c'.left → Stands offset program text b (front_of offset next) new c'
+  pub met-goes : (c' : MemoAndWorkBudget) → c'.memo ≡ c.memo → IsTakenFromBudget (n + 2) c.left c'.left → Stands offset program text b (front_of offset next) new c'
   met-goes c' same spent = goes-on offset program text b h (front_of offset next) comes-to.row new (n + 2) c' comes-to.comes comes-to.is same spent

@@ -5,28 +5,28 @@ use Rattle.std.specs.Prelude.{IsSome, is_some, option_map, slice_get}
 use Rattle.std.proofs.Math.Logic.{∥∥₁_elim}
 use Rattle.std.proofs.Props.{props}
 use Rattle.regex_meaning.specs.Text.{Text, rightwards, last_place, moved}
-use Rattle.regex_meaning.specs.CodeUnitOffsets.{IsText, IsBoundary, units, place_at, offset as text_offset}
+use Rattle.regex_meaning.specs.CodeUnitOffsets.{HasRisingPlaceOffsets, IsBoundary, units, place_at, offset as text_offset}
 use Rattle.regex_meaning.specs.CompilationRelation.{Program, Loop1CharBody}
 use Rattle.regex_meaning.proofs.TextLemmas.{place_at-offset, offset-place_at, IsBoundary-place}
 use Rattle.regress_plan.specs.InsnsAsSpecInsns.{spec_insn_of}
 use Rattle.regress_machine.specs.Machine as machine
 use Rattle.regress_machine.specs.Machine.{running, test_of}
-use Rattle.regress_machine.specs.InsnEffects.{after_loop_at}
+use Rattle.regress_machine.specs.InsnEffects.{state_after_char_loop_at}
 use Rattle.regress_machine.proofs.Beside.{moved-zero}
 use Rattle.regress_simulation.specs.CharLoopExitStates.{behind}
 use Rattle.regress_memo_laws.specs.CharLoopThreads.{passing, pending_loop_threads}
 use Rattle.regress_memo_laws.specs.MemoSearch.{Key, Entry, tried, kept, noted, tries}
 use Rattle.regress_memo_analysis.specs.WorkBound.{first_row}
 use Rattle.regress_memo_analysis.specs.AnalysisChecks.{unlimited}
-use Rattle.regress_memo.specs.declared.memo.MemoKey.{MemoKey as Stored}
+use Rattle.regress_memo.specs.declared.memo.ThreadMemoKey.{ThreadMemoKey as Stored}
 use Rattle.regress_memo.specs.MemoContents.{as_key, memo_key_at, has_failure}
 use Rattle.regress_memo.specs.MemoSearchCosts.{HasCome}
-use Rattle.regress_bounded.specs.declared.work_budget.WorkBudget.{WorkBudget}
-use Rattle.regress_bounded.specs.declared.pending_stack.UnboundedLoop.{UnboundedLoop}
+use Rattle.regress_bounded.specs.declared.memo_and_work_budget.MemoAndWorkBudget.{MemoAndWorkBudget}
+use Rattle.regress_bounded.specs.declared.pending_stack.UnboundedCharLoop.{UnboundedCharLoop}
 use Rattle.regress_bounded.specs.declared.pending_stack.StackEntry.{StackEntry}
 use Rattle.regress_bounded.specs.declared.pending_stack.StackEntry.TheVariants.{Run as AsRun, Record as AsRecord}
 use Rattle.regress_pikevm.specs.declared.pikevm.states.State.{State}
-use Rattle.regress_bounded.specs.SearchStateEntries.{AttemptBeginning, IsRow, IsRest, Stands, Standing, IsStanding, IsOver, front_of, IsRunHere, HasPassedOver, IsNearest}
+use Rattle.regress_bounded.specs.SearchStateEntries.{AttemptStartAndResult, IsRow, IsRest, Stands, Standing, IsStanding, IsOver, front_of, IsRunHere, HasPassedOver, IsNearest}
 use Rattle.regress_bounded.specs.WorkCosts.{IsEndless, key_on}
 use Rattle.regress_bounded.specs.BudgetSpending.{IsTakenFromBudget, IsBudgetExhausted}
 use Rattle.regress_pikevm.specs.States.{state_of}
@@ -45,14 +45,14 @@ use Rattle.regress_input.proofs.Places.{boundary_inside}
 -- ---- What a run reads
 
 -- no more characters pass than there are units
-pub few-passed : (text : Text) → IsText text → (test : ℕ → Bool) (place : ℕ) → place ≤ last_place text → passing text test rightwards place ≤ units text
+pub few-passed : (text : Text) → HasRisingPlaceOffsets text → (test : ℕ → Bool) (place : ℕ) → place ≤ last_place text → passing text test rightwards place ≤ units text
 few-passed text is test place inside =
     let a = passing-left text test rightwards place inside in
     let b = places-few text is (last_place text) (omega arith) in
     omega (arith, a, b, inside)
 
 -- its test and its place, and so many characters that are passed over
-pub record PassesOver {P : Type 0} (offset : P → ℕ) (program : Program) (text : Text) (run : UnboundedLoop) (s : machine.State) (passed : ℕ) (pos : P) : Type 0 where
+pub record PassesOver {P : Type 0} (offset : P → ℕ) (program : Program) (text : Text) (run : UnboundedCharLoop) (s : machine.State) (passed : ℕ) (pos : P) : Type 0 where
   pub test : ℕ → Bool
   pub tests : test_of program (Some (spec_insn_of run.body)) ≡ Some test
   pub place : ℕ
@@ -60,7 +60,7 @@ pub record PassesOver {P : Type 0} (offset : P → ℕ) (program : Program) (tex
   pub inside : place ≤ last_place text
   pub over : HasPassedOver offset text test run.least place passed pos
 
-module _ {P : Type 0} {offset : P → ℕ} {program : Program} {text : Text} {run : UnboundedLoop} {greedy : Bool} {s : machine.State} (here : IsRunHere offset program text run greedy s) where
+module _ {P : Type 0} {offset : P → ℕ} {program : Program} {text : Text} {run : UnboundedCharLoop} {greedy : Bool} {s : machine.State} (here : IsRunHere offset program text run greedy s) where
   -- a test, at a place
   pub record Reads : Type 0 where
     pub test : IsSome (test_of program (Some (spec_insn_of run.body)))
@@ -69,7 +69,7 @@ module _ {P : Type 0} {offset : P → ℕ} {program : Program} {text : Text} {ru
   reads-at : ScansAt program text s → Reads
   reads-at x = record { test = ap is_some (ap (test_of program) (sym here.body) ∙ x.body); at = ap is_some x.at }
 
-  module _ {stack : List (StackEntry P)} {c : WorkBudget} (there : IsStanding offset program text (tried (running s) ∷ []) stack c) where
+  module _ {stack : List (StackEntry P)} {c : MemoAndWorkBudget} (there : IsStanding offset program text (tried (running s) ∷ []) stack c) where
     pub reads-here : Reads
     reads-here =
         let by = λ (x : Standing offset program text (tried (running s) ∷ []) stack c).
@@ -79,7 +79,7 @@ module _ {P : Type 0} {offset : P → ℕ} {program : Program} {text : Text} {ru
           at = ∥∥₁_elim there (Prim.hlevel props) (λ x. (by x).at);
         }
 
-    pub passes-over : IsText text → (passed : ℕ) (pos : P)
+    pub passes-over : HasRisingPlaceOffsets text → (passed : ℕ) (pos : P)
         → ((test : ℕ → Bool) (place : ℕ) → test_of program (Some (spec_insn_of run.body)) ≡ Some test → place_at text s.pos ≡ Some place → HasPassedOver offset text test run.least place passed pos)
         → PassesOver offset program text run s passed pos
     passes-over is passed pos h =
@@ -92,19 +92,19 @@ module _ {P : Type 0} {offset : P → ℕ} {program : Program} {text : Text} {ru
   endless-by test e = record { run = here.insn; body = ap (test_of program) here.body ∙ e }
 
 -- the number of what was passed fits
-pub passed-fits : {P : Type 0} {offset : P → ℕ} {program : Program} {text : Text} {run : UnboundedLoop} {s : machine.State} {passed : ℕ} {pos : P} → PassesOver offset program text run s passed pos
-    → IsText text → units text < 2 ^ 63 → passed + 2 < 2 ^ 64
+pub passed-fits : {P : Type 0} {offset : P → ℕ} {program : Program} {text : Text} {run : UnboundedCharLoop} {s : machine.State} {passed : ℕ} {pos : P} → PassesOver offset program text run s passed pos
+    → HasRisingPlaceOffsets text → units text < 2 ^ 63 → passed + 2 < 2 ^ 64
 passed-fits p is short = let few = few-passed _ is p.test p.place p.inside in let sum = p.over.past.sum in omega (arith, few, sum, short)
 
 -- what is known of whether it is greedy
-pub run-which : {P : Type 0} {offset : P → ℕ} {program : Program} {text : Text} {run : UnboundedLoop} {greedy which : Bool} {s : machine.State} → IsRunHere offset program text run greedy s → greedy ≡ which
+pub run-which : {P : Type 0} {offset : P → ℕ} {program : Program} {text : Text} {run : UnboundedCharLoop} {greedy which : Bool} {s : machine.State} → IsRunHere offset program text run greedy s → greedy ≡ which
     → IsRunHere offset program text run which s
 run-which {run = run} here same = record { insn = here.insn ∙ ap (λ b. Some (Loop1CharBody run.least unlimited b)) same; body = here.body }
 
 -- ---- Its turn, where there are too few characters
 
-module _ {P : Type 0} {offset : P → ℕ} {program : Program} {text : Text} {b : AttemptBeginning} {s : machine.State} {stack : List (StackEntry P)} {c : WorkBudget}
-    (h : Stands offset program text b (tried (running s) ∷ []) stack c) {run : UnboundedLoop} {passed : ℕ} {pos : P} (p : PassesOver offset program text run s passed pos) where
+module _ {P : Type 0} {offset : P → ℕ} {program : Program} {text : Text} {b : AttemptStartAndResult} {s : machine.State} {stack : List (StackEntry P)} {c : MemoAndWorkBudget}
+    (h : Stands offset program text b (tried (running s) ∷ []) stack c) {run : UnboundedCharLoop} {passed : ℕ} {pos : P} (p : PassesOver offset program text run s passed pos) where
   short-by : {greedy : Bool} → IsRunHere offset program text run greedy s → passed < run.least → on offset program text b s h (passed + 2) h.row
   short-by {greedy} here few =
       let all = p.over.all few in
@@ -120,7 +120,7 @@ module _ {P : Type 0} {offset : P → ℕ} {program : Program} {text : Text} {b 
           lazy-none program c.memo.memo_analysis paid.memo_analysis paid.bounded text paid.is_text paid.bytes paid.short rightwards b.memory (tries (first_row program b.at)) h.work h.now h.row
           s p.test run.least p.place endless p.at less h.comes
 
-  module _ {greedy : Bool} (here : IsRunHere offset program text run greedy s) (few : passed < run.least) (c' : WorkBudget) (same : c'.memo ≡ c.memo) where
+  module _ {greedy : Bool} (here : IsRunHere offset program text run greedy s) (few : passed < run.least) (c' : MemoAndWorkBudget) (same : c'.memo ≡ c.memo) where
     pub short-over : IsBudgetExhausted (passed + 2) c.left c'.left → IsOver offset program text b c'
     short-over spent = is-over offset program text b h h.row (passed + 2) c' (short-by here few) same spent
 
@@ -129,8 +129,8 @@ module _ {P : Type 0} {offset : P → ℕ} {program : Program} {text : Text} {b 
 
 -- ---- The turn of a lazy one
 
-module _ {P : Type 0} {offset : P → ℕ} {program : Program} {text : Text} {b : AttemptBeginning} (state : State P) {stack : List (StackEntry P)} {c : WorkBudget}
-    (h : Stands offset program text b (tried (running (state_of offset state)) ∷ []) stack c) {run : UnboundedLoop} (here : IsRunHere offset program text run false (state_of offset state))
+module _ {P : Type 0} {offset : P → ℕ} {program : Program} {text : Text} {b : AttemptStartAndResult} (state : State P) {stack : List (StackEntry P)} {c : MemoAndWorkBudget}
+    (h : Stands offset program text b (tried (running (state_of offset state)) ∷ []) stack c) {run : UnboundedCharLoop} (here : IsRunHere offset program text run false (state_of offset state))
     {passed : ℕ} {pos : P} (p : PassesOver offset program text run (state_of offset state) passed pos) (le : run.least ≤ passed) where
   abbrev s : machine.State
   s = state_of offset state
@@ -148,17 +148,17 @@ module _ {P : Type 0} {offset : P → ℕ} {program : Program} {text : Text} {b 
       (lazy-first program c.memo.memo_analysis paid.memo_analysis paid.bounded text paid.is_text paid.bytes paid.short rightwards b.memory (tries (first_row program b.at)) h.work h.now h.row
       s p.test run.least p.place endless p.at (omega (arith, same, sum)) h.comes)
 
-  pub lazy-over : (c' : WorkBudget) → c'.memo ≡ c.memo → IsBudgetExhausted (passed + 2) c.left c'.left → IsOver offset program text b c'
+  pub lazy-over : (c' : MemoAndWorkBudget) → c'.memo ≡ c.memo → IsBudgetExhausted (passed + 2) c.left c'.left → IsOver offset program text b c'
   lazy-over c' same spent = is-over offset program text b h _ (passed + 2) c' first same spent
 
   pub lazy-goes : (next : State P) (new : List (StackEntry P))
       → ((test : ℕ → Bool) (place : ℕ) → test_of program (Some (spec_insn_of run.body)) ≡ Some test → place_at text (offset pos) ≡ Some place → IsNearest offset text test place pos state next stack new)
-      → (c' : WorkBudget) → c'.memo ≡ c.memo → IsTakenFromBudget (passed + 2) c.left c'.left → Stands offset program text b (front_of offset (Some next)) new c'
+      → (c' : MemoAndWorkBudget) → c'.memo ≡ c.memo → IsTakenFromBudget (passed + 2) c.left c'.left → Stands offset program text b (front_of offset (Some next)) new c'
   lazy-goes next new nearest c' same spent =
       let sum = p.over.past.sum in
       let there = moved text rightwards passed p.place in
       let near = nearest p.test there p.tests (ap (place_at text) p.over.past.at ∙ place_at-offset text there h.right.paid.is_text p.over.past.within) in
-      let is : behind text rightwards p.place s passed ≡ state_of offset next = sym (near.is_here ∙ ap (λ at. after_loop_at at s) p.over.past.at) in
+      let is : behind text rightwards p.place s passed ≡ state_of offset next = sym (near.is_here ∙ ap (λ at. state_after_char_loop_at at s) p.over.past.at) in
       let after = nearest-behind offset program text c.memo.memo_analysis h.right.paid p.test run.least p.place state endless p.inside passed (omega (arith, sum)) there refl pos next stack new near in
       let come = subst (λ r. on offset program text b s h (passed + 2) (tried (running r) ∷ kept (pending_loop_threads text p.test rightwards (passed + 1) p.place s) ∷ h.row)) is first in
       let x = with-behind offset program text c.memo.memo_analysis b.memory (tries (first_row program b.at)) (h.work + (passed + 2)) h.now (state_of offset next)
@@ -167,7 +167,7 @@ module _ {P : Type 0} {offset : P → ℕ} {program : Program} {text : Text} {b 
 
 -- ---- The way back to one
 
-module _ {P : Type 0} {offset : P → ℕ} {program : Program} {text : Text} {b : AttemptBeginning} (stack : List (StackEntry P)) (state : State P) {c : WorkBudget}
+module _ {P : Type 0} {offset : P → ℕ} {program : Program} {text : Text} {b : AttemptStartAndResult} (stack : List (StackEntry P)) (state : State P) {c : MemoAndWorkBudget}
     (h : Stands offset program text b [] (stack ++ AsRun state ∷ []) c) where
   abbrev its : machine.State
   its = state_of offset state
@@ -223,10 +223,10 @@ module _ {P : Type 0} {offset : P → ℕ} {program : Program} {text : Text} {b 
         lazy-known program c.memo.memo_analysis paid.memo_analysis paid.bounded text paid.is_text paid.bytes paid.short rightwards b.memory (tries (first_row program b.at)) h.work h.now left-off.rest
         its rest-of.test rest-of.least rest-of.place rest-of.run its-inside (subst (KeyFails program text c.memo.memo_analysis) is (h.right.is_true.fails k fails)) comes-back
 
-    pub back-known-over : has_failure c.memo k ≡ true → (c' : WorkBudget) → c'.memo ≡ c.memo → IsBudgetExhausted 1 c.left c'.left → IsOver offset program text b c'
+    pub back-known-over : has_failure c.memo k ≡ true → (c' : MemoAndWorkBudget) → c'.memo ≡ c.memo → IsBudgetExhausted 1 c.left c'.left → IsOver offset program text b c'
     back-known-over fails c' same spent = is-over offset program text b h left-off.rest 1 c' (back-known fails) same spent
 
-    pub back-known-goes : has_failure c.memo k ≡ true → (c' : WorkBudget) → c'.memo ≡ c.memo → IsTakenFromBudget 1 c.left c'.left → Stands offset program text b [] stack c'
+    pub back-known-goes : has_failure c.memo k ≡ true → (c' : MemoAndWorkBudget) → c'.memo ≡ c.memo → IsTakenFromBudget 1 c.left c'.left → Stands offset program text b [] stack c'
     back-known-goes fails c' same spent = goes-on offset program text b h [] left-off.rest stack 1 c' (back-known fails) left-off.below same spent
 
     -- it is not
@@ -241,19 +241,19 @@ module _ {P : Type 0} {offset : P → ℕ} {program : Program} {text : Text} {b 
         its rest-of.test rest-of.least rest-of.place rest-of.run its-inside
         (subst (λ k. IsNew k h.now) is (memos-hold.new (has_failure c.memo) h.now k h.holds unknown)) comes-back)
 
-    pub back-over : has_failure c.memo k ≡ false → (c' : WorkBudget) → c'.memo ≡ c.memo → IsBudgetExhausted 2 c.left c'.left → IsOver offset program text b c'
+    pub back-over : has_failure c.memo k ≡ false → (c' : MemoAndWorkBudget) → c'.memo ≡ c.memo → IsBudgetExhausted 2 c.left c'.left → IsOver offset program text b c'
     back-over unknown c' same spent = is-over offset program text b h _ 2 c' (back-again unknown) same spent
 
     pub back-goes : has_failure c.memo k ≡ false → (next : State P) (mid new : List (StackEntry P)) → mid ≡ stack ++ AsRecord stored ∷ []
         → IsNearest offset text rest-of.test rest-of.place state.pos state next mid new
-        → (c' : WorkBudget) → c'.memo ≡ c.memo → IsTakenFromBudget 2 c.left c'.left → Stands offset program text b (front_of offset (Some next)) new c'
+        → (c' : MemoAndWorkBudget) → c'.memo ≡ c.memo → IsTakenFromBudget 2 c.left c'.left → Stands offset program text b (front_of offset (Some next)) new c'
     back-goes unknown next mid new pushed near' c' same spent =
         let t = c.memo.memo_analysis in
         let near = subst (λ xs. IsNearest offset text rest-of.test rest-of.place state.pos state next xs new) pushed near' in
         let none : moved text rightwards 0 rest-of.place ≡ rest-of.place = moved-zero text rightwards rest-of.place in
         let at : text_offset text (moved text rightwards 0 rest-of.place) ≡ its.pos =
         ap (text_offset text) none ∙ (offset-place_at text its.pos rest-of.place h.right.paid.is_text rest-of.at).0 in
-        let nearest_is : behind text rightwards rest-of.place its 0 ≡ state_of offset next = ap (λ q. after_loop_at q its) at ∙ sym near.is_here in
+        let nearest_is : behind text rightwards rest-of.place its 0 ≡ state_of offset next = ap (λ q. state_after_char_loop_at q its) at ∙ sym near.is_here in
         let all = pending_loop_threads text rest-of.test rightwards 0 rest-of.place its in
         let more = pending_loop_threads text rest-of.test rightwards 1 rest-of.place its in
         let after = nearest-behind offset program text t h.right.paid rest-of.test rest-of.least rest-of.place state rest-of.run its-inside 0 (omega arith)
@@ -267,7 +267,7 @@ module _ {P : Type 0} {offset : P → ℕ} {program : Program} {text : Text} {b 
 
 -- ---- What there is to come back to
 
-module _ {P : Type 0} {offset : P → ℕ} {program : Program} {text : Text} (stack : List (StackEntry P)) (state : State P) {c : WorkBudget}
+module _ {P : Type 0} {offset : P → ℕ} {program : Program} {text : Text} (stack : List (StackEntry P)) (state : State P) {c : MemoAndWorkBudget}
     (there : IsStanding offset program text [] (stack ++ AsRun state ∷ []) c) where
   -- its place is one of the memory's
   pub back-place : offset state.pos < c.memo.places

@@ -5,6 +5,7 @@ pub mod Furthest
 pub mod GreedyMet
 pub mod Lazily
 pub mod Looks
+pub mod MatchLemmas
 pub mod Meeting
 pub mod PaidRuns
 pub mod PaidSearches

@@ -16,15 +16,15 @@ use Rattle.regress_memo_laws.proofs.Runs.{passing-on, passing-left}
 use Rattle.regress_memo_analysis.specs.declared.analysis.MemoAnalysis.{MemoAnalysis}
 use Rattle.regress_memo_analysis.specs.WorkBound.{first_row}
 use Rattle.regress_memo_analysis.specs.AnalysisChecks.{unlimited}
-use Rattle.regress_memo.specs.declared.memo.MemoKey.{MemoKey as Stored}
+use Rattle.regress_memo.specs.declared.memo.ThreadMemoKey.{ThreadMemoKey as Stored}
 use Rattle.regress_memo.specs.MemoContents.{as_key, has_failure}
 use Rattle.regress_memo.specs.MemoSearchCosts.{HasCome}
 use Rattle.regress_scan.proofs.Reach.{moved-more}
-use Rattle.regress_bounded.specs.declared.work_budget.WorkBudget.{WorkBudget}
+use Rattle.regress_bounded.specs.declared.memo_and_work_budget.MemoAndWorkBudget.{MemoAndWorkBudget}
 use Rattle.regress_bounded.specs.declared.pending_stack.StackEntry.{StackEntry}
 use Rattle.regress_bounded.specs.declared.pending_stack.StackEntry.TheVariants.{Run as AsRun}
 use Rattle.regress_pikevm.specs.declared.pikevm.states.State.{State}
-use Rattle.regress_bounded.specs.SearchStateEntries.{AttemptBeginning, HasKeyNotKnownToFail, IsRow, IsRest, IsPaid, Stands, IsTurn, Scans, PlacesWait, AllWait, IsNearest}
+use Rattle.regress_bounded.specs.SearchStateEntries.{AttemptStartAndResult, HasKeyNotKnownToFail, IsRow, IsRest, IsPaid, Stands, IsTurn, Scans, PlacesWait, AllWait, IsNearest}
 use Rattle.regress_bounded.specs.WorkCosts.{IsEndless, key_on, row_on, row_of_places}
 use Rattle.regress_bounded.specs.BudgetSpending.{IsTakenFromBudget}
 use Rattle.regress_pikevm.specs.States.{state_of}
@@ -56,7 +56,7 @@ module _ (program : Program) (text : Text) (s : machine.State) (least most : ℕ
 
 -- ---- One with a maximum
 
-module _ {P : Type 0} (offset : P → ℕ) (program : Program) (text : Text) (b : AttemptBeginning) (s : machine.State) {stack : List (StackEntry P)} {c : WorkBudget}
+module _ {P : Type 0} (offset : P → ℕ) (program : Program) (text : Text) (b : AttemptStartAndResult) (s : machine.State) {stack : List (StackEntry P)} {c : MemoAndWorkBudget}
     (h : Stands offset program text b (tried (running s) ∷ []) stack c) where
   not-unlimited : (most : ℕ) → (most == unlimited) ≡ false → most ≢ unlimited
   not-unlimited most other e = let yes : (most == unlimited) ≡ true = ap (λ m. m == unlimited) e in let never : true ≡ false = sym yes ∙ other in cc

@@ -9,7 +9,7 @@ use Rattle.std.proofs.lemmas.List.Sums.{sum_by-cons}
 use Rattle.regex_meaning.specs.Laws.{Each}
 use Rattle.regex_meaning.specs.NumberListHelpers.{numbers_from}
 use Rattle.regex_meaning.specs.Text.{Text, Direction, rightwards, leftwards, last_place, moved, characters_ahead}
-use Rattle.regex_meaning.specs.CodeUnitOffsets.{IsText, offset, place_at, units}
+use Rattle.regex_meaning.specs.CodeUnitOffsets.{HasRisingPlaceOffsets, offset, place_at, units}
 use Rattle.regex_meaning.specs.CompilationRelation.{Program, Loop1CharBody}
 use Rattle.regex_meaning.proofs.Each.{Each-append, Each-map, Each-reverse}
 use Rattle.regex_meaning.proofs.Lists.{length-numbers_from}
@@ -23,12 +23,12 @@ use Rattle.regress_simulation.proofs.Runs.{behind-from, run-turn}
 use Rattle.regress_simulation.proofs.Simulates.{simulates-same}
 use Rattle.regress_memo_laws.specs.Liveness.{Agree, outermost, ReadsAsBytes}
 use Rattle.regress_memo_laws.specs.Bisimulation.{Relation, AlikeThreads}
-use Rattle.regress_memo_laws.specs.BoundedLoopAndLookaroundCosts.{ScanIsPaid, ScanGives}
+use Rattle.regress_memo_laws.specs.BoundedCharLoopsAndLookarounds.{ScanIsPaid, ScanGives}
 use Rattle.regress_memo_laws.specs.LoopDataKeyCodes.{HasSlotsOfProgram, plan_code, key_of}
 use Rattle.regress_memo_laws.specs.DistinctLists.{IsNew}
 use Rattle.regress_memo_laws.specs.PreservedSlotCounts.{state_of_thread}
 use Rattle.regress_memo_laws.specs.AmortizedStepCosts.{potential_by, IsCostCovered, GreedyLoopIsCovered, LazyLoopIsCovered, RunTurnsArePaid, LazyTurnsArePaid}
-use Rattle.regress_memo_laws.specs.MemoPlans.{IsRecorded, plan_taken}
+use Rattle.regress_memo_laws.specs.MemoPlanChecksAndGuarantees.{IsRecorded, plan_taken}
 use Rattle.regress_memo_laws.specs.CharLoopMemoKeys.{char_loop_greediness_at, CharLoopRecords, run_key}
 use Rattle.regress_memo_laws.specs.CharLoopThreads.{passing, pending_loop_threads}
 use Rattle.regress_memo_laws.specs.CharLoopSteps.{placed, AreUnknown, AtCharLoop, GreedyGives, LazyGives}
@@ -124,7 +124,7 @@ left-few text leftwards p le = le
 
 -- ---- Runs
 
-module _ (program : Program) (t : MemoAnalysis) (of : IsAnalysisOf program t) (bounded : IsWorkBounded t program) (text : Text) (is_text : IsText text) (bytes : ReadsAsBytes program text)
+module _ (program : Program) (t : MemoAnalysis) (of : IsAnalysisOf program t) (bounded : IsWorkBounded t program) (text : Text) (is_text : HasRisingPlaceOffsets text) (bytes : ReadsAsBytes program text)
     (less : units text < 2 ^ 63) (d : Direction) where
   abbrev Keyed : State → Type 0
   Keyed s = IsKeyed program text t d s
@@ -221,7 +221,7 @@ module _ (program : Program) (t : MemoAnalysis) (of : IsAnalysisOf program t) (b
 
 -- ---- Runs without a maximum: their keys, and the places that they leave
 
-module _ (program : Program) (t : MemoAnalysis) (of : IsAnalysisOf program t) (bounded : IsWorkBounded t program) (text : Text) (is_text : IsText text) (bytes : ReadsAsBytes program text)
+module _ (program : Program) (t : MemoAnalysis) (of : IsAnalysisOf program t) (bounded : IsWorkBounded t program) (text : Text) (is_text : HasRisingPlaceOffsets text) (bytes : ReadsAsBytes program text)
     (less : units text < 2 ^ 63) (d : Direction) (s : State) (test : ℕ → Bool) (least : ℕ) (greedy : Bool) (endless : IsEndless program s test least greedy) where
   abbrev serves-here : Serves program t text
   serves-here = served program t of bounded text is_text bytes less d
@@ -368,7 +368,7 @@ module _ (program : Program) (text : Text) (t : MemoAnalysis) (d : Direction) wh
 
 -- ---- Turns
 
-module _ (program : Program) (t : MemoAnalysis) (of : IsAnalysisOf program t) (bounded : IsWorkBounded t program) (text : Text) (is_text : IsText text) (bytes : ReadsAsBytes program text)
+module _ (program : Program) (t : MemoAnalysis) (of : IsAnalysisOf program t) (bounded : IsWorkBounded t program) (text : Text) (is_text : HasRisingPlaceOffsets text) (bytes : ReadsAsBytes program text)
     (less : units text < 2 ^ 63) (d : Direction) (memory : List Key) (first : List Entry) (work : ℕ) (now : List Key) (rest : List Entry) where
   abbrev Come : (work : ℕ) → List Key → List Entry → Type 0
   Come work now row = HasCome program text t d memory first work now row

@@ -4,7 +4,7 @@ use Rattle.std.specs.Prelude.{nat_lt}
 use Rattle.std.proofs.lemmas.Bool.{ltb-true}
 use Rattle.std.proofs.Math.Nat.{add-mul, mul-add}
 use Rattle.regex_meaning.specs.Text.{Text, rightwards}
-use Rattle.regex_meaning.specs.CodeUnitOffsets.{IsText, units}
+use Rattle.regex_meaning.specs.CodeUnitOffsets.{HasRisingPlaceOffsets, units}
 use Rattle.regex_meaning.specs.CompilationRelation.{Program}
 use Rattle.regress_machine.specs.SearchResults.{state_before_first_insn}
 use Rattle.regress_machine.specs.Machine.{Thread, running}
@@ -51,7 +51,7 @@ behind-end at end le = by (nat_lt at end) refl
 
 -- ---- Attempts
 
-module _ (program : Program) (t : MemoAnalysis) (of : IsAnalysisOf program t) (text : Text) (is_text : IsText text) (bytes : ReadsAsBytes program text) (less : units text < 2 ^ 63) where
+module _ (program : Program) (t : MemoAnalysis) (of : IsAnalysisOf program t) (text : Text) (is_text : HasRisingPlaceOffsets text) (bytes : ReadsAsBytes program text) (less : units text < 2 ^ 63) where
   abbrev Walked : (ahead done : ℕ) → List Key → Type 0
   Walked ahead done memory = HasWalked program text t ahead done memory
 

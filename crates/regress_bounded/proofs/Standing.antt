@@ -16,22 +16,22 @@ use Rattle.regress_memo_laws.proofs.Turns.{work-is-bounded, reached-fail}
 use Rattle.regress_memo_analysis.specs.declared.analysis.MemoAnalysis.{MemoAnalysis}
 use Rattle.regress_memo_analysis.specs.WorkBound.{first_row}
 use Rattle.regress_memo_analysis.specs.AnalysisContents.{liveness_of, recorded, potentials_of, key_cost_of}
-use Rattle.regress_memo_analysis.specs.CheckedAnalysis.{HasBit, Serves}
+use Rattle.regress_memo_analysis.specs.CheckedAnalysis.{MemoKeyHasBit, Serves}
 use Rattle.regress_memo_analysis.proofs.WholeLemmas.{ledgers-serve}
 use Rattle.regress_memo.specs.Laws.{analysis_keys, KeyFails}
 use Rattle.regress_memo.specs.MemoContents.{as_key, memo_key_at, has_failure, RecordsFailure}
 use Rattle.regress_memo.specs.MemoContractView.{MemoView}
 use Rattle.regress_memo.specs.MemoSearchCosts.{HasCome, IsKeyed, ComesOn}
 use Rattle.regress_memo.proofs.LawLemmas.{memos-hold, memos-are-true, keys-are-there}
-use Rattle.regress_memo.specs.declared.memo.MemoKey.{MemoKey as Stored}
+use Rattle.regress_memo.specs.declared.memo.ThreadMemoKey.{ThreadMemoKey as Stored}
 use Rattle.regress_memo.proofs.SearchLemmas.{searches-are-paid}
-use Rattle.regress_bounded.specs.declared.work_budget.WorkBudget.{WorkBudget}
+use Rattle.regress_bounded.specs.declared.memo_and_work_budget.MemoAndWorkBudget.{MemoAndWorkBudget}
 use Rattle.regress_bounded.specs.declared.pending_stack.StackEntry.{StackEntry}
 use Rattle.regress_bounded.specs.declared.pending_stack.StackEntry.TheVariants.{Thread as AsThread, Record as AsRecord}
 use Rattle.regress_pikevm.specs.declared.pikevm.states.State.{State}
 use Rattle.std.proofs.Math.Logic.{∥∥₁_map, ∥∥₁_elim}
 use Rattle.std.proofs.Props.{props}
-use Rattle.regress_bounded.specs.SearchStateEntries.{IsPaid, IsRight, IsMemoRight, IsStanding, AttemptBeginning, HasKeyNotKnownToFail, IsRecordOf, StandsFor, AreFor, IsRow, Stands}
+use Rattle.regress_bounded.specs.SearchStateEntries.{IsPaid, IsRight, IsMemoRight, IsStanding, AttemptStartAndResult, HasKeyNotKnownToFail, IsRecordOf, StandsFor, AreFor, IsRow, Stands}
 use Rattle.regress_bounded.specs.SearchStateEntries.{IsOver, front_of}
 use Rattle.regress_bounded.specs.BudgetSpending.{IsTakenFromBudget, IsBudgetExhausted}
 use Rattle.regress_pikevm.specs.States.{state_of}
@@ -69,7 +69,7 @@ module _ (program : Program) (text : Text) (t : MemoAnalysis) (paid : IsPaid pro
   abbrev pub served : Serves program t text
   served = ledgers-serve program t paid.memo_analysis text paid.is_text paid.bytes paid.short
 
-  module _ (b : AttemptBeginning) (memory : IsMemory program text (liveness_of t) (analysis_keys program text t) b.memory)
+  module _ (b : AttemptStartAndResult) (memory : IsMemory program text (liveness_of t) (analysis_keys program text t) b.memory)
       (answers : search program text b.turns rightwards (first_row program b.at) ≡ Some b.found) where
     abbrev pub Come : (work : ℕ) → List Key → List Entry → Type 0
     Come work now row = HasCome program text t rightwards b.memory (tries (first_row program b.at)) work now row
@@ -118,7 +118,7 @@ module _ (program : Program) (text : Text) (t : MemoAnalysis) (paid : IsPaid pro
 -- ---- The thread in hand, and a step on
 
 -- what the course of an attempt leads to
-module _ {P : Type 0} (offset : P → ℕ) (program : Program) (text : Text) (b : AttemptBeginning) {front : List Entry} {stack : List (StackEntry P)} {c : WorkBudget}
+module _ {P : Type 0} (offset : P → ℕ) (program : Program) (text : Text) (b : AttemptStartAndResult) {front : List Entry} {stack : List (StackEntry P)} {c : MemoAndWorkBudget}
     (h : Stands offset program text b front stack c) where
   abbrev pub ComeTo : (work : ℕ) → List Key → List Entry → Type 0
   ComeTo work now row = HasCome program text c.memo.memo_analysis rightwards b.memory (tries (first_row program b.at)) work now row
@@ -136,19 +136,19 @@ module _ {P : Type 0} (offset : P → ℕ) (program : Program) (text : Text) (b 
       (record { right = h.right; inside = h.inside; is_memory = h.is_memory; answers = h.answers; work = work'; now = h.now; row = row'; comes = come; is = is; holds = h.holds; spent = spent })
 
   -- so much work is done
-  pub goes-on : (front' row' : List Entry) (stack' : List (StackEntry P)) (work : ℕ) (c' : WorkBudget) → ComeTo (h.work + work) h.now (front' ++ row') → IsRow offset program text stack' row'
+  pub goes-on : (front' row' : List Entry) (stack' : List (StackEntry P)) (work : ℕ) (c' : MemoAndWorkBudget) → ComeTo (h.work + work) h.now (front' ++ row') → IsRow offset program text stack' row'
       → c'.memo ≡ c.memo → IsTakenFromBudget work c.left c'.left → Stands offset program text b front' stack' c'
   goes-on front' row' stack' work c' come is same spent =
       stands-with front' row' stack' (h.work + work) c'.left come is (let e = h.spent in let s : c.left ≡ work + c'.left = spent in omega (arith, e, s)) c'.memo same
 
   -- there was not so much
-  pub is-over : (row' : List Entry) (work : ℕ) (c' : WorkBudget) → ComeTo (h.work + work) h.now row' → c'.memo ≡ c.memo → IsBudgetExhausted work c.left c'.left → IsOver offset program text b c'
+  pub is-over : (row' : List Entry) (work : ℕ) (c' : MemoAndWorkBudget) → ComeTo (h.work + work) h.now row' → c'.memo ≡ c.memo → IsBudgetExhausted work c.left c'.left → IsOver offset program text b c'
   is-over row' work c' come same spent =
       subst (λ m. IsOver offset program text b (record { memo = m; left = c'.left })) (sym same)
       (record { work = h.work + work; now = h.now; row = row'; comes = come; over = (let e = h.spent in let s : c.left < work = spent.0 in omega (arith, e, s)); none = spent.1 })
 
 -- the thread in hand
-module _ {P : Type 0} (offset : P → ℕ) (program : Program) (text : Text) (b : AttemptBeginning) (s : machine.State) {stack : List (StackEntry P)} {c : WorkBudget}
+module _ {P : Type 0} (offset : P → ℕ) (program : Program) (text : Text) (b : AttemptStartAndResult) (s : machine.State) {stack : List (StackEntry P)} {c : MemoAndWorkBudget}
     (h : Stands offset program text b (tried (running s) ∷ []) stack c) where
   abbrev pub on : (work : ℕ) → List Entry → Type 0
   on work row = HasCome program text c.memo.memo_analysis rightwards b.memory (tries (first_row program b.at)) (h.work + work) h.now row
@@ -182,7 +182,7 @@ module _ {P : Type 0} (offset : P → ℕ) (program : Program) (text : Text) (b 
 
 -- ---- What is come back to
 
-module _ {P : Type 0} (offset : P → ℕ) (program : Program) (text : Text) (b : AttemptBeginning) (stack : List (StackEntry P)) (w : StackEntry P) {c : WorkBudget}
+module _ {P : Type 0} (offset : P → ℕ) (program : Program) (text : Text) (b : AttemptStartAndResult) (stack : List (StackEntry P)) (w : StackEntry P) {c : MemoAndWorkBudget}
     (h : Stands offset program text b [] (stack ++ w ∷ []) c) where
   abbrev pub popped : Popped offset program text stack w h.row
   popped = row-pop offset program text stack w h.row h.is
@@ -195,7 +195,7 @@ module _ {P : Type 0} (offset : P → ℕ) (program : Program) (text : Text) (b 
   back-comes e is = subst (HasCome program text c.memo.memo_analysis rightwards b.memory (tries (first_row program b.at)) h.work h.now) (popped.is ∙ ap (λ e. e ∷ popped.rest) is) h.comes
 
 -- to a thread
-module _ {P : Type 0} {offset : P → ℕ} {program : Program} {text : Text} {b : AttemptBeginning} (stack : List (StackEntry P)) (w : StackEntry P) {c : WorkBudget}
+module _ {P : Type 0} {offset : P → ℕ} {program : Program} {text : Text} {b : AttemptStartAndResult} (stack : List (StackEntry P)) (w : StackEntry P) {c : MemoAndWorkBudget}
     (h : Stands offset program text b [] (stack ++ w ∷ []) c) (s : State P) (is : w ≡ AsThread s) where
   taken-up : back-on offset program text b stack w h 1 h.now (tried (running (state_of offset s)) ∷ (popped offset program text b stack w h).rest)
   taken-up =
@@ -203,16 +203,16 @@ module _ {P : Type 0} {offset : P → ℕ} {program : Program} {text : Text} {b 
       let there : p.entry ≡ tried (waiting (state_of offset s)) = subst (λ w. StandsFor offset program text w p.entry) is p.stands in
       (laws offset program text b h h.work h.now p.rest).taken_up (state_of offset s) (back-comes offset program text b stack w h (tried (waiting (state_of offset s))) there)
 
-  pub thread-goes : (c' : WorkBudget) → c'.memo ≡ c.memo → IsTakenFromBudget 1 c.left c'.left → Stands offset program text b (front_of offset (Some s)) stack c'
+  pub thread-goes : (c' : MemoAndWorkBudget) → c'.memo ≡ c.memo → IsTakenFromBudget 1 c.left c'.left → Stands offset program text b (front_of offset (Some s)) stack c'
   thread-goes c' same spent =
       let p = popped offset program text b stack w h in
       goes-on offset program text b h (tried (running (state_of offset s)) ∷ []) p.rest stack 1 c' taken-up p.below same spent
 
-  pub thread-over : (c' : WorkBudget) → c'.memo ≡ c.memo → IsBudgetExhausted 1 c.left c'.left → IsOver offset program text b c'
+  pub thread-over : (c' : MemoAndWorkBudget) → c'.memo ≡ c.memo → IsBudgetExhausted 1 c.left c'.left → IsOver offset program text b c'
   thread-over c' same spent = is-over offset program text b h _ 1 c' taken-up same spent
 
 -- to a record
-module _ {P : Type 0} {offset : P → ℕ} {program : Program} {text : Text} {b : AttemptBeginning} (stack : List (StackEntry P)) (w : StackEntry P) {c : WorkBudget}
+module _ {P : Type 0} {offset : P → ℕ} {program : Program} {text : Text} {b : AttemptStartAndResult} (stack : List (StackEntry P)) (w : StackEntry P) {c : MemoAndWorkBudget}
     (h : Stands offset program text b [] (stack ++ w ∷ []) c) (k : Stored) (is : w ≡ AsRecord k) where
   abbrev pub below : Popped offset program text stack w h.row
   below = popped offset program text b stack w h
@@ -230,9 +230,9 @@ module _ {P : Type 0} {offset : P → ℕ} {program : Program} {text : Text} {b 
   record-finds = finds program text c.memo.memo_analysis h.right.paid b h.is_memory h.answers h.work h.now _ at-record
 
   -- it has a bit
-  pub record-bit : HasBit c.memo.memo_analysis c.memo.places (as_key k)
+  pub record-bit : MemoKeyHasBit c.memo.memo_analysis c.memo.places (as_key k)
   record-bit =
-      subst (λ n. HasBit c.memo.memo_analysis n (as_key k)) (sym h.right.is_true.places)
+      subst (λ n. MemoKeyHasBit c.memo.memo_analysis n (as_key k)) (sym h.right.is_true.places)
       (keys-are-there.has_bit program text c.memo.memo_analysis h.right.paid.memo_analysis rightwards (as_key k) stood.threads record-finds.noted.0.is_of)
 
   record-fails : KeyFails program text c.memo.memo_analysis (as_key k)
@@ -243,7 +243,7 @@ module _ {P : Type 0} {offset : P → ℕ} {program : Program} {text : Text} {b 
   reached : back-on offset program text b stack w h 1 (as_key k ∷ h.now) below.rest
   reached = (laws offset program text b h h.work h.now below.rest).reached (as_key k) stood.threads at-record
 
-  pub record-over : (c' : WorkBudget) → c'.memo ≡ c.memo → IsBudgetExhausted 1 c.left c'.left → IsOver offset program text b c'
+  pub record-over : (c' : MemoAndWorkBudget) → c'.memo ≡ c.memo → IsBudgetExhausted 1 c.left c'.left → IsOver offset program text b c'
   record-over c' same spent =
       subst (λ m. IsOver offset program text b (record { memo = m; left = c'.left })) (sym same)
       (record { work = h.work + 1; now = as_key k ∷ h.now; row = below.rest; comes = reached; over = (let e = h.spent in let s : c.left < 1 = spent.0 in omega (arith, e, s)); none = spent.1 })
@@ -279,12 +279,12 @@ module _ {P : Type 0} {offset : P → ℕ} {program : Program} {text : Text} {b 
   pub record-right : (m n : MemoView) → m ≡ c.memo → RecordsFailure (as_key k) m n → (left : ℕ) → IsTakenFromBudget 1 c.left left → IsRight program text n
   record-right m n is notes left spent = (noted-by m n is notes left spent).0
 
-  pub record-goes : (m : MemoView) (c' : WorkBudget) → m ≡ c.memo → RecordsFailure (as_key k) m c'.memo → IsTakenFromBudget 1 c.left c'.left → Stands offset program text b [] stack c'
+  pub record-goes : (m : MemoView) (c' : MemoAndWorkBudget) → m ≡ c.memo → RecordsFailure (as_key k) m c'.memo → IsTakenFromBudget 1 c.left c'.left → Stands offset program text b [] stack c'
   record-goes m c' is notes spent = (noted-by m c'.memo is notes c'.left spent).1
 
 -- ---- What there is
 
-module _ {P : Type 0} {offset : P → ℕ} {program : Program} {text : Text} {front : List Entry} {stack : List (StackEntry P)} {c : WorkBudget}
+module _ {P : Type 0} {offset : P → ℕ} {program : Program} {text : Text} {front : List Entry} {stack : List (StackEntry P)} {c : MemoAndWorkBudget}
     (there : IsStanding offset program text front stack c) where
   pub knows : IsMemoRight program text c.memo
   knows = ∥∥₁_map there (λ s. s.stands.right)
@@ -294,17 +294,17 @@ module _ {P : Type 0} {offset : P → ℕ} {program : Program} {text : Text} {fr
   still-knows same = subst (IsMemoRight program text) (sym same) knows
 
   -- on from what there is
-  pub standing-on : {front' : List Entry} {stack' : List (StackEntry P)} {c' : WorkBudget}
-      → ((b : AttemptBeginning) → Stands offset program text b front stack c → Stands offset program text b front' stack' c') → IsStanding offset program text front' stack' c'
+  pub standing-on : {front' : List Entry} {stack' : List (StackEntry P)} {c' : MemoAndWorkBudget}
+      → ((b : AttemptStartAndResult) → Stands offset program text b front stack c → Stands offset program text b front' stack' c') → IsStanding offset program text front' stack' c'
   standing-on f = ∥∥₁_map there (λ s. record { begin = s.begin; stands = f s.begin s.stands })
 
-  pub less-on : {n m : ℕ} → ((b : AttemptBeginning) → Stands offset program text b front stack c → n < m) → n < m
+  pub less-on : {n m : ℕ} → ((b : AttemptStartAndResult) → Stands offset program text b front stack c → n < m) → n < m
   less-on f = ∥∥₁_elim there (Prim.hlevel props) (λ s. f s.begin s.stands)
 
 -- with what is the same
 module _ {P : Type 0} {offset : P → ℕ} {program : Program} {text : Text} {next next' : Option (State P)} (next_is : next ≡ next') {stack stack' : List (StackEntry P)} (stack_is : stack ≡ stack')
-    {c : WorkBudget} where
-  pub stands-as : {b : AttemptBeginning} → Stands offset program text b (front_of offset next) stack c → Stands offset program text b (front_of offset next') stack' c
+    {c : MemoAndWorkBudget} where
+  pub stands-as : {b : AttemptStartAndResult} → Stands offset program text b (front_of offset next) stack c → Stands offset program text b (front_of offset next') stack' c
   stands-as {b} h =
       subst (λ xs. Stands offset program text b (front_of offset next') xs c) stack_is (subst (λ n. Stands offset program text b (front_of offset n) stack c) next_is h)
 

@@ -6,7 +6,7 @@ use Rattle.std.proofs.Math.Logic.{∥∥₁_elim}
 use Rattle.std.proofs.Props.{props}
 use Rattle.std.proofs.lemmas.Bool.{eqb-true}
 use Rattle.regex_meaning.specs.Text.{Text, rightwards, last_place}
-use Rattle.regex_meaning.specs.CodeUnitOffsets.{IsText, units}
+use Rattle.regex_meaning.specs.CodeUnitOffsets.{HasRisingPlaceOffsets, units}
 use Rattle.regex_meaning.specs.CompilationRelation.{Program, Insn, Loop1CharBody}
 use Rattle.regex_meaning.proofs.TextLemmas.{offset-place_at}
 use Rattle.regex_pattern_front.specs.AstToSpecTree.{tree_of}
@@ -14,7 +14,7 @@ use Rattle.regex_pattern_front.specs.declared.ir.Regex.{Regex}
 use Rattle.regress_plan.specs.InsnsAsSpecInsns.{spec_insn_of}
 use Rattle.regress_plan.specs.declared.insn.Insn.{Insn as Coded}
 use Rattle.regress_plan.specs.declared.insn.Insn.TheVariants.{Loop1CharBody as CodedRun}
-use Rattle.regress_program.specs.CodeOfTrees.{compiled}
+use Rattle.regress_program.specs.CompilationOfTreesAsFunction.{compiled}
 use Rattle.regress_machine.specs.Machine as machine
 use Rattle.regress_machine.specs.Machine.{Thread, running, waiting, Next, goes, scans, ends, asks, stuck, first_runs_others_wait, act}
 use Rattle.regress_machine.specs.InsnEffects.{IsNotStuck}
@@ -25,19 +25,19 @@ use Rattle.regress_memo_laws.specs.MemoSearch.{Key, Entry, tried, tries}
 use Rattle.regress_memo_laws.proofs.Runs.{passing-left}
 use Rattle.regress_memo_analysis.specs.WorkBound.{first_row}
 use Rattle.regress_memo_analysis.specs.AnalysisChecks.{unlimited}
-use Rattle.regress_memo.specs.declared.memo.MemoKey.{MemoKey as Stored}
+use Rattle.regress_memo.specs.declared.memo.ThreadMemoKey.{ThreadMemoKey as Stored}
 use Rattle.regress_memo.specs.MemoContents.{as_key, memo_key_at, has_failure}
 use Rattle.regress_memo.specs.MemoSearchCosts.{HasCome}
-use Rattle.regress_bounded.specs.declared.work_budget.WorkBudget.{WorkBudget}
-use Rattle.regress_bounded.specs.declared.work_budget.AttemptAbortReason.{AttemptAbortReason}
+use Rattle.regress_bounded.specs.declared.memo_and_work_budget.MemoAndWorkBudget.{MemoAndWorkBudget}
+use Rattle.regress_bounded.specs.declared.memo_and_work_budget.AttemptAbortReason.{AttemptAbortReason}
 use Rattle.regress_bounded.specs.declared.pending_stack.StackEntry.{StackEntry}
 use Rattle.regress_bounded.specs.declared.pending_stack.StackEntry.TheVariants.{Thread as AsThread}
 use Rattle.regress_bounded.specs.declared.thread_steps.StepResult.{StepResult}
 use Rattle.regress_pikevm.specs.declared.pikevm.states.State.{State}
 use Rattle.regress_pikevm.specs.declared.pikevm.states.NextStates.{NextStates}
 use Rattle.regress_pikevm.specs.declared.pikevm.states.NextStates.TheVariants.{Lookaround}
-use Rattle.regress_bounded.specs.SearchStateEntries.{AttemptBeginning, HasKeyNotKnownToFail, IsNotUnboundedLoop, IsStanding, IsRow, Stands, Turns, IsOver, IsTurn, Leaves, HasTaken}
-use Rattle.regress_bounded.specs.SearchStateEntries.{IsRunHere, front_of, is_known_key, unbounded_loop_of}
+use Rattle.regress_bounded.specs.SearchStateEntries.{AttemptStartAndResult, HasKeyNotKnownToFail, IsNotUnboundedLoop, IsStanding, IsRow, Stands, Turns, IsOver, IsTurn, Leaves, HasTaken}
+use Rattle.regress_bounded.specs.SearchStateEntries.{IsRunHere, front_of, is_known_key, unbounded_char_loop_min_and_greed}
 use Rattle.regress_bounded.specs.BudgetSpending.{IsTakenFromBudget, IsBudgetExhausted}
 use Rattle.regress_pikevm.specs.States.{state_of, preferred_last, next_threads, waiting_threads}
 use Rattle.regress_pikevm.proofs.Fetching.{insn-here}
@@ -71,7 +71,7 @@ yes-can (ends s) h = tt
 yes-can (asks d negate u s) h = tt
 yes-can stuck h = cc
 
-module _ {P : Type 0} {offset : P → ℕ} {program : Program} {text : Text} {s : machine.State} {stack : List (StackEntry P)} {c : WorkBudget}
+module _ {P : Type 0} {offset : P → ℕ} {program : Program} {text : Text} {s : machine.State} {stack : List (StackEntry P)} {c : MemoAndWorkBudget}
     (there : IsStanding offset program text (tried (running s) ∷ []) stack c) where
   pub standing-can : IsNotStuck (act program text rightwards s)
   standing-can =
@@ -103,34 +103,34 @@ known-key test None o e h = cc
 known-key test (Some k) o e h = record { key = as_key k; is = sym e; known = h }
 
 -- it has failed
-module _ {P : Type 0} {offset : P → ℕ} {program : Program} {text : Text} {b : AttemptBeginning} {s : machine.State} {stack : List (StackEntry P)} {c : WorkBudget}
+module _ {P : Type 0} {offset : P → ℕ} {program : Program} {text : Text} {b : AttemptStartAndResult} {s : machine.State} {stack : List (StackEntry P)} {c : MemoAndWorkBudget}
     (h : Stands offset program text b (tried (running s) ∷ []) stack c) (key : Option Stored) (its : option_map as_key key ≡ memo_key_at c.memo.memo_analysis s)
     (fails : is_known_key (has_failure c.memo) (option_map as_key key) ≡ true) where
   comes-known : on offset program text b s h 1 h.row
   comes-known = let k = known-key (has_failure c.memo) key (memo_key_at c.memo.memo_analysis s) its fails in known offset program text b s h k.key k.is k.known
 
-  pub known-over : (c' : WorkBudget) → c'.memo ≡ c.memo → IsBudgetExhausted 1 c.left c'.left → IsOver offset program text b c'
+  pub known-over : (c' : MemoAndWorkBudget) → c'.memo ≡ c.memo → IsBudgetExhausted 1 c.left c'.left → IsOver offset program text b c'
   known-over c' same spent = is-over offset program text b h h.row 1 c' comes-known same spent
 
-  pub known-goes : (c' : WorkBudget) → c'.memo ≡ c.memo → IsTakenFromBudget 1 c.left c'.left → Stands offset program text b [] stack c'
+  pub known-goes : (c' : MemoAndWorkBudget) → c'.memo ≡ c.memo → IsTakenFromBudget 1 c.left c'.left → Stands offset program text b [] stack c'
   known-goes c' same spent = goes-on offset program text b h [] h.row stack 1 c' comes-known h.is same spent
 
 -- ---- What stands there
 
 -- no other instruction is a run
-pub endless-other : (insn : Coded) → ((greedy : Bool) (least most : ℕ) → insn ≡ CodedRun greedy least most → ⊥) → None ≡ unbounded_loop_of (spec_insn_of insn)
+pub endless-other : (insn : Coded) → ((greedy : Bool) (least most : ℕ) → insn ≡ CodedRun greedy least most → ⊥) → None ≡ unbounded_char_loop_min_and_greed (spec_insn_of insn)
 endless-other (CodedRun greedy least most) other = absurd (other greedy least most refl)
 endless-other insn other = refl
 
 -- one that has a maximum
-pub has-maximum : (greedy : Bool) (least most : ℕ) → None ≡ unbounded_loop_of (Loop1CharBody least most greedy) → (most == unlimited) ≡ false
+pub has-maximum : (greedy : Bool) (least most : ℕ) → None ≡ unbounded_char_loop_min_and_greed (Loop1CharBody least most greedy) → (most == unlimited) ≡ false
 has-maximum greedy least most none = by (most == unlimited) refl
   where
     by : (b : Bool) → (most == unlimited) ≡ b → (most == unlimited) ≡ false
     by true e = let never : false ≡ true = ap is_some (none ∙ ap (λ b. if b then Some (least, greedy) else None) e) in cc
     by false e = e
 
-endless-run : (insn : Insn) (greedy : Bool) (least : ℕ) → Some (least, greedy) ≡ unbounded_loop_of insn → insn ≡ Loop1CharBody least unlimited greedy
+endless-run : (insn : Insn) (greedy : Bool) (least : ℕ) → Some (least, greedy) ≡ unbounded_char_loop_min_and_greed insn → insn ≡ Loop1CharBody least unlimited greedy
 endless-run (Loop1CharBody l m g) greedy least found = by (m == unlimited) refl
   where
     by : (b : Bool) → (m == unlimited) ≡ b → Loop1CharBody l m g ≡ Loop1CharBody least unlimited greedy
@@ -150,7 +150,7 @@ module _ {P : Type 0} (offset : P → ℕ) (re : Regex) (text : Text) (insns : L
         → IsRunHere offset (compiled (tree_of re)) text (record { body = body; least = least; greedy = greedy }) greedy s
 
 module _ {P : Type 0} {offset : P → ℕ} (re : Regex) {text : Text} (insns : List Coded) (code : map spec_insn_of insns ≡ (compiled (tree_of re)).insns) {s : machine.State}
-    {stack : List (StackEntry P)} {c : WorkBudget} (there : IsStanding offset (compiled (tree_of re)) text (tried (running s) ∷ []) stack c) where
+    {stack : List (StackEntry P)} {c : MemoAndWorkBudget} (there : IsStanding offset (compiled (tree_of re)) text (tried (running s) ∷ []) stack c) where
   abbrev its-program : Program
   its-program = compiled (tree_of re)
 
@@ -163,7 +163,7 @@ module _ {P : Type 0} {offset : P → ℕ} (re : Regex) {text : Text} (insns : L
   pub here-insn : (insn : Coded) → insn ≡ get_or insns s.ip insn → slice_get its-program.insns s.ip ≡ Some (spec_insn_of insn)
   here-insn insn is = insn-here re insns code text rightwards s its-can insn is
 
-  pub run-at : (insn : Coded) → insn ≡ get_or insns s.ip insn → (greedy : Bool) (least : ℕ) → Some (least, greedy) ≡ unbounded_loop_of (spec_insn_of insn)
+  pub run-at : (insn : Coded) → insn ≡ get_or insns s.ip insn → (greedy : Bool) (least : ℕ) → Some (least, greedy) ≡ unbounded_char_loop_min_and_greed (spec_insn_of insn)
       → RunAt offset re text insns s greedy least
   run-at insn is greedy least found =
       let run = here-insn insn is ∙ ap Some (endless-run (spec_insn_of insn) greedy least found) in
@@ -204,7 +204,7 @@ module _ {P : Type 0} (offset : P → ℕ) (program : Program) (text : Text) (s 
   is-turn limited stuck is leads = absurd leads
 
 -- no more characters are tried than there are, and one
-tries-few : (program : Program) (text : Text) (s : machine.State) → IsText text → (x : Next) → act program text rightwards s ≡ x → tried_in x ≤ units text + 1
+tries-few : (program : Program) (text : Text) (s : machine.State) → HasRisingPlaceOffsets text → (x : Next) → act program text rightwards s ≡ x → tried_in x ≤ units text + 1
 tries-few program text s is_text (scans tries ts) is =
     let r = scans-run program text rightwards s tries ts is in
     let at = scans-at program text s r.least r.most r.greedy r.is (subst IsNotStuck (sym is) tt) in
@@ -221,20 +221,20 @@ tries-few program text s is_text (asks inner negate u t) is = omega arith
 tries-few program text s is_text stuck is = omega arith
 
 -- what the executor makes of it, by one arm of a turn
-module _ {P : Type 0} {offset : P → ℕ} {program : Program} {text : Text} {s : machine.State} {stack : List (StackEntry P)} {c : WorkBudget} {t x : NextStates P} where
-  pub arm-few : IsStanding offset program text (tried (running s) ∷ []) stack c → next_threads offset t ≡ act program text rightwards s → t ≡ x → IsText text
+module _ {P : Type 0} {offset : P → ℕ} {program : Program} {text : Text} {s : machine.State} {stack : List (StackEntry P)} {c : MemoAndWorkBudget} {t x : NextStates P} where
+  pub arm-few : IsStanding offset program text (tried (running s) ∷ []) stack c → next_threads offset t ≡ act program text rightwards s → t ≡ x → HasRisingPlaceOffsets text
       → tried_in (next_threads offset x) ≤ units text + 1
   arm-few there turned is is_text = tries-few program text s is_text (next_threads offset x) (sym turned ∙ ap (next_threads offset) is)
 
-  module _ {b : AttemptBeginning} (h : Stands offset program text b (tried (running s) ∷ []) stack c) (limited : IsNotUnboundedLoop program s.ip) (turned : next_threads offset t ≡ act program text rightwards s)
+  module _ {b : AttemptStartAndResult} (h : Stands offset program text b (tried (running s) ∷ []) stack c) (limited : IsNotUnboundedLoop program s.ip) (turned : next_threads offset t ≡ act program text rightwards s)
       (is : t ≡ x) (leads : LeadsOn (next_threads offset x)) where
     pub arm-turn : IsTurn offset program text s (tried_in (next_threads offset x) + 1) (left_in (next_threads offset x))
     arm-turn = is-turn offset program text s limited (next_threads offset x) (sym turned ∙ ap (next_threads offset) is) leads
 
-    module _ {key : Option Stored} (k : HasKeyNotKnownToFail c.memo s key) (stack' : List (StackEntry P)) (c' : WorkBudget) where
+    module _ {key : Option Stored} (k : HasKeyNotKnownToFail c.memo s key) (stack' : List (StackEntry P)) (c' : MemoAndWorkBudget) where
       -- what it leaves, by the clause of the function that does
       abbrev LeftBy : Result ⊤ AttemptAbortReason → Type 0
-      LeftBy r = (program : Program) (text : Text) (b : AttemptBeginning) (s : machine.State) (ts : List Thread) → IsTurn offset program text s (tried_in (next_threads offset x) + 1) ts
+      LeftBy r = (program : Program) (text : Text) (b : AttemptStartAndResult) (s : machine.State) (ts : List Thread) → IsTurn offset program text s (tried_in (next_threads offset x) + 1) ts
           → HasKeyNotKnownToFail c.memo s key → Stands offset program text b (tried (running s) ∷ []) stack c → Leaves offset program text b c.left ts r stack' c'
 
       pub arm-leaves : LeftBy (Ok tt) → Stands offset program text b (tries (left_in (next_threads offset x))) stack' c' × (c'.left < c.left)
@@ -264,7 +264,7 @@ module _ {P : Type 0} (offset : P → ℕ) (program : Program) (text : Text) whe
       (subst (λ l. IsRow offset program text l (tries (waiting_threads offset others) ++ tried (waiting (state_of offset s)) ∷ row))
       (append_assoc old (AsThread s ∷ []) (map (λ o. AsThread o) others)) all)
 
-  module _ (b : AttemptBeginning) {c : WorkBudget} where
+  module _ (b : AttemptStartAndResult) {c : MemoAndWorkBudget} where
     -- what is in hand is parted otherwise
     parted : {front : List Entry} {stack : List (StackEntry P)} (h : Stands offset program text b front stack c) (front' row' : List Entry) (stack' : List (StackEntry P))
         → front ++ h.row ≡ front' ++ row' → IsRow offset program text stack' row' → Stands offset program text b front' stack' c
@@ -293,7 +293,7 @@ module _ {P : Type 0} (offset : P → ℕ) (program : Program) (text : Text) whe
         subst (λ l. Stands offset program text b (front_of offset (Some s)) l c) (sym t.wait)
         (parted h' (front_of offset (Some s)) (tries (waiting_threads offset t.others) ++ h'.row) (old ++ map (λ o. AsThread o) t.others) refl (rows-push t.others old h'.row h'.is))
 
-module _ {P : Type 0} {offset : P → ℕ} {program : Program} {text : Text} {b : AttemptBeginning} {c : WorkBudget} {old new : List (StackEntry P)} where
+module _ {P : Type 0} {offset : P → ℕ} {program : Program} {text : Text} {b : AttemptStartAndResult} {c : MemoAndWorkBudget} {old new : List (StackEntry P)} where
   pub one-waits : {u : Thread} (s : State P) → Stands offset program text b (tried u ∷ tried (waiting (state_of offset s)) ∷ []) old c → new ≡ old ++ AsThread s ∷ []
       → Stands offset program text b (tried u ∷ []) new c
   one-waits {u} s h is = subst (λ xs. Stands offset program text b (tried u ∷ []) xs c) (sym is) (waits-on offset program text b u s old h)

@@ -1,13 +1,15 @@
 -- Work bounds of programs: how much work is enough for all matches of a text together.
 use Rattle.std.specs.Arc.{arc_value}
 use Rattle.std.specs.List.{fold, sum_by}
-use Rattle.std.specs.Prelude.{◌≡◌, ◌≤◌, ℕ, ◌+◌, ◌*◌, ◌/◌, ◌==◌, Bool, if◌then◌else◌, max, nat_le, slice_get, Option, None}
+use Rattle.std.specs.Prelude.{◌≡◌, ◌≤◌, ◌<◌, ◌⊎◌, ℕ, ◌+◌, ◌*◌, ◌/◌, ◌==◌, Bool, true, false, if◌then◌else◌, max, nat_le, slice_get, Option, None}
+use Rattle.regex_meaning.specs.GroupsByNumberAndName.{answers_from}
 use Rattle.regex_meaning.specs.CompilationRelation.{Program, Insn, Loop1CharBody}
 use Rattle.regex_meaning.specs.Text.{Text}
 use Rattle.regex_meaning.specs.Tree.{Tree}
-use Rattle.regex_meaning.specs.CodeUnitOffsets.{units}
+use Rattle.regex_meaning.specs.CodeUnitOffsets.{IsBoundary, units}
 use Rattle.regress_memo_laws.specs.LookaroundContinuations.{lookaround_at}
-use Rattle.regress_program.specs.CodeOfTrees.{compiled}
+use Rattle.regress_program.specs.CompilationOfTreesAsFunction.{compiled}
+use Rattle.regress_exec.specs.WorkLimits.{WorkView}
 use Rattle.regress_exec.specs.declared.exec.MatchProducer.{Ghosts}
 use Rattle.regress_memo_analysis.specs.declared.analysis.MemoAnalysis.{MemoAnalysis}
 use Rattle.regress_memo_analysis.specs.WorkBound.{IsWorkBounded, work_per_position}
@@ -66,7 +68,25 @@ pub record IsAtStart (tree : Tree) (text : Text) (per_unit work : ℕ)
 
 -- `IsAtStart` of an executor, by its ghost state, with the bound of a tree's program; the tree's
 -- unicode flag selects the text.
-abbrev pub StartsWithBound : {E Q : Type 0} (e : Ghosts E Q) (tree : Tree) (text_of : Bool → Text) (bound : WorkBound) (work : ℕ) → E → Type 0
-StartsWithBound e tree text_of bound work x =
+abbrev pub IsExecutorAtStartWithWorkBound : {E Q : Type 0} (e : Ghosts E Q) (tree : Tree) (text_of : Bool → Text) (bound : WorkBound) (work : ℕ) → E → Type 0
+IsExecutorAtStartWithWorkBound e tree text_of bound work x =
     IsAtStart tree (text_of tree.flags.unicode) bound.per_unit work
     (e.tree x) (e.text x) (e.budget x) (e.enough x) (e.ahead x) (e.left x)
+
+-- A search may start at this offset: it is a boundary, or past the end.
+abbrev pub CanStartAt : Text → (start : ℕ) → Type 0
+CanStartAt text start = IsBoundary text start ⊎ (units text < start)
+
+-- The work that is enough for a text: `per_unit` for each unit of it, and once more.
+abbrev pub total_work : (per_unit : ℕ) → Text → ℕ
+total_work per_unit text = per_unit * (units text + 1)
+
+-- The remaining matches of a search from `start` are the tree's list of matches in the text, and no
+-- step limit ends the list. `work` is left, and it is enough for all of them if it is at least
+-- `total_work`.
+pub record YieldsWithinWork (tree : Tree) (text : Text) (start per_unit work : ℕ) (it : WorkView) : Type 0 where
+  pub answers : it.come.answers ≡ answers_from tree.root text start
+  pub unlimited : it.come.limited ≡ false
+  pub text_end : it.come.text_end ≡ units text
+  pub left : it.left ≡ work
+  pub enough : total_work per_unit text ≤ work → it.enough ≡ true

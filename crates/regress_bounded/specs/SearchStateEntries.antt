@@ -3,15 +3,15 @@
 use Rattle.std.specs.Prelude.{◌≡◌, ◌≤◌, ◌<◌, ◌^◌, ◌+◌, ◌-◌, ℕ, Bool, true, false, List, [], ◌∷◌, ◌++◌, map, reverse, Option, Some, None, option_map}
 use Rattle.std.specs.Prelude.{Result, Ok, Err, IfSome, ◌⊎◌, ◌==◌, if◌then◌else◌, ⊤, slice_get}
 use Rattle.regex_meaning.specs.Text.{Text, rightwards, moved, last_place}
-use Rattle.regex_meaning.specs.CodeUnitOffsets.{IsText, offset as text_offset, place_at, units}
+use Rattle.regex_meaning.specs.CodeUnitOffsets.{HasRisingPlaceOffsets, offset as text_offset, place_at, units}
 use Rattle.regex_meaning.specs.CompilationRelation.{Program, Insn, Loop1CharBody}
 use Rattle.regex_pattern_front.specs.AstToSpecTree.{tree_of}
 use Rattle.regex_pattern_front.specs.declared.ir.Regex.{Regex}
 use Rattle.regress_plan.specs.InsnsAsSpecInsns.{spec_insn_of}
-use Rattle.regress_program.specs.CodeOfTrees.{compiled}
+use Rattle.regress_program.specs.CompilationOfTreesAsFunction.{compiled}
 use Rattle.regress_machine.specs.Machine as machine
 use Rattle.regress_machine.specs.Machine.{Thread, running, waiting, first_runs_others_wait, goes, scans, ends, act, Found, search}
-use Rattle.regress_machine.specs.InsnEffects.{after_loop_at}
+use Rattle.regress_machine.specs.InsnEffects.{state_after_char_loop_at}
 use Rattle.regress_simulation.specs.CharLoopExitStates.{behind}
 use Rattle.regress_memo_laws.specs.Liveness.{ReadsAsBytes}
 use Rattle.regress_memo_laws.specs.LookaroundContinuations.{lookaround_at}
@@ -22,15 +22,15 @@ use Rattle.regress_memo_analysis.specs.WorkBound.{IsWorkBounded, first_row}
 use Rattle.regress_memo_analysis.specs.AnalysisChecks.{unlimited}
 use Rattle.regress_memo_analysis.specs.AnalysisContents.{liveness_of}
 use Rattle.regress_memo_analysis.specs.CheckedAnalysis.{IsAnalysisOf}
-use Rattle.regress_memo.specs.declared.memo.MemoKey.{MemoKey as Stored}
+use Rattle.regress_memo.specs.declared.memo.ThreadMemoKey.{ThreadMemoKey as Stored}
 use Rattle.regress_memo.specs.Laws.{IsTrueOf, Holds, analysis_keys}
 use Rattle.regress_memo.specs.MemoContents.{as_key, has_failure, memo_key_at}
 use Rattle.regress_memo.specs.MemoContractView.{MemoView}
 use Rattle.regress_memo.specs.MemoSearchCosts.{HasCome}
-use Rattle.regress_bounded.specs.declared.work_budget.WorkBudget.{WorkBudget}
-use Rattle.regress_bounded.specs.declared.work_budget.AttemptAbortReason.{AttemptAbortReason}
-use Rattle.regress_bounded.specs.declared.work_budget.AttemptAbortReason.TheVariants.{Memory, Work}
-use Rattle.regress_bounded.specs.declared.pending_stack.UnboundedLoop.{UnboundedLoop}
+use Rattle.regress_bounded.specs.declared.memo_and_work_budget.MemoAndWorkBudget.{MemoAndWorkBudget}
+use Rattle.regress_bounded.specs.declared.memo_and_work_budget.AttemptAbortReason.{AttemptAbortReason}
+use Rattle.regress_bounded.specs.declared.memo_and_work_budget.AttemptAbortReason.TheVariants.{Memory, Work}
+use Rattle.regress_bounded.specs.declared.pending_stack.UnboundedCharLoop.{UnboundedCharLoop}
 use Rattle.regress_bounded.specs.declared.pending_stack.StackEntry.{StackEntry}
 use Rattle.regress_bounded.specs.declared.pending_stack.StackEntry.TheVariants.{Thread as AsThread, Run as AsRun, Record as AsRecord}
 use Rattle.regress_bounded.specs.declared.thread_steps.StepResult.{StepResult}
@@ -39,13 +39,18 @@ use Rattle.regress_pikevm.specs.declared.pikevm.states.State.{State}
 use Rattle.regress_bounded.specs.WorkCosts.{IsEndless, key_on, row_on, row_of_places}
 use Rattle.regress_pikevm.specs.States.{state_of, running_thread}
 
+-- The stack with a record of the key pushed, if there is a key.
+abbrev pub with_record_pushed : {P : Type 0} → Option Stored → List (StackEntry P) → List (StackEntry P)
+with_record_pushed None stack = stack
+with_record_pushed (Some key) stack = stack ++ AsRecord key ∷ []
+
 module _ (program : Program) (text : Text) where
   -- The memo analysis covers searches of this text, and the program has no lookarounds.
   pub record IsPaid (t : MemoAnalysis) : Type 0 where
     pub memo_analysis : IsAnalysisOf program t
     pub bounded : IsWorkBounded t program
     pub no_look : (ip : ℕ) → lookaround_at (slice_get program.insns ip) ≡ None
-    pub is_text : IsText text
+    pub is_text : HasRisingPlaceOffsets text
     pub bytes : ReadsAsBytes program text
     pub short : units text < 2 ^ 63
 
@@ -73,9 +78,9 @@ is_known_key known None = false
 is_known_key known (Some k) = known k
 
 -- The minimum of a char loop without a maximum, and whether it is greedy.
-abbrev pub unbounded_loop_of : Insn → Option (ℕ × Bool)
-unbounded_loop_of (Loop1CharBody least most greedy) = if most == unlimited then Some (least, greedy) else None
-unbounded_loop_of _ = None
+abbrev pub unbounded_char_loop_min_and_greed : Insn → Option (ℕ × Bool)
+unbounded_char_loop_min_and_greed (Loop1CharBody least most greedy) = if most == unlimited then Some (least, greedy) else None
+unbounded_char_loop_min_and_greed _ = None
 
 -- No char loop without a maximum is at this instruction.
 abbrev pub IsNotUnboundedLoop : Program → (ip : ℕ) → Type 0
@@ -83,7 +88,7 @@ IsNotUnboundedLoop program ip = (least most : ℕ) (greedy : Bool)
     → slice_get program.insns ip ≡ Some (Loop1CharBody least most greedy) → (most == unlimited) ≡ false
 
 -- An attempt: its start offset, the failures known, the work allowed, and the result of the search.
-pub record AttemptBeginning : Type 0 where
+pub record AttemptStartAndResult : Type 0 where
   pub at : ℕ
   pub memory : List Key
   pub total : ℕ
@@ -91,7 +96,7 @@ pub record AttemptBeginning : Type 0 where
   pub found : Found
 
 -- An attempt begins at an offset with this memo table and budget.
-pub record AttemptBeginsWith (program : Program) (text : Text) (from : ℕ) (c : WorkBudget) (b : AttemptBeginning) : Type 0 where
+pub record AttemptBeginsWithMemoAndBudget (program : Program) (text : Text) (from : ℕ) (c : MemoAndWorkBudget) (b : AttemptStartAndResult) : Type 0 where
   pub right : IsRight program text c.memo
   pub at : b.at ≡ from
   pub is_memory : IsMemory program text (liveness_of c.memo.memo_analysis) (analysis_keys program text c.memo.memo_analysis) b.memory
@@ -141,7 +146,7 @@ module _ {P : Type 0} (offset : P → ℕ) where
 
     -- The work done so far led to the entries `front`, followed by those of the stack. The memo
     -- table holds exactly the known failures.
-    pub record Stands (b : AttemptBeginning) (front : List Entry) (stack : List (StackEntry P)) (c : WorkBudget) : Type 0 where
+    pub record Stands (b : AttemptStartAndResult) (front : List Entry) (stack : List (StackEntry P)) (c : MemoAndWorkBudget) : Type 0 where
       pub right : IsRight program text c.memo
       pub inside : b.at ≤ units text
       pub is_memory :
@@ -156,16 +161,16 @@ module _ {P : Type 0} (offset : P → ℕ) where
       pub spent : work + c.left ≡ b.total
 
     -- There is an attempt in this state.
-    pub record Standing (front : List Entry) (stack : List (StackEntry P)) (c : WorkBudget) : Type 0 where
-      pub begin : AttemptBeginning
+    pub record Standing (front : List Entry) (stack : List (StackEntry P)) (c : MemoAndWorkBudget) : Type 0 where
+      pub begin : AttemptStartAndResult
       pub stands : Stands begin front stack c
 
     -- The same as a proposition.
-    abbrev pub IsStanding : (front : List Entry) → List (StackEntry P) → WorkBudget → Type 0
+    abbrev pub IsStanding : (front : List Entry) → List (StackEntry P) → MemoAndWorkBudget → Type 0
     IsStanding front stack c = ∥ Standing front stack c ∥₁
 
     -- The attempt needed more work than was allowed, and no work is left.
-    pub record IsOver (b : AttemptBeginning) (c : WorkBudget) : Type 0 where
+    pub record IsOver (b : AttemptStartAndResult) (c : MemoAndWorkBudget) : Type 0 where
       pub work : ℕ
       pub now : List Key
       pub row : List Entry
@@ -175,45 +180,45 @@ module _ {P : Type 0} (offset : P → ℕ) where
 
     -- An attempt may be given up: always for lack of memory, and for lack of work only if it is
     -- exhausted.
-    abbrev pub MayStop : AttemptBeginning → AttemptAbortReason → WorkBudget → Type 0
+    abbrev pub MayStop : AttemptStartAndResult → AttemptAbortReason → MemoAndWorkBudget → Type 0
     MayStop b Memory c = Unit {0}
     MayStop b Work c = IsOver b c
 
     -- The search continues with the next thread, and less work is left.
-    pub record ComesOn (b : AttemptBeginning) (left : ℕ) (next : Option (State P)) (stack : List (StackEntry P)) (c : WorkBudget) : Type 0 where
+    pub record ComesOn (b : AttemptStartAndResult) (left : ℕ) (next : Option (State P)) (stack : List (StackEntry P)) (c : MemoAndWorkBudget) : Type 0 where
       pub stands : Stands b (front_of next) stack c
       pub less : c.left < left
 
     -- The result of a part of an attempt: it continues with the next thread, or is given up.
-    abbrev pub GoesOn : AttemptBeginning → (left : ℕ) → Result (Option (State P)) AttemptAbortReason → List (StackEntry P) → WorkBudget → Type 0
+    abbrev pub GoesOn : AttemptStartAndResult → (left : ℕ) → Result (Option (State P)) AttemptAbortReason → List (StackEntry P) → MemoAndWorkBudget → Type 0
     GoesOn b left (Ok next) stack c = ComesOn b left next stack c
     GoesOn b left (Err e) stack c = MayStop b e c
 
     -- `GoesOn` for each attempt that was in this state.
-    abbrev pub GoesFrom : (front : List Entry) (old : List (StackEntry P)) → WorkBudget → Result (Option (State P)) AttemptAbortReason
-        → (new : List (StackEntry P)) → WorkBudget → Type 0
-    GoesFrom front old c r new c' = (b : AttemptBeginning) → Stands b front old c → GoesOn b c.left r new c'
+    abbrev pub GoesFrom : (front : List Entry) (old : List (StackEntry P)) → MemoAndWorkBudget → Result (Option (State P)) AttemptAbortReason
+        → (new : List (StackEntry P)) → MemoAndWorkBudget → Type 0
+    GoesFrom front old c r new c' = (b : AttemptStartAndResult) → Stands b front old c → GoesOn b c.left r new c'
 
     -- The step of the current thread ends the search.
-    pub record EndsAt (b : AttemptBeginning) (end : State P) (c : WorkBudget) : Type 0 where
+    pub record EndsAt (b : AttemptStartAndResult) (end : State P) (c : MemoAndWorkBudget) : Type 0 where
       pub stack : List (StackEntry P)
       pub from : machine.State
       pub stands : Stands b (tried (running from) ∷ []) stack c
       pub ends : act program text rightwards from ≡ ends (state_of offset end)
 
     -- The result of a step: the search continues, ends, or is given up.
-    abbrev pub Turns : AttemptBeginning → (left : ℕ) → Result (StepResult P) AttemptAbortReason → List (StackEntry P) → WorkBudget → Type 0
+    abbrev pub Turns : AttemptStartAndResult → (left : ℕ) → Result (StepResult P) AttemptAbortReason → List (StackEntry P) → MemoAndWorkBudget → Type 0
     Turns b left (Ok (On next)) stack c = ComesOn b left next stack c
     Turns b left (Ok (End s)) stack c = EndsAt b s c
     Turns b left (Err e) stack c = MayStop b e c
 
     -- `Turns` for each attempt that was in this state.
-    abbrev pub TurnsFrom : (front : List Entry) (old : List (StackEntry P)) → WorkBudget → Result (StepResult P) AttemptAbortReason
-        → (new : List (StackEntry P)) → WorkBudget → Type 0
-    TurnsFrom front old c r new c' = (b : AttemptBeginning) → Stands b front old c → Turns b c.left r new c'
+    abbrev pub TurnsFrom : (front : List Entry) (old : List (StackEntry P)) → MemoAndWorkBudget → Result (StepResult P) AttemptAbortReason
+        → (new : List (StackEntry P)) → MemoAndWorkBudget → Type 0
+    TurnsFrom front old c r new c' = (b : AttemptStartAndResult) → Stands b front old c → Turns b c.left r new c'
 
     -- The result of an attempt: no entry is left, it found an end, or it was given up.
-    abbrev pub Runs : AttemptBeginning → Result (Option (State P)) AttemptAbortReason → WorkBudget → Type 0
+    abbrev pub Runs : AttemptStartAndResult → Result (Option (State P)) AttemptAbortReason → MemoAndWorkBudget → Type 0
     Runs b (Ok None) c = Stands b [] [] c
     Runs b (Ok (Some s)) c = EndsAt b s c
     Runs b (Err e) c = MayStop b e c
@@ -236,14 +241,14 @@ module _ {P : Type 0} (offset : P → ℕ) where
     IsTurn s work ts = ((act program text rightwards s ≡ goes ts) × (work ≡ 1)) ⊎ Scans s work ts
 
     -- The threads that a step leaves are the front entries, above a record if there is a key.
-    abbrev pub Leaves : AttemptBeginning → (left : ℕ) → List Thread → Result ⊤ AttemptAbortReason → List (StackEntry P) → WorkBudget → Type 0
+    abbrev pub Leaves : AttemptStartAndResult → (left : ℕ) → List Thread → Result ⊤ AttemptAbortReason → List (StackEntry P) → MemoAndWorkBudget → Type 0
     Leaves b left ts (Ok done) stack c = Stands b (tries ts) stack c × (c.left < left)
     Leaves b left ts (Err e) stack c = MayStop b e c
 
     -- ---- Char loops without a maximum
 
     -- The loop of a state and the instruction that reads its characters.
-    pub record IsRunHere (run : UnboundedLoop) (greedy : Bool) (s : machine.State) : Type 0 where
+    pub record IsRunHere (run : UnboundedCharLoop) (greedy : Bool) (s : machine.State) : Type 0 where
       pub insn : slice_get program.insns s.ip ≡ Some (Loop1CharBody run.least unlimited greedy)
       pub body : slice_get program.insns (s.ip + 1) ≡ Some (spec_insn_of run.body)
 
@@ -298,7 +303,7 @@ module _ {P : Type 0} (offset : P → ℕ) where
 
   -- The thread at the nearest exit of a lazy loop; further exits, if there are any, are pending.
   pub record IsNearest (text : Text) (test : ℕ → Bool) (place : ℕ) (at : P) (s here : State P) (old new : List (StackEntry P)) : Type 0 where
-    pub is_here : state_of offset here ≡ after_loop_at (offset at) (state_of offset s)
+    pub is_here : state_of offset here ≡ state_after_char_loop_at (offset at) (state_of offset s)
     pub alone : passing text test rightwards place ≡ 0 → new ≡ old
     pub others : 1 ≤ passing text test rightwards place → Others text place s old new
 

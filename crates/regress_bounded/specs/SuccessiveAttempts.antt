@@ -5,11 +5,11 @@ use Rattle.regex_meaning.specs.Text.{Text}
 use Rattle.regex_meaning.specs.CodeUnitOffsets.{units}
 use Rattle.regex_meaning.specs.CompilationRelation.{Program}
 use Rattle.regress_memo.specs.MemoContents.{has_failure}
-use Rattle.regress_bounded.specs.declared.work_budget.WorkBudget.{WorkBudget}
+use Rattle.regress_bounded.specs.declared.memo_and_work_budget.MemoAndWorkBudget.{MemoAndWorkBudget}
 use Rattle.regress_bounded.specs.ProgramWorkBounds.{work_per_unit}
 use Rattle.regress_bounded.specs.WorkCosts.{IsWalked}
 
-module _ (program : Program) (text : Text) (c : WorkBudget) (ahead : ℕ) where
+module _ (program : Program) (text : Text) (c : MemoAndWorkBudget) (ahead : ℕ) where
   -- No attempt was made at `ahead` or after it; the work done and the work left together are
   -- enough.
   pub record Walked : Type 0 where

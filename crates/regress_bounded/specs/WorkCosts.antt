@@ -6,7 +6,7 @@ use Rattle.regex_meaning.specs.CompilationRelation.{Program, Loop1CharBody}
 use Rattle.regress_machine.specs.Machine.{State, Thread, waiting, test_of}
 use Rattle.regress_simulation.specs.CharLoopExitStates.{behind}
 use Rattle.regress_memo_laws.specs.AmortizedStepCosts.{potential_by}
-use Rattle.regress_memo_laws.specs.MemoPlans.{plan_taken}
+use Rattle.regress_memo_laws.specs.MemoPlanChecksAndGuarantees.{plan_taken}
 use Rattle.regress_memo_laws.specs.CharLoopSteps.{key_behind}
 use Rattle.regress_memo_laws.specs.CharLoopThreads.{greedy_loop_threads}
 use Rattle.regress_memo_laws.specs.AttemptCounts.{Attempted}

@@ -1,21 +1,21 @@
 //! The bounded executor: it copies its states, and remembers each failure from the first attempt
 //! on.
 
-ghost use Rattle.std.specs.Prelude.{◌≡◌, ◌≤◌, ◌<◌, ◌^◌, ◌*◌, ◌+◌, nat_le, IfErr, IfOk, IsAscii, None, Some, [], false, true};
+ghost use Rattle.std.specs.Prelude.{◌≡◌, ◌≤◌, ◌<◌, ◌^◌, ◌*◌, ◌+◌, nat_le, not, IfErr, IfOk, IsAscii, None, Some, [], false, true};
 ghost use Rattle.std.proofs.Props.{props};
-ghost use Rattle.regex_meaning.specs.{CodeUnitOffsets.{IsBoundary}, Text.{ascii_text, ucs2_text, utf16_text, utf8_text}};
+ghost use Rattle.regex_meaning.specs.{CodeUnitOffsets.{IsBoundary, units}, Text.{ascii_text, ucs2_text, utf16_text, utf8_text}};
 ghost use Rattle.regex_pattern_front.specs.AstToSpecTree.{tree_of};
-ghost use Rattle.regress_exec.specs.{Attempts.{match_end_at}, WorkLimits.{next_attempt_offset}, declared.exec.SearchError.TheVariants.{Memory}};
-ghost use Rattle.regress_program.specs.CodeOfTrees.{compiled};
+ghost use Rattle.regress_exec.specs.{Attempts.{match_end_and_groups_at}, WorkLimits.{least_offset_after_match}, declared.exec.SearchError.TheVariants.{Memory}};
+ghost use Rattle.regress_program.specs.CompilationOfTreesAsFunction.{compiled};
 ghost use Rattle.regress_pikevm.specs.{InsnEffects.{end_and_groups}, States.{groups_of}};
-ghost use Rattle.regress_bounded.specs.ProgramWorkBounds.{IsBoundOf, StartsWithBound, is_work_enough_for_text};
-ghost use Rattle.regress_bounded.specs.{SearchStateEntries.{AttemptBeginning, AttemptBeginsWith, IsMemoRightForRegex, Stands, IsStanding, Runs, front_of}, SuccessiveAttempts.{HasWalked}};
+ghost use Rattle.regress_bounded.specs.ProgramWorkBounds.{CanStartAt, IsBoundOf, IsExecutorAtStartWithWorkBound, YieldsWithinWork, is_work_enough_for_text};
+ghost use Rattle.regress_bounded.specs.{SearchStateEntries.{AttemptStartAndResult, AttemptBeginsWithMemoAndBudget, IsMemoRightForRegex, Stands, IsStanding, Runs, front_of}, SuccessiveAttempts.{HasWalked}};
 
+use crate::memo_and_work_budget::{AttemptAbortReason, MemoAndWorkBudget};
 use crate::pending_stack::StackEntry;
-use crate::thread_steps::{StepResult, backtrack_to_entry, execute_thread};
+use crate::thread_steps::{StepResult, execute_thread_step, resume_entry_or_record_failure};
 use crate::work_bound::WorkBound;
-use crate::work_budget::{AttemptAbortReason, WorkBudget};
-use regress_exec::exec::{BoundedProducer, MatchProducer, SearchError};
+use regress_exec::exec::{MatchProducer, SearchError, WorkLimitedProducer, WorkMatches};
 use regress_exec::program_and_input::ProgramAndInput;
 use regress_exec::search_loop::{AnchoredSearch, group_at};
 use regress_input::indexing::{AsciiInput, InputIndexer, Ucs2Input, Utf8Input, Utf16Input};
@@ -28,6 +28,9 @@ use regress_program::insn::{CompiledRegex, CompiledUnits, Program};
 ///
 /// A unit of work is a step of a thread, a backtrack to a pending entry, a character that a char
 /// loop tests, or a record of a failure. Copying states and passing over positions is not counted.
+///
+/// Only a `WorkMatches` holds such an executor, and it reports an exhausted budget as `WorkLimit`.
+/// No function returns the executor itself, because a `SearchError` cannot report this.
 #[derive(Drop)]
 pub struct BoundedExecutor<'r, Input: InputIndexer> {
     searched: ProgramAndInput<'r, Input>,
@@ -35,7 +38,7 @@ pub struct BoundedExecutor<'r, Input: InputIndexer> {
     stack: Vec<StackEntry<Input::Position>>,
     // groups of the last attempt that found an end
     groups: Vec<Option<(Input::Position, Input::Position)>>,
-    course: WorkBudget,
+    course: MemoAndWorkBudget,
     // whether the budget is sufficient and all attempts were made in order, so that no later
     // attempt is before `ahead`
     enough: bool,
@@ -53,7 +56,7 @@ fn run<Input: InputIndexer>(
     searched: &ProgramAndInput<'_, Input>,
     start: State<Input::Position>,
     stack: &mut Vec<StackEntry<Input::Position>>,
-    course: &mut WorkBudget,
+    course: &mut MemoAndWorkBudget,
 ) -> Result<Option<State<Input::Position>>, AttemptAbortReason>
     requires stands { let s = searched.now in
         IsStanding Input.Position.offset (compiled (tree_of s.program.now)) (Input.text s.input)
@@ -63,7 +66,7 @@ fn run<Input: InputIndexer>(
     ensures left { course.new.left ≤ course.old.left }
     ensures runs { let at = Input.Position.offset in let s = searched.now in
         let program = compiled (tree_of s.program.now) in let text = Input.text s.input in
-        (b : AttemptBeginning) → Stands at program text b (front_of at (Some start)) [] course.old
+        (b : AttemptStartAndResult) → Stands at program text b (front_of at (Some start)) [] course.old
         → Runs at program text b result course.new }
 {
     stack.clear();
@@ -71,12 +74,14 @@ fn run<Input: InputIndexer>(
     let mut next = Some(start);
     'search: loop {
         next = match next {
-            Some(state) => match execute_thread(searched, insns, state, stack, course)? {
+            Some(state) => match execute_thread_step(searched, insns, state, stack, course)? {
                 StepResult::On(next) => next,
                 StepResult::End(end) => return Ok(Some(end)),
             },
             None => match stack.pop() {
-                Some(waiting) => backtrack_to_entry(searched, insns, waiting, stack, course)?,
+                Some(waiting) => resume_entry_or_record_failure(
+                    searched, insns, waiting, stack, course,
+                )?,
                 None => return Ok(None),
             },
         };
@@ -85,22 +90,22 @@ fn run<Input: InputIndexer>(
 
 // Returns the final state of the preferred thread from a position to an end, if there is one,
 // within the budget.
-fn preferred_end<Input: InputIndexer>(
+fn preferred_final_state<Input: InputIndexer>(
     searched: &ProgramAndInput<'_, Input>,
     stack: &mut Vec<StackEntry<Input::Position>>,
-    course: &mut WorkBudget,
+    course: &mut MemoAndWorkBudget,
     pos: Input::Position,
 ) -> Result<Option<State<Input::Position>>, AttemptAbortReason>
     requires at { IsBoundary (Input.text searched.now.input) (Input.Position.offset pos) }
     requires right { let s = searched.now in IsMemoRightForRegex s.program.now (Input.text s.input) course.old.memo }
     ensures right { let s = searched.now in IsMemoRightForRegex s.program.now (Input.text s.input) course.new.memo }
     ensures found { let s = searched.now in IfOk result (λ end. end_and_groups Input.Position.offset end
-        ≡ match_end_at (tree_of s.program.now) (Input.text s.input) (Input.Position.offset pos)) }
+        ≡ match_end_and_groups_at (tree_of s.program.now) (Input.text s.input) (Input.Position.offset pos)) }
     ensures memo_analysis { course.new.memo.memo_analysis ≡ course.old.memo.memo_analysis }
     ensures left { course.new.left ≤ course.old.left }
     ensures runs { let at = Input.Position.offset in let s = searched.now in
         let program = compiled (tree_of s.program.now) in let text = Input.text s.input in
-        (b : AttemptBeginning) → AttemptBeginsWith program text (at pos) course.old b → Runs at program text b result course.new }
+        (b : AttemptStartAndResult) → AttemptBeginsWithMemoAndBudget program text (at pos) course.old b → Runs at program text b result course.new }
 {
     let start = initial_state(searched.program, pos)?;
     let end = run(searched, start, stack, course)?;
@@ -138,10 +143,10 @@ impl<'r, Input: InputIndexer> AnchoredSearch for BoundedExecutor<'r, Input> {
         let at = pos.to_offset();
         self.out = false;
         self.enough = self.enough && self.ahead <= at;
-        match preferred_end(&self.searched, &mut self.stack, &mut self.course, pos) {
+        match preferred_final_state(&self.searched, &mut self.stack, &mut self.course, pos) {
             Ok(Some(end)) => {
                 let pos = end.pos;
-                self.ahead = next_attempt_offset(at, pos.to_offset());
+                self.ahead = least_offset_after_match(at, pos.to_offset());
                 self.groups = end.groups;
                 Ok(Some(pos))
             }
@@ -165,24 +170,24 @@ impl<'r, Input: InputIndexer> AnchoredSearch for BoundedExecutor<'r, Input> {
         group_at(&self.groups, id)
     }
 
-    fn start_from(&self, pos: Input::Position) -> Option<Input::Position> {
+    fn first_start_to_try_from(&self, pos: Input::Position) -> Option<Input::Position> {
         Some(pos)
     }
 
-    fn start_after(&self, tried: Input::Position) -> Option<Input::Position> {
-        self.searched.next_candidate(tried)
+    fn next_start_to_try_after(&self, tried: Input::Position) -> Option<Input::Position> {
+        self.searched.position_after_failed_attempt(tried)
     }
 }
 
 // Returns the earliest offset of the next attempt after a match.
-fn next_attempt_offset(at: usize, end: usize) -> usize
+fn least_offset_after_match(at: usize, end: usize) -> usize
     requires { end + 1 < 2 ^ 64 }
-    ensures { result ≡ next_attempt_offset at end }
+    ensures { result ≡ least_offset_after_match at end }
 {
     if at < end { end } else { end + 1 }
 }
 
-impl<'r, Input: InputIndexer> BoundedProducer for BoundedExecutor<'r, Input> {
+impl<'r, Input: InputIndexer> WorkLimitedProducer for BoundedExecutor<'r, Input> {
     fn work_left(&self) -> u64 {
         self.course.left
     }
@@ -209,7 +214,7 @@ impl<'r, Input: InputIndexer> BoundedExecutor<'r, Input> {
     {
         let alloc = searched.program.allocator();
         let places = searched.input.unit_count() + 1;
-        let Some(memo) = bound.memory(alloc, places)? else {
+        let Some(memo) = bound.empty_memo_table(alloc, places)? else {
             return Err(SearchError::Memory);
         };
         let enough = is_enough(bound.per_unit(), places, work);
@@ -217,7 +222,7 @@ impl<'r, Input: InputIndexer> BoundedExecutor<'r, Input> {
             searched,
             stack: Vec::new(alloc),
             groups: Vec::new(alloc),
-            course: WorkBudget { memo, left: work },
+            course: MemoAndWorkBudget { memo, left: work },
             enough,
             ahead: 0,
             out: false,
@@ -236,12 +241,34 @@ fn is_enough(per_unit: u64, places: usize, work: u64) -> bool
 }
 
 impl<'r, 't> BoundedExecutor<'r, Ucs2Input<'t>> {
-    /// Creates an executor for a UCS-2 text with the program `re` and a budget of `work` units.
+    /// Returns an iterator over the matches of the program `re` in a UCS-2 text, from
+    /// offset `start` in code units on, with at most `work` work for all of them together. `start`
+    /// is a boundary or past the end.
     ///
     /// # Errors
     ///
     /// `Memory` if no memo table can be allocated.
-    pub fn new_ucs2(
+    pub fn matches_ucs2(
+        re: &'r CompiledUnits,
+        bound: &WorkBound,
+        text: &'t [u16],
+        start: usize,
+        work: u64,
+    ) -> Result<WorkMatches<Self>, SearchError>
+        requires bound { IsBoundOf (tree_of re.now) bound.now }
+        requires start { CanStartAt (ucs2_text text.now (tree_of re.now).flags.unicode) start }
+        ensures yields { IfOk result (YieldsWithinWork (tree_of re.now) (ucs2_text text.now (tree_of re.now).flags.unicode)
+            start bound.now.per_unit work) }
+        ensures ended { IfOk result (λ it. it.come.ended
+            ≡ not (nat_le start (units (ucs2_text text.now (tree_of re.now).flags.unicode)))) }
+        ensures refused { IfErr result (λ e. e ≡ Memory) }
+    {
+        let executor = BoundedExecutor::<Ucs2Input>::new_ucs2(re, bound, text, work)?;
+        Ok(WorkMatches::new(executor, start))
+    }
+
+    // Creates an executor for a UCS-2 text with a budget of `work` units.
+    fn new_ucs2(
         re: &'r CompiledUnits,
         bound: &WorkBound,
         text: &'t [u16],
@@ -249,20 +276,42 @@ impl<'r, 't> BoundedExecutor<'r, Ucs2Input<'t>> {
     ) -> Result<Self, SearchError>
         requires bound { IsBoundOf (tree_of re.now) bound.now }
         ensures start { let e = ⟦<BoundedExecutor<'r, Ucs2Input<'t>> as MatchProducer>⟧ in
-            IfOk result (StartsWithBound e (tree_of re.now) (ucs2_text text.now) bound.now work) }
+            IfOk result (IsExecutorAtStartWithWorkBound e (tree_of re.now) (ucs2_text text.now) bound.now work) }
         ensures refused { IfErr result (λ e. e ≡ Memory) }
     {
-        BoundedExecutor::over(ProgramAndInput::in_ucs2(re, text), bound, work)
+        BoundedExecutor::over(ProgramAndInput::pair_with_ucs2_text(re, text), bound, work)
     }
 }
 
 impl<'r, 't> BoundedExecutor<'r, Utf8Input<'t>> {
-    /// Creates an executor for a UTF-8 text with the program `re` and a budget of `work` units.
+    /// Returns an iterator over the matches of the program `re` in a UTF-8 text, from
+    /// offset `start` in code units on, with at most `work` work for all of them together. `start`
+    /// is a boundary or past the end.
     ///
     /// # Errors
     ///
     /// `Memory` if no memo table can be allocated.
-    pub fn new_utf8(
+    pub fn matches_utf8(
+        re: &'r CompiledRegex,
+        bound: &WorkBound,
+        text: &'t str,
+        start: usize,
+        work: u64,
+    ) -> Result<WorkMatches<Self>, SearchError>
+        requires bound { IsBoundOf (tree_of re.now) bound.now }
+        requires start { CanStartAt (utf8_text text.now (tree_of re.now).flags.unicode) start }
+        ensures yields { IfOk result (YieldsWithinWork (tree_of re.now) (utf8_text text.now (tree_of re.now).flags.unicode)
+            start bound.now.per_unit work) }
+        ensures ended { IfOk result (λ it. it.come.ended
+            ≡ not (nat_le start (units (utf8_text text.now (tree_of re.now).flags.unicode)))) }
+        ensures refused { IfErr result (λ e. e ≡ Memory) }
+    {
+        let executor = BoundedExecutor::<Utf8Input>::new_utf8(re, bound, text, work)?;
+        Ok(WorkMatches::new(executor, start))
+    }
+
+    // Creates an executor for a UTF-8 text with a budget of `work` units.
+    fn new_utf8(
         re: &'r CompiledRegex,
         bound: &WorkBound,
         text: &'t str,
@@ -270,21 +319,43 @@ impl<'r, 't> BoundedExecutor<'r, Utf8Input<'t>> {
     ) -> Result<Self, SearchError>
         requires bound { IsBoundOf (tree_of re.now) bound.now }
         ensures start { let e = ⟦<BoundedExecutor<'r, Utf8Input<'t>> as MatchProducer>⟧ in
-            IfOk result (StartsWithBound e (tree_of re.now) (utf8_text text.now) bound.now work) }
+            IfOk result (IsExecutorAtStartWithWorkBound e (tree_of re.now) (utf8_text text.now) bound.now work) }
         ensures refused { IfErr result (λ e. e ≡ Memory) }
     {
-        BoundedExecutor::over(ProgramAndInput::in_utf8(re, text), bound, work)
+        BoundedExecutor::over(ProgramAndInput::pair_with_utf8_text(re, text), bound, work)
     }
 }
 
 impl<'r, 't> BoundedExecutor<'r, AsciiInput<'t>> {
-    /// Creates an executor for an ASCII text (`is_ascii`) with the program `re` and a budget of
-    /// `work` units.
+    /// Returns an iterator over the matches of the program `re` in an ASCII text (`is_ascii`), from
+    /// offset `start` in code units on, with at most `work` work for all of them together. `start`
+    /// is a boundary or past the end.
     ///
     /// # Errors
     ///
     /// `Memory` if no memo table can be allocated.
-    pub fn new_ascii(
+    pub fn matches_ascii(
+        re: &'r CompiledRegex,
+        bound: &WorkBound,
+        text: &'t str,
+        start: usize,
+        work: u64,
+    ) -> Result<WorkMatches<Self>, SearchError>
+        requires bound { IsBoundOf (tree_of re.now) bound.now }
+        requires ascii { IsAscii text.now }
+        requires start { CanStartAt (ascii_text text.now (tree_of re.now).flags.unicode) start }
+        ensures yields { IfOk result (YieldsWithinWork (tree_of re.now) (ascii_text text.now (tree_of re.now).flags.unicode)
+            start bound.now.per_unit work) }
+        ensures ended { IfOk result (λ it. it.come.ended
+            ≡ not (nat_le start (units (ascii_text text.now (tree_of re.now).flags.unicode)))) }
+        ensures refused { IfErr result (λ e. e ≡ Memory) }
+    {
+        let executor = BoundedExecutor::<AsciiInput>::new_ascii(re, bound, text, work)?;
+        Ok(WorkMatches::new(executor, start))
+    }
+
+    // Creates an executor for an ASCII text (`is_ascii`) with a budget of `work` units.
+    fn new_ascii(
         re: &'r CompiledRegex,
         bound: &WorkBound,
         text: &'t str,
@@ -293,20 +364,42 @@ impl<'r, 't> BoundedExecutor<'r, AsciiInput<'t>> {
         requires bound { IsBoundOf (tree_of re.now) bound.now }
         requires ascii { IsAscii text.now }
         ensures start { let e = ⟦<BoundedExecutor<'r, AsciiInput<'t>> as MatchProducer>⟧ in
-            IfOk result (StartsWithBound e (tree_of re.now) (ascii_text text.now) bound.now work) }
+            IfOk result (IsExecutorAtStartWithWorkBound e (tree_of re.now) (ascii_text text.now) bound.now work) }
         ensures refused { IfErr result (λ e. e ≡ Memory) }
     {
-        BoundedExecutor::over(ProgramAndInput::in_ascii(re, text), bound, work)
+        BoundedExecutor::over(ProgramAndInput::pair_with_ascii_text(re, text), bound, work)
     }
 }
 
 impl<'r, 't> BoundedExecutor<'r, Utf16Input<'t>> {
-    /// Creates an executor for a UTF-16 text with the program `re` and a budget of `work` units.
+    /// Returns an iterator over the matches of the program `re` in a UTF-16 text, from
+    /// offset `start` in code units on, with at most `work` work for all of them together. `start`
+    /// is a boundary or past the end.
     ///
     /// # Errors
     ///
     /// `Memory` if no memo table can be allocated.
-    pub fn new_utf16(
+    pub fn matches_utf16(
+        re: &'r CompiledUnits,
+        bound: &WorkBound,
+        text: &'t [u16],
+        start: usize,
+        work: u64,
+    ) -> Result<WorkMatches<Self>, SearchError>
+        requires bound { IsBoundOf (tree_of re.now) bound.now }
+        requires start { CanStartAt (utf16_text text.now (tree_of re.now).flags.unicode) start }
+        ensures yields { IfOk result (YieldsWithinWork (tree_of re.now) (utf16_text text.now (tree_of re.now).flags.unicode)
+            start bound.now.per_unit work) }
+        ensures ended { IfOk result (λ it. it.come.ended
+            ≡ not (nat_le start (units (utf16_text text.now (tree_of re.now).flags.unicode)))) }
+        ensures refused { IfErr result (λ e. e ≡ Memory) }
+    {
+        let executor = BoundedExecutor::<Utf16Input>::new_utf16(re, bound, text, work)?;
+        Ok(WorkMatches::new(executor, start))
+    }
+
+    // Creates an executor for a UTF-16 text with a budget of `work` units.
+    fn new_utf16(
         re: &'r CompiledUnits,
         bound: &WorkBound,
         text: &'t [u16],
@@ -314,9 +407,9 @@ impl<'r, 't> BoundedExecutor<'r, Utf16Input<'t>> {
     ) -> Result<Self, SearchError>
         requires bound { IsBoundOf (tree_of re.now) bound.now }
         ensures start { let e = ⟦<BoundedExecutor<'r, Utf16Input<'t>> as MatchProducer>⟧ in
-            IfOk result (StartsWithBound e (tree_of re.now) (utf16_text text.now) bound.now work) }
+            IfOk result (IsExecutorAtStartWithWorkBound e (tree_of re.now) (utf16_text text.now) bound.now work) }
         ensures refused { IfErr result (λ e. e ≡ Memory) }
     {
-        BoundedExecutor::over(ProgramAndInput::in_utf16(re, text), bound, work)
+        BoundedExecutor::over(ProgramAndInput::pair_with_utf16_text(re, text), bound, work)
     }
 }

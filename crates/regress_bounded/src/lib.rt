@@ -2,8 +2,8 @@
 #![tactic(auto)]
 
 pub mod executor;
+mod memo_and_work_budget;
 mod pending_stack;
 mod thread_steps;
-mod unbounded_loops;
+mod unbounded_char_loops;
 pub mod work_bound;
-mod work_budget;

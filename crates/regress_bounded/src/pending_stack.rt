@@ -6,8 +6,8 @@ ghost use Rattle.regress_pikevm.specs.States.{loop_of};
 
 use regress_input::front::LoopID;
 use regress_input::position::PositionType;
-use regress_memo::memo::MemoKey;
-use regress_memo_analysis::key_codes::{LoopState, LoopStates};
+use regress_memo::memo::ThreadMemoKey;
+use regress_memo_analysis::key_codes::{IterationStatesOfAllLoops, LoopCountAndIterationStart};
 use regress_pikevm::pikevm::states::State;
 use regress_program::insn::Insn;
 use std::alloc::AllocError;
@@ -19,13 +19,13 @@ pub(crate) enum StackEntry<P> {
     /// A lazy char loop without a maximum, at the position where it continues.
     Run(State<P>),
     /// The record of a key: when it is popped, everything that was above it has failed.
-    Record(MemoKey),
+    Record(ThreadMemoKey),
 }
 
 /// A char loop without a maximum: the instruction that reads its characters, their minimum number,
 /// and whether the loop is greedy.
 #[derive(Clone, Copy)]
-pub(crate) struct UnboundedLoop {
+pub(crate) struct UnboundedCharLoop {
     pub(crate) body: Insn,
     pub(crate) least: usize,
     pub(crate) greedy: bool,
@@ -49,12 +49,12 @@ pub(crate) struct ThreadLoopStates<'s, P> {
     pub(crate) state: &'s State<P>,
 }
 
-impl<P: PositionType> LoopStates for ThreadLoopStates<'_, P> {
+impl<P: PositionType> IterationStatesOfAllLoops for ThreadLoopStates<'_, P> {
     ghost rounds = { λ l. map (loop_of P.offset) l.state.now.loops.items };
 
-    fn round(&self, id: LoopID) -> Option<LoopState> {
+    fn iteration_state_of_loop(&self, id: LoopID) -> Option<LoopCountAndIterationStart> {
         match self.state.loops.get(usize::from(id)) {
-            Some(held) => Some(LoopState {
+            Some(held) => Some(LoopCountAndIterationStart {
                 iters: held.iters,
                 entry: held.entry.to_offset(),
             }),

@@ -1,25 +1,26 @@
 //! Steps of threads and backtracking, each with its work.
 
-ghost use Rattle.std.specs.Prelude.{◌≡◌, ◌≤◌, List, IfOk, IfSome, [], ◌∷◌, ◌++◌, map, option_map};
+ghost use Rattle.std.specs.Prelude.{◌≡◌, ◌≤◌, List, IfOk, IfSome, OnOk, [], ◌∷◌, ◌++◌, map, option_map};
 ghost use Rattle.regex_meaning.specs.{CompilationRelation.{Program as Code}, Text.{Text}};
 ghost use Rattle.regex_pattern_front.specs.AstToSpecTree.{tree_of};
 ghost use Rattle.regress_memo_laws.specs.MemoSearch.{tried, tries};
 ghost use Rattle.regress_machine.specs.Machine.{State as MachineState, Thread, running};
 ghost use Rattle.regress_memo.specs.MemoContents.{as_key, has_failure};
-ghost use Rattle.regress_program.specs.{CodeOfTrees.{compiled}, InsnMeanings.{spec_insn_of}};
-ghost use Rattle.regress_memo_analysis.specs.CheckedAnalysis.{HasBit};
-ghost use Rattle.regress_bounded.specs.SearchStateEntries.{AttemptBeginning, IsMemoRightForRegex, HasKeyNotKnownToFail, IsNotUnboundedLoop, is_known_key, unbounded_loop_of, IsTurn, Stands, IsStanding, GoesFrom, TurnsFrom, Leaves, HasTaken};
+ghost use Rattle.regress_program.specs.{CompilationOfTreesAsFunction.{compiled}, InsnMeanings.{spec_insn_of}};
+ghost use Rattle.regress_memo_analysis.specs.CheckedAnalysis.{MemoKeyHasBit};
+ghost use Rattle.regress_bounded.specs.SearchStateEntries.{AttemptStartAndResult, IsMemoRightForRegex, HasKeyNotKnownToFail, IsNotUnboundedLoop, is_known_key, unbounded_char_loop_min_and_greed, IsTurn, Stands, IsStanding, GoesFrom, TurnsFrom, Leaves, HasTaken, with_record_pushed};
+ghost use Rattle.regress_bounded.specs.{BudgetSpending.{IsTakenFromBudget}, declared.thread_steps.StepResult.TheVariants.{On}};
 ghost use Rattle.regress_pikevm.specs.States.{state_of, running_thread};
 
-use crate::pending_stack::{StackEntry, UnboundedLoop, push_entry};
-use crate::unbounded_loops::{loop_with_memo, resume_loop};
-use crate::work_budget::{AttemptAbortReason, WorkBudget};
+use crate::memo_and_work_budget::{AttemptAbortReason, MemoAndWorkBudget};
+use crate::pending_stack::{StackEntry, UnboundedCharLoop, push_entry};
+use crate::unbounded_char_loops::{loop_with_memo, resume_pending_lazy_loop};
 use regress_exec::program_and_input::ProgramAndInput;
 use regress_input::cursor::Forward;
 use regress_input::indexing::InputIndexer;
 use regress_input::position::PositionType;
-use regress_memo::memo::MemoKey;
-use regress_pikevm::pikevm::execute::execute_insn;
+use regress_memo::memo::ThreadMemoKey;
+use regress_pikevm::pikevm::single_insn_execution::execute_insn;
 use regress_pikevm::pikevm::states::{NextStates, State};
 use regress_program::insn::Insn;
 use std::alloc::AllocError;
@@ -32,12 +33,12 @@ pub(crate) enum StepResult<P> {
 }
 
 /// Executes one step of a thread, or drops the thread if its key is known to fail.
-pub(crate) fn execute_thread<Input: InputIndexer>(
+pub(crate) fn execute_thread_step<Input: InputIndexer>(
     searched: &ProgramAndInput<'_, Input>,
     insns: &[Insn],
     state: State<Input::Position>,
     stack: &mut Vec<StackEntry<Input::Position>>,
-    course: &mut WorkBudget,
+    course: &mut MemoAndWorkBudget,
 ) -> Result<StepResult<Input::Position>, AttemptAbortReason>
     requires code { map spec_insn_of insns.now ≡ (compiled (tree_of searched.now.program.now)).insns }
     requires stands { let s = searched.now in
@@ -57,7 +58,7 @@ pub(crate) fn execute_thread<Input: InputIndexer>(
     let Some((least, greedy)) = endless(insns[state.ip]) else {
         return turn_above(searched, insns, key, state, stack, course);
     };
-    let run = UnboundedLoop {
+    let run = UnboundedCharLoop {
         body: insns[state.ip + 1],
         least,
         greedy,
@@ -70,7 +71,7 @@ pub(crate) fn execute_thread<Input: InputIndexer>(
 // greedy. Returns `None` for any other instruction.
 #[inline(always)]
 fn endless(insn: Insn) -> Option<(usize, bool)>
-    ensures { result ≡ unbounded_loop_of (spec_insn_of insn) }
+    ensures { result ≡ unbounded_char_loop_min_and_greed (spec_insn_of insn) }
 {
     let Insn::Loop1CharBody {
         min_iters,
@@ -89,8 +90,8 @@ fn endless(insn: Insn) -> Option<(usize, bool)>
 
 // Checks whether there is a key and it is known to fail.
 #[inline(always)]
-fn is_known(key: Option<MemoKey>, course: &WorkBudget) -> bool
-    requires { IfSome key (λ k. HasBit course.now.memo.memo_analysis course.now.memo.places (as_key k)) }
+fn is_known(key: Option<ThreadMemoKey>, course: &MemoAndWorkBudget) -> bool
+    requires { IfSome key (λ k. MemoKeyHasBit course.now.memo.memo_analysis course.now.memo.places (as_key k)) }
     ensures { result ≡ is_known_key (has_failure course.now.memo) (option_map as_key key) }
 {
     match key {
@@ -104,10 +105,10 @@ fn is_known(key: Option<MemoKey>, course: &WorkBudget) -> bool
 fn turn_above<Input: InputIndexer>(
     searched: &ProgramAndInput<'_, Input>,
     insns: &[Insn],
-    key: Option<MemoKey>,
+    key: Option<ThreadMemoKey>,
     state: State<Input::Position>,
     stack: &mut Vec<StackEntry<Input::Position>>,
-    course: &mut WorkBudget,
+    course: &mut MemoAndWorkBudget,
 ) -> Result<StepResult<Input::Position>, AttemptAbortReason>
     requires code { map spec_insn_of insns.now ≡ (compiled (tree_of searched.now.program.now)).insns }
     requires stands { let s = searched.now in
@@ -139,16 +140,20 @@ fn turn_above<Input: InputIndexer>(
     }
 }
 
-// Completes a step after which at most this one thread continues.
+// Completes a step after which at most this one thread continues: spends a unit of work, and pushes
+// a record if there is a key.
 #[inline(always)]
 fn complete_step<P: PositionType>(
-    key: Option<MemoKey>,
+    key: Option<ThreadMemoKey>,
     next: Option<State<P>>,
     stack: &mut Vec<StackEntry<P>>,
-    course: &mut WorkBudget,
+    course: &mut MemoAndWorkBudget,
 ) -> Result<StepResult<P>, AttemptAbortReason>
     ensures memo { course.new.memo ≡ course.old.memo }
     ensures left { course.new.left ≤ course.old.left }
+    ensures spent { OnOk result (IsTakenFromBudget 1 course.old.left course.new.left) }
+    ensures pushed { OnOk result (stack.new.items ≡ with_record_pushed key stack.old.items) }
+    ensures next { IfOk result (λ step. step ≡ On next) }
     ensures goes { (program : Code) (text : Text) (s : MachineState) → HasKeyNotKnownToFail course.old.memo s key
         → IsTurn P.offset program text s 1 (running_thread P.offset next)
         → TurnsFrom P.offset program text (tried (running s) ∷ []) stack.old.items course.old
@@ -160,14 +165,16 @@ fn complete_step<P: PositionType>(
 
 // Spends `work`, and pushes a record if there is a key.
 fn spend_and_push_record<P: PositionType>(
-    key: Option<MemoKey>,
+    key: Option<ThreadMemoKey>,
     work: u64,
     stack: &mut Vec<StackEntry<P>>,
-    course: &mut WorkBudget,
+    course: &mut MemoAndWorkBudget,
 ) -> Result<(), AttemptAbortReason>
     ensures memo { course.new.memo ≡ course.old.memo }
     ensures left { course.new.left ≤ course.old.left }
-    ensures leaves { (program : Code) (text : Text) (b : AttemptBeginning) (s : MachineState) (ts : List Thread)
+    ensures spent { OnOk result (IsTakenFromBudget work course.old.left course.new.left) }
+    ensures pushed { OnOk result (stack.new.items ≡ with_record_pushed key stack.old.items) }
+    ensures leaves { (program : Code) (text : Text) (b : AttemptStartAndResult) (s : MachineState) (ts : List Thread)
         → IsTurn P.offset program text s work ts → HasKeyNotKnownToFail course.old.memo s key
         → Stands P.offset program text b (tried (running s) ∷ []) stack.old.items course.old
         → Leaves P.offset program text b course.old.left ts result stack.new.items course.new }
@@ -198,12 +205,12 @@ fn take_first<P: PositionType>(
 
 /// Backtracks to a pending entry: resumes a thread or a loop, or records a failure, because
 /// everything above a record has failed.
-pub(crate) fn backtrack_to_entry<Input: InputIndexer>(
+pub(crate) fn resume_entry_or_record_failure<Input: InputIndexer>(
     searched: &ProgramAndInput<'_, Input>,
     insns: &[Insn],
     waiting: StackEntry<Input::Position>,
     stack: &mut Vec<StackEntry<Input::Position>>,
-    course: &mut WorkBudget,
+    course: &mut MemoAndWorkBudget,
 ) -> Result<Option<State<Input::Position>>, AttemptAbortReason>
     requires code { map spec_insn_of insns.now ≡ (compiled (tree_of searched.now.program.now)).insns }
     requires stands { let s = searched.now in
@@ -221,7 +228,7 @@ pub(crate) fn backtrack_to_entry<Input: InputIndexer>(
             course.spend(1)?;
             Ok(Some(state))
         }
-        StackEntry::Run(state) => resume_loop(searched, insns, state, stack, course),
+        StackEntry::Run(state) => resume_pending_lazy_loop(searched, insns, state, stack, course),
         StackEntry::Record(key) => {
             course.spend(1)?;
             course.memo.record_failure(key);

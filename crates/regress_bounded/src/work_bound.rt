@@ -4,7 +4,7 @@ ghost use Rattle.std.specs.Arc.{arc_value};
 ghost use Rattle.std.specs.Prelude.{◌≡◌, ◌+◌, ◌-◌, ◌/◌, ◌*◌, ◌≤◌, ◌^◌, ℕ, IfOk, IfSome, MatchOption, None, Some, false, map, min, nat_le, slice_get};
 ghost use Rattle.std.specs.List.{sum_by};
 ghost use Rattle.regex_pattern_front.specs.AstToSpecTree.{tree_of};
-ghost use Rattle.regress_memo_analysis.specs.CheckedAnalysis.{HasKeyCodes};
+ghost use Rattle.regress_memo_analysis.specs.CheckedAnalysis.{AreCodesCountedAndDisjoint};
 ghost use Rattle.regress_memo_laws.specs.LookaroundContinuations.{lookaround_at};
 ghost use Rattle.regress_memo.specs.MemoContents.{IsEmptyMemo};
 ghost use Rattle.regress_program.specs.InsnMeanings.{spec_insn_of};
@@ -38,7 +38,7 @@ impl WorkBound {
     pub fn bound_for_bytes(re: &CompiledRegex) -> Result<Option<WorkBound>, AllocError>
         ensures { IfOk result (λ bound. IfSome bound (IsBoundOf (tree_of re.now))) }
     {
-        WorkBound::of(re.program())
+        WorkBound::bound_of_program(re.program_common_to_both_unit_kinds())
     }
 
     /// Computes the bound of searches of texts of 16-bit units, as `bound_for_bytes` does for bytes.
@@ -49,11 +49,11 @@ impl WorkBound {
     pub fn bound_for_units(re: &CompiledUnits) -> Result<Option<WorkBound>, AllocError>
         ensures { IfOk result (λ bound. IfSome bound (IsBoundOf (tree_of re.now))) }
     {
-        WorkBound::of(re.program())
+        WorkBound::bound_of_program(re.program_common_to_both_unit_kinds())
     }
 
     // Computes the bound of a program.
-    fn of(program: &Program) -> Result<Option<WorkBound>, AllocError>
+    fn bound_of_program(program: &Program) -> Result<Option<WorkBound>, AllocError>
         ensures { IfOk result (λ bound. IfSome bound (IsBoundOf (tree_of program.now))) }
     {
         let alloc = program.allocator();
@@ -93,12 +93,12 @@ impl WorkBound {
     }
 
     // Allocates an empty memo table of failures for `places` offsets.
-    pub(crate) fn memory(
+    pub(crate) fn empty_memo_table(
         &self,
         alloc: Global,
         places: usize,
     ) -> Result<Option<MemoTable>, AllocError>
-        requires { HasKeyCodes (arc_value self.now.memo_analysis) }
+        requires { AreCodesCountedAndDisjoint (arc_value self.now.memo_analysis) }
         ensures { IfOk result (λ found. MatchOption found (2 ^ 64 ≤ (arc_value self.now.memo_analysis).codes * places)
             (IsEmptyMemo (arc_value self.now.memo_analysis) places false)) }
     {

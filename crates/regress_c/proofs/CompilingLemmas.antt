@@ -4,8 +4,8 @@ use Rattle.regex_pattern_front.specs.declared.parse.ParseError.TheVariants as pa
 use Rattle.regress_program.specs.declared.emit.EmitError.TheVariants as emit
 use Rattle.regex_meaning.specs.FlagLettersAndEscaping.{flags_from_letters}
 use Rattle.regress_match.specs.CompileErrors.{IsPatternRefusedWith}
-use Rattle.regress_match.specs.declared.api.error.Error.{Error}
-use Rattle.regress_match.specs.declared.api.error.Error.TheVariants as error
+use Rattle.regress_match.specs.declared.api.compile_and_replace_errors.Error.{Error}
+use Rattle.regress_match.specs.declared.api.compile_and_replace_errors.Error.TheVariants as error
 use Rattle.regress_c.specs.Codes.{refused_as}
 use Rattle.regress_c.specs.Compiling.{Compiles, Given, IsReadable, IsWithin, RefusesPattern}
 use Rattle.regress_c.specs.declared.compiling.Bounds.{Bounds}
@@ -20,9 +20,10 @@ IsOfCompiling g r = (r ≡ Memory) ⊎ RefusesPattern (flags_from_letters g.flag
 
 of-compiling : (g : Given) (e : Error) → IsPatternRefusedWith (flags_from_letters g.flags) g.characters e → IsOfCompiling g (refused_as e)
 of-compiling g error.Memory refuses = inl refl
-of-compiling g (error.Parse parse.Syntax) refuses = inr refuses
+of-compiling g (error.Parse (parse.Syntax d)) refuses = inr refuses.none
+of-compiling g (error.Parse parse.TooManyGroups) refuses = absurd refuses
 of-compiling g (error.Parse parse.Memory) refuses = absurd refuses
-of-compiling g (error.Emit emit.TooManyGroups) refuses = inr (inr refuses)
+of-compiling g (error.Emit emit.TooManyGroups) refuses = inr refuses
 of-compiling g (error.Emit emit.TooManyLoops) refuses = inr refuses
 of-compiling g (error.Emit emit.TooManyInstructions) refuses = inr refuses
 of-compiling g (error.Emit emit.Memory) refuses = absurd refuses
@@ -42,11 +43,5 @@ module _ (g : Given) (bounds : Bounds) (readable : IsReadable g) (within : IsWit
   refuses TooManyInstructions h = (readable, within, the-pattern h (λ e. cc))
   refuses _ h = absurd (the-pattern h (λ e. cc))
 
-  pub told-refuses : (e : Error) (r told : Refusal) → IsPatternRefusedWith (flags_from_letters g.flags) g.characters e → r ≡ refused_as e
-      → (r ≡ Memory → told ≡ Memory) → (RefusesPattern (flags_from_letters g.flags) g.characters r → RefusesPattern (flags_from_letters g.flags) g.characters told)
-      → Compiles g bounds (Err told)
-  told-refuses e r told can is kept same = refuses told (by (subst (IsOfCompiling g) (sym is) (of-compiling g e can)))
-    where
-      by : IsOfCompiling g r → IsOfCompiling g told
-      by (inl m) = inl (kept m)
-      by (inr p) = inr (same p)
+  pub error-refuses : (e : Error) (r : Refusal) → IsPatternRefusedWith (flags_from_letters g.flags) g.characters e → r ≡ refused_as e → Compiles g bounds (Err r)
+  error-refuses e r can is = refuses r (subst (IsOfCompiling g) (sym is) (of-compiling g e can))

@@ -8,19 +8,21 @@ use Rattle.std.proofs.lemmas.Grind.{flat_map-append}
 use Rattle.std.proofs.lemmas.List.{append-nil, length-append}
 use Rattle.std.specs.Prelude.{flat_map, if◌then◌else◌, Result, Err}
 use Rattle.regex_meaning.specs.Laws.{Each}
-use Rattle.regex_meaning.specs.Captures.{Answer}
-use Rattle.regex_meaning.specs.CodeUnitOffsets.{IsText, units}
-use Rattle.regex_meaning.specs.StepBudget.{IsBudgetAtMost, answers_within, finishes_within}
+use Rattle.regex_meaning.specs.GroupsByNumberAndName.{Answer}
+use Rattle.regex_meaning.specs.CodeUnitOffsets.{HasRisingPlaceOffsets, units}
+use Rattle.regex_meaning.specs.StepBudget.{IsBudgetAtMost, answers_within, finishes_within, need_from}
 use Rattle.regex_meaning.specs.Text.{Text}
 use Rattle.regex_meaning.specs.Tree.{Tree}
 use Rattle.regex_meaning.proofs.Each.{Each-append}
 use Rattle.regress_exec.specs.MatchAnswers.{answer_of}
 use Rattle.regress_exec.specs.declared.exec.SearchError.{SearchError}
 use Rattle.regress_exec.specs.declared.exec.SearchError.TheVariants.{Memory, StepLimit}
+use Rattle.regress_exec.proofs.Budget.{left-no_more}
 use Rattle.regress_exec.proofs.Coming.{new-comes}
-use Rattle.regress_match.specs.RegexPrograms.{IsValidStart}
-use Rattle.regress_match.specs.Resuming.{ResumesFrom, IsExhaustedFrom, FindsNext}
-use Rattle.regress_match.specs.declared.api.resumable_searches.Step.{Step}
+use Rattle.regress_match.specs.ProgramTreesAndAnswers.{IsBoundaryOrPastEnd}
+use Rattle.regress_match.specs.Resuming.{ResumesFrom, IsExhaustedFrom, FindInTurn, FindsNext, budget_after}
+use Rattle.regress_match.specs.declared.api.searches_resumed_at_offsets.Step.{Step}
+use Rattle.regress_match.proofs.ResumingLemmas.{turn-more}
 use Rattle.regress_c.specs.Going.{Fills, Run, Stops, ranges_of}
 use Rattle.regress_c.specs.Replies.{spans_of, written_over}
 use Rattle.regress_c.specs.declared.going.Filled.{Filled}
@@ -41,12 +43,17 @@ no_more-same : (a : Option ℕ) → IsBudgetAtMost a a
 no_more-same None = tt
 no_more-same (Some n) = le_refl n
 
+-- a result leaves no more than there was
+no_more-after : (tree : Tree) (text : Text) (left left' : Option ℕ) (next : ℕ) → left' ≡ budget_after tree text left next → IsBudgetAtMost left' left
+no_more-after tree text left left' next e = subst (λ l. IsBudgetAtMost l left) (sym e) (left-no_more left (need_from tree text next))
+
 -- the matches that were written so far, behind which the list goes on from here
 pub record Filling (tree : Tree) (text : Text) (steps : Option ℕ) (start : ℕ) (before now : List Span) (matches next at : ℕ) (left : Option ℕ) : Type 0 where
   pub found : List Answer
   pub answers : answers_within tree text steps start ≡ found ++ answers_within tree text left next
   pub limit : finishes_within tree text steps start ≡ finishes_within tree text left next
-  pub starts : IsValidStart text next
+  pub turns : FindInTurn tree text steps start found left next
+  pub starts : IsBoundaryOrPastEnd text next
   pub fewer : IsBudgetAtMost left steps
   pub ranges : Each (λ m. length (spans_of m) ≡ ranges_of tree) found
   pub count : matches ≡ length found
@@ -55,7 +62,7 @@ pub record Filling (tree : Tree) (text : Text) (steps : Option ℕ) (start : ℕ
   pub written : now ≡ written_over (flat_map spans_of found) before
 
 refusal-less : (tree : Tree) (text : Text) (e : SearchError) (next : ℕ) (left left' : Option ℕ) → ResumesFrom tree text left next (Err e) left' → IsBudgetAtMost left' left
-refusal-less tree text Memory next left left' g = g
+refusal-less tree text Memory next left left' g = g.0
 refusal-less tree text StepLimit next None left' g = absurd (cc g.1)
 refusal-less tree text StepLimit next (Some n) left' g = subst (λ l. IsBudgetAtMost l (Some n)) (sym g.2) (omega arith)
 
@@ -70,11 +77,12 @@ goes-same tree tree' text text' budget start r left e f h =
     subst (λ t. ResumesFrom tree t budget start r left) f (subst (λ t. ResumesFrom t text' budget start r left) e h)
 
 module _ {tree : Tree} {text : Text} {steps : Option ℕ} {start : ℕ} {before : List Span} where
-  pub begun : IsValidStart text start → Filling tree text steps start before before 0 start 0 steps
+  pub begun : IsBoundaryOrPastEnd text start → Filling tree text steps start before before 0 start 0 steps
   begun at = record {
     found = [];
     answers = refl;
     limit = refl;
+    turns = (refl, refl);
     starts = at;
     fewer = no_more-same steps;
     ranges = tt;
@@ -85,7 +93,7 @@ module _ {tree : Tree} {text : Text} {steps : Option ℕ} {start : ℕ} {before 
   }
 
   step_more : (now after : List Span) (matches next at ranges : ℕ) (left left' : Option ℕ) (step : Step)
-      → Filling tree text steps start before now matches next at left → FindsNext tree text left next step left' → ranges ≡ ranges_of tree
+      → Filling tree text steps start before now matches next at left → FindsNext tree text left next (answer_of step.found) step.next left' → ranges ≡ ranges_of tree
       → after ≡ take at now ++ spans_of (answer_of step.found) ++ drop (at + ranges) now
       → Filling tree text steps start before after (matches + 1) step.next (at + ranges) left'
   step_more now after matches next at ranges left left' step f s r w =
@@ -96,8 +104,9 @@ module _ {tree : Tree} {text : Text} {steps : Option ℕ} {start : ℕ} {before 
         found = f.found ++ m ∷ [];
         answers = f.answers ∙ ap (λ xs. f.found ++ xs) s.answers ∙ sym (append_assoc f.found (m ∷ []) (answers_within tree text left' step.next));
         limit = f.limit ∙ s.limit;
+        turns = turn-more tree text steps start f.found m left left' next step.next f.turns s;
         starts = s.starts;
-        fewer = no_more-trans left' left steps s.fewer f.fewer;
+        fewer = no_more-trans left' left steps (no_more-after tree text left left' next s.steps) f.fewer;
         ranges = Each-append (λ m. length (spans_of m) ≡ ranges_of tree) f.found (m ∷ []) f.ranges (long ∙ r, tt);
         count = let c = f.count in let l = length-append f.found (m ∷ []) in omega (arith, c, l);
         at_is = let a = f.at_is in let l = length-append f.found (m ∷ []) in at-more (length f.found) (length (f.found ++ m ∷ [])) at ranges (ranges_of tree) a l r;
@@ -107,7 +116,7 @@ module _ {tree : Tree} {text : Text} {steps : Option ℕ} {start : ℕ} {before 
 
   -- one match more, and then on from there
   pub one_more : (now after : List Span) (matches next at ranges next' : ℕ) (left left' : Option ℕ) (step : Step)
-      → Filling tree text steps start before now matches next at left → FindsNext tree text left next step left' → ranges ≡ ranges_of tree
+      → Filling tree text steps start before now matches next at left → FindsNext tree text left next (answer_of step.found) step.next left' → ranges ≡ ranges_of tree
       → next' ≡ step.next → after ≡ take at now ++ spans_of (answer_of step.found) ++ drop (at + ranges) now
       → Filling tree text steps start before after (matches + 1) next' (at + ranges) left'
   one_more now after matches next at ranges next' left left' step f s r on w =
@@ -119,10 +128,11 @@ module _ {tree : Tree} {text : Text} {steps : Option ℕ} {start : ℕ} {before 
       → Filling tree text steps start before now filled.matches filled.next at left → filled.stop ≡ Full → length before - at < ranges → ranges ≡ ranges_of tree
       → Fills tree text steps start before now filled left
   fills-full now filled at ranges left f stop room r = record {
-    run = record { found = f.found; next = filled.next; stop = Full; steps = left; left = left };
+    run = record { found = f.found; behind = filled.next; next = filled.next; stop = Full; steps = left; left = left };
     is = record {
       answers = f.answers;
       limit = f.limit;
+      turns = f.turns;
       starts = f.starts;
       fewer = f.fewer;
       ranges = f.ranges;
@@ -136,20 +146,21 @@ module _ {tree : Tree} {text : Text} {steps : Option ℕ} {start : ℕ} {before 
   }
 
   -- there is no further match
-  pub fills-over : (now : List Span) (filled : Filled) (next at : ℕ) (left left' : Option ℕ) → IsText text → units text < filled.next
-      → Filling tree text steps start before now filled.matches next at left → filled.stop ≡ Over → IsExhaustedFrom tree text left next × IsBudgetAtMost left' left
+  pub fills-over : (now : List Span) (filled : Filled) (next at : ℕ) (left left' : Option ℕ) → HasRisingPlaceOffsets text → units text < filled.next
+      → Filling tree text steps start before now filled.matches next at left → filled.stop ≡ Over → IsExhaustedFrom tree text left next × (left' ≡ budget_after tree text left next)
       → Fills tree text steps start before now filled left'
   fills-over now filled next at left left' is past f stop over =
       let gone = new-comes tree text is left filled.next None (ap (λ b. if b then Some filled.next else None) (sym (lt-leb filled.next (units text) past))) in
       record {
-        run = record { found = f.found; next = filled.next; stop = Over; steps = left; left = left' };
+        run = record { found = f.found; behind = next; next = filled.next; stop = Over; steps = left; left = left' };
         is = record {
           answers = f.answers ∙ ap (λ xs. f.found ++ xs) (over.0.0 ∙ gone.0);
           limit = f.limit ∙ over.0.1 ∙ gone.1;
+          turns = f.turns;
           starts = inr past;
-          fewer = no_more-trans left' left steps over.1 f.fewer;
+          fewer = no_more-trans left' left steps (no_more-after tree text left left' next over.1) f.fewer;
           ranges = f.ranges;
-          stops = ((sym gone.0, sym gone.1), over.1);
+          stops = ((sym gone.0, sym gone.1), over.0, over.1);
         };
         matches = f.count;
         next = refl;
@@ -163,12 +174,13 @@ module _ {tree : Tree} {text : Text} {steps : Option ℕ} {start : ℕ} {before 
       → Filling tree text steps start before now filled.matches filled.next at left → filled.stop ≡ Refused e → ResumesFrom tree text left filled.next (Err e) left'
       → Fills tree text steps start before now filled left'
   fills-refused now filled at left left' e f stop g =
-      let run : Run = record { found = f.found; next = filled.next; stop = Refused e; steps = left; left = left' } in
+      let run : Run = record { found = f.found; behind = filled.next; next = filled.next; stop = Refused e; steps = left; left = left' } in
       record {
         run = run;
         is = record {
           answers = f.answers;
           limit = f.limit;
+          turns = f.turns;
           starts = f.starts;
           fewer = no_more-trans left' left steps (refusal-less tree text e filled.next left left' g) f.fewer;
           ranges = f.ranges;

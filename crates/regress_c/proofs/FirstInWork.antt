@@ -8,7 +8,7 @@ use Rattle.regress_exec.specs.WorkLimits.{NextYieldsWithinWork, WorkView}
 use Rattle.regress_exec.specs.declared.exec.Match.{Match}
 use Rattle.regress_exec.specs.declared.exec.work_matches.WorkError.{WorkError}
 use Rattle.regress_exec.specs.declared.exec.work_matches.WorkError.TheVariants as worked
-use Rattle.regress_match.specs.RegexPrograms.{as_utf8, byte_tree}
+use Rattle.regress_match.specs.ProgramTreesAndAnswers.{as_utf8, byte_tree}
 use Rattle.regress_match.specs.WorkBounds.{BoundedView, IsWorkBoundOfBothPrograms, YieldsWithinWork, total_work}
 use Rattle.regress_match.specs.declared.api.regex.Regex.{Regex}
 use Rattle.regress_c.specs.Codes.{of_work}

@@ -1,6 +1,6 @@
 -- A search that goes on by a pattern.
 use Rattle.std.proofs.Common.{◌≡◌, ℕ, ◌<◌, List, Option, Some, None, Result, Ok, Err, refl, sym, ap, ◌∙◌, subst, length}
-use Rattle.regress_match.specs.RegexPrograms.{as_utf16, unit_tree}
+use Rattle.regress_match.specs.ProgramTreesAndAnswers.{as_utf16, unit_tree}
 use Rattle.regress_match.specs.declared.api.regex.Regex.{Regex}
 use Rattle.regress_c.specs.Codes.{code_of}
 use Rattle.regress_c.specs.Going.{FillsFrom, FillsIn, Goes, GoesBy, GoesIn, HasSameText, RefusesSearch, RepliesNext, Went, code_of_stop, ran}

@@ -2,9 +2,9 @@
 use Rattle.std.proofs.Common.{◌≡◌, ℕ, ◌+◌, ◌<◌, ◌≤◌, true, false, List, [], ◌∷◌, length, map, drop, get_or, slice_get, Option, Some, None, option_map, bytes_eq}
 use Rattle.std.proofs.Common.{sym, ap, ◌∙◌, arith}
 use Rattle.std.proofs.Math.ListN.{drop_of_length-le}
-use Rattle.regex_meaning.specs.Captures.{group_names_by_id, ids_where}
+use Rattle.regex_meaning.specs.GroupsByNumberAndName.{group_names_by_id, ids_where}
 use Rattle.regress_exec.proofs.Groups.{ids-here}
-use Rattle.regress_match.specs.RegexPrograms.{byte_tree}
+use Rattle.regress_match.specs.ProgramTreesAndAnswers.{byte_tree}
 use Rattle.regress_match.specs.declared.api.regex.Regex.{Regex}
 use Rattle.regress_c.specs.Codes.{code_of}
 use Rattle.regress_c.specs.GroupNumbers.{first_id_named, number_reply, numbered_reply}

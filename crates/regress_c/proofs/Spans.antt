@@ -6,7 +6,7 @@ use Rattle.std.proofs.lemmas.Bool.{le-leb, lt-leb}
 use Rattle.std.proofs.lemmas.List.{append-nil, length-drop, length-map, take_all}
 use Rattle.std.proofs.Math.Seq.{drop-drop, take-length}
 use Rattle.std.proofs.lemmas.Option.{unwrap_or-slice_get}
-use Rattle.regex_meaning.specs.Captures.{Answer, group}
+use Rattle.regex_meaning.specs.GroupsByNumberAndName.{Answer, group}
 use Rattle.regress_exec.specs.GroupIterators.{all_groups}
 use Rattle.regress_exec.specs.MatchAnswers.{answer_of, range_of}
 use Rattle.regress_exec.specs.declared.exec.Match.{Match}

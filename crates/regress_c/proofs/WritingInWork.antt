@@ -6,7 +6,7 @@ use Rattle.std.proofs.lemmas.List.{length-append}
 use Rattle.std.specs.Prelude.{Option, Some, None, Ok, Err, IfSome, IsUtf8, flat_map}
 use Rattle.std.specs.Borrow.{Bor}
 use Rattle.regex_meaning.specs.Laws.{Each, IsAnswerOf}
-use Rattle.regex_meaning.specs.Captures.{Answer}
+use Rattle.regex_meaning.specs.GroupsByNumberAndName.{Answer}
 use Rattle.regex_meaning.proofs.Each.{Each-map}
 use Rattle.regex_meaning.proofs.Ordered.{answers-IsAnswerOf}
 use Rattle.regex_meaning.proofs.TextLemmas.{utf8_text-IsText}
@@ -15,7 +15,7 @@ use Rattle.regress_exec.specs.WorkLimits.{NextYieldsWithinWork, WorkView}
 use Rattle.regress_exec.specs.declared.exec.Match.{Match}
 use Rattle.regress_exec.specs.declared.exec.work_matches.WorkError.{WorkError}
 use Rattle.regress_exec.specs.declared.exec.work_matches.WorkError.TheVariants as worked
-use Rattle.regress_match.specs.RegexPrograms.{as_utf8, byte_tree, utf8_answers}
+use Rattle.regress_match.specs.ProgramTreesAndAnswers.{as_utf8, byte_tree, utf8_answers}
 use Rattle.regress_match.specs.WorkBounds.{BoundedView, IsWorkBoundOfBothPrograms, YieldsWithinWork}
 use Rattle.regress_match.specs.declared.api.regex.Regex.{Regex}
 use Rattle.regress_c.specs.AllInWork.{Ending, EndsInWork, EndsIterator, RefusesAllInWork, RepliesAllInWork, RepliesOutcome, WritesInWork, Written}

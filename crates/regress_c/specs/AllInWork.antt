@@ -1,11 +1,11 @@
 -- The matches that one call writes within a work budget, and why it writes no more.
 use Rattle.std.specs.Prelude.{◌≡◌, ◌<◌, ◌≤◌, ◌+◌, ◌*◌, ◌++◌, ℕ, false, List, [], Option, Some, None, Result, Ok, Err, IsUtf8, flat_map, length}
 use Rattle.regex_meaning.specs.Laws.{Each}
-use Rattle.regex_meaning.specs.Captures.{Answer}
+use Rattle.regex_meaning.specs.GroupsByNumberAndName.{Answer}
 use Rattle.regress_exec.specs.WorkLimits.{WorkView}
 use Rattle.regress_exec.specs.declared.exec.work_matches.WorkError.{WorkError}
 use Rattle.regress_exec.specs.declared.exec.work_matches.WorkError.TheVariants as worked
-use Rattle.regress_match.specs.RegexPrograms.{utf8_answers}
+use Rattle.regress_match.specs.ProgramTreesAndAnswers.{utf8_answers}
 use Rattle.regress_match.specs.declared.api.regex.Regex.{Regex}
 use Rattle.regress_c.specs.Codes.{code_of, done, no_match, of_work}
 use Rattle.regress_c.specs.InWork.{IsUsedUp}

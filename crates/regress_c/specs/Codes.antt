@@ -6,8 +6,8 @@ use Rattle.regress_exec.specs.declared.exec.SearchError.{SearchError}
 use Rattle.regress_exec.specs.declared.exec.SearchError.TheVariants as search
 use Rattle.regress_exec.specs.declared.exec.work_matches.WorkError.{WorkError}
 use Rattle.regress_exec.specs.declared.exec.work_matches.WorkError.TheVariants as worked
-use Rattle.regress_match.specs.declared.api.error.Error.{Error}
-use Rattle.regress_match.specs.declared.api.error.Error.TheVariants as error
+use Rattle.regress_match.specs.declared.api.compile_and_replace_errors.Error.{Error}
+use Rattle.regress_match.specs.declared.api.compile_and_replace_errors.Error.TheVariants as error
 use Rattle.regress_c.specs.declared.refusal.Refusal.{Refusal}
 use Rattle.regress_c.specs.declared.refusal.Refusal.TheVariants.{Empty, Full, NotUtf8, NotBoundary, ShortBuffer, Memory, StepLimit, Syntax}
 use Rattle.regress_c.specs.declared.refusal.Refusal.TheVariants.{TooManyGroups, TooManyLoops, TooManyInstructions, UnknownFlag, TooLong, TooDeep}
@@ -45,7 +45,7 @@ code_of WorkLimit = 20
 
 -- The refusal for an error of compiling a pattern. Every other error is reported as `Memory`.
 abbrev pub refused_as : Error → Refusal
-refused_as (error.Parse parse.Syntax) = Syntax
+refused_as (error.Parse (parse.Syntax d)) = Syntax
 refused_as (error.Emit emit.TooManyGroups) = TooManyGroups
 refused_as (error.Emit emit.TooManyLoops) = TooManyLoops
 refused_as (error.Emit emit.TooManyInstructions) = TooManyInstructions

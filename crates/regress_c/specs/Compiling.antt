@@ -1,11 +1,11 @@
 -- The results of compiling a pattern, and of copying one.
-use Rattle.std.specs.Prelude.{◌≡◌, ◌⊎◌, ◌<◌, ◌≤◌, ◌-◌, ◌^◌, ℕ, List, Option, Some, None, Result, Ok, Err, length}
+use Rattle.std.specs.Prelude.{◌≡◌, ◌<◌, ◌≤◌, ◌-◌, ◌^◌, ℕ, List, Option, Some, None, Result, Ok, Err, length}
 use Rattle.regex_meaning.specs.Tree.{Flags}
 use Rattle.regex_meaning.specs.FlagLettersAndEscaping.{flags_from_letters}
-use Rattle.regex_pattern_front.specs.NestingDepth.{nesting_depth_of}
-use Rattle.regex_grammar.specs.ParserInvariants.{HasNoTree}
+use Rattle.regex_pattern_front.specs.ParenthesisDepth.{greatest_parenthesis_depth_in}
+use Rattle.regex_grammar.specs.ParserInvariants.{HasNoTree, OpensTooManyGroups}
 use Rattle.regress_program.specs.declared.emit.EmitError.TheVariants as emit
-use Rattle.regress_match.specs.RegexPrograms.{IsCompiledWith}
+use Rattle.regress_match.specs.ProgramTreesAndAnswers.{IsCompiledWith}
 use Rattle.regress_match.specs.CompileErrors.{ExceedsLimit}
 use Rattle.regress_match.specs.declared.api.regex.Regex.{Regex}
 use Rattle.regress_c.specs.Codes.{code_of, done}
@@ -38,13 +38,13 @@ unbounded = record { length = 2 ^ 64 - 1; nesting = 2 ^ 64 - 1 }
 -- The pattern is no longer and nested no deeper than the bounds allow.
 pub record IsWithin (bounds : Bounds) (characters : List ℕ) : Type 0 where
   pub length_is : length characters ≤ bounds.length
-  pub nesting_is : nesting_depth_of characters ≤ bounds.nesting
+  pub nesting_is : greatest_parenthesis_depth_in characters ≤ bounds.nesting
 
--- When the pattern itself is refused: the grammar has no tree for it, or its tree exceeds a limit.
--- A pattern with more groups than there are group numbers has no tree.
+-- When the pattern itself is refused: the grammar has no tree for it, it opens too many groups, or
+-- its tree exceeds another limit.
 abbrev pub RefusesPattern : Flags → (characters : List ℕ) → Refusal → Type 0
 RefusesPattern flags characters Syntax = HasNoTree flags characters
-RefusesPattern flags characters TooManyGroups = HasNoTree flags characters ⊎ ExceedsLimit flags characters emit.TooManyGroups
+RefusesPattern flags characters TooManyGroups = OpensTooManyGroups characters
 RefusesPattern flags characters TooManyLoops = ExceedsLimit flags characters emit.TooManyLoops
 RefusesPattern flags characters TooManyInstructions = ExceedsLimit flags characters emit.TooManyInstructions
 RefusesPattern flags characters _ = ⊥
@@ -57,7 +57,7 @@ Compiles g bounds (Err UnknownFlag) = ¬ AreFlags g.flags
 Compiles g bounds (Err NotUtf8) = ¬ g.is_text
 Compiles g bounds (Err Memory) = IsReadable g
 Compiles g bounds (Err TooLong) = IsReadable g × (bounds.length < length g.characters)
-Compiles g bounds (Err TooDeep) = IsReadable g × (bounds.nesting < nesting_depth_of g.characters)
+Compiles g bounds (Err TooDeep) = IsReadable g × (bounds.nesting < greatest_parenthesis_depth_in g.characters)
 Compiles g bounds (Err refusal) = IsReadable g × IsWithin bounds g.characters × RefusesPattern (flags_from_letters g.flags) g.characters refusal
 
 -- The result of compiling into a handle that holds `held`; a handle that is not empty is refused.

@@ -1,13 +1,13 @@
 -- The matches that one call writes, and the offset from which the search continues.
 use Rattle.std.specs.Prelude.{◌≡◌, ◌≢◌, ◌<◌, ◌+◌, ◌*◌, ℕ, false, List, [], ◌++◌, Option, Some, None, Result, Ok, Err, IsSome, flat_map, length}
 use Rattle.regex_meaning.specs.Laws.{Each}
-use Rattle.regex_meaning.specs.Captures.{Answer}
+use Rattle.regex_meaning.specs.GroupsByNumberAndName.{Answer}
 use Rattle.regex_meaning.specs.StepBudget.{IsBudgetAtMost, answers_within, finishes_within}
 use Rattle.regex_meaning.specs.Text.{Text}
 use Rattle.regex_meaning.specs.Tree.{Tree, group_ids}
 use Rattle.regress_exec.specs.declared.exec.SearchError.TheVariants.{Memory, StepLimit}
-use Rattle.regress_match.specs.RegexPrograms.{IsValidStart, as_ucs2, as_utf16, as_utf8, byte_tree, unit_tree}
-use Rattle.regress_match.specs.Resuming.{IsExhaustedFrom}
+use Rattle.regress_match.specs.ProgramTreesAndAnswers.{IsBoundaryOrPastEnd, as_ucs2, as_utf16, as_utf8, byte_tree, unit_tree}
+use Rattle.regress_match.specs.Resuming.{IsExhaustedFrom, FindInTurn, budget_after}
 use Rattle.regress_match.specs.declared.api.regex.Regex.{Regex}
 use Rattle.regress_c.specs.Codes.{code_of, done, no_match, of_search}
 use Rattle.regress_c.specs.Opening.{encoding_of}
@@ -26,10 +26,12 @@ use Rattle.regress_c.specs.declared.search.Search.{Search}
 
 -- ---- Written matches
 
--- One call: the matches found, the offset from which the list continues after them, why no more
--- were found, the steps that were left when it stopped looking, and the steps left afterwards.
+-- One call: the matches found, the offset behind them, the offset from which the list continues
+-- (past the end of the text if no match remains), why no more were found, the steps that were left
+-- when it stopped looking, and the steps left afterwards.
 pub record Run : Type 0 where
   pub found : List Answer
+  pub behind : ℕ
   pub next : ℕ
   pub stop : Stop
   pub steps : Option ℕ
@@ -42,20 +44,24 @@ ranges_of tree = length (group_ids tree.root) + 1
 -- A search with the pattern's tree in a text.
 module _ (tree : Tree) (text : Text) where
   -- Why the call stopped: no room for one more match, no match remains, an allocation failed, or
-  -- the steps are not enough for the next match.
+  -- the steps are not enough for the next match. To find that no match remains takes exactly the
+  -- steps that it needs, and an allocation failure leaves no fewer than a result would leave.
   abbrev pub Stops : (room : ℕ) → Run → Stop → Type 0
   Stops room run Full = (room < (length run.found + 1) * ranges_of tree) × (run.left ≡ run.steps)
-  Stops room run Over = IsExhaustedFrom tree text run.steps run.next × IsBudgetAtMost run.left run.steps
-  Stops room run (Refused Memory) = IsBudgetAtMost run.left run.steps
+  Stops room run Over =
+      IsExhaustedFrom tree text run.steps run.next × IsExhaustedFrom tree text run.steps run.behind × (run.left ≡ budget_after tree text run.steps run.behind)
+  Stops room run (Refused Memory) = IsBudgetAtMost run.left run.steps × IsBudgetAtMost (budget_after tree text run.steps run.next) run.left
   Stops room run (Refused StepLimit) =
       (answers_within tree text run.steps run.next ≡ []) × (finishes_within tree text run.steps run.next ≡ false) × (run.left ≡ Some 0)
 
   -- The matches from `start` on within `steps` are those found, followed by those from `run.next`
-  -- on within `run.steps`. Each match has `ranges_of tree` ranges.
+  -- on within `run.steps`. They are found one after another, and take exactly the steps that they
+  -- need. Each match has `ranges_of tree` ranges.
   pub record IsRun (steps : Option ℕ) (start room : ℕ) (run : Run) : Type 0 where
     pub answers : answers_within tree text steps start ≡ run.found ++ answers_within tree text run.steps run.next
     pub limit : finishes_within tree text steps start ≡ finishes_within tree text run.steps run.next
-    pub starts : IsValidStart text run.next
+    pub turns : FindInTurn tree text steps start run.found run.steps run.behind
+    pub starts : IsBoundaryOrPastEnd text run.next
     pub fewer : IsBudgetAtMost run.left steps
     pub ranges : Each (λ m. length (spans_of m) ≡ ranges_of tree) run.found
     pub stops : Stops room run run.stop

@@ -1,7 +1,7 @@
 -- The number of a group by its name.
 use Rattle.std.specs.Prelude.{ℕ, ◌+◌, List, [], ◌∷◌, Option, Some, None, bytes_eq, option_map, slice_get}
-use Rattle.regex_meaning.specs.Captures.{group_names_by_id, ids_where}
-use Rattle.regress_match.specs.RegexPrograms.{byte_tree}
+use Rattle.regex_meaning.specs.GroupsByNumberAndName.{group_names_by_id, ids_where}
+use Rattle.regress_match.specs.ProgramTreesAndAnswers.{byte_tree}
 use Rattle.regress_match.specs.declared.api.regex.Regex.{Regex}
 use Rattle.regress_c.specs.Codes.{code_of, done}
 use Rattle.regress_c.specs.declared.refusal.Refusal.TheVariants.{Empty, NoGroup}

@@ -1,9 +1,9 @@
 -- The results of a search within a work budget.
 use Rattle.std.specs.Prelude.{◌≡◌, ◌<◌, ◌≤◌, ℕ, List, Option, Some, None, Result, Ok, Err, IsUtf8, length, option_map, slice_get}
-use Rattle.regex_meaning.specs.Captures.{Answer}
+use Rattle.regex_meaning.specs.GroupsByNumberAndName.{Answer}
 use Rattle.regress_exec.specs.MatchAnswers.{answer_of}
 use Rattle.regress_exec.specs.declared.exec.Match.{Match}
-use Rattle.regress_match.specs.RegexPrograms.{as_utf8, utf8_answers}
+use Rattle.regress_match.specs.ProgramTreesAndAnswers.{as_utf8, utf8_answers}
 use Rattle.regress_match.specs.WorkBounds.{IsWorkBoundOfBothPrograms, total_work}
 use Rattle.regress_match.specs.declared.api.regex.Regex.{Regex}
 use Rattle.regress_c.specs.Codes.{code_of, done}

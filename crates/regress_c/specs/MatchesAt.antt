@@ -1,7 +1,7 @@
 -- The match at one offset, in each encoding of the text.
 use Rattle.std.specs.Prelude.{ℕ, List, [], ◌∷◌, Option, Some, None, false}
-use Rattle.regex_meaning.specs.Captures.{Answer}
-use Rattle.regress_match.specs.RegexPrograms.{ucs2_answer_at, utf16_answer_at, utf8_answer_at}
+use Rattle.regex_meaning.specs.GroupsByNumberAndName.{Answer}
+use Rattle.regress_match.specs.ProgramTreesAndAnswers.{ucs2_answer_at, utf16_answer_at, utf8_answer_at}
 use Rattle.regress_match.specs.declared.api.regex.Regex.{Regex}
 use Rattle.regress_c.specs.Searching.{Coming}
 

@@ -2,7 +2,7 @@
 use Rattle.std.specs.Prelude.{◌≡◌, ℕ, Bool, List, ◌||◌, ◌==◌, IsTrue, Result, Ok, Err, Vec}
 use Rattle.std.specs.List.{All}
 use Rattle.regex_meaning.specs.FlagLettersAndEscaping.{flags_from_letters}
-use Rattle.regress_match.specs.Flags.{flags_of}
+use Rattle.regress_match.specs.PublicFlagsAsSpecFlags.{spec_flags_of}
 use Rattle.regress_match.specs.declared.api.flags.Flags.{Flags}
 use Rattle.regress_c.specs.declared.refusal.Refusal.{Refusal}
 use Rattle.regress_c.specs.declared.refusal.Refusal.TheVariants.{NotUtf8, Memory, UnknownFlag}
@@ -18,7 +18,7 @@ AreFlags letters = All (λ c. IsTrue (is_flag_letter c)) letters
 -- The result is the flags with these letters, or `UnknownFlag` if one of them is not the letter of
 -- a flag.
 abbrev pub ReadsFlags : (letters : List ℕ) → Result Flags Refusal → Type 0
-ReadsFlags letters (Ok flags) = AreFlags letters × (flags_of flags ≡ flags_from_letters letters)
+ReadsFlags letters (Ok flags) = AreFlags letters × (spec_flags_of flags ≡ flags_from_letters letters)
 ReadsFlags letters (Err UnknownFlag) = ¬ AreFlags letters
 ReadsFlags letters (Err _) = ⊥
 

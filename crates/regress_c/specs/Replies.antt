@@ -1,6 +1,6 @@
 -- The reply to the result of a search, and the caller's buffer afterwards.
 use Rattle.std.specs.Prelude.{ℕ, ◌-◌, ◌^◌, ◌++◌, List, Option, Some, None, Result, Ok, Err, drop, length, map, nat_le, if◌then◌else◌}
-use Rattle.regex_meaning.specs.Captures.{Answer}
+use Rattle.regex_meaning.specs.GroupsByNumberAndName.{Answer}
 use Rattle.regress_exec.specs.MatchAnswers.{answer_of}
 use Rattle.regress_exec.specs.GroupIterators.{all_groups}
 use Rattle.regress_exec.specs.declared.exec.Match.{Match}

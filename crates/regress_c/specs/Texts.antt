@@ -3,11 +3,11 @@ use Rattle.std.specs.Prelude.{◌≡◌, ◌≤◌, ◌+◌, ◌-◌, ℕ, List,
 use Rattle.std.specs.Prelude.{nat_le, if◌then◌else◌}
 use Rattle.std.specs.List.{sum_by}
 use Rattle.regex_meaning.specs.FlagLettersAndEscaping.{escape}
-use Rattle.regex_meaning.specs.Captures.{Answer, group_names_by_id}
+use Rattle.regex_meaning.specs.GroupsByNumberAndName.{Answer, group_names_by_id}
 use Rattle.regex_meaning.specs.Replace.{replaced}
 use Rattle.regex_meaning.specs.Tree.{group_ids}
-use Rattle.regress_match.specs.RegexPrograms.{byte_tree, utf8_answers}
-use Rattle.regress_match.specs.Replacements.{expansion_of_each_match}
+use Rattle.regress_match.specs.ProgramTreesAndAnswers.{byte_tree, utf8_answers}
+use Rattle.regress_match.specs.ExpansionsAndMatchRanges.{matches_with_expansions}
 use Rattle.regress_match.specs.declared.api.regex.Regex.{Regex}
 use Rattle.regress_c.specs.Codes.{code_of, done}
 use Rattle.regress_c.specs.Compiling.{Given, IsReadable}
@@ -56,7 +56,7 @@ replaced_ones All ms = ms
 -- The result is the text with the first match or all matches replaced, or a refusal.
 abbrev pub Replaces : Regex → (text replacement : List ℕ) → Which → Result (List ℕ) Refusal → Type 0
 Replaces re text replacement which (Ok made) =
-    (IsUtf8 text × IsUtf8 replacement) × (made ≡ replaced text 0 (expansion_of_each_match text replacement (replaced_ones which (utf8_answers re text 0))))
+    (IsUtf8 text × IsUtf8 replacement) × (made ≡ replaced text 0 (matches_with_expansions text replacement (replaced_ones which (utf8_answers re text 0))))
 Replaces re text replacement which (Err NotUtf8) = ¬ (IsUtf8 text × IsUtf8 replacement)
 Replaces re text replacement which (Err Memory) = IsUtf8 text × IsUtf8 replacement
 Replaces re text replacement which (Err _) = ⊥

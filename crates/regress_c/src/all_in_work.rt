@@ -9,7 +9,7 @@ use crate::pattern::Pattern;
 use crate::refusal::{DONE, NO_MATCH, Refusal};
 use crate::reply::{Reply, Span, write_at};
 use crate::subject::text_from;
-use regress_exec::exec::{BoundedProducer, WorkMatches};
+use regress_exec::exec::{WorkLimitedProducer, WorkMatches};
 use regress_match::{BoundedRegex, Regex};
 use std::alloc::Global;
 
@@ -75,7 +75,7 @@ fn fill_by(
 
 // Writes the remaining matches of an iterator to the buffer, as many as there is room for, each
 // with `ranges` ranges.
-fn write_all<P: BoundedProducer + Drop>(
+fn write_all<P: WorkLimitedProducer + Drop>(
     matches: &mut WorkMatches<P>,
     ranges: usize,
     spans: &mut [Span],

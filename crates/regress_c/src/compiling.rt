@@ -1,18 +1,14 @@
 //! Compiling a pattern into a handle.
 
-ghost use Rattle.std.specs.Prelude.{◌≡◌, ℕ, List, None};
-ghost use Rattle.regex_meaning.specs.Tree.{Flags as Asked};
+ghost use Rattle.std.specs.Prelude.{◌≡◌, None};
 ghost use Rattle.std.specs.Result.{result_map_both};
-ghost use Rattle.regress_c.specs.Compiling.{Compiles, RefusesPattern, RepliesMade, code_of_made, given, held_after};
-ghost use Rattle.regress_c.specs.declared.refusal.Refusal.TheVariants.{Memory};
+ghost use Rattle.regress_c.specs.Compiling.{Compiles, RepliesMade, code_of_made, given, held_after};
 
 use crate::flags::flags_from;
 use crate::pattern::Pattern;
 use crate::refusal::{DONE, Refusal};
 use crate::source::Source;
-use regex_pattern_front::diagnosis::{Cause, Diagnosis};
-use regex_pattern_front::parse::diagnose;
-use regress_match::{Flags, Regex, nesting};
+use regress_match::{Regex, nesting};
 use std::alloc::Global;
 
 /// The maximum length and nesting depth of a pattern.
@@ -88,29 +84,6 @@ fn compiled<S: Source>(
     }
     match Regex::from_unicode(alloc, &code_points, flags) {
         Ok(re) => Ok(Box::new(alloc, re)?),
-        Err(error) => Err(told(alloc, &code_points, flags, Refusal::of_error(error))),
-    }
-}
-
-// Distinguishes too many groups from other syntax errors by a diagnosis, since the parser refuses
-// too many groups as a syntax error.
-fn told(alloc: Global, pattern: &[u32], flags: Flags, refusal: Refusal) -> Refusal
-    ensures kept { refusal ≡ Memory → result ≡ Memory }
-    ensures refuses { (flags : Asked) (characters : List ℕ)
-        → RefusesPattern flags characters refusal → RefusesPattern flags characters result }
-{
-    if refusal != Refusal::Syntax {
-        return refusal;
-    }
-    match diagnose(alloc, pattern, flags.for_front()) {
-        Ok(
-            Some(
-                Diagnosis {
-                    cause: Cause::TooManyGroups,
-                    ..
-                },
-            ),
-        ) => Refusal::TooManyGroups,
-        _ => Refusal::Syntax,
+        Err(error) => Err(Refusal::of_error(error)),
     }
 }

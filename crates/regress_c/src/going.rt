@@ -6,7 +6,7 @@ ghost use Rattle.regress_c.specs.Going.{Fills, FillsFrom, FillsIn, RepliesNext, 
 ghost use Rattle.regress_c.specs.{Searching.{can_start_utf8, can_start_utf16}, Replies.{spans_of}};
 ghost use Rattle.regex_meaning.specs.CodeUnitOffsets.{units};
 ghost use Rattle.regress_exec.specs.MatchAnswers.{answer_of};
-ghost use Rattle.regress_match.specs.RegexPrograms.{IsValidStart, as_ucs2, as_utf16, as_utf8, byte_tree, unit_tree};
+ghost use Rattle.regress_match.specs.ProgramTreesAndAnswers.{IsBoundaryOrPastEnd, as_ucs2, as_utf16, as_utf8, byte_tree, unit_tree};
 
 use crate::opening::{cuts_utf8, cuts_utf16};
 use crate::pattern::Pattern;
@@ -209,7 +209,7 @@ fn fill<E: AnchoredSearch>(
     ranges: usize,
     spans: &mut [Span],
 ) -> Filled
-    requires starts { IsValidStart (E.text search.old) start }
+    requires starts { IsBoundaryOrPastEnd (E.text search.old) start }
     requires ranges { ranges ≡ ranges_by (E.tree search.old) }
     ensures fills { Fills (E.tree search.old) (E.text search.old) (E.budget search.old) start spans.old
         spans.new result (E.budget search.new) }

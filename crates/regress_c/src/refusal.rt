@@ -102,7 +102,7 @@ impl Refusal {
         ensures { result ≡ refused_as error }
     {
         match error {
-            Error::Parse(ParseError::Syntax) => Refusal::Syntax,
+            Error::Parse(ParseError::Syntax(_)) => Refusal::Syntax,
             Error::Emit(EmitError::TooManyGroups) => Refusal::TooManyGroups,
             Error::Emit(EmitError::TooManyLoops) => Refusal::TooManyLoops,
             Error::Emit(EmitError::TooManyInstructions) => Refusal::TooManyInstructions,

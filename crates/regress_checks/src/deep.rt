@@ -29,8 +29,8 @@ pub const NESTS: &str = "\
 5000~(?<!…a…)~xa~found
 5000~(?<!…a…)~xb~none
 65535~a*……~xa~found
-65536~a*……~xa~Emit(TooManyLoops)
-65536~(……~xa~Parse(Syntax)
+65536~a*……~xa~too many loops
+65536~(……~xa~too many groups
 40~(?:\\b|^|\\B)…a…~a~found
 40~(?:a|b|\\b)…c…~abc~found";
 
@@ -67,7 +67,7 @@ fn found(alloc: Global, re: &Regex, text: &str) -> Result<String, AllocError> {
 fn outcome(alloc: Global, pattern: &str, text: &str) -> Result<String, AllocError> {
     match Regex::new(alloc, pattern) {
         Ok(re) => found(alloc, &re, text),
-        Err(refused) => format!(in alloc; "{refused:?}"),
+        Err(refused) => format!(in alloc; "{refused}"),
     }
 }
 

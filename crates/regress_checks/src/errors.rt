@@ -48,7 +48,7 @@ fn errors_of_the_face_have_texts(rt: HostRuntime) -> Result<(), Fail> {
     let closure = ReplaceError::Closure(Error::Memory);
     write!(found, "; {search}; {closure}")?;
     let wanted =
-        "the text is no pattern; out of memory; the steps are used up; out of memory; out of memory; out of memory";
+        "unclosed group at 0; out of memory; the steps are used up; out of memory; out of memory; out of memory";
     assert!(rt; found.as_str() == wanted, "{found}");
     Ok(())
 }
@@ -90,7 +90,7 @@ const TOLD: [(&str, &str, &str); 6] = [
     (
         "a{2",
         "u",
-        "lone bracket at 1, byte 1\na{2\n ^ lone bracket",
+        "incomplete quantifier at 1, byte 1\na{2\n ^ incomplete quantifier",
     ),
     ("a{2", "", "a pattern"),
 ];

@@ -1,6 +1,6 @@
 //! Searches whose steps are limited.
 
-ghost use Rattle.regress_match.specs.RegexPrograms.{IsValidStart};
+ghost use Rattle.regress_match.specs.ProgramTreesAndAnswers.{IsBoundaryOrPastEnd};
 
 use crate::lines::{write_limited, write_one};
 use crate::rows::{Row, compare};
@@ -125,7 +125,7 @@ fn first_from<P: MatchProducer>(
     executor: &mut P,
     start: usize,
 ) -> Result<Option<Match>, SearchError>
-    requires { IsValidStart (P.text executor.old) start }
+    requires { IsBoundaryOrPastEnd (P.text executor.old) start }
 {
     let Some(pos) = executor.initial_position(start) else {
         return Ok(None);

@@ -6,7 +6,7 @@ use regex_pattern_front::flags::Flags;
 use regex_pattern_front::parse::try_parse;
 use regress_match::SearchError;
 use regress_match::backends::{DefaultExecutor, emit};
-use regress_pikevm::exec::{Matches, Searcher};
+use regress_pikevm::exec::{Matches, ProducerFromProgramAndText};
 use regress_program::insn::CompiledRegex;
 use std::alloc::Global;
 

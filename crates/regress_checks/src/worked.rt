@@ -6,7 +6,7 @@ use crate::lines::write_found;
 use crate::rows::{Row, compare};
 use crate::starts::is_start;
 use regress_match::{BoundedRegex, Regex, WorkError, is_unit_boundary};
-use regress_pikevm::exec::{BoundedProducer, SearchError, WorkMatches};
+use regress_pikevm::exec::{SearchError, WorkLimitedProducer, WorkMatches};
 use std::alloc::Global;
 
 // Rows of six fields: a pattern, `bytes` or `units` for the texts that are searched, a text of ASCII, a start, how much work may be
@@ -85,7 +85,7 @@ struct Search<'a> {
 }
 
 // Writes what is found, and how much work is left.
-fn write_all<P: BoundedProducer + Drop>(
+fn write_all<P: WorkLimitedProducer + Drop>(
     line: &mut String,
     mut matches: WorkMatches<P>,
 ) -> Result<(), SearchError> {

@@ -6,7 +6,7 @@ use Rattle.std.specs.Option.{option_map_or}
 use Rattle.std.specs.List.{list_all}
 use Rattle.regex_meaning.specs.Tree.{Tree}
 use Rattle.regex_meaning.specs.Text.{Text, rightwards, last_place, is_scalar}
-use Rattle.regex_meaning.specs.CodeUnitOffsets.{IsText, IsBoundary, place_at, offset, read, units}
+use Rattle.regex_meaning.specs.CodeUnitOffsets.{HasRisingPlaceOffsets, IsBoundary, place_at, offset, read, units}
 use Rattle.regex_meaning.specs.Outcomes.{Outcome, outcomes}
 use Rattle.regex_meaning.specs.FirstAndAllMatches.{first_outcome, match_at, no_groups}
 use Rattle.regex_meaning.specs.StartPredicate.{StartPredicate, start_arbitrary, start_byte_set, start_byte_sequence, start_anchored, start_predicate}
@@ -14,8 +14,8 @@ use Rattle.regex_meaning.specs.StartPredicate.{may_start}
 use Rattle.regex_meaning.specs.WellFormedTrees.{is_well_formed}
 use Rattle.regex_meaning.proofs.TextLemmas.{IsBoundary-place, offset-IsBoundary, offset-less, offset-le, place-less}
 use Rattle.regex_meaning.proofs.Sound.{predicate-holds}
-use Rattle.regress_program.specs.CodeOfTrees.{compiled}
-use Rattle.regress_exec.specs.Attempts.{is_anchored_predicate, next_candidate_offset, IsNextCandidate, NoMatchAt, NoMatchStartsBetween, match_end_at}
+use Rattle.regress_program.specs.CompilationOfTreesAsFunction.{compiled}
+use Rattle.regress_exec.specs.Attempts.{is_anchored_predicate, offset_after_failed_attempt, NextStartSkipsNoMatch, NoMatchAt, NoMatchStartsBetween, match_end_and_groups_at}
 use Rattle.regress_exec.proofs.FirstMatch.{vain-at, read-inside, read-end}
 
 pub predicate-compiled : (tree : Tree) → (compiled tree).start_pred ≡ start_predicate tree
@@ -38,7 +38,7 @@ left-end : (text : Text) (place : ℕ) → IsTrue (may_start start_anchored text
 unfolding may_start
 left-end text place h = eqb-true place 0 h
 
-module _ (tree : Tree) (text : Text) (is : IsText text) where
+module _ (tree : Tree) (text : Text) (is : HasRisingPlaceOffsets text) where
   -- what the predicate does not let through has no match
   pub ruled-out : IsTrue (is_well_formed tree.root) → IsTrue (list_all is_scalar text.characters) → (at p : ℕ) → place_at text at ≡ Some p → p ≤ last_place text
       → (IsTrue (may_start (start_predicate tree) text p) → ⊥) → NoMatchAt tree text at
@@ -50,7 +50,7 @@ module _ (tree : Tree) (text : Text) (is : IsText text) where
 
   -- where outcomes stand at the left end alone, none stands behind another place
   pub anchored-behind : IsTrue (is_well_formed tree.root) → IsTrue (list_all is_scalar text.characters) → start_predicate tree ≡ start_anchored
-      → (at : ℕ) → IsNextCandidate tree text (at + 1) None
+      → (at : ℕ) → NextStartSkipsNoMatch tree text (at + 1) None
   anchored-behind w scalars anchored at = λ x on le less.
       let p = IsBoundary-place text x is on in
       ruled-out w scalars x p.0 p.1 p.3 (λ may.
@@ -60,20 +60,20 @@ module _ (tree : Tree) (text : Text) (is : IsText text) where
       absurd (omega (arith, le, p.2, here, first)))
 
   -- nothing stands between an offset and one character on
-  pub one-on : (at : ℕ) → IsBoundary text at → IsNextCandidate tree text (at + 1) (option_map (λ (r : ℕ × ℕ). r.1) (read text rightwards at))
+  pub one-on : (at : ℕ) → IsBoundary text at → NextStartSkipsNoMatch tree text (at + 1) (option_map (λ (r : ℕ × ℕ). r.1) (read text rightwards at))
   one-on at on =
       let p = IsBoundary-place text at is on in
-      subst (λ x. IsNextCandidate tree text (at + 1) (option_map (λ (r : ℕ × ℕ). r.1) (read text rightwards x))) p.2 (elim (cases_lt (last_place text) (p.0 + 1)) [
+      subst (λ x. NextStartSkipsNoMatch tree text (at + 1) (option_map (λ (r : ℕ × ℕ). r.1) (read text rightwards x))) p.2 (elim (cases_lt (last_place text) (p.0 + 1)) [
         | inl past ↦
             let end = read-end tree text is p.0 p.3 (omega (arith, past)) in
-            subst (λ o. IsNextCandidate tree text (at + 1) (option_map (λ (r : ℕ × ℕ). r.1) o)) (sym end) (λ x here le less.
+            subst (λ o. NextStartSkipsNoMatch tree text (at + 1) (option_map (λ (r : ℕ × ℕ). r.1) o)) (sym end) (λ x here le less.
             let q = IsBoundary-place text x is here in
             let rising = offset-le text q.0 p.0 is (let i = q.3 in omega (arith, past, i)) p.3 in
             absurd (omega (arith, rising, le, p.2, q.2)))
         | inr within ↦
             let next = read-inside tree text is p.0 (omega (arith, within)) in
             let rises = offset-less text p.0 (p.0 + 1) is (omega arith) within in
-            subst (λ o. IsNextCandidate tree text (at + 1) (option_map (λ (r : ℕ × ℕ). r.1) o)) (sym next.1) (
+            subst (λ o. NextStartSkipsNoMatch tree text (at + 1) (option_map (λ (r : ℕ × ℕ). r.1) o)) (sym next.1) (
               offset-IsBoundary text (p.0 + 1) is within,
               omega (arith, rises, p.2),
               λ x here le less.
@@ -85,6 +85,6 @@ module _ (tree : Tree) (text : Text) (is : IsText text) where
       ])
 
   -- what is tried behind an offset in vain, where outcomes may stand at the left end alone
-  pub tried-behind : (at : ℕ) (anchored : Bool) → (anchored ≡ true → IsNextCandidate tree text (at + 1) None) → IsBoundary text at → IsNextCandidate tree text (at + 1) (next_candidate_offset anchored text at)
+  pub tried-behind : (at : ℕ) (anchored : Bool) → (anchored ≡ true → NextStartSkipsNoMatch tree text (at + 1) None) → IsBoundary text at → NextStartSkipsNoMatch tree text (at + 1) (offset_after_failed_attempt anchored text at)
   tried-behind at true none on = none refl
   tried-behind at false none on = one-on at on

@@ -7,19 +7,19 @@ use Rattle.regex_meaning.specs.Text.{Text, rightwards}
 use Rattle.regex_meaning.specs.CodeUnitOffsets.{IsBoundary, place_at}
 use Rattle.regex_meaning.specs.OutcomesWithStepTicks.{items_at}
 use Rattle.regex_meaning.proofs.TextLemmas.{offset-place_at}
-use Rattle.regress_program.specs.CodeOfTrees.{compiled}
+use Rattle.regress_program.specs.CompilationOfTreesAsFunction.{compiled}
 use Rattle.regress_machine.specs.Machine.{running, search}
-use Rattle.regress_machine.specs.SearchResults.{state_before_first_insn, end_of, first_pair, end_in_offsets, ProgramCanSearchText, turns_at}
+use Rattle.regress_machine.specs.SearchResults.{state_before_first_insn, end_of, first_pair, end_in_offsets, TreeProgramCanSearchText, turns_at}
 use Rattle.regress_machine.proofs.Whole.{searches-find}
 use Rattle.regress_machine.specs.InsnEffects.{end_of_search}
-use Rattle.regress_exec.specs.Attempts.{match_end_at, steps_for_attempt, search_from}
+use Rattle.regress_exec.specs.Attempts.{match_end_and_groups_at, steps_for_attempt, search_from}
 
 -- the search from the first state of an attempt ends with the first outcome
 pub record Begins (tree : Tree) (text : Text) (at : ℕ) : Type 0 where
   pub answers : IsSome (search_from tree text at rightwards (state_before_first_insn (compiled tree) at))
-  pub end : option_map end_of (end_of_search (search_from tree text at rightwards (state_before_first_insn (compiled tree) at))) ≡ match_end_at tree text at
+  pub end : option_map end_of (end_of_search (search_from tree text at rightwards (state_before_first_insn (compiled tree) at))) ≡ match_end_and_groups_at tree text at
 
-pub begins : (tree : Tree) (text : Text) (at : ℕ) → ProgramCanSearchText (compiled tree) tree text → IsBoundary text at → Begins tree text at
+pub begins : (tree : Tree) (text : Text) (at : ℕ) → TreeProgramCanSearchText (compiled tree) tree text → IsBoundary text at → Begins tree text at
 begins tree text at can on = by (place_at text at) refl on
   where
     by : (o : Option ℕ) → place_at text at ≡ o → IsTrue (is_some o) → Begins tree text at

@@ -7,29 +7,29 @@ use Rattle.std.specs.Option.{option_map_or}
 use Rattle.regex_meaning.specs.NumberListHelpers.{numbers_from}
 use Rattle.regex_meaning.specs.Tree.{Tree}
 use Rattle.regex_meaning.specs.Text.{Text, rightwards, last_place}
-use Rattle.regex_meaning.specs.CodeUnitOffsets.{IsText, IsBoundary, offset, place_at, read, read_at}
+use Rattle.regex_meaning.specs.CodeUnitOffsets.{HasRisingPlaceOffsets, IsBoundary, offset, place_at, read, read_at}
 use Rattle.regex_meaning.specs.Outcomes.{Groups, Outcome}
 use Rattle.regex_meaning.specs.StartPredicate.{StartPredicate, start_arbitrary, start_byte_set, start_byte_sequence, start_anchored, start_predicate}
 use Rattle.regex_meaning.specs.StartPredicate.{may_start}
 use Rattle.regex_meaning.specs.StepBudget.{IsBudgetAtMost, is_within, remaining_budget, need_from}
-use Rattle.regex_meaning.specs.OutcomesWithStepTicks.{TickOrOutcome, tick, pair, outcomes_without_ticks, is_empty, items_at, need, ticks_at, ticks_to_first, tried_places}
+use Rattle.regex_meaning.specs.OutcomesWithStepTicks.{TickOrOutcome, tick, pair, outcomes_without_ticks, has_no_outcome, items_at, need, ticks_at, ticks_to_first, tried_places}
 use Rattle.regex_meaning.proofs.TextLemmas.{IsBoundary-place, offset-place_at, place_at-offset}
 use Rattle.regex_meaning.proofs.Options.{some-same}
 use Rattle.regress_machine.specs.SearchResults.{end_in_offsets, first_pair}
-use Rattle.regress_exec.specs.Attempts.{NoMatchAt, filtered_start_after, match_end_at, first_of_places, first_filtered_start, next_filtered_start, ticks_from}
-use Rattle.regress_exec.specs.StepCosts.{CostsSteps}
+use Rattle.regress_exec.specs.Attempts.{NoMatchAt, filtered_start_after, match_end_and_groups_at, first_of_places, first_filtered_start, next_filtered_start, ticks_of_attempt_at}
+use Rattle.regress_exec.specs.BudgetAndContinuationAfterSearch.{SpendsNeedOrReachesLimit}
 use Rattle.regress_exec.specs.declared.exec.SearchError.{SearchError}
 use Rattle.regress_exec.specs.declared.exec.SearchError.TheVariants.{Memory, StepLimit}
 use Rattle.regress_exec.proofs.FirstMatch.{found-on, read-inside, read-end}
 
 -- ---- Items
 
-pairs-none : (items : List TickOrOutcome) → first_pair items ≡ None → is_empty (outcomes_without_ticks items) ≡ true
+pairs-none : (items : List TickOrOutcome) → first_pair items ≡ None → has_no_outcome (outcomes_without_ticks items) ≡ true
 pairs-none [] e = refl
 pairs-none (tick ∷ items) e = pairs-none items e
 pairs-none (pair o ∷ items) e = cc
 
-pairs-some : (items : List TickOrOutcome) (o : Outcome) → first_pair items ≡ Some o → is_empty (outcomes_without_ticks items) ≡ false
+pairs-some : (items : List TickOrOutcome) (o : Outcome) → first_pair items ≡ Some o → has_no_outcome (outcomes_without_ticks items) ≡ false
 pairs-some [] o e = cc
 pairs-some (tick ∷ items) o e = pairs-some items o e
 pairs-some (pair x ∷ items) o e = refl
@@ -90,7 +90,7 @@ module _ (tree : Tree) (text : Text) where
   IsSpent None now needed next = now ≡ None
   IsSpent (Some steps) now needed next = Counted steps now needed next
 
-module _ (tree : Tree) (text : Text) (is : IsText text) where
+module _ (tree : Tree) (text : Text) (is : HasRisingPlaceOffsets text) where
   -- ---- The first place that is tried
 
   module _ (lets : IsOpen tree text) where
@@ -181,27 +181,27 @@ module _ (tree : Tree) (text : Text) (is : IsText text) where
 
   -- ---- One place
 
-  takes : (at : ℕ) (t : IsTried tree text at) → need_from tree text at ≡ ticks_from tree text at + (if is_empty (outcomes_without_ticks (items_at tree text t.place)) then rest tree text (next_filtered_start tree text at) else 0)
+  takes : (at : ℕ) (t : IsTried tree text at) → need_from tree text at ≡ ticks_of_attempt_at tree text at + (if has_no_outcome (outcomes_without_ticks (items_at tree text t.place)) then rest tree text (next_filtered_start tree text at) else 0)
   takes at t =
       need-at tree text at t.place t.here ∙ ap (ticks_at tree text) t.are
-      ∙ ap₂ (λ n m. n + (if is_empty (outcomes_without_ticks (items_at tree text t.place)) then m else 0)) (sym (ap (λ o. option_map_or (λ place. ticks_to_first (items_at tree text place)) o 0) t.here)) t.later
+      ∙ ap₂ (λ n m. n + (if has_no_outcome (outcomes_without_ticks (items_at tree text t.place)) then m else 0)) (sym (ap (λ o. option_map_or (λ place. ticks_to_first (items_at tree text place)) o 0) t.here)) t.later
 
-  end-at : (at : ℕ) (t : IsTried tree text at) → match_end_at tree text at ≡ option_map (end_in_offsets text) (first_pair (items_at tree text t.place))
+  end-at : (at : ℕ) (t : IsTried tree text at) → match_end_and_groups_at tree text at ≡ option_map (end_in_offsets text) (first_pair (items_at tree text t.place))
   end-at at t = ap (option_and_then (λ place. option_map (end_in_offsets text) (first_pair (items_at tree text place)))) t.here
 
   -- a place that is tried in vain, and those behind it
-  pub takes-vain : (at : ℕ) → IsTried tree text at → NoMatchAt tree text at → need_from tree text at ≡ ticks_from tree text at + rest tree text (next_filtered_start tree text at)
+  pub takes-vain : (at : ℕ) → IsTried tree text at → NoMatchAt tree text at → need_from tree text at ≡ ticks_of_attempt_at tree text at + rest tree text (next_filtered_start tree text at)
   takes-vain at t vain =
       let none = pairs-none (items_at tree text t.place) (none-mapped (end_in_offsets text) (first_pair (items_at tree text t.place)) (sym (end-at at t) ∙ vain)) in
-      takes at t ∙ ap (λ b. ticks_from tree text at + (if b then rest tree text (next_filtered_start tree text at) else 0)) none
+      takes at t ∙ ap (λ b. ticks_of_attempt_at tree text at + (if b then rest tree text (next_filtered_start tree text at) else 0)) none
 
   -- a place where a match begins
-  pub takes-found : (at : ℕ) → IsTried tree text at → (e : ℕ × Groups) → match_end_at tree text at ≡ Some e → need_from tree text at ≡ ticks_from tree text at
+  pub takes-found : (at : ℕ) → IsTried tree text at → (e : ℕ × Groups) → match_end_and_groups_at tree text at ≡ Some e → need_from tree text at ≡ ticks_of_attempt_at tree text at
   takes-found at t e found =
       let first = some-mapped (end_in_offsets text) (first_pair (items_at tree text t.place)) e (sym (end-at at t) ∙ found) in
       let some = pairs-some (items_at tree text t.place) first.0 first.1 in
-      let none : ticks_from tree text at + 0 ≡ ticks_from tree text at = omega arith in
-      takes at t ∙ ap (λ b. ticks_from tree text at + (if b then rest tree text (next_filtered_start tree text at) else 0)) some ∙ none
+      let none : ticks_of_attempt_at tree text at + 0 ≡ ticks_of_attempt_at tree text at = omega arith in
+      takes at t ∙ ap (λ b. ticks_of_attempt_at tree text at + (if b then rest tree text (next_filtered_start tree text at) else 0)) some ∙ none
 
   -- what comes behind a place in vain is tried itself
   tried-next : (at : ℕ) → NoMatchAt tree text at → (to : ℕ) → next_filtered_start tree text at ≡ Some to → IsTried tree text to
@@ -250,28 +250,28 @@ module _ (tree : Tree) (text : Text) (is : IsText text) where
   without now after n e left = left ∙ ap (λ b. remaining_budget b n) e
 
   pub spent-goes : (first now after : Option ℕ) (needed at : ℕ) (next : Option ℕ) → IsSpent tree text first now needed (Some at)
-      → IsTrue (is_within now (ticks_from tree text at)) → after ≡ remaining_budget now (ticks_from tree text at) → NoMatchAt tree text at
+      → IsTrue (is_within now (ticks_of_attempt_at tree text at)) → after ≡ remaining_budget now (ticks_of_attempt_at tree text at) → NoMatchAt tree text at
       → (IsTrue (is_some after) → next ≡ next_filtered_start tree text at) → IsSpent tree text first after needed next
-  spent-goes None now after needed at next s within left vain e = without now after (ticks_from tree text at) s left
+  spent-goes None now after needed at next s within left vain e = without now after (ticks_of_attempt_at tree text at) s left
   spent-goes (Some steps) now after needed at next s within left vain e =
-      let t = took steps s.spent (ticks_from tree text at) now after s.within s.left within left in
+      let t = took steps s.spent (ticks_of_attempt_at tree text at) now after s.within s.left within left in
       let next_is = e (ap is_some t.left) in
-      let all : s.spent + (ticks_from tree text at + rest tree text (next_filtered_start tree text at)) ≡ s.spent + ticks_from tree text at + rest tree text (next_filtered_start tree text at) = omega arith in
+      let all : s.spent + (ticks_of_attempt_at tree text at + rest tree text (next_filtered_start tree text at)) ≡ s.spent + ticks_of_attempt_at tree text at + rest tree text (next_filtered_start tree text at) = omega arith in
       record {
-        spent = s.spent + ticks_from tree text at;
+        spent = s.spent + ticks_of_attempt_at tree text at;
         within = t.inside;
         left = t.left;
-        needs = s.needs ∙ ap (λ n. s.spent + n) (takes-vain at (s.tried at refl) vain) ∙ all ∙ ap (λ o. s.spent + ticks_from tree text at + rest tree text o) (sym next_is);
+        needs = s.needs ∙ ap (λ n. s.spent + n) (takes-vain at (s.tried at refl) vain) ∙ all ∙ ap (λ o. s.spent + ticks_of_attempt_at tree text at + rest tree text o) (sym next_is);
         tried = λ to h. tried-next at vain to (sym next_is ∙ h);
       }
 
   pub spent-found : (first now after : Option ℕ) (needed at : ℕ) (e : ℕ × Groups) → IsSpent tree text first now needed (Some at)
-      → IsTrue (is_within now (ticks_from tree text at)) → after ≡ remaining_budget now (ticks_from tree text at) → match_end_at tree text at ≡ Some e
+      → IsTrue (is_within now (ticks_of_attempt_at tree text at)) → after ≡ remaining_budget now (ticks_of_attempt_at tree text at) → match_end_and_groups_at tree text at ≡ Some e
       → IsTrue (is_within first needed) × (after ≡ remaining_budget first needed)
-  spent-found None now after needed at e s within left found = (refl, without now after (ticks_from tree text at) s left)
+  spent-found None now after needed at e s within left found = (refl, without now after (ticks_of_attempt_at tree text at) s left)
   spent-found (Some steps) now after needed at e s within left found =
-      let t = took steps s.spent (ticks_from tree text at) now after s.within s.left within left in
-      let all : needed ≡ s.spent + ticks_from tree text at = s.needs ∙ ap (λ n. s.spent + n) (takes-found at (s.tried at refl) e found) in
+      let t = took steps s.spent (ticks_of_attempt_at tree text at) now after s.within s.left within left in
+      let all : needed ≡ s.spent + ticks_of_attempt_at tree text at = s.needs ∙ ap (λ n. s.spent + n) (takes-found at (s.tried at refl) e found) in
       (le-leb needed steps (omega (arith, all, t.inside)), t.left ∙ ap (λ n. Some (steps - n)) (sym all))
 
   pub spent-none : (first now : Option ℕ) (needed : ℕ) → IsSpent tree text first now needed None → IsTrue (is_within first needed) × (now ≡ remaining_budget first needed)
@@ -280,22 +280,22 @@ module _ (tree : Tree) (text : Text) (is : IsText text) where
       let all : needed ≡ s.spent = let e : s.spent + 0 ≡ s.spent = omega arith in s.needs ∙ e in
       (le-leb needed steps (let le = s.within in omega (arith, all, le)), s.left ∙ ap (λ n. Some (steps - n)) (sym all))
 
-  pub spent-beyond : (first now : Option ℕ) (needed at : ℕ) → IsSpent tree text first now needed (Some at) → is_within now (ticks_from tree text at) ≡ false → is_within first needed ≡ false
-  spent-beyond None now needed at s past = let never : true ≡ false = sym (ap (λ b. is_within b (ticks_from tree text at)) s) ∙ past in cc
+  pub spent-beyond : (first now : Option ℕ) (needed at : ℕ) → IsSpent tree text first now needed (Some at) → is_within now (ticks_of_attempt_at tree text at) ≡ false → is_within first needed ≡ false
+  spent-beyond None now needed at s past = let never : true ≡ false = sym (ap (λ b. is_within b (ticks_of_attempt_at tree text at)) s) ∙ past in cc
   spent-beyond (Some steps) now needed at s past =
-      let less = leb-false (ticks_from tree text at) (steps - s.spent) (subst (λ b. is_within b (ticks_from tree text at) ≡ false) s.left past) in
+      let less = leb-false (ticks_of_attempt_at tree text at) (steps - s.spent) (subst (λ b. is_within b (ticks_of_attempt_at tree text at) ≡ false) s.left past) in
       let all = s.needs in
       let some = takes at (s.tried at refl) in
       let le = s.within in
       lt-leb needed steps (omega (arith, less, all, some, le))
 
   -- what is left is no less than an answer would leave
-  pub spent-most : (first now : Option ℕ) (needed at : ℕ) → IsSpent tree text first now needed (Some at) → (after : Option ℕ) → IsBudgetAtMost (remaining_budget now (ticks_from tree text at)) after
+  pub spent-most : (first now : Option ℕ) (needed at : ℕ) → IsSpent tree text first now needed (Some at) → (after : Option ℕ) → IsBudgetAtMost (remaining_budget now (ticks_of_attempt_at tree text at)) after
       → IsBudgetAtMost (remaining_budget first needed) after
-  spent-most None now needed at s after most = subst (λ b. IsBudgetAtMost (remaining_budget b (ticks_from tree text at)) after) s most
-  spent-most (Some steps) now needed at s after most = by after (subst (λ b. IsBudgetAtMost (remaining_budget b (ticks_from tree text at)) after) s.left most)
+  spent-most None now needed at s after most = subst (λ b. IsBudgetAtMost (remaining_budget b (ticks_of_attempt_at tree text at)) after) s most
+  spent-most (Some steps) now needed at s after most = by after (subst (λ b. IsBudgetAtMost (remaining_budget b (ticks_of_attempt_at tree text at)) after) s.left most)
     where
-      by : (after : Option ℕ) → IsBudgetAtMost (Some (steps - s.spent - ticks_from tree text at)) after → IsBudgetAtMost (Some (steps - needed)) after
+      by : (after : Option ℕ) → IsBudgetAtMost (Some (steps - s.spent - ticks_of_attempt_at tree text at)) after → IsBudgetAtMost (Some (steps - needed)) after
       by None h = h
       by (Some n) h =
           let all = s.needs in
@@ -312,19 +312,19 @@ module _ (tree : Tree) (text : Text) (is : IsText text) where
 
 -- what an attempt took, by the tree and the text that are searched
 pub taken : (tree : Tree) (text : Text) (tree' : Tree) (text' : Text) (now after : Option ℕ) (at : ℕ) → tree' ≡ tree → text' ≡ text
-    → IsTrue (is_within now (ticks_from tree' text' at)) × (after ≡ remaining_budget now (ticks_from tree' text' at))
-    → IsTrue (is_within now (ticks_from tree text at)) × (after ≡ remaining_budget now (ticks_from tree text at))
+    → IsTrue (is_within now (ticks_of_attempt_at tree' text' at)) × (after ≡ remaining_budget now (ticks_of_attempt_at tree' text' at))
+    → IsTrue (is_within now (ticks_of_attempt_at tree text at)) × (after ≡ remaining_budget now (ticks_of_attempt_at tree text at))
 taken tree text tree' text' now after at t x e =
-    subst (λ t. IsTrue (is_within now (ticks_from t text at)) × (after ≡ remaining_budget now (ticks_from t text at))) t
-    (subst (λ x. IsTrue (is_within now (ticks_from tree' x at)) × (after ≡ remaining_budget now (ticks_from tree' x at))) x e)
+    subst (λ t. IsTrue (is_within now (ticks_of_attempt_at t text at)) × (after ≡ remaining_budget now (ticks_of_attempt_at t text at))) t
+    (subst (λ x. IsTrue (is_within now (ticks_of_attempt_at tree' x at)) × (after ≡ remaining_budget now (ticks_of_attempt_at tree' x at))) x e)
 
 pub left-no_more : (budget : Option ℕ) (n : ℕ) → IsBudgetAtMost (remaining_budget budget n) budget
 left-no_more None n = tt
 left-no_more (Some steps) n = omega arith
 
 -- a refusal of an attempt is one of the search
-pub refused : (tree : Tree) (text : Text) (is : IsText text) (first now after : Option ℕ) (needed at : ℕ) (X Y : Type 0) (e : SearchError) → IsSpent tree text first now needed (Some at)
-    → CostsSteps {X = X} (ticks_from tree text at) now (Err e) after → CostsSteps {X = Y} needed first (Err e) after
+pub refused : (tree : Tree) (text : Text) (is : HasRisingPlaceOffsets text) (first now after : Option ℕ) (needed at : ℕ) (X Y : Type 0) (e : SearchError) → IsSpent tree text first now needed (Some at)
+    → SpendsNeedOrReachesLimit {X = X} (ticks_of_attempt_at tree text at) now (Err e) after → SpendsNeedOrReachesLimit {X = Y} needed first (Err e) after
 refused tree text is first now after needed at X Y Memory s r = (spent-less tree text is first now needed (Some at) s after r.0, spent-most tree text is first now needed at s after r.1)
 refused tree text is first now after needed at X Y StepLimit s r = (spent-beyond tree text is first now needed at s r.0, r.1)
 
@@ -333,12 +333,12 @@ no_more-same None = tt
 no_more-same (Some n) = omega arith
 
 -- want of memory behind all that is needed
-pub refused-last : (X : Type 0) (need : ℕ) (first after : Option ℕ) → after ≡ remaining_budget first need → CostsSteps {X = X} need first (Err Memory) after
-refused-last X need first after left = subst (λ after. CostsSteps {X = X} need first (Err Memory) after) (sym left) (left-no_more first need, no_more-same (remaining_budget first need))
+pub refused-last : (X : Type 0) (need : ℕ) (first after : Option ℕ) → after ≡ remaining_budget first need → SpendsNeedOrReachesLimit {X = X} need first (Err Memory) after
+refused-last X need first after left = subst (λ after. SpendsNeedOrReachesLimit {X = X} need first (Err Memory) after) (sym left) (left-no_more first need, no_more-same (remaining_budget first need))
 
 -- and the same of what is handed up
 pub handed : (X Y : Type 0) (need : ℕ) (first after : Option ℕ) (e : SearchError) (r : Result Y SearchError) → IsErrAnd r (λ f. f ≡ e)
-    → CostsSteps {X = X} need first (Err e) after → CostsSteps {X = Y} need first r after
+    → SpendsNeedOrReachesLimit {X = X} need first (Err e) after → SpendsNeedOrReachesLimit {X = Y} need first r after
 handed X Y need first after e (Ok y) h s = absurd h
-handed X Y need first after Memory (Err f) h s = subst (λ f. CostsSteps {X = Y} need first (Err f) after) (sym h) s
-handed X Y need first after StepLimit (Err f) h s = subst (λ f. CostsSteps {X = Y} need first (Err f) after) (sym h) s
+handed X Y need first after Memory (Err f) h s = subst (λ f. SpendsNeedOrReachesLimit {X = Y} need first (Err f) after) (sym h) s
+handed X Y need first after StepLimit (Err f) h s = subst (λ f. SpendsNeedOrReachesLimit {X = Y} need first (Err f) after) (sym h) s

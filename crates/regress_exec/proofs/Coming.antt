@@ -6,8 +6,8 @@ use Rattle.std.specs.Prelude.{◌==◌, if◌then◌else◌, nat_le, is_none, Is
 use Rattle.std.specs.Option.{option_map_or}
 use Rattle.regex_meaning.specs.Tree.{Tree}
 use Rattle.regex_meaning.specs.Text.{Text}
-use Rattle.regex_meaning.specs.CodeUnitOffsets.{IsText, IsBoundary, place_at, units}
-use Rattle.regex_meaning.specs.Captures.{Answer, answers_from}
+use Rattle.regex_meaning.specs.CodeUnitOffsets.{HasRisingPlaceOffsets, IsBoundary, place_at, units}
+use Rattle.regex_meaning.specs.GroupsByNumberAndName.{Answer, answers_from}
 use Rattle.regex_meaning.specs.SearchAnswers.{first_answer, next_start}
 use Rattle.regex_meaning.specs.StepBudget.{is_within, remaining_budget, need_from, answers_within, finishes_within, answers_next, end_next}
 use Rattle.regex_meaning.specs.OutcomesWithStepTicks.{needs}
@@ -16,12 +16,12 @@ use Rattle.regex_meaning.proofs.TextLemmas.{place_at-past}
 use Rattle.regex_meaning.proofs.AnswerLemmas.{next_start-ahead}
 use Rattle.regress_exec.specs.declared.exec.SearchError.{SearchError}
 use Rattle.regress_exec.specs.declared.exec.SearchError.TheVariants.{Memory, StepLimit}
-use Rattle.regress_exec.specs.StepCosts.{CostsSteps}
-use Rattle.regress_exec.specs.RemainingAnswers.{NextYields, EndsAfterMatchAtTextEnd, MayRefuse, RemainingView, remaining_answers_from, items_left}
+use Rattle.regress_exec.specs.BudgetAndContinuationAfterSearch.{SpendsNeedOrReachesLimit}
+use Rattle.regress_exec.specs.RemainingAnswers.{NextYields, EndsAfterMatchStartingAtTextEnd, MayRefuse, RemainingView, remaining_answers_from, items_left}
 use Rattle.regress_exec.specs.declared.exec.Match.{Match}
 use Rattle.regress_exec.proofs.LastMatch.{ends-behind}
 
-module _ (tree : Tree) (text : Text) (is : IsText text) where
+module _ (tree : Tree) (text : Text) (is : HasRisingPlaceOffsets text) where
   pub new-comes : (budget : Option ℕ) (start : ℕ) (position : Option ℕ) → position ≡ (if nat_le start (units text) then Some start else None)
       → (answers_next tree text budget position ≡ answers_within tree text budget start) × (end_next tree text budget position ≡ finishes_within tree text budget start)
   unfolding answers_from
@@ -73,7 +73,7 @@ module _ (tree : Tree) (text : Text) (is : IsText text) where
         (answers-here ∙ w.0, limit-here ∙ ap not w.1)
 
     -- and one that was refused
-    pub call-refused : (X : Type 0) (e : SearchError) (after : Option ℕ) → CostsSteps {X = X} (need_from tree text at) budget (Err e) after → MayRefuse e s
+    pub call-refused : (X : Type 0) (e : SearchError) (after : Option ℕ) → SpendsNeedOrReachesLimit {X = X} (need_from tree text at) budget (Err e) after → MayRefuse e s
     call-refused X Memory after r = tt
     call-refused X StepLimit after r = let w = beyond tree text is budget at r.0 in (answers-here ∙ w.0, limit-here ∙ ap not w.1)
 
@@ -96,6 +96,6 @@ ended-none s t None e g = refl
 ended-none s t (Some (Ok m)) e g = absurd (cc (sym e ∙ g.2))
 ended-none s t (Some (Err x)) e g = absurd (cc (sym e ∙ g.1))
 
-pub last-ends : EndsAfterMatchAtTextEnd
+pub last-ends : EndsAfterMatchStartingAtTextEnd
 last-ends s t u m next g at k =
     ended-none t u next (g.4 ∙ eq-eqb m.range.start s.text_end at) k

@@ -7,10 +7,10 @@ use Rattle.std.specs.Prelude.{option_map, option_and_then, if◌then◌else◌, 
 use Rattle.std.specs.Option.{option_or}
 use Rattle.regex_meaning.specs.Tree.{Tree, Flags}
 use Rattle.regex_meaning.specs.Text.{Text, rightwards, last_place}
-use Rattle.regex_meaning.specs.CodeUnitOffsets.{IsText, IsBoundary, offset, place_at, read, read_at, units}
+use Rattle.regex_meaning.specs.CodeUnitOffsets.{HasRisingPlaceOffsets, IsBoundary, offset, place_at, read, read_at, units}
 use Rattle.regex_meaning.specs.Outcomes.{Groups, Outcome}
 use Rattle.regex_meaning.specs.FirstAndAllMatches.{Found, first_outcome, match_at, first_match, place_behind, no_groups}
-use Rattle.regex_meaning.specs.Captures.{Answer, answer, group_names_by_id}
+use Rattle.regex_meaning.specs.GroupsByNumberAndName.{Answer, answer, group_names_by_id}
 use Rattle.regex_meaning.specs.SearchAnswers.{first_found, first_answer, next_start}
 use Rattle.regex_meaning.specs.OutcomesWithStepTicks.{TickOrOutcome, tick, pair, outcomes_without_ticks, items_at}
 use Rattle.regex_meaning.proofs.Ticked.{pairs-ticked}
@@ -18,10 +18,10 @@ use Rattle.regex_meaning.proofs.Matches.{first-unfolds, first-past, stands-first
 use Rattle.regex_meaning.proofs.TextLemmas.{place_at-offset, offset-place_at, offset-IsBoundary, offset-less, offset-le}
 use Rattle.regex_pattern_front.specs.AstToSpecTree.{tree_of}
 use Rattle.regex_pattern_front.specs.declared.ir.Regex.{Regex}
-use Rattle.regress_program.specs.CodeOfTrees.{compiled}
+use Rattle.regress_program.specs.CompilationOfTreesAsFunction.{compiled}
 use Rattle.regress_machine.specs.SearchResults.{first_pair, end_in_offsets, groups_in_offsets}
 use Rattle.regress_exec.specs.MatchAnswers.{answer_from_parts}
-use Rattle.regress_exec.specs.Attempts.{match_end_at, next_search_offset}
+use Rattle.regress_exec.specs.Attempts.{match_end_and_groups_at, next_search_offset}
 
 -- ---- Records
 
@@ -59,13 +59,13 @@ module _ (tree : Tree) (text : Text) where
     pub same : first_found tree.root text first ≡ first_found tree.root text at
     pub boundary : IsBoundary text at
 
-module _ (tree : Tree) (text : Text) (is : IsText text) where
+module _ (tree : Tree) (text : Text) (is : HasRisingPlaceOffsets text) where
   pub match-first : (p : ℕ) → match_at tree.root text p ≡ option_map (found_by p) (first_pair (items_at tree text p))
   match-first p = ap (first_outcome p) (sym (pairs-ticked text tree.root rightwards p (no_groups tree.root))) ∙ first-pairs p (items_at tree text p)
 
   -- ---- At an offset of a place
 
-  end-at : (at p : ℕ) → place_at text at ≡ Some p → match_end_at tree text at ≡ option_map (end_in_offsets text) (first_pair (items_at tree text p))
+  end-at : (at p : ℕ) → place_at text at ≡ Some p → match_end_and_groups_at tree text at ≡ option_map (end_in_offsets text) (first_pair (items_at tree text p))
   end-at at p e = ap (option_and_then (λ place. option_map (end_in_offsets text) (first_pair (items_at tree text place)))) e
 
   pub found-at : (at p : ℕ) → place_at text at ≡ Some p → first_found tree.root text at ≡ first_match tree.root text p
@@ -135,7 +135,7 @@ module _ (tree : Tree) (text : Text) (is : IsText text) where
         boundary = subst (IsBoundary text) end_is (offset-IsBoundary text o.end is stands.2);
       }
 
-  pub found-here : (at e : ℕ) (gs : Groups) → IsBoundary text at → match_end_at tree text at ≡ Some (e, gs) → IsFoundAt at e gs
+  pub found-here : (at e : ℕ) (gs : Groups) → IsBoundary text at → match_end_and_groups_at tree text at ≡ Some (e, gs) → IsFoundAt at e gs
   found-here at e gs on end = by (place_at text at) refl on
     where
       by_first : (p : ℕ) → place_at text at ≡ Some p → (fp : Option Outcome) → first_pair (items_at tree text p) ≡ fp → option_map (end_in_offsets text) fp ≡ Some (e, gs) → IsFoundAt at e gs
@@ -148,7 +148,7 @@ module _ (tree : Tree) (text : Text) (is : IsText text) where
           by_first p q (first_pair (items_at tree text p)) refl (sym (end-at at p q) ∙ end)
 
   -- no match at a place where the list has no pair
-  pub none-at : (at p : ℕ) → place_at text at ≡ Some p → match_end_at tree text at ≡ None → match_at tree.root text p ≡ None
+  pub none-at : (at p : ℕ) → place_at text at ≡ Some p → match_end_and_groups_at tree text at ≡ None → match_at tree.root text p ≡ None
   none-at at p q none = match-first p ∙ by (first_pair (items_at tree text p)) (sym (end-at at p q) ∙ none)
     where
       by : (fp : Option Outcome) → option_map (end_in_offsets text) fp ≡ None → option_map (found_by p) fp ≡ None
@@ -156,14 +156,14 @@ module _ (tree : Tree) (text : Text) (is : IsText text) where
       by (Some o) e = cc
 
   -- no attempt succeeds where no match begins
-  pub vain-at : (at p : ℕ) → place_at text at ≡ Some p → match_at tree.root text p ≡ None → match_end_at tree text at ≡ None
+  pub vain-at : (at p : ℕ) → place_at text at ≡ Some p → match_at tree.root text p ≡ None → match_end_and_groups_at tree text at ≡ None
   vain-at at p q none = end-at at p q ∙ by (first_pair (items_at tree text p)) (sym (match-first p) ∙ none)
     where
       by : (fp : Option Outcome) → option_map (found_by p) fp ≡ None → option_map (end_in_offsets text) fp ≡ None
       by None e = refl
       by (Some o) e = cc
 
-  pub on-from : (at p : ℕ) → place_at text at ≡ Some p → match_end_at tree text at ≡ None → first_found tree.root text at ≡ first_match tree.root text (p + 1)
+  pub on-from : (at p : ℕ) → place_at text at ≡ Some p → match_end_and_groups_at tree text at ≡ None → first_found tree.root text at ≡ first_match tree.root text (p + 1)
   on-from at p q none =
       let place = offset-place_at text at p is q in
       found-at at p q ∙ first-unfolds tree.root text p place.1 ∙ ap (λ x. option_or x (first_match tree.root text (p + 1))) (none-at at p q none)
@@ -178,7 +178,7 @@ module _ (tree : Tree) (text : Text) (is : IsText text) where
   later : (at p next : ℕ) → offset text p ≡ at → offset text p < offset text (p + 1) → offset text (p + 1) ≡ next → at < next
   later at p next a less b = omega (arith, a, b)
 
-  pub found-on : (at next c : ℕ) → match_end_at tree text at ≡ None → read text rightwards at ≡ Some (c, next) → GoesOnAt at next
+  pub found-on : (at next c : ℕ) → match_end_and_groups_at tree text at ≡ None → read text rightwards at ≡ Some (c, next) → GoesOnAt at next
   found-on at next c none on = by (place_at text at) refl
     where
       by : (o : Option ℕ) → place_at text at ≡ o → GoesOnAt at next
@@ -207,7 +207,7 @@ module _ (tree : Tree) (text : Text) (is : IsText text) where
                 inside = let le = offset-le text (p + 1) (last_place text) is inside (le_refl (last_place text)) in omega (arith, le, next_is);
               }
 
-  pub found-none : (at : ℕ) → IsBoundary text at → match_end_at tree text at ≡ None → read text rightwards at ≡ None → first_found tree.root text at ≡ None
+  pub found-none : (at : ℕ) → IsBoundary text at → match_end_and_groups_at tree text at ≡ None → read text rightwards at ≡ None → first_found tree.root text at ≡ None
   found-none at on none past = by (place_at text at) refl on
     where
       by : (o : Option ℕ) → place_at text at ≡ o → IsTrue (is_some o) → first_found tree.root text at ≡ None
@@ -227,7 +227,7 @@ module _ (tree : Tree) (text : Text) (is : IsText text) where
   goes-from_itself at on = record { same = refl; boundary = on }
 
   -- one place on
-  pub goes-on : (first at next : ℕ) → GoesFrom tree text first at → match_end_at tree text at ≡ None → Some next ≡ option_map (λ (r : ℕ × ℕ). r.1) (read text rightwards at)
+  pub goes-on : (first at next : ℕ) → GoesFrom tree text first at → match_end_and_groups_at tree text at ≡ None → Some next ≡ option_map (λ (r : ℕ × ℕ). r.1) (read text rightwards at)
       → GoesFrom tree text first next × (units text - next < units text - at)
   goes-on first at next g none e = by (read text rightwards at) refl e
     where
@@ -240,7 +240,7 @@ module _ (tree : Tree) (text : Text) (is : IsText text) where
             omega (arith, f.ahead, f.inside, same),
           )
 
-  pub found-first : (first at e : ℕ) (gs : Groups) → GoesFrom tree text first at → match_end_at tree text at ≡ Some (e, gs)
+  pub found-first : (first at e : ℕ) (gs : Groups) → GoesFrom tree text first at → match_end_and_groups_at tree text at ≡ Some (e, gs)
       → (Some (answer_from_parts at e gs (group_names_by_id tree.root)) ≡ first_answer tree.root text first) × (next_search_offset text at e ≡ next_start tree.root text first) × IsBoundary text e
   found-first first at e gs g end =
       let f = found-here at e gs g.boundary end in (
@@ -249,7 +249,7 @@ module _ (tree : Tree) (text : Text) (is : IsText text) where
         f.boundary,
       )
 
-  pub found-last : (first at : ℕ) → GoesFrom tree text first at → match_end_at tree text at ≡ None → None ≡ option_map (λ (r : ℕ × ℕ). r.1) (read text rightwards at)
+  pub found-last : (first at : ℕ) → GoesFrom tree text first at → match_end_and_groups_at tree text at ≡ None → None ≡ option_map (λ (r : ℕ × ℕ). r.1) (read text rightwards at)
       → None ≡ first_answer tree.root text first
   found-last first at g none past =
       sym (ap (option_map (answer tree.root text)) (g.same ∙ found-none at g.boundary none (by (read text rightwards at) past)))

@@ -4,13 +4,13 @@ use Rattle.std.proofs.Common.{if◌then◌else◌, nat_le, nat_lt, option_map}
 use Rattle.std.proofs.lemmas.Bool.{and_from, and_parts, le-leb, leb-true}
 use Rattle.regex_meaning.specs.Tree.{Tree}
 use Rattle.regex_meaning.specs.Text.{Text, rightwards}
-use Rattle.regex_meaning.specs.CodeUnitOffsets.{IsBoundary, IsText, read}
-use Rattle.regress_exec.specs.Attempts.{IsNextCandidate, next_search_offset}
-use Rattle.regress_exec.specs.WorkLimits.{AttemptStaysWithinWork, IsOrderedAttempt, offset_after_attempt, next_attempt_offset, is_work_enough}
+use Rattle.regex_meaning.specs.CodeUnitOffsets.{IsBoundary, HasRisingPlaceOffsets, read}
+use Rattle.regress_exec.specs.Attempts.{NextStartSkipsNoMatch, next_search_offset}
+use Rattle.regress_exec.specs.WorkLimits.{OrderedAttemptKeepsWorkEnough, IsOrderedAttempt, offset_after_attempt, least_offset_after_match, is_work_enough}
 use Rattle.regress_exec.proofs.Anchored.{one-on}
 
 -- who counts no work has enough
-pub goes-on-free : {P E : Type 0} (offset : P → ℕ) (at : ℕ) (result : Result (Option P) E) → AttemptStaysWithinWork offset true 0 at result true 0 false
+pub goes-on-free : {P E : Type 0} (offset : P → ℕ) (at : ℕ) (result : Result (Option P) E) → OrderedAttemptKeepsWorkEnough offset true 0 at result true 0 false
 goes-on-free offset at (Ok end) turn = (refl, record { is = refl; past = omega arith })
 goes-on-free offset at (Err e) turn = (refl, tt)
 
@@ -22,12 +22,12 @@ module _ (enough : Bool) (ahead : ℕ) where
   enough-from at to on turn = let past = turn.past in and_from enough (nat_le ahead to) turn.is (le-leb ahead to (omega (arith, past, on)))
 
   -- for the next place to try
-  pub enough-next : (tree : Tree) (text : Text) (from : ℕ) (next : Option ℕ) → IsNextCandidate tree text from next → IsOrderedAttempt enough ahead from → is_work_enough enough ahead next ≡ true
+  pub enough-next : (tree : Tree) (text : Text) (from : ℕ) (next : Option ℕ) → NextStartSkipsNoMatch tree text from next → IsOrderedAttempt enough ahead from → is_work_enough enough ahead next ≡ true
   enough-next tree text from None n turn = turn.is
   enough-next tree text from (Some to) n turn = enough-from from to n.1 turn
 
   -- and behind a match
-  pub enough-behind : (tree : Tree) (text : Text) → IsText text → (start end : ℕ) → IsBoundary text end → IsOrderedAttempt enough ahead (next_attempt_offset start end)
+  pub enough-behind : (tree : Tree) (text : Text) → HasRisingPlaceOffsets text → (start end : ℕ) → IsBoundary text end → IsOrderedAttempt enough ahead (least_offset_after_match start end)
       → is_work_enough enough ahead (next_search_offset text start end) ≡ true
   enough-behind tree text is start end on turn = by (nat_lt start end) turn
     where

@@ -5,14 +5,14 @@ use Rattle.std.proofs.lemmas.Bool.{cases_lt, le-ltb, ltb-false, ne_eqb}
 use Rattle.std.specs.Prelude.{◌==◌, ◌⊎◌, if◌then◌else◌, nat_lt, is_none}
 use Rattle.regex_meaning.specs.Tree.{Node}
 use Rattle.regex_meaning.specs.Text.{Text, last_place}
-use Rattle.regex_meaning.specs.CodeUnitOffsets.{IsText, offset, place_at, units}
+use Rattle.regex_meaning.specs.CodeUnitOffsets.{HasRisingPlaceOffsets, offset, place_at, units}
 use Rattle.regex_meaning.specs.FirstAndAllMatches.{Found, first_match, place_behind}
-use Rattle.regex_meaning.specs.Captures.{Answer, answer}
+use Rattle.regex_meaning.specs.GroupsByNumberAndName.{Answer, answer}
 use Rattle.regex_meaning.specs.SearchAnswers.{first_answer, next_start}
 use Rattle.regex_meaning.proofs.Matches.{StandsFrom, stands-first}
 use Rattle.regex_meaning.proofs.TextLemmas.{offset-less}
 
-module _ (root : Node) (text : Text) (is : IsText text) where
+module _ (root : Node) (text : Text) (is : HasRisingPlaceOffsets text) where
   goes-on-inside : (m : Found) → m.start < last_place text → is_none (place_behind root text m) ≡ false
   goes-on-inside m inside = by (nat_lt m.start m.end) refl
     where

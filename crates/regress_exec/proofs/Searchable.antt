@@ -4,16 +4,16 @@ use Rattle.std.specs.Prelude.{IsTrue, IsAscii, nat_lt}
 use Rattle.std.specs.List.{list_all}
 use Rattle.regex_meaning.specs.Tree.{Tree}
 use Rattle.regex_meaning.specs.Text.{Text}
-use Rattle.regex_meaning.specs.CodeUnitOffsets.{IsText}
+use Rattle.regex_meaning.specs.CodeUnitOffsets.{HasRisingPlaceOffsets}
 use Rattle.regex_meaning.specs.WellFormedTrees.{is_well_formed}
-use Rattle.regress_program.specs.CodeOfTrees.{compiled}
+use Rattle.regress_program.specs.CompilationOfTreesAsFunction.{compiled}
 use Rattle.regress_program.proofs.CodeLemmas.{compiled-is_code}
-use Rattle.regress_machine.specs.TextsForBytePrograms.{ReadsBytes, reads_bytes}
-use Rattle.regress_machine.specs.SearchResults.{ProgramCanSearchText}
+use Rattle.regress_machine.specs.TextsForBytePrograms.{HasUtf8CharactersAndOffsets, tree_contains_byte_nodes}
+use Rattle.regress_machine.specs.SearchResults.{TreeProgramCanSearchText}
 use Rattle.std.proofs.lemmas.Bool.{and_from, lt-ltb}
 
-pub can-search : (tree : Tree) (text : Text) → IsTrue (is_well_formed tree.root) → IsText text → text.unicode ≡ tree.flags.unicode
-    → (IsTrue (reads_bytes tree.root) → ReadsBytes text) → ProgramCanSearchText (compiled tree) tree text
+pub can-search : (tree : Tree) (text : Text) → IsTrue (is_well_formed tree.root) → HasRisingPlaceOffsets text → text.unicode ≡ tree.flags.unicode
+    → (IsTrue (tree_contains_byte_nodes tree.root) → HasUtf8CharactersAndOffsets text) → TreeProgramCanSearchText (compiled tree) tree text
 can-search tree text w is u b = record {
   code = (compiled-is_code tree w).code;
   well_formed = w;
@@ -28,5 +28,5 @@ all-ascii [] h = refl
 all-ascii (b ∷ bytes) h = and_from (nat_lt b 128) (list_all (λ b. nat_lt b 128) bytes) (lt-ltb b 128 (h 0)) (all-ascii bytes (λ i. h (suc i)))
 
 -- a program that reads no bytes asks nothing where bytes are read
-pub without-bytes : {P : Type 0} (tree run : Tree) → run ≡ tree → reads_bytes tree.root ≡ false → IsTrue (reads_bytes run.root) → P
-without-bytes tree run same none reads = cc (sym reads ∙ ap (λ (t : Tree). reads_bytes t.root) same ∙ none)
+pub without-bytes : {P : Type 0} (tree run : Tree) → run ≡ tree → tree_contains_byte_nodes tree.root ≡ false → IsTrue (tree_contains_byte_nodes run.root) → P
+without-bytes tree run same none reads = cc (sym reads ∙ ap (λ (t : Tree). tree_contains_byte_nodes t.root) same ∙ none)

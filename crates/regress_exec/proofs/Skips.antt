@@ -5,12 +5,12 @@ use Rattle.std.specs.Prelude.{is_some, IsTrue}
 use Rattle.std.specs.Option.{option_or, option_map_or}
 use Rattle.regex_meaning.specs.Tree.{Tree}
 use Rattle.regex_meaning.specs.Text.{Text, last_place}
-use Rattle.regex_meaning.specs.CodeUnitOffsets.{IsText, IsBoundary, offset, units}
+use Rattle.regex_meaning.specs.CodeUnitOffsets.{HasRisingPlaceOffsets, IsBoundary, offset, units}
 use Rattle.regex_meaning.specs.FirstAndAllMatches.{match_at, first_match}
 use Rattle.regex_meaning.specs.SearchAnswers.{first_found}
 use Rattle.regex_meaning.proofs.Matches.{first-unfolds, first-past}
 use Rattle.regex_meaning.proofs.TextLemmas.{IsBoundary-place, offset-IsBoundary, offset-le, offset-less, place-le, place_at-offset}
-use Rattle.regress_exec.specs.Attempts.{IsNextCandidate, NoMatchAt, NoMatchStartsBetween}
+use Rattle.regress_exec.specs.Attempts.{NextStartSkipsNoMatch, NoMatchAt, NoMatchStartsBetween}
 use Rattle.regress_exec.proofs.FirstMatch.{GoesFrom, found-at, none-at}
 
 module _ (tree : Tree) (text : Text) where
@@ -23,7 +23,7 @@ module _ (tree : Tree) (text : Text) where
 abbrev pub untried : Text → (next : Option ℕ) → ℕ
 untried text next = option_map_or (λ at. units text + 1 - at) next 0
 
-module _ (tree : Tree) (text : Text) (is : IsText text) where
+module _ (tree : Tree) (text : Text) (is : HasRisingPlaceOffsets text) where
   skip-places : (n a : ℕ) → a + n ≤ last_place text + 1 → ((q : ℕ) → a ≤ q → q < a + n → match_at tree.root text q ≡ None)
       → first_match tree.root text a ≡ first_match tree.root text (a + n)
   skip-places zero a inside none = let e : a ≡ a + zero = omega arith in ap (first_match tree.root text) e
@@ -40,7 +40,7 @@ module _ (tree : Tree) (text : Text) (is : IsText text) where
       none-at tree text is (offset text q) q (place_at-offset text q is inside)
       (none (offset text q) (offset-IsBoundary text q is inside) (omega (arith, here, rising)) less)
 
-  next-some : (from to : ℕ) → IsBoundary text from → IsNextCandidate tree text from (Some to) → first_found tree.root text from ≡ first_found tree.root text to
+  next-some : (from to : ℕ) → IsBoundary text from → NextStartSkipsNoMatch tree text from (Some to) → first_found tree.root text from ≡ first_found tree.root text to
   next-some from to on next =
       let a = IsBoundary-place text from is on in
       let b = IsBoundary-place text to is next.0 in
@@ -54,7 +54,7 @@ module _ (tree : Tree) (text : Text) (is : IsText text) where
       ∙ ap (first_match tree.root text) end
       ∙ sym (found-at tree text is to b.0 b.1)
 
-  next-none : (from : ℕ) → IsBoundary text from → IsNextCandidate tree text from None → first_found tree.root text from ≡ None
+  next-none : (from : ℕ) → IsBoundary text from → NextStartSkipsNoMatch tree text from None → first_found tree.root text from ≡ None
   next-none from on none =
       let a = IsBoundary-place text from is on in
       let n = last_place text + 1 - a.0 in
@@ -67,7 +67,7 @@ module _ (tree : Tree) (text : Text) (is : IsText text) where
       ∙ first-past tree.root text (a.0 + n) (omega (arith, end))
 
   -- the first offset to try
-  pub walk-begins : (first : ℕ) (next : Option ℕ) → IsBoundary text first → IsNextCandidate tree text first next → Walks tree text first next
+  pub walk-begins : (first : ℕ) (next : Option ℕ) → IsBoundary text first → NextStartSkipsNoMatch tree text first next → Walks tree text first next
   walk-begins first None on n = next-none first on n
   walk-begins first (Some at) on n = record { same = next-some first at on n; boundary = n.0 }
 
@@ -78,7 +78,7 @@ module _ (tree : Tree) (text : Text) (is : IsText text) where
   ]
 
   -- the next one behind an offset that was tried in vain
-  pub walk-goes : (first at : ℕ) (next : Option ℕ) → GoesFrom tree text first at → NoMatchAt tree text at → IsNextCandidate tree text (at + 1) next
+  pub walk-goes : (first at : ℕ) (next : Option ℕ) → GoesFrom tree text first at → NoMatchAt tree text at → NextStartSkipsNoMatch tree text (at + 1) next
       → Walks tree text first next × (untried text next < untried text (Some at))
   walk-goes first at None g vain n =
       let inside = boundary-inside at g.boundary in

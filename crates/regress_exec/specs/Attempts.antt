@@ -8,13 +8,13 @@ use Rattle.regex_meaning.specs.CodeUnitOffsets.{IsBoundary, offset, place_at, re
 use Rattle.regex_meaning.specs.Outcomes.{Groups}
 use Rattle.regex_meaning.specs.StartPredicate.{StartPredicate, start_anchored, start_predicate}
 use Rattle.regex_meaning.specs.OutcomesWithStepTicks.{items_at, ticks_to_first, tried_places}
-use Rattle.regress_program.specs.CodeOfTrees.{compiled}
+use Rattle.regress_program.specs.CompilationOfTreesAsFunction.{compiled}
 use Rattle.regress_machine.specs.Machine.{State, running, Found, search}
 use Rattle.regress_machine.specs.SearchResults.{first_pair, end_in_offsets, turns_at}
 
 -- the end and the groups of the first outcome at an offset, in offsets, if there is one
-abbrev pub match_end_at : Tree → Text → (at : ℕ) → Option (ℕ × Groups)
-match_end_at tree text at =
+abbrev pub match_end_and_groups_at : Tree → Text → (at : ℕ) → Option (ℕ × Groups)
+match_end_and_groups_at tree text at =
     option_and_then (λ place. option_map (end_in_offsets text) (first_pair (items_at tree text place))) (place_at text at)
 
 -- the offset at which the list continues after a match: its end, or one character further if it is
@@ -39,8 +39,8 @@ is_anchored_predicate _ = false
 
 -- the offset to try after one without a match: none if matches are only at the left end, and
 -- otherwise one character further
-abbrev pub next_candidate_offset : (anchored : Bool) → Text → (at : ℕ) → Option ℕ
-next_candidate_offset anchored text at = if anchored then None else option_map (λ r. r.1) (read text rightwards at)
+abbrev pub offset_after_failed_attempt : (anchored : Bool) → Text → (at : ℕ) → Option ℕ
+offset_after_failed_attempt anchored text at = if anchored then None else option_map (λ r. r.1) (read text rightwards at)
 
 -- an end together with its groups, if there is an end
 abbrev pub end_with_groups : {P : Type 0} → (offset : P → ℕ) → Option P → Groups → Option (ℕ × Groups)
@@ -48,7 +48,7 @@ end_with_groups offset end groups = option_map (λ e. (offset e, groups)) end
 
 -- no match begins at an offset
 abbrev pub NoMatchAt : Tree → Text → (at : ℕ) → Type 0
-NoMatchAt tree text at = match_end_at tree text at ≡ None
+NoMatchAt tree text at = match_end_and_groups_at tree text at ≡ None
 
 -- no match begins at `from` or later and before `to`
 abbrev pub NoMatchStartsBetween : Tree → Text → (from to : ℕ) → Type 0
@@ -56,15 +56,15 @@ NoMatchStartsBetween tree text from to = (at : ℕ) → IsBoundary text at → f
 
 -- the next offset to try from `from` on, before which no match begins; none if none begins from
 -- there on
-abbrev pub IsNextCandidate : Tree → Text → (from : ℕ) → (next : Option ℕ) → Type 0
-IsNextCandidate tree text from None = NoMatchStartsBetween tree text from (units text + 1)
-IsNextCandidate tree text from (Some to) = IsBoundary text to × (from ≤ to) × NoMatchStartsBetween tree text from to
+abbrev pub NextStartSkipsNoMatch : Tree → Text → (from : ℕ) → (next : Option ℕ) → Type 0
+NextStartSkipsNoMatch tree text from None = NoMatchStartsBetween tree text from (units text + 1)
+NextStartSkipsNoMatch tree text from (Some to) = IsBoundary text to × (from ≤ to) × NoMatchStartsBetween tree text from to
 
 -- ---- Counted steps
 
 -- the number of ticks of the ticked list at an offset, up to its first outcome
-abbrev pub ticks_from : Tree → Text → (at : ℕ) → ℕ
-ticks_from tree text at = option_map_or (λ place. ticks_to_first (items_at tree text place)) (place_at text at) 0
+abbrev pub ticks_of_attempt_at : Tree → Text → (at : ℕ) → ℕ
+ticks_of_attempt_at tree text at = option_map_or (λ place. ticks_to_first (items_at tree text place)) (place_at text at) 0
 
 -- the offset of the first of these places
 abbrev pub first_of_places : Text → List ℕ → Option ℕ

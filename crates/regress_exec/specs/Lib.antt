@@ -3,6 +3,6 @@ pub mod RemainingAnswers
 pub mod Attempts
 pub mod GroupIterators
 pub mod PositionOffsets
-pub mod StepCosts
+pub mod BudgetAndContinuationAfterSearch
 pub mod WorkLimits
 pub mod Executors

@@ -1,7 +1,7 @@
 -- The answer that a match stands for.
 use Rattle.std.specs.Prelude.{ℕ, List, map, option_map}
 use Rattle.std.specs.declared.ops.Range.{Range}
-use Rattle.regex_meaning.specs.Captures.{Answer}
+use Rattle.regex_meaning.specs.GroupsByNumberAndName.{Answer}
 use Rattle.regex_meaning.specs.Outcomes.{Groups}
 use Rattle.regress_exec.specs.declared.exec.Match.{Match}
 

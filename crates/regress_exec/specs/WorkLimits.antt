@@ -22,32 +22,32 @@ is_work_enough enough ahead None = enough
 is_work_enough enough ahead (Some at) = enough && nat_le ahead at
 
 -- the least offset of the next attempt after a match from `at` to `end`
-abbrev pub next_attempt_offset : (at end : ℕ) → ℕ
-next_attempt_offset at end = if nat_lt at end then end else end + 1
+abbrev pub least_offset_after_match : (at end : ℕ) → ℕ
+least_offset_after_match at end = if nat_lt at end then end else end + 1
 
 -- the least offset of the next attempt after an attempt, by the end that it found
 abbrev pub offset_after_attempt : (at : ℕ) → (end : Option ℕ) → ℕ
 offset_after_attempt at None = at + 1
-offset_after_attempt at (Some end) = next_attempt_offset at end
+offset_after_attempt at (Some end) = least_offset_after_match at end
 
 -- An attempt in order does not reach the work limit, and the next attempt at its least offset is in
 -- order.
-abbrev pub AttemptStaysWithinWork : {P E : Type 0} → (offset : P → ℕ) → (enough : Bool) (ahead at : ℕ) → Result (Option P) E → (enough' : Bool) (ahead' : ℕ) (out : Bool) → Type 0
-AttemptStaysWithinWork offset enough ahead at result enough' ahead' out =
+abbrev pub OrderedAttemptKeepsWorkEnough : {P E : Type 0} → (offset : P → ℕ) → (enough : Bool) (ahead at : ℕ) → Result (Option P) E → (enough' : Bool) (ahead' : ℕ) (out : Bool) → Type 0
+OrderedAttemptKeepsWorkEnough offset enough ahead at result enough' ahead' out =
     IsOrderedAttempt enough ahead at → (out ≡ false) × IfOk result (λ end. IsOrderedAttempt enough' ahead' (offset_after_attempt at (option_map offset end)))
 
 -- A search from an offset on, in order, does not reach the work limit, and the work stays enough
 -- from where the list continues.
-abbrev pub SearchStaysWithinWork : {M E : Type 0} → (enough : Bool) (ahead at : ℕ) → Result (Option M) E → (enough' : Bool) (ahead' : ℕ) (next : Option ℕ) (out : Bool) → Type 0
-SearchStaysWithinWork enough ahead at (Ok None) enough' ahead' next out = IsOrderedAttempt enough ahead at → enough' ≡ true
-SearchStaysWithinWork enough ahead at (Ok (Some m)) enough' ahead' next out = IsOrderedAttempt enough ahead at → is_work_enough enough' ahead' next ≡ true
-SearchStaysWithinWork enough ahead at (Err e) enough' ahead' next out = IsOrderedAttempt enough ahead at → out ≡ false
+abbrev pub OrderedSearchKeepsWorkEnough : {M E : Type 0} → (enough : Bool) (ahead at : ℕ) → Result (Option M) E → (enough' : Bool) (ahead' : ℕ) (next : Option ℕ) (out : Bool) → Type 0
+OrderedSearchKeepsWorkEnough enough ahead at (Ok None) enough' ahead' next out = IsOrderedAttempt enough ahead at → enough' ≡ true
+OrderedSearchKeepsWorkEnough enough ahead at (Ok (Some m)) enough' ahead' next out = IsOrderedAttempt enough ahead at → is_work_enough enough' ahead' next ≡ true
+OrderedSearchKeepsWorkEnough enough ahead at (Err e) enough' ahead' next out = IsOrderedAttempt enough ahead at → out ≡ false
 
 -- A call of an iterator with enough work does not reach the work limit, and the work stays enough.
-abbrev pub CallStaysWithinWork : {M E : Type 0} → (before : Bool) → Option (Result M E) → (behind out : Bool) → Type 0
-CallStaysWithinWork before None behind out = before ≡ true → behind ≡ true
-CallStaysWithinWork before (Some (Ok m)) behind out = before ≡ true → behind ≡ true
-CallStaysWithinWork before (Some (Err e)) behind out = before ≡ true → out ≡ false
+abbrev pub CallKeepsWorkEnough : {M E : Type 0} → (before : Bool) → Option (Result M E) → (behind out : Bool) → Type 0
+CallKeepsWorkEnough before None behind out = before ≡ true → behind ≡ true
+CallKeepsWorkEnough before (Some (Ok m)) behind out = before ≡ true → behind ≡ true
+CallKeepsWorkEnough before (Some (Err e)) behind out = before ≡ true → out ≡ false
 
 -- ---- Matches within a limit of work
 
@@ -59,9 +59,9 @@ pub record WorkView : Type 0 where
   pub enough : Bool
 
 -- the cause of an error: the work limit was reached and no work is left, or an allocation failed
-abbrev pub IsRefusalCause : WorkError → (out : Bool) (left : ℕ) → Type 0
-IsRefusalCause Memory out left = out ≡ false
-IsRefusalCause WorkLimit out left = (out ≡ true) × (left ≡ 0)
+abbrev pub IsWorkLimitOrMemoryCause : WorkError → (out : Bool) (left : ℕ) → Type 0
+IsWorkLimitOrMemoryCause Memory out left = out ≡ false
+IsWorkLimitOrMemoryCause WorkLimit out left = (out ≡ true) × (left ≡ 0)
 
 -- when an error may be returned: an allocation failure at any time, and the work limit only if the
 -- work was not enough, and then no work is left

@@ -3,11 +3,11 @@
 ghost use Rattle.std.specs.Prelude.{◌≡◌, ◌<◌, ◌≤◌, ◌⊎◌, ℕ, Bool, true, false, Option, map, option_map, IfOk, IfErr, OnErr, OnSome, IfNone, if◌then◌else◌, nat_le, not, Some, None, string_bytes};
 ghost use Rattle.std.specs.Iterator.{at_most};
 ghost use Rattle.std.specs.Option.{ForSome};
-ghost use Rattle.regex_meaning.specs.{Tree.{Tree}, Text.{Text}, CodeUnitOffsets.{IsText, IsBoundary, units}, SearchAnswers.{first_answer}};
+ghost use Rattle.regex_meaning.specs.{Tree.{Tree}, Text.{Text}, CodeUnitOffsets.{HasRisingPlaceOffsets, IsBoundary, units}, SearchAnswers.{first_answer}};
 ghost use Rattle.regex_meaning.specs.StepBudget.{answers_within, finishes_within, need_from};
 ghost use Rattle.regex_pattern_front.specs.AstToSpecTree.{tree_of};
-ghost use Rattle.regress_exec.specs.{StepCosts.{ListContinuesAt, CostsSteps, refusal_cause}, RemainingAnswers.{RemainingView, remaining_answers_from, NextYields, EndsAfterMatchAtTextEnd, items_left}};
-ghost use Rattle.regress_exec.specs.WorkLimits.{CallStaysWithinWork, SearchStaysWithinWork, is_work_enough};
+ghost use Rattle.regress_exec.specs.{BudgetAndContinuationAfterSearch.{ListContinuesAt, SpendsNeedOrReachesLimit, step_limit_or_memory_error}, RemainingAnswers.{RemainingView, remaining_answers_from, NextYields, EndsAfterMatchStartingAtTextEnd, items_left}};
+ghost use Rattle.regress_exec.specs.WorkLimits.{CallKeepsWorkEnough, OrderedSearchKeepsWorkEnough, is_work_enough};
 
 use regress_input::position::PositionType;
 use regress_program::insn::{CompiledRegex, GroupNames};
@@ -21,7 +21,7 @@ mod match_methods;
 mod work_matches;
 
 pub use self::group_iterators::{Groups, NamedGroups};
-pub use self::work_matches::{BoundedProducer, WorkError, WorkMatches};
+pub use self::work_matches::{WorkError, WorkLimitedProducer, WorkMatches};
 
 /// Why a search failed.
 #[derive(Clone, Copy, Debug, PartialEq, Eq, Error)]
@@ -70,11 +70,11 @@ impl Match {
           names = map string_bytes names.items;
         } }
     {
-        Match::with_names(range, captures, GroupNames::owned(names))
+        Match::from_parts_with_shared_names(range, captures, GroupNames::from_owned_names(names))
     }
 
     // Makes a match from its parts, with names that others may share.
-    pub(crate) fn with_names(
+    pub(crate) fn from_parts_with_shared_names(
         range: Range<usize>,
         captures: Vec<Option<Range<usize>>>,
         names: GroupNames,
@@ -146,20 +146,20 @@ pub trait MatchProducer {
             × OnSome m (ListContinuesAt (tree self.old) (text self.old) (at pos) (option_map at next_start.new))) }
         ensures stays { IfOk result (λ m. IfNone m (next_start.new ≡ next_start.old))
             × OnErr result (next_start.new ≡ next_start.old) }
-        ensures steps { CostsSteps (need_from (tree self.old) (text self.old) (Self.Position.offset pos))
+        ensures steps { SpendsNeedOrReachesLimit (need_from (tree self.old) (text self.old) (Self.Position.offset pos))
             (budget self.old) result (budget self.new) }
-        ensures cause { IfErr result (λ e. e ≡ refusal_cause (out_of_steps self.new)) }
-        ensures work { let at = Self.Position.offset in SearchStaysWithinWork (enough self.old) (ahead self.old) (at pos)
+        ensures cause { IfErr result (λ e. e ≡ step_limit_or_memory_error (out_of_steps self.new)) }
+        ensures work { let at = Self.Position.offset in OrderedSearchKeepsWorkEnough (enough self.old) (ahead self.old) (at pos)
             result (enough self.new) (ahead self.new) (option_map at next_start.new) (out_of_work self.new) }
         ensures left { left self.new ≤ left self.old }
         ensures same { (tree self.new ≡ tree self.old) × (text self.new ≡ text self.old) };
 
-    ghost is_text: { (it : Self) → IsText (text it) };
+    ghost is_text: { (it : Self) → HasRisingPlaceOffsets (text it) };
 }
 
 /// A producer of matches that is made of a program and a text. `can_search` says which texts it
 /// takes. `text_of` gives the characters that it reads in a text, depending on the flag `unicode`.
-pub trait Searcher<'r>: MatchProducer {
+pub trait ProducerFromProgramAndText<'r>: MatchProducer {
     /// The text as it is given, with its lifetime.
     type Text;
 
@@ -181,8 +181,8 @@ pub trait Searcher<'r>: MatchProducer {
         ensures unlimited { IfOk result (λ e. Self.budget e ≡ None) };
 }
 
-/// An executor that runs a program for bytes over a `str`. `new` of `Searcher` makes one.
-pub trait Executor<'r, 't>: Searcher<'r, Text = &'t str> {
+/// An executor that runs a program for bytes over a `str`. `new` of `ProducerFromProgramAndText` makes one.
+pub trait Executor<'r, 't>: ProducerFromProgramAndText<'r, Text = &'t str> {
     /// The executor of this kind over ASCII texts. A function that needs it to be an executor says
     /// so in its bounds.
     type AsAscii;
@@ -251,7 +251,7 @@ fn advance_matches<P: MatchProducer>(
     ensures work { let offset = option_map P.Position.offset in
         let before = is_work_enough (P.enough mp.old) (P.ahead mp.old) (offset position.old) in
         let behind = is_work_enough (P.enough mp.new) (P.ahead mp.new) (offset position.new) in
-        CallStaysWithinWork before result behind (P.out_of_work mp.new) }
+        CallKeepsWorkEnough before result behind (P.out_of_work mp.new) }
     ensures left { P.left mp.new ≤ P.left mp.old }
 {
     let pos = (*position)?;
@@ -271,5 +271,5 @@ fn advance_matches<P: MatchProducer>(
 /// After a match at the end of the text, which is empty, nothing more is searched: the next call
 /// returns `None` and allocates no memory.
 pub fn last_match_ends_the_list()
-    ensures { EndsAfterMatchAtTextEnd }
+    ensures { EndsAfterMatchStartingAtTextEnd }
 {}

@@ -4,9 +4,9 @@ ghost use Rattle.std.specs.Prelude.{◌≡◌, ◌+◌, IsAscii, IsTrue, IsSome,
 ghost use Rattle.std.specs.Option.{option_map_or};
 ghost use Rattle.regex_meaning.specs.{Text.{ascii_text, ucs2_text, utf16_text, utf8_text}, WellFormedTrees.{is_well_formed}, CodeUnitOffsets.{IsBoundary}};
 ghost use Rattle.regex_pattern_front.specs.AstToSpecTree.{tree_of};
-ghost use Rattle.regress_program.specs.{CodeOfTrees.{compiled}, InsnMeanings.{start_predicate_of}, SearchableTexts.{IsByteText}};
-ghost use Rattle.regress_machine.specs.TextsForBytePrograms.{ReadsBytes, reads_bytes};
-ghost use Rattle.regress_exec.specs.Attempts.{is_anchored_predicate, IsNextCandidate, next_candidate_offset};
+ghost use Rattle.regress_program.specs.{CompilationOfTreesAsFunction.{compiled}, InsnMeanings.{spec_start_predicate_of}, TextsSearchableByBytePrograms.{IsByteText}};
+ghost use Rattle.regress_machine.specs.TextsForBytePrograms.{HasUtf8CharactersAndOffsets, tree_contains_byte_nodes};
+ghost use Rattle.regress_exec.specs.Attempts.{is_anchored_predicate, NextStartSkipsNoMatch, offset_after_failed_attempt};
 
 use regress_input::indexing::{AsciiInput, InputIndexer, Ucs2Input, Utf8Input, Utf16Input};
 use regress_program::insn::{CompiledRegex, CompiledUnits, Program, StartPredicate};
@@ -22,11 +22,11 @@ pub struct ProgramAndInput<'r, Input: InputIndexer> {
     pub input: Input,
     ghost unicode: { (Input.text input).unicode ≡ (tree_of program.now).flags.unicode },
     ghost well_formed: { IsTrue (is_well_formed (tree_of program.now).root) },
-    ghost bytes: { IsTrue (reads_bytes (tree_of program.now).root)
+    ghost bytes: { IsTrue (tree_contains_byte_nodes (tree_of program.now).root)
         → IsByteText (Input.text input) Input.Units.ARE_BYTES },
-    ghost predicted: { option_map (λ p. start_predicate_of p.now) start_pred
+    ghost predicted: { option_map (λ p. spec_start_predicate_of p.now) start_pred
         ≡ option_map (λ _. (compiled (tree_of program.now)).start_pred) start_pred },
-    ghost scalars: { IsSome start_pred → ReadsBytes (Input.text input) },
+    ghost scalars: { IsSome start_pred → HasUtf8CharactersAndOffsets (Input.text input) },
 }
 
 impl<'r, Input: InputIndexer> ProgramAndInput<'r, Input> {
@@ -34,7 +34,7 @@ impl<'r, Input: InputIndexer> ProgramAndInput<'r, Input> {
     /// position without a match there is none.
     #[inline(always)]
     pub fn is_anchored(&self) -> bool
-        ensures { result ≡ option_map_or (λ p. is_anchored_predicate (start_predicate_of p.now)) self.now.start_pred false }
+        ensures { result ≡ option_map_or (λ p. is_anchored_predicate (spec_start_predicate_of p.now)) self.now.start_pred false }
     {
         matches!(self.start_pred, Some(StartPredicate::StartAnchored))
     }
@@ -43,10 +43,10 @@ impl<'r, Input: InputIndexer> ProgramAndInput<'r, Input> {
     /// that the pattern matches only at the left end, and otherwise the position is one character
     /// further.
     #[inline(always)]
-    pub fn next_candidate(&self, tried: Input::Position) -> Option<Input::Position>
+    pub fn position_after_failed_attempt(&self, tried: Input::Position) -> Option<Input::Position>
         requires { IsBoundary (Input.text self.now.input) (Input.Position.offset tried) }
         ensures { let at = Input.Position.offset in
-            IsNextCandidate (tree_of self.now.program.now)
+            NextStartSkipsNoMatch (tree_of self.now.program.now)
             (Input.text self.now.input) (at tried + 1) (option_map at result) }
     {
         behind_tried(&self.input, self.is_anchored(), tried)
@@ -62,7 +62,7 @@ fn behind_tried<Input: InputIndexer>(
 ) -> Option<Input::Position>
     requires { IsBoundary (Input.text input.now) (Input.Position.offset tried) }
     ensures { let at = Input.Position.offset in
-        option_map at result ≡ next_candidate_offset anchored (Input.text input.now) (at tried) }
+        option_map at result ≡ offset_after_failed_attempt anchored (Input.text input.now) (at tried) }
 {
     if anchored {
         None
@@ -79,7 +79,7 @@ impl<'r, Input: InputIndexer> ProgramAndInput<'r, Input> {
         ensures same { result.program.now ≡ re.now }
         ensures input { result.input ≡ input }
     {
-        let program = re.program();
+        let program = re.program_common_to_both_unit_kinds();
         let _well_formed = program.insns();
         ProgramAndInput {
             program,
@@ -91,24 +91,30 @@ impl<'r, Input: InputIndexer> ProgramAndInput<'r, Input> {
 
 impl<'r, 't> ProgramAndInput<'r, Utf8Input<'t>> {
     /// Pairs a program with a text in UTF-8.
-    pub fn in_utf8(re: &'r CompiledRegex, text: &'t str) -> Self
+    pub fn pair_with_utf8_text(re: &'r CompiledRegex, text: &'t str) -> Self
         ensures same { result.program.now ≡ re.now }
         ensures text { ⟦<Utf8Input<'t> as InputIndexer>⟧.text result.input
             ≡ utf8_text text.now (tree_of re.now).flags.unicode }
     {
-        ProgramAndInput::pair_with_bytes(re, Utf8Input::new(text, re.program().flags().unicode))
+        ProgramAndInput::pair_with_bytes(
+            re,
+            Utf8Input::new(text, re.program_common_to_both_unit_kinds().flags().unicode),
+        )
     }
 }
 
 impl<'r, 't> ProgramAndInput<'r, AsciiInput<'t>> {
     /// Pairs a program with an ASCII text (`is_ascii` is the test).
-    pub fn in_ascii(re: &'r CompiledRegex, text: &'t str) -> Self
+    pub fn pair_with_ascii_text(re: &'r CompiledRegex, text: &'t str) -> Self
         requires { IsAscii text.now }
         ensures same { result.program.now ≡ re.now }
         ensures text { ⟦<AsciiInput<'t> as InputIndexer>⟧.text result.input
             ≡ ascii_text text.now (tree_of re.now).flags.unicode }
     {
-        ProgramAndInput::pair_with_bytes(re, AsciiInput::new(text, re.program().flags().unicode))
+        ProgramAndInput::pair_with_bytes(
+            re,
+            AsciiInput::new(text, re.program_common_to_both_unit_kinds().flags().unicode),
+        )
     }
 }
 
@@ -119,7 +125,7 @@ impl<'r, Input: InputIndexer> ProgramAndInput<'r, Input> {
         ensures same { result.program.now ≡ re.now }
         ensures input { result.input ≡ input }
     {
-        let program = re.program();
+        let program = re.program_common_to_both_unit_kinds();
         let _well_formed = program.insns();
         ProgramAndInput {
             program,
@@ -131,22 +137,28 @@ impl<'r, Input: InputIndexer> ProgramAndInput<'r, Input> {
 
 impl<'r, 't> ProgramAndInput<'r, Utf16Input<'t>> {
     /// Pairs a program for 16-bit code units with a text in UTF-16.
-    pub fn in_utf16(re: &'r CompiledUnits, text: &'t [u16]) -> Self
+    pub fn pair_with_utf16_text(re: &'r CompiledUnits, text: &'t [u16]) -> Self
         ensures same { result.program.now ≡ re.now }
         ensures text { ⟦<Utf16Input<'t> as InputIndexer>⟧.text result.input
             ≡ utf16_text text.now (tree_of re.now).flags.unicode }
     {
-        ProgramAndInput::pair_with_units(re, Utf16Input::new(text, re.program().flags().unicode))
+        ProgramAndInput::pair_with_units(
+            re,
+            Utf16Input::new(text, re.program_common_to_both_unit_kinds().flags().unicode),
+        )
     }
 }
 
 impl<'r, 't> ProgramAndInput<'r, Ucs2Input<'t>> {
     /// Pairs a program for 16-bit code units with a text in UCS-2.
-    pub fn in_ucs2(re: &'r CompiledUnits, text: &'t [u16]) -> Self
+    pub fn pair_with_ucs2_text(re: &'r CompiledUnits, text: &'t [u16]) -> Self
         ensures same { result.program.now ≡ re.now }
         ensures text { ⟦<Ucs2Input<'t> as InputIndexer>⟧.text result.input
             ≡ ucs2_text text.now (tree_of re.now).flags.unicode }
     {
-        ProgramAndInput::pair_with_units(re, Ucs2Input::new(text, re.program().flags().unicode))
+        ProgramAndInput::pair_with_units(
+            re,
+            Ucs2Input::new(text, re.program_common_to_both_unit_kinds().flags().unicode),
+        )
     }
 }

@@ -1,12 +1,12 @@
 //! The search loop over the candidate starts of a text, shared by all executors.
 
 ghost use Rattle.std.specs.Prelude.{◌≡◌, ◌+◌, ◌<◌, ◌≤◌, ◌⊎◌, ℕ, ⊤, Bool, true, false, IfErr, IfOk, IsSome, None, Option, map, option_map, length};
-ghost use Rattle.regex_meaning.specs.{Tree.{Tree}, Text.{Text}, CodeUnitOffsets.{IsText, IsBoundary, units}, SearchAnswers.{answer_at}};
-ghost use Rattle.regex_meaning.specs.{Outcomes.{Groups, group_range}, Captures.{group_names_by_id}};
+ghost use Rattle.regex_meaning.specs.{Tree.{Tree}, Text.{Text}, CodeUnitOffsets.{HasRisingPlaceOffsets, IsBoundary, units}, SearchAnswers.{answer_at}};
+ghost use Rattle.regex_meaning.specs.{Outcomes.{Groups, group_range}, GroupsByNumberAndName.{group_names_by_id}};
 ghost use Rattle.regex_pattern_front.specs.AstToSpecTree.{tree_of};
 ghost use Rattle.regress_exec.specs.MatchAnswers.{answer_from_parts, answer_of, range_of};
-ghost use Rattle.regress_exec.specs.Attempts.{IsNextCandidate, NoMatchAt, end_with_groups, match_end_at, first_filtered_start, next_filtered_start, next_search_offset, ticks_from};
-ghost use Rattle.regress_exec.specs.{PositionOffsets.{offset_range}, StepCosts.{CostsSteps, AllocFailureCostsOneStep, ErrorReportsItsCause, refusal_cause}, WorkLimits.{AttemptStaysWithinWork}};
+ghost use Rattle.regress_exec.specs.Attempts.{NextStartSkipsNoMatch, NoMatchAt, end_with_groups, match_end_and_groups_at, first_filtered_start, next_filtered_start, next_search_offset, ticks_of_attempt_at};
+ghost use Rattle.regress_exec.specs.{PositionOffsets.{offset_range_of_positions}, BudgetAndContinuationAfterSearch.{SpendsNeedOrReachesLimit, AllocFailureCostsOneStep, ResultTellsIfStepLimitReached, step_limit_or_memory_error}, WorkLimits.{OrderedAttemptKeepsWorkEnough}};
 
 use crate::exec::{Match, MatchProducer, SearchError};
 use regress_input::indexing::InputIndexer;
@@ -71,12 +71,12 @@ pub trait AnchoredSearch {
     ) -> Result<Option<<Self::Input as InputIndexer>::Position>, SearchError>
         requires { IsBoundary (text self.old) (Self.Input.Position.offset pos) }
         ensures found { let at = Self.Input.Position.offset in IfOk result (λ end.
-            end_with_groups at end (groups self.new) ≡ match_end_at (tree self.old) (text self.old) (at pos)) }
-        ensures steps { let ticks = ticks_from (tree self.old) (text self.old) in
-            CostsSteps (ticks (Self.Input.Position.offset pos)) (budget self.old) result (budget self.new) }
+            end_with_groups at end (groups self.new) ≡ match_end_and_groups_at (tree self.old) (text self.old) (at pos)) }
+        ensures steps { let ticks = ticks_of_attempt_at (tree self.old) (text self.old) in
+            SpendsNeedOrReachesLimit (ticks (Self.Input.Position.offset pos)) (budget self.old) result (budget self.new) }
         ensures begun { AllocFailureCostsOneStep (has_begun self.new) (budget self.old) result (budget self.new) }
-        ensures cause { ErrorReportsItsCause result (out_of_steps self.new) }
-        ensures work { let at = Self.Input.Position.offset in AttemptStaysWithinWork at (enough self.old) (ahead self.old)
+        ensures cause { ResultTellsIfStepLimitReached result (out_of_steps self.new) }
+        ensures work { let at = Self.Input.Position.offset in OrderedAttemptKeepsWorkEnough at (enough self.old) (ahead self.old)
             (at pos) result (enough self.new) (ahead self.new) (out_of_work self.new) }
         ensures left { left self.new ≤ left self.old }
         ensures same { (tree self.new ≡ tree self.old) × (text self.new ≡ text self.old) };
@@ -96,42 +96,42 @@ pub trait AnchoredSearch {
             <Self::Input as InputIndexer>::Position,
         ),
     >
-        ensures { option_map (offset_range Self.Input.Position.offset) result
+        ensures { option_map (offset_range_of_positions Self.Input.Position.offset) result
             ≡ group_range (groups self.now) id };
 
     /// Returns the first position to try from one on. No match begins before it. Returns `None` if
     /// no match begins from there on.
-    fn start_from(
+    fn first_start_to_try_from(
         &self,
         pos: <Self::Input as InputIndexer>::Position,
     ) -> Option<<Self::Input as InputIndexer>::Position>
         requires { IsBoundary (text self.now) (Self.Input.Position.offset pos) }
         ensures next { let at = Self.Input.Position.offset in
-            IsNextCandidate (tree self.now) (text self.now) (at pos) (option_map at result) }
+            NextStartSkipsNoMatch (tree self.now) (text self.now) (at pos) (option_map at result) }
         ensures counted { let at = Self.Input.Position.offset in IsSome (budget self.now)
             → option_map at result ≡ first_filtered_start (tree self.now) (text self.now) (at pos) };
 
     /// Returns the first position to try after one where no match begins. No match begins between
     /// them. Returns `None` if no match begins after it.
-    fn start_after(
+    fn next_start_to_try_after(
         &self,
         tried: <Self::Input as InputIndexer>::Position,
     ) -> Option<<Self::Input as InputIndexer>::Position>
         requires at { IsBoundary (text self.now) (Self.Input.Position.offset tried) }
         requires vain { NoMatchAt (tree self.now) (text self.now) (Self.Input.Position.offset tried) }
         ensures next { let at = Self.Input.Position.offset in
-            IsNextCandidate (tree self.now) (text self.now) (at tried + 1) (option_map at result) }
+            NextStartSkipsNoMatch (tree self.now) (text self.now) (at tried + 1) (option_map at result) }
         ensures counted { let at = Self.Input.Position.offset in IsSome (budget self.now)
             → option_map at result ≡ next_filtered_start (tree self.now) (text self.now) (at tried) };
 
-    ghost is_text: { (it : Self) → IsText (text it) };
+    ghost is_text: { (it : Self) → HasRisingPlaceOffsets (text it) };
 }
 
 /// Returns the range of a group by id, or `None` if it did not match or there is no such group.
 #[inline(always)]
 pub fn group_at<P: PositionType>(groups: &[Option<(P, P)>], id: usize) -> Option<(P, P)>
-    ensures { option_map (offset_range P.offset) result
-        ≡ group_range (map (option_map (offset_range P.offset)) groups.now) id }
+    ensures { option_map (offset_range_of_positions P.offset) result
+        ≡ group_range (map (option_map (offset_range_of_positions P.offset)) groups.now) id }
 {
     match groups.get(id) {
         Some(range) => *range,
@@ -144,7 +144,7 @@ fn range_in_offsets<Input: InputIndexer>(
     input: &Input,
     range: Option<(Input::Position, Input::Position)>,
 ) -> Option<Range<usize>>
-    ensures { option_map range_of result ≡ option_map (offset_range Input.Position.offset) range }
+    ensures { option_map range_of result ≡ option_map (offset_range_of_positions Input.Position.offset) range }
 {
     match range {
         None => None,
@@ -178,7 +178,7 @@ fn successful_match<A: AnchoredSearch>(
     let names = executor.program().shared_names().clone()?;
     let input = executor.input();
     let range = input.pos_to_offset(start)..input.pos_to_offset(end);
-    Ok(Match::with_names(range, captures, names))
+    Ok(Match::from_parts_with_shared_names(range, captures, names))
 }
 
 // Returns the position at which the list continues after a match: its end, or one character further
@@ -230,14 +230,14 @@ impl<A: AnchoredSearch> MatchProducer for A {
         pos: <A::Input as InputIndexer>::Position,
         next_start: &mut Option<<A::Input as InputIndexer>::Position>,
     ) -> Result<Option<Match>, SearchError> {
-        let mut next = self.start_from(pos);
+        let mut next = self.first_start_to_try_from(pos);
         'places: while let Some(start) = next {
             if let Some(end) = self.attempt(start)? {
                 let found = successful_match(self, start, end)?;
                 *next_start = next_search_pos(self.input(), start, end);
                 return Ok(Some(found));
             }
-            next = self.start_after(start);
+            next = self.next_start_to_try_after(start);
         }
         Ok(None)
     }
@@ -258,9 +258,9 @@ pub fn match_at<A: AnchoredSearch>(
     requires { IsBoundary (A.text executor.old) at ⊎ (units (A.text executor.old) < at) }
     ensures found { IfOk result (λ m. option_map answer_of m
         ≡ answer_at (A.tree executor.old).root (A.text executor.old) at) }
-    ensures steps { CostsSteps (ticks_from (A.tree executor.old) (A.text executor.old) at)
+    ensures steps { SpendsNeedOrReachesLimit (ticks_of_attempt_at (A.tree executor.old) (A.text executor.old) at)
         (A.budget executor.old) result (A.budget executor.new) }
-    ensures cause { IfErr result (λ e. e ≡ refusal_cause (A.out_of_steps executor.new)) }
+    ensures cause { IfErr result (λ e. e ≡ step_limit_or_memory_error (A.out_of_steps executor.new)) }
 {
     let Some(start) = executor.initial_position(at) else {
         return Ok(None);

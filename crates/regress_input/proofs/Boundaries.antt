@@ -9,8 +9,8 @@ use Rattle.std.specs.List.{position_or_len, list_any}
 use lib.Utf8.{encode, next}
 use Rattle.regex_meaning.specs.NumberListHelpers.{contains}
 use Rattle.regex_meaning.specs.Text.{Text, rightwards, leftwards, offsets_from}
-use Rattle.regex_meaning.specs.CodeUnitOffsets.{IsText, offset, units, place_at, read}
-use Rattle.regex_meaning.specs.CodeUnits.{Encoding, utf8, utf16, ucs2, spelled_in, units_in, IsSpelledIn}
+use Rattle.regex_meaning.specs.CodeUnitOffsets.{HasRisingPlaceOffsets, offset, units, place_at, read}
+use Rattle.regex_meaning.specs.CodeUnits.{Encoding, utf8, utf16, ucs2, spelled_in, text_units_in_encoding, IsSpelledIn}
 use Rattle.regress_input.specs.Utf8.{is_continuation_byte}
 use Rattle.regress_input.specs.ValidlyEncodedTexts.{sized_utf8, sized_utf16}
 use Rattle.regress_input.proofs.Lists.{get-cons, get-front, get-behind}
@@ -45,7 +45,7 @@ module _ (e : Encoding) (text : Text) (s : IsSpelledIn e text) where
       ∙ offset-spelling (spelled_in e) (width e) (λ c. refl) 0 cs k l ∙ omega arith
 
   -- the length of the text is that of its units
-  pub units-length : units text ≡ length (units_in e text)
+  pub units-length : units text ≡ length (text_units_in_encoding e text)
   units-length = offset-units (length cs) (omega arith) ∙ ap (λ l. length (spell l)) (take_all (length cs) cs (omega arith))
 
   -- neighbouring offsets differ by the length of the spelling between them
@@ -57,7 +57,7 @@ module _ (e : Encoding) (text : Text) (s : IsSpelledIn e text) where
 
   -- from the offset of a character on stand its units
   pub unit-at : (k c i : ℕ) → slice_get cs k ≡ Some c → k ≤ length cs → i < length (spelled_in e c)
-      → slice_get (units_in e text) (offset text k + i) ≡ slice_get (spelled_in e c) i
+      → slice_get (text_units_in_encoding e text) (offset text k + i) ≡ slice_get (spelled_in e c) i
   unit-at k c i g l m =
       let parts : spell cs ≡ spell (take k cs) ++ (spelled_in e c ++ spell (drop (suc k) cs)) =
       ap spell (sym (take-append-drop k cs)) ∙ flat_map-append (spelled_in e) (take k cs) (drop k cs)
@@ -68,21 +68,21 @@ module _ (e : Encoding) (text : Text) (s : IsSpelledIn e text) where
 
   -- from a character's place its units stand, and behind them the next place
   unit-from : (place c at to : ℕ) → HasPlace text at place → HasPlace text to (suc place) → slice_get text.characters place ≡ Some c
-      → (slice_get (units_in e text) at ≡ slice_get (spelled_in e c) 0) × (to ≡ at + length (spelled_in e c))
+      → (slice_get (text_units_in_encoding e text) at ≡ slice_get (spelled_in e c) 0) × (to ≡ at + length (spelled_in e c))
   unit-from place c at to from upto there =
       let zero_on : at ≡ offset text place + 0 = omega (arith, from.offset_is) in (
-        ap (slice_get (units_in e text)) zero_on ∙ unit-at place c 0 there from.within (has-unit e c),
+        ap (slice_get (text_units_in_encoding e text)) zero_on ∙ unit-at place c 0 there from.within (has-unit e c),
         sym upto.offset_is ∙ offset-next place c there ∙ ap (λ n. n + length (spelled_in e c)) from.offset_is,
       )
 
   -- a read to the right begins at the first of the character's units, and ends behind them
-  pub unit-right : IsText text → (at c to : ℕ) → read text rightwards at ≡ Some (c, to)
-      → (slice_get (units_in e text) at ≡ slice_get (spelled_in e c) 0) × (to ≡ at + length (spelled_in e c))
+  pub unit-right : HasRisingPlaceOffsets text → (at c to : ℕ) → read text rightwards at ≡ Some (c, to)
+      → (slice_get (text_units_in_encoding e text) at ≡ slice_get (spelled_in e c) 0) × (to ≡ at + length (spelled_in e c))
   unit-right t at c to r = let step = step_right text t at c to r in unit-from step.place c at to step.from step.upto step.character
 
   -- a read to the left ends where the character's units begin
-  pub unit-left : IsText text → (at c to : ℕ) → read text leftwards at ≡ Some (c, to)
-      → (slice_get (units_in e text) to ≡ slice_get (spelled_in e c) 0) × (at ≡ to + length (spelled_in e c))
+  pub unit-left : HasRisingPlaceOffsets text → (at c to : ℕ) → read text leftwards at ≡ Some (c, to)
+      → (slice_get (text_units_in_encoding e text) to ≡ slice_get (spelled_in e c) 0) × (at ≡ to + length (spelled_in e c))
   unit-left t at c to r = let step = step_left text t at c to r in unit-from step.place c to at step.upto step.from step.character
 
 -- ---- In UTF-8: the bytes that continue a character stand where there is no boundary
@@ -197,7 +197,7 @@ some-position test xs = some-is (nat_lt (position_or_len test xs) (length xs)) _
     ]
 
 -- an offset at which a byte stands is a boundary exactly where the byte continues no character
-pub boundary-byte : (text : Text) → IsSpelledIn utf8 text → (at b : ℕ) → slice_get (units_in utf8 text) at ≡ Some b
+pub boundary-byte : (text : Text) → IsSpelledIn utf8 text → (at b : ℕ) → slice_get (text_units_in_encoding utf8 text) at ≡ Some b
     → is_some (place_at text at) ≡ not (is_continuation_byte b)
 boundary-byte text s at b g =
     let zero_on : at ≡ 0 + at = omega arith in

@@ -16,8 +16,8 @@ use Rattle.regex_meaning.specs.NumberListHelpers.{contains}
 use Rattle.regex_meaning.specs.Text.{Text, Direction, rightwards, leftwards}
 use Rattle.regex_meaning.specs.Tree.{byte_sequence}
 use Rattle.regex_meaning.specs.Outcomes.{accepts}
-use Rattle.regex_meaning.specs.CodeUnitOffsets.{IsText, IsBoundary, units, read}
-use Rattle.regress_input.specs.ReadsFromOffset.{IsInUtf8, bytes_of, adjacent_byte, moved_by_unit, end_if_matched, past_if, past_bytes}
+use Rattle.regex_meaning.specs.CodeUnitOffsets.{HasRisingPlaceOffsets, IsBoundary, units, read}
+use Rattle.regress_input.specs.ReadsFromOffset.{IsInUtf8, bytes_of, adjacent_byte, moved_by_unit, end_if_matched, past_if, past_bytes_if_next}
 use Rattle.regress_input.specs.Utf8.{IsEncodedAt, IsEncodedBefore}
 use Rattle.regress_input.proofs.Spelled.{ReadsRight, ReadsLeft, reads_right, reads_left, at_end, before_character, at_start, behind_character}
 use Rattle.regress_input.proofs.Spelled.{text_of, length-units}
@@ -94,7 +94,7 @@ last_byte bytes end start c s = by (cases_lt (get_or bytes (end - 1) 0) 128)
       ],
     )
 
-module _ (text : Text) (is_text : IsText text) (w : IsInUtf8 text) where
+module _ (text : Text) (is_text : HasRisingPlaceOffsets text) (w : IsInUtf8 text) where
   abbrev cs : List ℕ
   cs = text.characters
 
@@ -220,12 +220,12 @@ module _ (text : Text) (is_text : IsText text) (w : IsInUtf8 text) where
     long : length literal ≡ len_utf8 c
     long = ap length spells ∙ length-encode c
 
-    pub literal_accepts : (d : Direction) (at : ℕ) → IsBoundary text at → past_bytes bytes literal d at ≡ past_if text (accepts (byte_sequence literal)) d at
+    pub literal_accepts : (d : Direction) (at : ℕ) → IsBoundary text at → past_bytes_if_next bytes literal d at ≡ past_if text (accepts (byte_sequence literal)) d at
     literal_accepts rightwards at b = elim (right at b) [
-      | at_end z r ↦ same_option (past_bytes bytes literal rightwards at) (past_if text (accepts (byte_sequence literal)) rightwards at)
+      | at_end z r ↦ same_option (past_bytes_if_next bytes literal rightwards at) (past_if text (accepts (byte_sequence literal)) rightwards at)
           (λ to e. let h = past_bytes-right bytes literal at to e in absurd (omega (arith, h.fits, long, len_utf8-positive c)))
           (λ to e. absurd (none to (sym (none_at (accepts (byte_sequence literal)) rightwards at r) ∙ e)))
-      | before_character k d rest g s l r ↦ same_option (past_bytes bytes literal rightwards at) (past_if text (accepts (byte_sequence literal)) rightwards at)
+      | before_character k d rest g s l r ↦ same_option (past_bytes_if_next bytes literal rightwards at) (past_if text (accepts (byte_sequence literal)) rightwards at)
           (λ to e. there d rest s r to (past_bytes-right bytes literal at to e))
           (λ to e. back d rest s l to (sym (accepted_at (accepts (byte_sequence literal)) rightwards at d (at + len_utf8 d) r) ∙ e))
     ]
@@ -244,7 +244,7 @@ module _ (text : Text) (is_text : IsText text) (w : IsInUtf8 text) where
             accepted_at (accepts (byte_sequence literal)) rightwards at d (at + len_utf8 d) r ∙ ap (λ (t : Bool). end_if_matched t (at + len_utf8 d)) test ∙ ap Some end
 
         back : (d : ℕ) (rest : List ℕ) → drop at bytes ≡ encode d ++ rest → at + len_utf8 d ≤ length bytes → (to : ℕ)
-            → (if accepts (byte_sequence literal) d then Some (at + len_utf8 d) else None) ≡ Some to → past_bytes bytes literal rightwards at ≡ Some to
+            → (if accepts (byte_sequence literal) d then Some (at + len_utf8 d) else None) ≡ Some to → past_bytes_if_next bytes literal rightwards at ≡ Some to
         back d rest s l to e =
             let made = chosen (accepts (byte_sequence literal) d) (at + len_utf8 d) to e in
             let is : c ≡ d = eqb-true c d (sym (test_is literal c is_scalar spells d) ∙ made.0) in
@@ -257,12 +257,12 @@ module _ (text : Text) (is_text : IsText text) (w : IsInUtf8 text) where
               are = ap (λ k. take k (drop at bytes)) n ∙ ap (take (length literal)) s ∙ take_at (encode d) rest (length literal) (sym (ap length whole)) ∙ sym whole;
             })
     literal_accepts leftwards at b = elim (left at b) [
-      | at_start z r ↦ same_option (past_bytes bytes literal leftwards at) (past_if text (accepts (byte_sequence literal)) leftwards at)
+      | at_start z r ↦ same_option (past_bytes_if_next bytes literal leftwards at) (past_if text (accepts (byte_sequence literal)) leftwards at)
           (λ to e. let h = past_bytes-left bytes literal at to e in absurd (omega (arith, h.fits, long, len_utf8-positive c)))
           (λ to e. absurd (none to (sym (none_at (accepts (byte_sequence literal)) leftwards at r) ∙ e)))
       | behind_character k d start rest g s m l r ↦
           let ends : IsEncodedBefore bytes at start d = record { stands = record { scalar = scalar_among cs k d in_scalars g; rest = rest; spelled = s }; ends = m } in
-          same_option (past_bytes bytes literal leftwards at) (past_if text (accepts (byte_sequence literal)) leftwards at)
+          same_option (past_bytes_if_next bytes literal leftwards at) (past_if text (accepts (byte_sequence literal)) leftwards at)
           (λ to e. there d start ends l r to (past_bytes-left bytes literal at to e))
           (λ to e. back d start rest s m to (sym (accepted_at (accepts (byte_sequence literal)) leftwards at d start r) ∙ e))
     ]
@@ -281,7 +281,7 @@ module _ (text : Text) (is_text : IsText text) (w : IsInUtf8 text) where
             accepted_at (accepts (byte_sequence literal)) leftwards at d start r ∙ ap (λ (t : Bool). end_if_matched t start) test ∙ ap Some is.0
 
         back : (d start : ℕ) (rest : List ℕ) → drop start bytes ≡ encode d ++ rest → start + len_utf8 d ≡ at → (to : ℕ)
-            → (if accepts (byte_sequence literal) d then Some start else None) ≡ Some to → past_bytes bytes literal leftwards at ≡ Some to
+            → (if accepts (byte_sequence literal) d then Some start else None) ≡ Some to → past_bytes_if_next bytes literal leftwards at ≡ Some to
         back d start rest s m to e =
             let made = chosen (accepts (byte_sequence literal) d) start to e in
             let is : c ≡ d = eqb-true c d (sym (test_is literal c is_scalar spells d) ∙ made.0) in

@@ -7,9 +7,9 @@ use Rattle.std.proofs.lemmas.Bool.{lt-leb}
 use lib.Pointwise.{pointwise}
 use Rattle.std.proofs.lemmas.Option.{slice_get_within}
 use Rattle.regex_meaning.specs.Text.{Text, Direction, rightwards, leftwards, next_character, moved, characters_ahead, next_characters}
-use Rattle.regex_meaning.specs.CodeUnitOffsets.{IsText, IsBoundary, offset, read}
+use Rattle.regex_meaning.specs.CodeUnitOffsets.{HasRisingPlaceOffsets, IsBoundary, offset, read}
 use Rattle.regex_meaning.proofs.TextLemmas.{offset-injective, offset-less, offset-le, place-le}
-use Rattle.regress_input.specs.ReadsFromOffset.{reading_direction, place, characters_between, past_spelled}
+use Rattle.regress_input.specs.ReadsFromOffset.{direction_of_forward_flag, place, characters_between, past_spelled_if_next}
 use Rattle.regress_input.proofs.Places.{HasPlace, place_of_boundary, pair, step_right, step_left, read-place}
 use Rattle.regress_input.proofs.Slices.{place_is}
 use Rattle.regress_input.proofs.Lists.{slice-first, slice-last, pointwise-snoc, le_same}
@@ -180,9 +180,9 @@ module _ (text : Text) (same : ℕ → ℕ → Bool) where
     pub fits : count ≤ characters_ahead text d from
     pub found_is : found ≡ option_map (λ p. offset text p) (run d count from there)
 
-  module _ (is_text : IsText text) where
-    if_at_boundary : (at : ℕ) → IsBoundary text at → HasPlace text at (place text at)
-    if_at_boundary at b =
+  module _ (is_text : HasRisingPlaceOffsets text) where
+    offset_if_boundary : (at : ℕ) → IsBoundary text at → HasPlace text at (place text at)
+    offset_if_boundary at b =
         let p = place_of_boundary text is_text at b in
         subst (HasPlace text at) (sym (place_is text at p.0 p.1.found)) p.1
 
@@ -205,15 +205,15 @@ module _ (text : Text) (same : ℕ → ℕ → Bool) where
       here_place = place text at
 
       stop_place : HasPlace text to end_place
-      stop_place = if_at_boundary to t
+      stop_place = offset_if_boundary to t
 
       in_order : first_place ≤ end_place
-      in_order = places_in_order from to first_place end_place (if_at_boundary from f) stop_place l
+      in_order = places_in_order from to first_place end_place (offset_if_boundary from f) stop_place l
 
       long : length (slice_range cs first_place end_place) ≡ end_place - first_place
       long = omega (arith, length-take (end_place - first_place) (drop first_place cs), length-drop first_place cs, stop_place.within)
 
-      pub start_right : Comparing rightwards from to at (past_spelled text same (characters_between text from to) rightwards at)
+      pub start_right : Comparing rightwards from to at (past_spelled_if_next text same (characters_between text from to) rightwards at)
       start_right =
           let p : ℕ = first_place in
           let q : ℕ = end_place in
@@ -223,9 +223,9 @@ module _ (text : Text) (same : ℕ → ℕ → Bool) where
           record {
             count = q - p;
             from = p;
-            at_from = if_at_boundary from f;
+            at_from = offset_if_boundary from f;
             there = k;
-            pos_there = if_at_boundary at b;
+            pos_there = offset_if_boundary at b;
             stops = subst (HasPlace text to) end stop_place;
             fits = omega (arith, in_order, stop_place.within);
             found_is =
@@ -234,7 +234,7 @@ module _ (text : Text) (same : ℕ → ℕ → Bool) where
                 ∙ ap (option_map (λ p. offset text p)) (sym (run-right (q - p) p k (omega (arith, in_order, stop_place.within))));
           }
 
-      pub start_left : Comparing leftwards to from at (past_spelled text same (characters_between text from to) leftwards at)
+      pub start_left : Comparing leftwards to from at (past_spelled_if_next text same (characters_between text from to) leftwards at)
       start_left =
           let p : ℕ = first_place in
           let q : ℕ = end_place in
@@ -246,13 +246,13 @@ module _ (text : Text) (same : ℕ → ℕ → Bool) where
             from = q;
             at_from = stop_place;
             there = k;
-            pos_there = if_at_boundary at b;
-            stops = subst (HasPlace text from) begin (if_at_boundary from f);
+            pos_there = offset_if_boundary at b;
+            stops = subst (HasPlace text from) begin (offset_if_boundary from f);
             fits = omega arith;
             found_is =
                 ap₂ (λ (n : ℕ) (xs : List ℕ). if nat_le n k && pointwise same xs (slice_range cs (k - n) k) then Some (offset text (k - n)) else None) long list
                 ∙ sym (option_offset (nat_le (q - p) k && pointwise same (slice_range cs (q - (q - p)) q) (slice_range cs (k - (q - p)) k)) (k - (q - p)))
-                ∙ ap (option_map (λ p. offset text p)) (sym (run-left (q - p) q k (omega arith) (stop_place.within) ((if_at_boundary at b).within)));
+                ∙ ap (option_map (λ p. offset text p)) (sym (run-left (q - p) q k (omega arith) (stop_place.within) ((offset_if_boundary at b).within)));
           }
 
     same_place : (a b p q : ℕ) → HasPlace text a p → HasPlace text b q → a ≡ b → p ≡ q
@@ -374,16 +374,16 @@ module _ (text : Text) (same : ℕ → ℕ → Bool) where
     -- where a loop in either direction begins
     pub starts : (forward : Bool) (at from to a stop : ℕ) → IsBoundary text at → IsBoundary text from → IsBoundary text to → from ≤ to
         → ((a ≡ from) × (stop ≡ to) × (forward ≡ true)) ⊎ ((a ≡ to) × (stop ≡ from) × (forward ≡ false))
-        → Comparing (reading_direction forward) a stop at (past_spelled text same (characters_between text from to) (reading_direction forward) at)
+        → Comparing (direction_of_forward_flag forward) a stop at (past_spelled_if_next text same (characters_between text from to) (direction_of_forward_flag forward) at)
     starts forward at from to a stop b f t l (inl (x, y, z)) =
-        subst (λ d. Comparing (reading_direction d) a stop at (past_spelled text same (characters_between text from to) (reading_direction d) at)) (sym z)
-        (subst (λ m. Comparing rightwards m stop at (past_spelled text same (characters_between text from to) rightwards at)) (sym x)
-        (subst (λ m. Comparing rightwards from m at (past_spelled text same (characters_between text from to) rightwards at)) (sym y)
+        subst (λ d. Comparing (direction_of_forward_flag d) a stop at (past_spelled_if_next text same (characters_between text from to) (direction_of_forward_flag d) at)) (sym z)
+        (subst (λ m. Comparing rightwards m stop at (past_spelled_if_next text same (characters_between text from to) rightwards at)) (sym x)
+        (subst (λ m. Comparing rightwards from m at (past_spelled_if_next text same (characters_between text from to) rightwards at)) (sym y)
         (start_right at from to b f t l)))
     starts forward at from to a stop b f t l (inr (x, y, z)) =
-        subst (λ d. Comparing (reading_direction d) a stop at (past_spelled text same (characters_between text from to) (reading_direction d) at)) (sym z)
-        (subst (λ m. Comparing leftwards m stop at (past_spelled text same (characters_between text from to) leftwards at)) (sym x)
-        (subst (λ m. Comparing leftwards to m at (past_spelled text same (characters_between text from to) leftwards at)) (sym y)
+        subst (λ d. Comparing (direction_of_forward_flag d) a stop at (past_spelled_if_next text same (characters_between text from to) (direction_of_forward_flag d) at)) (sym z)
+        (subst (λ m. Comparing leftwards m stop at (past_spelled_if_next text same (characters_between text from to) leftwards at)) (sym x)
+        (subst (λ m. Comparing leftwards to m at (past_spelled_if_next text same (characters_between text from to) leftwards at)) (sym y)
         (start_left at from to b f t l)))
 
     -- each step takes one nearer to the stop

@@ -3,9 +3,9 @@ use Rattle.std.proofs.Common.{◌≡◌, ◌≢◌, ℕ, zero, suc, ◌+◌, ◌
 use Rattle.std.proofs.Common.{Some, None, option_map, refl, sym, ◌∙◌, ap, ap₂, subst, arith}
 use Rattle.std.proofs.lemmas.Option.{slice_get-get_or, slice_get_past}
 use Rattle.regex_meaning.specs.Text.{Text, Direction, rightwards, leftwards, one_unit}
-use Rattle.regex_meaning.specs.CodeUnitOffsets.{IsText, IsBoundary, offset, units, place_at, read}
+use Rattle.regex_meaning.specs.CodeUnitOffsets.{HasRisingPlaceOffsets, IsBoundary, offset, units, place_at, read}
 use Rattle.regex_meaning.proofs.TextLemmas.{place_at-offset, offset-IsBoundary}
-use Rattle.regress_input.specs.ReadsFromOffset.{part, characters_between, past_spelled, past_bytes}
+use Rattle.regress_input.specs.ReadsFromOffset.{part, characters_between, past_spelled_if_next, past_bytes_if_next}
 use Rattle.regress_input.proofs.Places.{place_of_boundary, pair, read-place}
 use Rattle.regress_input.proofs.Spelled.{text_of, is_text, offset-spelling}
 use Rattle.regress_input.proofs.Slices.{part-is, literal-right, literal-left, IsInjective, place_is}
@@ -32,7 +32,7 @@ module _ (us : List ℕ) (unicode : Bool) (fold : ℕ → ℕ) where
   abbrev this : Text
   this = text_of one_unit us unicode fold
 
-  this_is_text : IsText this
+  this_is_text : HasRisingPlaceOffsets this
   this_is_text = is_text one_unit positive us unicode fold
 
   -- the offset of a place is its number
@@ -96,7 +96,7 @@ module _ (us : List ℕ) (unicode : Bool) (fold : ℕ → ℕ) where
   injective p q i j e = sym (all_single (slice_range us p q)) ∙ e ∙ all_single (slice_range us i j)
 
   pub literal-one : (d : Direction) (at a b : ℕ) → IsBoundary this at → IsBoundary this a → IsBoundary this b → a ≤ b
-      → past_bytes us (slice_range us a b) d at ≡ past_spelled this nat_eq (characters_between this a b) d at
+      → past_bytes_if_next us (slice_range us a b) d at ≡ past_spelled_if_next this nat_eq (characters_between this a b) d at
   literal-one rightwards at a b at_b f g l =
       literal-right single one_unit sized us us unicode fold (all_single us) positive injective at a b at_b f g l
       (λ to h. boundary to (omega (arith, h.to_is, h.fits)))

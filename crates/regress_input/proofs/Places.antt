@@ -4,7 +4,7 @@ use Rattle.std.proofs.Common.{refl, sym, ◌∙◌, ap, subst, arith, add-one, l
 use Rattle.std.proofs.lemmas.Option.{slice_get_within, slice_get_past, some_pair_parts}
 use Rattle.regex_meaning.proofs.TextLemmas.{offset-less, offset-le, place_at-offset, offset-place_at}
 use Rattle.regex_meaning.specs.Text.{Text, Direction, rightwards, leftwards, last_place}
-use Rattle.regex_meaning.specs.CodeUnitOffsets.{IsText, offset, units, place_at, IsBoundary, read_at, read}
+use Rattle.regex_meaning.specs.CodeUnitOffsets.{HasRisingPlaceOffsets, offset, units, place_at, IsBoundary, read_at, read}
 
 -- a boundary has a place, which has its offset
 pub record HasPlace (text : Text) (at place : ℕ) : Type 0 where
@@ -12,7 +12,7 @@ pub record HasPlace (text : Text) (at place : ℕ) : Type 0 where
   pub within : place ≤ last_place text
   pub offset_is : offset text place ≡ at
 
-pub place_found : (text : Text) → IsText text → (at place : ℕ) → place_at text at ≡ Some place → HasPlace text at place
+pub place_found : (text : Text) → HasRisingPlaceOffsets text → (at place : ℕ) → place_at text at ≡ Some place → HasPlace text at place
 place_found text t at place e =
     let here = offset-place_at text at place t e in
     record { found = e; within = here.1; offset_is = here.0 }
@@ -22,7 +22,7 @@ some_of : {A : Type 0} (o : Option A) → IsTrue (is_some o) → (x : A) × (o �
 some_of None h = absurd (cc)
 some_of (Some x) h = (x, refl)
 
-pub place_of_boundary : (text : Text) → IsText text → (at : ℕ) → IsBoundary text at → (place : ℕ) × HasPlace text at place
+pub place_of_boundary : (text : Text) → HasRisingPlaceOffsets text → (at : ℕ) → IsBoundary text at → (place : ℕ) × HasPlace text at place
 place_of_boundary text t at b = let o = some_of (place_at text at) b in (o.0, place_found text t at o.0 o.1)
 
 pub boundary_of_place : (text : Text) (at place : ℕ) → place_at text at ≡ Some place → IsBoundary text at
@@ -34,7 +34,7 @@ read-place text d at place e = ap (λ o. option_and_then (read_at text d) o) e
 
 -- ---- Where a read goes
 
-pub boundary_inside : (text : Text) → IsText text → (at : ℕ) → IsBoundary text at → at ≤ units text
+pub boundary_inside : (text : Text) → HasRisingPlaceOffsets text → (at : ℕ) → IsBoundary text at → at ≤ units text
 boundary_inside text t at b =
     let p = place_of_boundary text t at b in
     omega (arith, offset-le text p.0 (last_place text) t p.1.within (le_refl _), p.1.offset_is)
@@ -59,10 +59,10 @@ pair a b = (a, b)
 same_pair : (a b x y : ℕ) → Some (pair a b) ≡ Some (pair x y) → (a ≡ x) × (b ≡ y)
 same_pair a b x y e = some_pair_parts a x b y e
 
-placed : (text : Text) → IsText text → (p : ℕ) → p ≤ last_place text → HasPlace text (offset text p) p
+placed : (text : Text) → HasRisingPlaceOffsets text → (p : ℕ) → p ≤ last_place text → HasPlace text (offset text p) p
 placed text t p l = record { found = place_at-offset text p t l; within = l; offset_is = refl }
 
-pub step_right : (text : Text) → IsText text → (at c to : ℕ) → read text rightwards at ≡ Some (c, to) → StepRight text at c to
+pub step_right : (text : Text) → HasRisingPlaceOffsets text → (at c to : ℕ) → read text rightwards at ≡ Some (c, to) → StepRight text at c to
 step_right text t at c to e = by (place_at text at) refl e
   where
     by : (o : Option ℕ) → place_at text at ≡ o → option_and_then (read_at text rightwards) o ≡ Some (c, to) → StepRight text at c to
@@ -77,7 +77,7 @@ step_right text t at c to e = by (place_at text at) refl e
             let to_is : offset text (suc k) ≡ to = ap (offset text) (sym (add-one k)) ∙ both.1 in
             record { place = k; from = place_found text t at k f; character = g ∙ ap Some both.0; upto = subst (λ n. HasPlace text n (suc k)) to_is (placed text t (suc k) within) }
 
-pub step_left : (text : Text) → IsText text → (at c to : ℕ) → read text leftwards at ≡ Some (c, to) → StepLeft text at c to
+pub step_left : (text : Text) → HasRisingPlaceOffsets text → (at c to : ℕ) → read text leftwards at ≡ Some (c, to) → StepLeft text at c to
 step_left text t at c to e = by (place_at text at) refl e
   where
     by : (o : Option ℕ) → place_at text at ≡ o → option_and_then (read_at text leftwards) o ≡ Some (c, to) → StepLeft text at c to
@@ -94,24 +94,24 @@ step_left text t at c to e = by (place_at text at) refl e
             let to_is : offset text j ≡ to = ap (offset text) (sym back) ∙ both.1 in
             record { place = j; from = place_found text t at (suc j) f; character = g ∙ ap Some both.0; upto = subst (λ n. HasPlace text n j) to_is (placed text t j within) }
 
-pub right_ahead : (text : Text) → IsText text → (at c to : ℕ) → read text rightwards at ≡ Some (c, to) → at < to
+pub right_ahead : (text : Text) → HasRisingPlaceOffsets text → (at c to : ℕ) → read text rightwards at ≡ Some (c, to) → at < to
 right_ahead text t at c to e =
     let s = step_right text t at c to e in
     omega (arith, offset-less text s.place (suc s.place) t (omega arith) s.upto.within, s.from.offset_is, s.upto.offset_is)
 
-pub right_boundary : (text : Text) → IsText text → (at c to : ℕ) → read text rightwards at ≡ Some (c, to) → IsBoundary text to
+pub right_boundary : (text : Text) → HasRisingPlaceOffsets text → (at c to : ℕ) → read text rightwards at ≡ Some (c, to) → IsBoundary text to
 right_boundary text t at c to e = let s = step_right text t at c to e in boundary_of_place text to (suc s.place) s.upto.found
 
-pub left_ahead : (text : Text) → IsText text → (at c to : ℕ) → read text leftwards at ≡ Some (c, to) → to < at
+pub left_ahead : (text : Text) → HasRisingPlaceOffsets text → (at c to : ℕ) → read text leftwards at ≡ Some (c, to) → to < at
 left_ahead text t at c to e =
     let s = step_left text t at c to e in
     omega (arith, offset-less text s.place (suc s.place) t (omega arith) s.from.within, s.from.offset_is, s.upto.offset_is)
 
-pub left_boundary : (text : Text) → IsText text → (at c to : ℕ) → read text leftwards at ≡ Some (c, to) → IsBoundary text to
+pub left_boundary : (text : Text) → HasRisingPlaceOffsets text → (at c to : ℕ) → read text leftwards at ≡ Some (c, to) → IsBoundary text to
 left_boundary text t at c to e = let s = step_left text t at c to e in boundary_of_place text to s.place s.upto.found
 
 -- the reads are inverse to each other
-pub right_then_left : (text : Text) → IsText text → (at c to : ℕ) → read text rightwards at ≡ Some (c, to) → read text leftwards to ≡ Some (c, at)
+pub right_then_left : (text : Text) → HasRisingPlaceOffsets text → (at c to : ℕ) → read text rightwards at ≡ Some (c, to) → read text leftwards to ≡ Some (c, at)
 right_then_left text t at c to e =
     let s = step_right text t at c to e in
     let back : suc s.place - 1 ≡ s.place = omega arith in
@@ -119,7 +119,7 @@ right_then_left text t at c to e =
     ∙ ap (option_map (λ d. (d, offset text (suc s.place - 1)))) s.character
     ∙ ap (λ n. Some (c, n)) (ap (offset text) back ∙ s.from.offset_is)
 
-pub left_then_right : (text : Text) → IsText text → (at c to : ℕ) → read text leftwards at ≡ Some (c, to) → read text rightwards to ≡ Some (c, at)
+pub left_then_right : (text : Text) → HasRisingPlaceOffsets text → (at c to : ℕ) → read text leftwards at ≡ Some (c, to) → read text rightwards to ≡ Some (c, at)
 left_then_right text t at c to e =
     let s = step_left text t at c to e in
     read-place text rightwards to s.place s.upto.found
@@ -134,31 +134,31 @@ past text d at to e = by (read text d at) refl e
     by None f e' = absurd (cc)
     by (Some r) f e' = let same : r.1 ≡ to = cc in (r.0, f ∙ ap (λ n. Some (pair r.0 n)) same)
 
-pub past_ahead : (text : Text) → IsText text → (at to : ℕ) → option_map (λ r. r.1) (read text rightwards at) ≡ Some to → at < to
+pub past_ahead : (text : Text) → HasRisingPlaceOffsets text → (at to : ℕ) → option_map (λ r. r.1) (read text rightwards at) ≡ Some to → at < to
 past_ahead text t at to e = let r = past text rightwards at to e in right_ahead text t at r.0 to r.1
 
-pub past_boundary : (text : Text) → IsText text → (at to : ℕ) → option_map (λ r. r.1) (read text rightwards at) ≡ Some to → IsBoundary text to
+pub past_boundary : (text : Text) → HasRisingPlaceOffsets text → (at to : ℕ) → option_map (λ r. r.1) (read text rightwards at) ≡ Some to → IsBoundary text to
 past_boundary text t at to e = let r = past text rightwards at to e in right_boundary text t at r.0 to r.1
 
-pub before_ahead : (text : Text) → IsText text → (at to : ℕ) → option_map (λ r. r.1) (read text leftwards at) ≡ Some to → to < at
+pub before_ahead : (text : Text) → HasRisingPlaceOffsets text → (at to : ℕ) → option_map (λ r. r.1) (read text leftwards at) ≡ Some to → to < at
 before_ahead text t at to e = let r = past text leftwards at to e in left_ahead text t at r.0 to r.1
 
-pub before_boundary : (text : Text) → IsText text → (at to : ℕ) → option_map (λ r. r.1) (read text leftwards at) ≡ Some to → IsBoundary text to
+pub before_boundary : (text : Text) → HasRisingPlaceOffsets text → (at to : ℕ) → option_map (λ r. r.1) (read text leftwards at) ≡ Some to → IsBoundary text to
 before_boundary text t at to e = let r = past text leftwards at to e in left_boundary text t at r.0 to r.1
 
 -- ---- The ends
-pub start_boundary : (text : Text) → IsText text → (at : ℕ) → at ≡ 0 → IsBoundary text at
+pub start_boundary : (text : Text) → HasRisingPlaceOffsets text → (at : ℕ) → at ≡ 0 → IsBoundary text at
 start_boundary text t at e =
     let found : place_at text at ≡ Some 0 = ap (place_at text) (e ∙ sym t.from_zero) ∙ place_at-offset text 0 t (omega arith) in
     boundary_of_place text at 0 found
 
-pub end_boundary : (text : Text) → IsText text → (at : ℕ) → at ≡ units text → IsBoundary text at
+pub end_boundary : (text : Text) → HasRisingPlaceOffsets text → (at : ℕ) → at ≡ units text → IsBoundary text at
 end_boundary text t at e =
     let found : place_at text at ≡ Some (last_place text) = ap (place_at text) e ∙ place_at-offset text (last_place text) t (omega arith) in
     boundary_of_place text at (last_place text) found
 
 -- at the right end there is no character to the right
-pub read-last : (text : Text) → IsText text → (at : ℕ) → at ≡ units text → read text rightwards at ≡ None
+pub read-last : (text : Text) → HasRisingPlaceOffsets text → (at : ℕ) → at ≡ units text → read text rightwards at ≡ None
 read-last text t at e =
     let last = last_place text in
     read-place text rightwards at last (ap (place_at text) e ∙ place_at-offset text last t (omega arith))

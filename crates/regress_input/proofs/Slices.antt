@@ -8,7 +8,7 @@ use lib.Pointwise.{pointwise, bytes_decides}
 use Rattle.regex_meaning.specs.Text.{Text, Direction, rightwards, leftwards, offsets_from, moved, characters_ahead, next_characters}
 use Rattle.regex_meaning.specs.CodeUnitOffsets.{offset, IsBoundary, place_at}
 use Rattle.regex_meaning.proofs.TextLemmas.{place-le, offset-IsBoundary}
-use Rattle.regress_input.specs.ReadsFromOffset.{place, part, characters_between, past_spelled, past_bytes}
+use Rattle.regress_input.specs.ReadsFromOffset.{place, part, characters_between, past_spelled_if_next, past_bytes_if_next}
 use Rattle.regress_input.proofs.Places.{HasPlace}
 use Rattle.regress_input.proofs.Spelled.{text_of, is_text, spelling, Cut, cut, cut_at, offset-spelling}
 
@@ -53,24 +53,24 @@ pub record StandBefore (us ys : List ℕ) (at to : ℕ) : Type 0 where
   pub fits : length ys ≤ at
   pub are : slice_range us (at - length ys) at ≡ ys
 
-pub past_bytes-right : (us ys : List ℕ) (at to : ℕ) → past_bytes us ys rightwards at ≡ Some to → StandBehind us ys at to
+pub past_bytes-right : (us ys : List ℕ) (at to : ℕ) → past_bytes_if_next us ys rightwards at ≡ Some to → StandBehind us ys at to
 past_bytes-right us ys at to e =
     let made = chosen (nat_le (at + length ys) (length us) && pointwise nat_eq (slice_range us at (at + length ys)) ys) (at + length ys) to e in
     let tests = and_parts (nat_le (at + length ys) (length us)) (pointwise nat_eq (slice_range us at (at + length ys)) ys) made.0 in
     record { to_is = made.1; fits = leb-true _ _ tests.0; are = (bytes_decides (slice_range us at (at + length ys)) ys).0 tests.1 }
 
-pub right-past_bytes : (us ys : List ℕ) (at to : ℕ) → StandBehind us ys at to → past_bytes us ys rightwards at ≡ Some to
+pub right-past_bytes : (us ys : List ℕ) (at to : ℕ) → StandBehind us ys at to → past_bytes_if_next us ys rightwards at ≡ Some to
 right-past_bytes us ys at to h =
     choose (nat_le (at + length ys) (length us) && pointwise nat_eq (slice_range us at (at + length ys)) ys) (at + length ys)
     (and_from _ _ (le-leb _ _ h.fits) ((bytes_decides (slice_range us at (at + length ys)) ys).1 h.are)) ∙ ap Some (sym h.to_is)
 
-pub past_bytes-left : (us ys : List ℕ) (at to : ℕ) → past_bytes us ys leftwards at ≡ Some to → StandBefore us ys at to
+pub past_bytes-left : (us ys : List ℕ) (at to : ℕ) → past_bytes_if_next us ys leftwards at ≡ Some to → StandBefore us ys at to
 past_bytes-left us ys at to e =
     let made = chosen (nat_le (length ys) at && pointwise nat_eq (slice_range us (at - length ys) at) ys) (at - length ys) to e in
     let tests = and_parts (nat_le (length ys) at) (pointwise nat_eq (slice_range us (at - length ys) at) ys) made.0 in
     record { to_is = made.1; fits = leb-true _ _ tests.0; are = (bytes_decides (slice_range us (at - length ys) at) ys).0 tests.1 }
 
-pub left-past_bytes : (us ys : List ℕ) (at to : ℕ) → StandBefore us ys at to → past_bytes us ys leftwards at ≡ Some to
+pub left-past_bytes : (us ys : List ℕ) (at to : ℕ) → StandBefore us ys at to → past_bytes_if_next us ys leftwards at ≡ Some to
 left-past_bytes us ys at to h =
     choose (nat_le (length ys) at && pointwise nat_eq (slice_range us (at - length ys) at) ys) (at - length ys)
     (and_from _ _ (le-leb _ _ h.fits) ((bytes_decides (slice_range us (at - length ys) at) ys).1 h.are)) ∙ ap Some (sym h.to_is)
@@ -82,7 +82,7 @@ past_place text xs d k =
     if nat_le (length xs) (characters_ahead text d k) && pointwise nat_eq xs (next_characters text d (length xs) k)
     then Some (offset text (moved text d (length xs) k)) else None
 
-past_spelled-place : (text : Text) (xs : List ℕ) (d : Direction) (at k : ℕ) → place_at text at ≡ Some k → past_spelled text nat_eq xs d at ≡ past_place text xs d k
+past_spelled-place : (text : Text) (xs : List ℕ) (d : Direction) (at k : ℕ) → place_at text at ≡ Some k → past_spelled_if_next text nat_eq xs d at ≡ past_place text xs d k
 past_spelled-place text xs d at k e = ap (past_place text xs d) (place_is text at k e)
 
 record Spelt (text : Text) (xs : List ℕ) (d : Direction) (k to : ℕ) : Type 0 where
@@ -115,8 +115,8 @@ module _ (spell : ℕ → List ℕ) (width : ℕ → ℕ) (sized : (c : ℕ) →
     pub length_is : b ≡ a + length (spelt (slice_range cs p q))
     pub are : slice_range us a b ≡ spelt (slice_range cs p q)
 
-  pub between : (cs us : List ℕ) (a b p q : ℕ) → p ≤ q → Cuts cs us a p → Cuts cs us b q → Between cs us a b p q
-  between cs us a b p q l from to =
+  pub text_between : (cs us : List ℕ) (a b p q : ℕ) → p ≤ q → Cuts cs us a p → Cuts cs us b q → Between cs us a b p q
+  text_between cs us a b p q l from to =
       let parts : spelt (take q cs) ≡ spelt (take p cs) ++ spelt (slice_range cs p q) = ap spelt (take-slice cs p q l) ∙ flat_map-append spell (take p cs) (slice_range cs p q) in
       let long : b ≡ a + length (spelt (slice_range cs p q)) = omega (arith, to.length_is, from.length_is, ap length parts, length-append (spelt (take p cs)) (spelt (slice_range cs p q))) in
       let le : a ≤ b = omega arith in
@@ -174,7 +174,7 @@ module _ (spell : ℕ → List ℕ) (width : ℕ → ℕ) (sized : (c : ℕ) →
     range-units a b f g l =
         let (p, at_p, cut_p) = here a f in
         let (q, at_q, cut_q) = here b g in
-        (between cs us a b p q (in_order a b p q at_p at_q l) cut_p cut_q).are
+        (text_between cs us a b p q (in_order a b p q at_p at_q l) cut_p cut_q).are
         ∙ sym (ap₂ (λ i j. spelt (slice_range cs i j)) (place_is this a p at_p.found) (place_is this b q at_q.found))
 
     -- a part is the text of its characters
@@ -213,7 +213,7 @@ module _ (spell : ℕ → List ℕ) (width : ℕ → ℕ) (sized : (c : ℕ) →
     right-spelt inject at k p q to ys at_k cut_k same h b =
         let (m, at_m, cut_m) = here to b in
         let order : k ≤ m = in_order at to k m at_k at_m (omega (arith, h.to_is)) in
-        let equal : slice_range cs k m ≡ slice_range cs p q = alike inject at to k m p q ys (between cs us at to k m order cut_k cut_m) (ap (slice_range us at) h.to_is ∙ h.are) same in
+        let equal : slice_range cs k m ≡ slice_range cs p q = alike inject at to k m p q ys (text_between cs us at to k m order cut_k cut_m) (ap (slice_range us at) h.to_is ∙ h.are) same in
         let long : length (slice_range cs p q) ≡ m - k = sym (ap length equal) ∙ slice-length cs k m at_m.within in
         let end : k + length (slice_range cs p q) ≡ m = omega arith in
         record {
@@ -229,7 +229,7 @@ module _ (spell : ℕ → List ℕ) (width : ℕ → ℕ) (sized : (c : ℕ) →
         let within : m ≤ length cs = omega (arith, h.fits, at_k.within) in
         let order : k ≤ m = omega arith in
         let cut_m : Cuts cs us (offset this m) m = cut_of_place m within in
-        let btw : Between cs us at (offset this m) k m = between cs us at (offset this m) k m order cut_k cut_m in
+        let btw : Between cs us at (offset this m) k m = text_between cs us at (offset this m) k m order cut_k cut_m in
         let units : spelt (slice_range cs k m) ≡ ys = ap spelt (sym h.are) ∙ sym same in
         let end : offset this m ≡ at + length ys = btw.length_is ∙ ap (λ l. at + length l) units in
         record { to_is = h.to_is ∙ end; fits = omega (arith, end, cut_inside (offset this m) m cut_m); are = ap (slice_range us at) (sym end) ∙ btw.are ∙ units }
@@ -239,7 +239,7 @@ module _ (spell : ℕ → List ℕ) (width : ℕ → ℕ) (sized : (c : ℕ) →
     left-spelt inject at k p q to ys at_k cut_k same h b =
         let (m, at_m, cut_m) = here to b in
         let order : m ≤ k = in_order to at m k at_m at_k (omega (arith, h.to_is)) in
-        let equal : slice_range cs m k ≡ slice_range cs p q = alike inject to at m k p q ys (between cs us to at m k order cut_m cut_k) (ap (λ n. slice_range us n at) h.to_is ∙ h.are) same in
+        let equal : slice_range cs m k ≡ slice_range cs p q = alike inject to at m k p q ys (text_between cs us to at m k order cut_m cut_k) (ap (λ n. slice_range us n at) h.to_is ∙ h.are) same in
         let long : length (slice_range cs p q) ≡ k - m = sym (ap length equal) ∙ slice-length cs m k at_k.within in
         let start : k - length (slice_range cs p q) ≡ m = omega arith in
         record {
@@ -255,7 +255,7 @@ module _ (spell : ℕ → List ℕ) (width : ℕ → ℕ) (sized : (c : ℕ) →
         let within : m ≤ length cs = omega (arith, at_k.within) in
         let order : m ≤ k = omega arith in
         let cut_m : Cuts cs us (offset this m) m = cut_of_place m within in
-        let btw : Between cs us (offset this m) at m k = between cs us (offset this m) at m k order cut_m cut_k in
+        let btw : Between cs us (offset this m) at m k = text_between cs us (offset this m) at m k order cut_m cut_k in
         let units : spelt (slice_range cs m k) ≡ ys = ap spelt (sym h.are) ∙ sym same in
         let long : at ≡ offset this m + length ys = btw.length_is ∙ ap (λ l. offset this m + length l) units in
         let start : offset this m ≡ at - length ys = omega arith in
@@ -280,12 +280,12 @@ module _ (spell : ℕ → List ℕ) (width : ℕ → ℕ) (sized : (c : ℕ) →
         → (at a b : ℕ) → IsBoundary this at → IsBoundary this a → IsBoundary this b → a ≤ b → (found : Option ℕ)
         → ((to : ℕ) → found ≡ Some to → Stand (slice_range us a b) at to × IsBoundary this to)
         → ((to : ℕ) → Stand (slice_range us a b) at to → IsBoundary this to → found ≡ Some to)
-        → found ≡ past_spelled this nat_eq (characters_between this a b) d at
+        → found ≡ past_spelled_if_next this nat_eq (characters_between this a b) d at
     found-beside d Stand spelt_of stand_of ends at a b at_b from to l found there back =
         let (k, at_k, cut_k) = here at at_b in
         let (p, at_p, cut_p) = here a from in
         let (q, at_q, cut_q) = here b to in
-        let units : slice_range us a b ≡ spelt (slice_range cs p q) = (between cs us a b p q (in_order a b p q at_p at_q l) cut_p cut_q).are in
+        let units : slice_range us a b ≡ spelt (slice_range cs p q) = (text_between cs us a b p q (in_order a b p q at_p at_q l) cut_p cut_q).are in
         let same : characters_between this a b ≡ slice_range cs p q = ap₂ (slice_range cs) (place_is this a p at_p.found) (place_is this b q at_q.found) in
         same_option found (past_place this (slice_range cs p q) d k)
         (λ x e. let h = there x e in
@@ -298,13 +298,13 @@ module _ (spell : ℕ → List ℕ) (width : ℕ → ℕ) (sized : (c : ℕ) →
     pub found-right : IsInjective → (at a b : ℕ) → IsBoundary this at → IsBoundary this a → IsBoundary this b → a ≤ b → (found : Option ℕ)
         → ((to : ℕ) → found ≡ Some to → StandBehind us (slice_range us a b) at to × IsBoundary this to)
         → ((to : ℕ) → StandBehind us (slice_range us a b) at to → IsBoundary this to → found ≡ Some to)
-        → found ≡ past_spelled this nat_eq (characters_between this a b) rightwards at
+        → found ≡ past_spelled_if_next this nat_eq (characters_between this a b) rightwards at
     found-right inject = found-beside rightwards (StandBehind us) (right-spelt inject) spelt-right ends-right
 
     pub found-left : IsInjective → (at a b : ℕ) → IsBoundary this at → IsBoundary this a → IsBoundary this b → a ≤ b → (found : Option ℕ)
         → ((to : ℕ) → found ≡ Some to → StandBefore us (slice_range us a b) at to × IsBoundary this to)
         → ((to : ℕ) → StandBefore us (slice_range us a b) at to → IsBoundary this to → found ≡ Some to)
-        → found ≡ past_spelled this nat_eq (characters_between this a b) leftwards at
+        → found ≡ past_spelled_if_next this nat_eq (characters_between this a b) leftwards at
     found-left inject = found-beside leftwards (StandBefore us) (left-spelt inject) spelt-left ends-left
 
     -- The units of a range stand beside a boundary just where its characters do, if where they end is a boundary.
@@ -312,16 +312,16 @@ module _ (spell : ℕ → List ℕ) (width : ℕ → ℕ) (sized : (c : ℕ) →
     IsLiteral d Stand =
         (at a b : ℕ) → IsBoundary this at → IsBoundary this a → IsBoundary this b → a ≤ b
         → ((to : ℕ) → Stand (slice_range us a b) at to → IsBoundary this to)
-        → past_bytes us (slice_range us a b) d at ≡ past_spelled this nat_eq (characters_between this a b) d at
+        → past_bytes_if_next us (slice_range us a b) d at ≡ past_spelled_if_next this nat_eq (characters_between this a b) d at
 
     pub literal-right : IsInjective → IsLiteral rightwards (StandBehind us)
     literal-right inject at a b at_b from to l ends =
-        found-right inject at a b at_b from to l (past_bytes us (slice_range us a b) rightwards at)
+        found-right inject at a b at_b from to l (past_bytes_if_next us (slice_range us a b) rightwards at)
         (λ x e. let h = past_bytes-right us (slice_range us a b) at x e in (h, ends x h))
         (λ x h e. right-past_bytes us (slice_range us a b) at x h)
 
     pub literal-left : IsInjective → IsLiteral leftwards (StandBefore us)
     literal-left inject at a b at_b from to l ends =
-        found-left inject at a b at_b from to l (past_bytes us (slice_range us a b) leftwards at)
+        found-left inject at a b at_b from to l (past_bytes_if_next us (slice_range us a b) leftwards at)
         (λ x e. let h = past_bytes-left us (slice_range us a b) at x e in (h, ends x h))
         (λ x h e. left-past_bytes us (slice_range us a b) at x h)

@@ -4,7 +4,7 @@ use Rattle.std.proofs.Common.{Option, Some, None, option_map, refl, sym, ◌∙�
 use Rattle.std.proofs.Common.{length-take, length-drop, add-one}
 use Rattle.std.proofs.lemmas.List.Concat.{flat_map-append}
 use Rattle.regex_meaning.specs.Text.{Text, rightwards, leftwards, offsets_from}
-use Rattle.regex_meaning.specs.CodeUnitOffsets.{IsText, offset, IsBoundary, read}
+use Rattle.regex_meaning.specs.CodeUnitOffsets.{HasRisingPlaceOffsets, offset, IsBoundary, read}
 use Rattle.regex_meaning.proofs.TextLemmas.{offsets-rise, length-offsets, first-offset}
 use Rattle.regress_input.proofs.Lists.{get-cons}
 use Rattle.regress_input.proofs.Places.{HasPlace, place_of_boundary, read-place}
@@ -13,7 +13,7 @@ use Rattle.regress_input.proofs.Places.{HasPlace, place_of_boundary, read-place}
 abbrev pub text_of : (width : ℕ → ℕ) → List ℕ → (unicode : Bool) → (fold : ℕ → ℕ) → Text
 text_of width cs unicode fold = record { characters = cs; offsets = offsets_from 0 (map width cs); unicode = unicode; fold = fold }
 
-pub is_text : (width : ℕ → ℕ) (positive : (c : ℕ) → 0 < width c) (cs : List ℕ) (unicode : Bool) (fold : ℕ → ℕ) → IsText (text_of width cs unicode fold)
+pub is_text : (width : ℕ → ℕ) (positive : (c : ℕ) → 0 < width c) (cs : List ℕ) (unicode : Bool) (fold : ℕ → ℕ) → HasRisingPlaceOffsets (text_of width cs unicode fold)
 is_text width positive cs unicode fold = record { from_zero = first-offset width cs 0; rises = offsets-rise width cs 0 positive; each_place = length-offsets width cs 0 }
 
 module _ (spell : ℕ → List ℕ) (width : ℕ → ℕ) (sized : (c : ℕ) → length (spell c) ≡ width c) where

@@ -3,7 +3,7 @@ use Rattle.std.proofs.Common.{◌≡◌, ℕ, ◌-◌, ◌≤◌, List, drop, sl
 use Rattle.regex_meaning.specs.Text.{Text, Direction, rightwards, leftwards, utf16_width, utf16_characters, utf16_text, is_unit_boundary}
 use Rattle.regex_meaning.specs.Text.{fold_code_point}
 use Rattle.regex_meaning.specs.CodeUnitOffsets.{IsBoundary}
-use Rattle.regress_input.specs.ReadsFromOffset.{part, characters_between, past_spelled, past_bytes}
+use Rattle.regress_input.specs.ReadsFromOffset.{part, characters_between, past_spelled_if_next, past_bytes_if_next}
 use Rattle.regress_input.specs.Utf16.{AreU16Units, if_boundary}
 use Rattle.regress_input.proofs.Spelled.{text_of}
 use Rattle.regress_input.proofs.Slices.{range-units, part-is, found-right, found-left, IsInjective, past_bytes-right, right-past_bytes}
@@ -44,14 +44,14 @@ module _ (us : List ℕ) (small : AreU16Units us) (unicode : Bool) where
 
   -- the units of a range stand beside a boundary, up to another one, just where its characters do
   pub literal : (d : Direction) (at a b : ℕ) → IsBoundary text at → IsBoundary text a → IsBoundary text b → a ≤ b
-      → if_boundary us (past_bytes us (slice_range us a b) d at) ≡ past_spelled text nat_eq (characters_between text a b) d at
+      → if_boundary us (past_bytes_if_next us (slice_range us a b) d at) ≡ past_spelled_if_next text nat_eq (characters_between text a b) d at
   literal rightwards at a b at_b f g l =
-      let found = past_bytes us (slice_range us a b) rightwards at in
+      let found = past_bytes_if_next us (slice_range us a b) rightwards at in
       found-right spell utf16_width sized cs us unicode (fold_code_point unicode) (spelled us small) utf16_width-positive injective at a b at_b f g l (if_boundary us found)
       (λ to e. let h = kept us found to e in (past_bytes-right us (slice_range us a b) at to h.0, boundary_of_units us small unicode to h.1))
       (λ to h b'. keeps us found to (right-past_bytes us (slice_range us a b) at to h) (unit_boundary us small unicode to b'))
   literal leftwards at a b at_b f g l =
-      let found = past_bytes us (slice_range us a b) leftwards at in
+      let found = past_bytes_if_next us (slice_range us a b) leftwards at in
       found-left spell utf16_width sized cs us unicode (fold_code_point unicode) (spelled us small) utf16_width-positive injective at a b at_b f g l (if_boundary us found)
       (λ to e. let h = kept us found to e in (past_bytes-left us (slice_range us a b) at to h.0, boundary_of_units us small unicode to h.1))
       (λ to h b'. keeps us found to (left-past_bytes us (slice_range us a b) at to h) (unit_boundary us small unicode to b'))

@@ -9,7 +9,7 @@ use lib.Utf8.{scalars, encode, encodes}
 use Rattle.regex_meaning.specs.Text.{Text, Direction, rightwards, leftwards, utf8_text, fold_char}
 use Rattle.regex_meaning.specs.CodeUnitOffsets.{IsBoundary, offset}
 use Rattle.regex_meaning.proofs.TextLemmas.{utf8_text-IsText, offset-IsBoundary, len_utf8-positive}
-use Rattle.regress_input.specs.ReadsFromOffset.{part, characters_between, past_spelled, past_bytes}
+use Rattle.regress_input.specs.ReadsFromOffset.{part, characters_between, past_spelled_if_next, past_bytes_if_next}
 use Rattle.regress_input.proofs.Places.{HasPlace}
 use Rattle.regress_input.proofs.Spelled.{text_of, cut_at, offset-spelling, Cut}
 use Rattle.regress_input.proofs.Slices.{StandBehind, StandBefore, range-units, part-is, literal-right, literal-left, IsInjective, take-slice}
@@ -114,7 +114,7 @@ module _ (bytes : List ℕ) (unicode : Bool) (is_utf8 : ∥ IsUtf8 bytes ∥₁)
 
   -- the bytes of a range stand beside a boundary just where its characters do
   pub literal : (d : Direction) (at a b : ℕ) → IsBoundary text at → IsBoundary text a → IsBoundary text b → a ≤ b
-      → past_bytes bytes (slice_range bytes a b) d at ≡ past_spelled text nat_eq (characters_between text a b) d at
+      → past_bytes_if_next bytes (slice_range bytes a b) d at ≡ past_spelled_if_next text nat_eq (characters_between text a b) d at
   literal rightwards at a b at_b f g l =
       literal-right encode len_utf8 length-encode (chars bytes) bytes unicode (fold_char unicode) (spelled_by bytes u) len_utf8-positive injective at a b at_b f g l
       (λ to h. ends_behind at to (slice_range bytes a b) at_b (slice_is_utf8 a b f g l) h)

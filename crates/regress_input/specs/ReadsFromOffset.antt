@@ -11,9 +11,9 @@ use Rattle.regex_meaning.specs.CodeUnitOffsets.{offset, place_at, read}
 use Rattle.regex_meaning.specs.CodeUnits.{Encoding, utf8, utf16, ucs2}
 
 -- The reading direction for a value of `FORWARD`.
-abbrev pub reading_direction : (forward : Bool) → Direction
-reading_direction true = rightwards
-reading_direction false = leftwards
+abbrev pub direction_of_forward_flag : (forward : Bool) → Direction
+direction_of_forward_flag true = rightwards
+direction_of_forward_flag false = leftwards
 
 -- The result of a matcher as one value: the offset that it leaves, `None` if it does not match.
 abbrev pub end_if_matched : (matches : Bool) → (at : ℕ) → Option ℕ
@@ -51,19 +51,19 @@ module _ (text : Text) where
 
   -- The offset past these characters if they occur next to `at` in the direction, read left to
   -- right.
-  abbrev pub past_spelled : (same : ℕ → ℕ → Bool) → List ℕ → Direction → (at : ℕ) → Option ℕ
-  past_spelled same cs direction at =
+  abbrev pub past_spelled_if_next : (same : ℕ → ℕ → Bool) → List ℕ → Direction → (at : ℕ) → Option ℕ
+  past_spelled_if_next same cs direction at =
       let n = length cs in
       if nat_le n (characters_ahead text direction (place at)) && pointwise same cs (next_characters text direction n (place at))
       then Some (offset text (moved text direction n (place at))) else None
 
   -- The offset past the characters between two boundaries if they occur again next to `at`.
-  abbrev pub past_range : (from to : ℕ) → Direction → (at : ℕ) → Option ℕ
-  past_range from to = past_spelled nat_eq (characters_between from to)
+  abbrev pub past_range_if_next : (from to : ℕ) → Direction → (at : ℕ) → Option ℕ
+  past_range_if_next from to = past_spelled_if_next nat_eq (characters_between from to)
 
-  -- Like `past_range`, but characters are also equal if their folds are equal.
+  -- Like `past_range_if_next`, but characters are also equal if their folds are equal.
   abbrev pub past_range_icase : (from to : ℕ) → Direction → (at : ℕ) → Option ℕ
-  past_range_icase from to = past_spelled (same_fold text.fold) (characters_between from to)
+  past_range_icase from to = past_spelled_if_next (same_fold text.fold) (characters_between from to)
 
   -- The text between two boundaries, with offsets counted from 0.
   abbrev pub part : (from to : ℕ) → Text
@@ -96,8 +96,8 @@ pub record IsInUtf8 (text : Text) : Type 0 where
   pub offsets : text.offsets ≡ offsets_from 0 (map len_utf8 text.characters)
 
 -- 16-bit code units are not bytes, so nothing has to be shown in that case.
-pub no_bytes : {A : Type 0} → IsTrue false → A
-no_bytes h = absurd (true≢false (sym h))
+pub vacuous_without_byte_units : {A : Type 0} → IsTrue false → A
+vacuous_without_byte_units h = absurd (true≢false (sym h))
 
 -- The next byte in the direction, `None` at the end.
 abbrev pub adjacent_byte : (bytes : List ℕ) → Direction → (at : ℕ) → Option ℕ
@@ -111,22 +111,22 @@ moved_by_units all rightwards n at = if nat_le (at + n) all then Some (at + n) e
 moved_by_units all leftwards n at = if nat_le n at && nat_le (at - n) all then Some (at - n) else None
 
 -- The offset past the units `these` if they occur next to `at` in the direction, else `None`.
-abbrev pub past_units : {Unit : Type 0} → (same : Unit → Unit → Bool) → (all : List Unit) → (these : List Unit) → Direction → (at : ℕ) → Option ℕ
-past_units same all these rightwards at =
+abbrev pub past_units_if_next : {Unit : Type 0} → (same : Unit → Unit → Bool) → (all : List Unit) → (these : List Unit) → Direction → (at : ℕ) → Option ℕ
+past_units_if_next same all these rightwards at =
     let to = at + length these in
     if nat_le to (length all) && pointwise same (slice_range all at to) these then Some to else None
-past_units same all these leftwards at =
+past_units_if_next same all these leftwards at =
     let to = at - length these in
     if nat_le (length these) at && pointwise same (slice_range all to at) these then Some to else None
 
--- `past_units` for units that are numbers.
-abbrev pub past_bytes : (all : List ℕ) → (bytes : List ℕ) → Direction → (at : ℕ) → Option ℕ
-past_bytes = past_units nat_eq
+-- `past_units_if_next` for units that are numbers.
+abbrev pub past_bytes_if_next : (all : List ℕ) → (bytes : List ℕ) → Direction → (at : ℕ) → Option ℕ
+past_bytes_if_next = past_units_if_next nat_eq
 
 -- What is read in bytes if code units are bytes, else `None`.
-abbrev pub if_byte_units : (are_bytes : Bool) → Option ℕ → Option ℕ
-if_byte_units true read = read
-if_byte_units false read = None
+abbrev pub read_if_units_are_bytes : (are_bytes : Bool) → Option ℕ → Option ℕ
+read_if_units_are_bytes true read = read
+read_if_units_are_bytes false read = None
 
 -- The result is the first offset from `at` on at which the searched bytes occur in the remaining
 -- bytes. It is `None` if there is none or if code units are not bytes.

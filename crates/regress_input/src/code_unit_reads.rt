@@ -2,14 +2,14 @@
 
 ghost use Rattle.std.specs.Prelude.{◌≡◌, ◌≤◌, ℕ, true, length, drop, option_map, slice_range};
 ghost use Rattle.regex_meaning.specs.Text.{rightwards, leftwards};
-ghost use Rattle.regress_input.specs.ReadsFromOffset.{reading_direction, end_if_matched, adjacent_byte, moved_by_units, past_units as past_units_of, IsFoundFrom};
+ghost use Rattle.regress_input.specs.ReadsFromOffset.{direction_of_forward_flag, end_if_matched, adjacent_byte, moved_by_units, past_units_if_next as past_units_of, IsFoundFrom};
 
 use crate::front::ByteSearcher;
 use crate::position::PositionType;
 
 /// Returns the byte to the right of an offset, or `None` at the right end.
 #[inline(always)]
-pub(crate) fn unit_right(bytes: &[u8], at: usize) -> Option<u8>
+pub(crate) fn byte_right(bytes: &[u8], at: usize) -> Option<u8>
     requires { at ≤ length bytes.now }
     ensures { result ≡ adjacent_byte bytes.now rightwards at }
 {
@@ -22,7 +22,7 @@ pub(crate) fn unit_right(bytes: &[u8], at: usize) -> Option<u8>
 
 /// Returns the byte to the left of an offset, or `None` at the left end.
 #[inline(always)]
-pub(crate) fn unit_left(bytes: &[u8], at: usize) -> Option<u8>
+pub(crate) fn byte_left(bytes: &[u8], at: usize) -> Option<u8>
     requires { at ≤ length bytes.now }
     ensures { result ≡ adjacent_byte bytes.now leftwards at }
 {
@@ -32,14 +32,14 @@ pub(crate) fn unit_left(bytes: &[u8], at: usize) -> Option<u8>
 /// Returns the offset past the units `these` if they occur next to `at` on the side that is read,
 /// and `None` otherwise.
 #[inline(always)]
-pub(crate) fn past_units<Unit: PartialEq>(
+pub(crate) fn past_units_if_next<Unit: PartialEq>(
     all: &[Unit],
     forward: bool,
     at: usize,
     these: &[Unit],
 ) -> Option<usize>
     requires { at ≤ length all.now }
-    ensures { result ≡ past_units_of Unit.eq all.now these.now (reading_direction forward) at }
+    ensures { result ≡ past_units_of Unit.eq all.now these.now (direction_of_forward_flag forward) at }
 {
     if forward {
         past_right(all, at, these)
@@ -51,7 +51,7 @@ pub(crate) fn past_units<Unit: PartialEq>(
 /// Returns the offset past the units from `start` to `end` if they occur again next to `at` on the
 /// side that is read, and `None` otherwise.
 #[inline(always)]
-pub(crate) fn past_range<Unit: PartialEq>(
+pub(crate) fn past_range_if_next<Unit: PartialEq>(
     all: &[Unit],
     forward: bool,
     at: usize,
@@ -61,9 +61,9 @@ pub(crate) fn past_range<Unit: PartialEq>(
     requires at { at ≤ length all.now }
     requires to { end ≤ length all.now }
     requires in_order { start ≤ end }
-    ensures { result ≡ past_units_of Unit.eq all.now (slice_range all.now start end) (reading_direction forward) at }
+    ensures { result ≡ past_units_of Unit.eq all.now (slice_range all.now start end) (direction_of_forward_flag forward) at }
 {
-    past_units(all, forward, at, &all[start..end])
+    past_units_if_next(all, forward, at, &all[start..end])
 }
 
 #[inline(always)]
@@ -122,7 +122,7 @@ fn rest_from(all: &[u8], at: usize) -> &[u8]
 
 /// Moves `pos` to `to` if that is `Some`, and returns whether it is.
 #[inline(always)]
-pub(crate) fn move_position<Position: PositionType>(
+pub(crate) fn move_position_if_some<Position: PositionType>(
     pos: &mut Position,
     to: Option<Position>,
 ) -> bool

@@ -62,7 +62,7 @@ impl CodeUnit for u16 {
 }
 
 /// The code units in which offsets are counted, identified by their encoding.
-pub trait CodeUnits {
+pub trait CodeUnitKind {
     ghost encoding: { Encoding };
 
     /// The type of a code unit as a text stores it.
@@ -84,15 +84,15 @@ pub trait CodeUnits {
 }
 
 /// Bytes of UTF-8, which includes ASCII.
-pub struct ByteUnits;
+pub struct ByteUnitKind;
 
 /// 16-bit code units of UTF-16.
-pub struct Utf16Units;
+pub struct Utf16UnitKind;
 
 /// 16-bit code units, each of which is a character.
-pub struct Ucs2Units;
+pub struct Ucs2UnitKind;
 
-impl CodeUnits for ByteUnits {
+impl CodeUnitKind for ByteUnitKind {
     ghost encoding = { utf8 };
 
     type Unit = u8;
@@ -111,7 +111,7 @@ impl CodeUnits for ByteUnits {
     }
 }
 
-impl CodeUnits for Utf16Units {
+impl CodeUnitKind for Utf16UnitKind {
     ghost encoding = { utf16 };
 
     type Unit = u16;
@@ -126,11 +126,11 @@ impl CodeUnits for Utf16Units {
 
     #[inline(always)]
     fn unless_splitting_pair(all: &[u16], to: Option<usize>) -> Option<usize> {
-        utf16::if_at_boundary(all, to)
+        utf16::offset_if_boundary(all, to)
     }
 }
 
-impl CodeUnits for Ucs2Units {
+impl CodeUnitKind for Ucs2UnitKind {
     ghost encoding = { ucs2 };
 
     type Unit = u16;
@@ -150,14 +150,14 @@ impl CodeUnits for Ucs2Units {
 }
 
 /// A type with code units.
-pub trait HasUnits {
+pub trait HasUnitType {
     /// The code units in which its offsets are counted.
-    type Units: CodeUnits;
+    type Units: CodeUnitKind;
 }
 
-/// States whether code units are bytes. Each type with `HasUnits` implements it, and none can say
+/// States whether code units are bytes. Each type with `HasUnitType` implements it, and none can say
 /// otherwise.
-pub trait DeclaresByteUnits: HasUnits {
+pub trait DeclaresByteUnits: HasUnitType {
     ghost CODE_UNITS_ARE_BYTES: { Bool };
 
     /// Whether code units are bytes, so that the text can be read byte by byte.
@@ -166,7 +166,7 @@ pub trait DeclaresByteUnits: HasUnits {
     ghost by_units: { CODE_UNITS_ARE_BYTES ≡ Self.Units.ARE_BYTES };
 }
 
-impl<Text: HasUnits> DeclaresByteUnits for Text {
+impl<Text: HasUnitType> DeclaresByteUnits for Text {
     ghost CODE_UNITS_ARE_BYTES = { Text.Units.ARE_BYTES };
 
     const CODE_UNITS_ARE_BYTES: bool = Text::Units::ARE_BYTES;

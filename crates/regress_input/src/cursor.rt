@@ -2,7 +2,7 @@
 
 ghost use Rattle.std.specs.Prelude.{◌≡◌, ◌≤◌, ℕ, IfSome, IfNone, option_map};
 ghost use Rattle.regex_meaning.specs.CodeUnitOffsets.{IsBoundary, units, read};
-ghost use Rattle.regress_input.specs.ReadsFromOffset.{reading_direction, end_if_matched, bytes_of, adjacent_byte, past_bytes, if_byte_units, moved_by_unit};
+ghost use Rattle.regress_input.specs.ReadsFromOffset.{direction_of_forward_flag, end_if_matched, bytes_of, adjacent_byte, past_bytes_if_next, read_if_units_are_bytes, moved_by_unit};
 
 use crate::indexing::InputIndexer;
 pub use crate::position::{Backward, Direction, Forward};
@@ -18,7 +18,7 @@ pub fn next<Input: InputIndexer, Dir: Direction>(
     requires { IsBoundary (Input.text input.now) (Input.Position.offset pos.old) }
     ensures read { let at = Input.Position.offset in
         option_map (λ e. (Input.Element.number e, at pos.new)) result
-        ≡ read (Input.text input.now) (reading_direction Dir.FORWARD) (at pos.old) }
+        ≡ read (Input.text input.now) (direction_of_forward_flag Dir.FORWARD) (at pos.old) }
     ensures stays { IfNone result (pos.new ≡ pos.old) }
     ensures boundary { IsBoundary (Input.text input.now) (Input.Position.offset pos.new) }
     ensures inside { Input.Position.offset pos.new ≤ units (Input.text input.now) }
@@ -40,10 +40,10 @@ pub fn next_byte<Input: InputIndexer, Dir: Direction>(
     pos: &mut Input::Position,
 ) -> Option<u8>
     requires inside { Input.Position.offset pos.old ≤ units (Input.text input.now) }
-    ensures byte { result ≡ if_byte_units Input.Units.ARE_BYTES (adjacent_byte
-        (bytes_of (Input.text input.now)) (reading_direction Dir.FORWARD) (Input.Position.offset pos.old)) }
+    ensures byte { result ≡ read_if_units_are_bytes Input.Units.ARE_BYTES (adjacent_byte
+        (bytes_of (Input.text input.now)) (direction_of_forward_flag Dir.FORWARD) (Input.Position.offset pos.old)) }
     ensures moves { let at = Input.Position.offset in
-        IfSome result (λ _. at pos.new ≡ moved_by_unit (reading_direction Dir.FORWARD) (at pos.old)) }
+        IfSome result (λ _. at pos.new ≡ moved_by_unit (direction_of_forward_flag Dir.FORWARD) (at pos.old)) }
     ensures stays { IfNone result (pos.new ≡ pos.old) }
 {
     if Dir::FORWARD {
@@ -69,8 +69,8 @@ pub fn try_match_lit<const N: usize, Input: InputIndexer, Dir: Direction>(
 ) -> bool
     requires inside { Input.Position.offset pos.old ≤ units (Input.text input.now) }
     ensures { end_if_matched result (Input.Position.offset pos.new)
-        ≡ if_byte_units Input.Units.ARE_BYTES (past_bytes (bytes_of (Input.text input.now)) bytes.now
-        (reading_direction Dir.FORWARD) (Input.Position.offset pos.old)) }
+        ≡ read_if_units_are_bytes Input.Units.ARE_BYTES (past_bytes_if_next (bytes_of (Input.text input.now)) bytes.now
+        (direction_of_forward_flag Dir.FORWARD) (Input.Position.offset pos.old)) }
 {
     input.match_bytes(dir, pos, bytes)
 }

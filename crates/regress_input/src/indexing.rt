@@ -2,11 +2,11 @@
 
 ghost use Rattle.std.specs.Prelude.{◌≡◌, ◌<◌, ◌≤◌, ◌^◌, map, option_map, IfSome, IfNone, IsTrue, Some, slice_get};
 ghost use Rattle.std.specs.List.{list_all};
-ghost use Rattle.regex_meaning.specs.{Text.{Text, rightwards, leftwards}, CodeUnitOffsets.{IsText, IsBoundary, units, read}};
-ghost use Rattle.regex_meaning.specs.CodeUnits.{units_in, IsSpelledIn, is_character};
-ghost use Rattle.regress_input.specs.ReadsFromOffset.{reading_direction, end_if_matched, same_fold, character, past as past_character, past_range, part, IsReadBack, moved_by_units};
-ghost use Rattle.regress_input.specs.TextCodeUnits.{UnitsMatchCharacters};
-ghost use Rattle.regress_input.specs.ReadsFromOffset.{bytes_of, bytes_if, IsInUtf8, adjacent_byte, past_bytes, if_byte_units, IsFoundFrom};
+ghost use Rattle.regex_meaning.specs.{Text.{Text, rightwards, leftwards}, CodeUnitOffsets.{HasRisingPlaceOffsets, IsBoundary, units, read}};
+ghost use Rattle.regex_meaning.specs.CodeUnits.{text_units_in_encoding, IsSpelledIn, is_character_in_encoding};
+ghost use Rattle.regress_input.specs.ReadsFromOffset.{direction_of_forward_flag, end_if_matched, same_fold, character, past as past_character, past_range_if_next, part, IsReadBack, moved_by_units};
+ghost use Rattle.regress_input.specs.TextCodeUnits.{UnitsOccurWhereCharactersDo};
+ghost use Rattle.regress_input.specs.ReadsFromOffset.{bytes_of, bytes_if, IsInUtf8, adjacent_byte, past_bytes_if_next, read_if_units_are_bytes, IsFoundFrom};
 
 mod ascii_input;
 mod ucs2_input;
@@ -20,7 +20,8 @@ pub use self::utf16_input::Utf16Input;
 pub use crate::characters_and_properties::{CharProperties, ElementType};
 use crate::code_unit_reads;
 pub use crate::code_units::{
-    ByteUnits, CodeUnit, CodeUnits, DeclaresByteUnits, HasUnits, Ucs2Units, Utf16Units,
+    ByteUnitKind, CodeUnit, CodeUnitKind, DeclaresByteUnits, HasUnitType, Ucs2UnitKind,
+    Utf16UnitKind,
 };
 use crate::front::ByteSearcher;
 use crate::position::{Direction, PositionType};
@@ -47,10 +48,10 @@ pub trait InputIndexer: Copy + Debug + DeclaresByteUnits {
 
     /// Returns the code units that encode the characters. A range of them occurs again where its
     /// characters do.
-    fn code_units(&self) -> &[<Self::Units as CodeUnits>::Unit]
+    fn code_units(&self) -> &[<Self::Units as CodeUnitKind>::Unit]
         ensures units { map Self.Units.Unit.number result.now
-            ≡ units_in Self.Units.encoding (text self.now) }
-        ensures again { UnitsMatchCharacters Self.Units.encoding
+            ≡ text_units_in_encoding Self.Units.encoding (text self.now) }
+        ensures again { UnitsOccurWhereCharactersDo Self.Units.encoding
             (map Self.Units.Unit.number result.now) (text self.now) };
 
     /// Returns the character to the right of a boundary that is not the right end, and the position
@@ -70,20 +71,20 @@ pub trait InputIndexer: Copy + Debug + DeclaresByteUnits {
             read (text self.now) leftwards (at pos) ≡ Some (Self.Element.number result.0, at result.1) };
 
     /// Returns the text between two boundaries. Its positions are counted from its own left end.
-    fn between(&self, start: Self::Position, end: Self::Position) -> Self
+    fn text_between(&self, start: Self::Position, end: Self::Position) -> Self
         requires from { IsBoundary (text self.now) (Self.Position.offset start) }
         requires to { IsBoundary (text self.now) (Self.Position.offset end) }
         requires in_order { Self.Position.offset start ≤ Self.Position.offset end }
         ensures { let at = Self.Position.offset in text result ≡ part (text self.now) (at start) (at end) };
 
-    ghost is_text: { (it : Self) → IsText (text it) };
+    ghost is_text: { (it : Self) → HasRisingPlaceOffsets (text it) };
 
     // Offsets are below 2^63, so one is left for the position that represents no position.
     ghost offsets_fit: { (it : Self) → units (text it) < 2 ^ 63 };
 
     ghost spelled: { (it : Self) → IsSpelledIn Self.Units.encoding (text it) };
 
-    ghost characters: { (it : Self) → IsTrue (list_all (is_character Self.Units.encoding) (text it).characters) };
+    ghost characters: { (it : Self) → IsTrue (list_all (is_character_in_encoding Self.Units.encoding) (text it).characters) };
 
     // If code units are bytes, they are those of UTF-8.
     ghost in_utf8: { (it : Self) → IsTrue Self.Units.ARE_BYTES → IsInUtf8 (text it) };
@@ -111,14 +112,14 @@ pub trait InputIndexer: Copy + Debug + DeclaresByteUnits {
     final fn as_bytes(&self) -> Option<&[u8]>
         ensures { option_map (λ all. all.now) result ≡ bytes_if Self.Units.ARE_BYTES (text self.now) }
     {
-        <Self::Units as CodeUnits>::Unit::as_bytes(self.code_units())
+        <Self::Units as CodeUnitKind>::Unit::as_bytes(self.code_units())
     }
 
     /// Returns the code unit at any offset that is not the right end.
     #[inline(always)]
     final fn unit(&self, pos: Self::Position) -> u32
         requires { Self.Position.offset pos < units (text self.now) }
-        ensures { slice_get (units_in Self.Units.encoding (text self.now)) (Self.Position.offset pos)
+        ensures { slice_get (text_units_in_encoding Self.Units.encoding (text self.now)) (Self.Position.offset pos)
             ≡ Some result }
     {
         let unit = self.code_units()[pos.to_offset()];
@@ -167,11 +168,11 @@ pub trait InputIndexer: Copy + Debug + DeclaresByteUnits {
         requires to { IsBoundary (text self.now) (Self.Position.offset end) }
         requires in_order { Self.Position.offset start ≤ Self.Position.offset end }
         ensures { let at = Self.Position.offset in option_map at result
-            ≡ past_range (text self.now) (at start) (at end) (reading_direction Dir.FORWARD) (at pos) }
+            ≡ past_range_if_next (text self.now) (at start) (at end) (direction_of_forward_flag Dir.FORWARD) (at pos) }
     {
         let all = self.code_units();
         let at = pos.to_offset();
-        let to = code_unit_reads::past_range(
+        let to = code_unit_reads::past_range_if_next(
             all,
             Dir::FORWARD,
             at,
@@ -225,7 +226,7 @@ pub trait InputIndexer: Copy + Debug + DeclaresByteUnits {
         ensures { let at = Self.Position.offset in
             text result ≡ part (text self.now) (at range.start) (at range.end) }
     {
-        self.between(range.start, range.end)
+        self.text_between(range.start, range.end)
     }
 
     /// Returns the character to the right and moves `pos` past it. Returns `None`, and leaves `pos`
@@ -340,11 +341,11 @@ pub trait InputIndexer: Copy + Debug + DeclaresByteUnits {
     #[inline(always)]
     final fn peek_byte_right(&self, pos: Self::Position) -> Option<u8>
         requires inside { Self.Position.offset pos ≤ units (text self.now) }
-        ensures { result ≡ if_byte_units Self.Units.ARE_BYTES
+        ensures { result ≡ read_if_units_are_bytes Self.Units.ARE_BYTES
             (adjacent_byte (bytes_of (text self.now)) rightwards (Self.Position.offset pos)) }
     {
         match self.as_bytes() {
-            Some(all) => code_unit_reads::unit_right(all, pos.to_offset()),
+            Some(all) => code_unit_reads::byte_right(all, pos.to_offset()),
             None => None,
         }
     }
@@ -354,11 +355,11 @@ pub trait InputIndexer: Copy + Debug + DeclaresByteUnits {
     #[inline(always)]
     final fn peek_byte_left(&self, pos: Self::Position) -> Option<u8>
         requires inside { Self.Position.offset pos ≤ units (text self.now) }
-        ensures { result ≡ if_byte_units Self.Units.ARE_BYTES
+        ensures { result ≡ read_if_units_are_bytes Self.Units.ARE_BYTES
             (adjacent_byte (bytes_of (text self.now)) leftwards (Self.Position.offset pos)) }
     {
         match self.as_bytes() {
-            Some(all) => code_unit_reads::unit_left(all, pos.to_offset()),
+            Some(all) => code_unit_reads::byte_left(all, pos.to_offset()),
             None => None,
         }
     }
@@ -423,10 +424,10 @@ pub trait InputIndexer: Copy + Debug + DeclaresByteUnits {
         requires to { IsBoundary (text self.now) (Self.Position.offset range.end) }
         requires in_order { Self.Position.offset range.start ≤ Self.Position.offset range.end }
         ensures { let at = Self.Position.offset in end_if_matched result (at pos.new)
-            ≡ past_range (text self.now) (at range.start) (at range.end) (reading_direction Dir.FORWARD) (at pos.old) }
+            ≡ past_range_if_next (text self.now) (at range.start) (at range.end) (direction_of_forward_flag Dir.FORWARD) (at pos.old) }
     {
         let to = self.past_again(dir, *pos, range.start, range.end);
-        code_unit_reads::move_position(pos, to)
+        code_unit_reads::move_position_if_some(pos, to)
     }
 
     /// Checks whether `bytes` occur next to any offset in the direction, read left to right. They
@@ -441,14 +442,14 @@ pub trait InputIndexer: Copy + Debug + DeclaresByteUnits {
     ) -> bool
         requires inside { Self.Position.offset pos.old ≤ units (text self.now) }
         ensures { let at = Self.Position.offset in
-            end_if_matched result (at pos.new) ≡ if_byte_units Self.Units.ARE_BYTES
-            (past_bytes (bytes_of (text self.now)) bytes.now (reading_direction Dir.FORWARD) (at pos.old)) }
+            end_if_matched result (at pos.new) ≡ read_if_units_are_bytes Self.Units.ARE_BYTES
+            (past_bytes_if_next (bytes_of (text self.now)) bytes.now (direction_of_forward_flag Dir.FORWARD) (at pos.old)) }
     {
         let Some(all) = self.as_bytes() else {
             return false;
         };
-        let to = code_unit_reads::past_units(all, Dir::FORWARD, pos.to_offset(), bytes);
-        code_unit_reads::move_position(pos, code_unit_reads::position_at(to))
+        let to = code_unit_reads::past_units_if_next(all, Dir::FORWARD, pos.to_offset(), bytes);
+        code_unit_reads::move_position_if_some(pos, code_unit_reads::position_at(to))
     }
 }
 

@@ -30,7 +30,7 @@ pub trait PositionType: Copy
 
     /// Returns the position that represents no position. Its offset is the greatest one, which no
     /// text has.
-    fn none() -> Self
+    fn no_position() -> Self
         ensures { offset result ≡ 2 ^ 64 - 1 };
 
     // Equality and order of positions are those of their offsets.
@@ -216,7 +216,7 @@ impl<'a> PositionType for IndexPosition<'a> {
     }
 
     #[inline(always)]
-    fn none() -> Self {
+    fn no_position() -> Self {
         IndexPosition::new(usize::MAX)
     }
 

@@ -5,11 +5,11 @@ ghost use Rattle.std.specs.Char.{IsScalar};
 ghost use Rattle.regex_meaning.specs.{NumberListHelpers.{contains}, Tree.{bracket, byte_sequence}, Text.{is_line_terminator}, Outcomes.{accepts}};
 ghost use Rattle.regex_meaning.specs.CodeUnitOffsets.{IsBoundary};
 ghost use Rattle.regex_pattern_front.specs.AstToSpecTree.{class_as_spec};
-ghost use Rattle.regress_input.specs.ReadsFromOffset.{reading_direction, end_if_matched, past_if};
+ghost use Rattle.regress_input.specs.ReadsFromOffset.{direction_of_forward_flag, end_if_matched, past_if};
 
 use crate::cursor::{self, Direction};
 use crate::front::{BracketContents, ByteArraySet, ByteSet, MAX_CHAR_SET_LENGTH, SmallArraySet};
-use crate::indexing::{CharProperties, CodeUnits, ElementType, InputIndexer};
+use crate::indexing::{CharProperties, CodeUnitKind, ElementType, InputIndexer};
 use crate::utf8;
 
 /// A matcher of one character. Contracts see which characters it accepts (`accepted`), and what it
@@ -25,7 +25,7 @@ pub trait SingleCharMatcher<Input: InputIndexer, Dir: Direction> {
         requires can { can_match self.now }
         requires at { IsBoundary (Input.text input.now) (Input.Position.offset pos.old) }
         ensures { let at = Input.Position.offset in end_if_matched result (at pos.new)
-            ≡ past_if (Input.text input.now) (accepted self.now) (reading_direction Dir.FORWARD) (at pos.old) };
+            ≡ past_if (Input.text input.now) (accepted self.now) (direction_of_forward_flag Dir.FORWARD) (at pos.old) };
 }
 
 /// A matcher of one given character.
@@ -58,7 +58,7 @@ impl<'a, Input: InputIndexer, Dir: Direction> SingleCharMatcher<Input, Dir> for 
     #[inline(always)]
     fn matches(&self, input: &Input, dir: Dir, pos: &mut Input::Position) -> bool {
         match cursor::next(input, dir, pos) {
-            Some(c) => contains_char(self.chars, c.as_u32()),
+            Some(c) => is_one_of_four_chars(self.chars, c.as_u32()),
             None => false,
         }
     }
@@ -66,7 +66,7 @@ impl<'a, Input: InputIndexer, Dir: Direction> SingleCharMatcher<Input, Dir> for 
 
 /// Checks whether a character is one of four.
 #[inline(always)]
-pub fn contains_char(chars: &[u32; MAX_CHAR_SET_LENGTH], c: u32) -> bool
+pub fn is_one_of_four_chars(chars: &[u32; MAX_CHAR_SET_LENGTH], c: u32) -> bool
     ensures { result ≡ contains chars.now c }
 {
     let [first, second, third, fourth] = *chars;
@@ -182,7 +182,7 @@ fn matches_ascii<Bytes: ByteSet, Input: InputIndexer, Dir: Direction>(
     requires at { IsBoundary (Input.text input.now) (Input.Position.offset pos.old) }
     ensures { let at = Input.Position.offset in
         end_if_matched result (at pos.new) ≡ past_if (Input.text input.now)
-        (contains (Bytes.members bytes.now)) (reading_direction Dir.FORWARD) (at pos.old) }
+        (contains (Bytes.members bytes.now)) (direction_of_forward_flag Dir.FORWARD) (at pos.old) }
 {
     if Input::Units::ARE_BYTES {
         match cursor::next_byte(input, dir, pos) {
@@ -191,7 +191,7 @@ fn matches_ascii<Bytes: ByteSet, Input: InputIndexer, Dir: Direction>(
         }
     } else {
         match cursor::next(input, dir, pos) {
-            Some(c) => bytes.has_char(c.as_u32()),
+            Some(c) => bytes.byte_set_has_char(c.as_u32()),
             None => false,
         }
     }

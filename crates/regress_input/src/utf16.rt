@@ -21,7 +21,7 @@ pub fn is_unit_boundary(units: &[u16], i: usize) -> bool
 
 /// Returns the offset if it is a boundary, and `None` otherwise.
 #[inline(always)]
-pub(crate) fn if_at_boundary(units: &[u16], to: Option<usize>) -> Option<usize>
+pub(crate) fn offset_if_boundary(units: &[u16], to: Option<usize>) -> Option<usize>
     ensures { result ≡ if_boundary units.now to }
 {
     match to {

@@ -22,7 +22,10 @@ fn compared<P: PositionType>(p: P, q: P) -> (bool, bool) {
 
 // A position is not the one that stands for none, which is itself.
 fn told_from_none<P: PositionType>(units: usize) -> (bool, bool) {
-    (P::from_offset(units) == P::none(), P::none() == P::none())
+    (
+        P::from_offset(units) == P::no_position(),
+        P::no_position() == P::no_position(),
+    )
 }
 
 fn offset_again<P: PositionType>(units: usize) -> usize {

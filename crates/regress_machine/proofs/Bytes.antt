@@ -11,14 +11,14 @@ use Rattle.regex_meaning.specs.NumberListHelpers.{contains}
 use Rattle.regex_meaning.specs.Laws.{IsOnward}
 use Rattle.regex_meaning.specs.Tree.{byte_set, byte_sequence}
 use Rattle.regex_meaning.specs.Text.{Text, Direction, rightwards, leftwards, last_place, next_character, moved, characters_ahead}
-use Rattle.regex_meaning.specs.CodeUnitOffsets.{IsText, offset}
+use Rattle.regex_meaning.specs.CodeUnitOffsets.{HasRisingPlaceOffsets, offset}
 use Rattle.regex_meaning.specs.Outcomes.{Groups, Outcome, is_some_and, spelled, outcomes}
-use Rattle.regex_meaning.specs.WellFormedTrees.{has_text_in_sequence, fits_instructions}
+use Rattle.regex_meaning.specs.WellFormedTrees.{has_text_in_sequence, sets_and_strings_fit_instructions}
 use Rattle.regex_meaning.specs.OutcomesWithStepTicks.{TickOrOutcome, tick, pair, ticks, outcomes_replaced_by_lists, nearest_first, compared_chunks, byte_tries, ticked}
 use Rattle.regex_meaning.specs.CompilationRelation.{Program, Counters, counters_after_insn, HasInsnsBetween, IsCode, ByteSeq, ordered, chunks}
 use Rattle.regex_meaning.proofs.FirstBytes.{encode-1}
 use Rattle.regress_machine.specs.Machine.{LoopData, State, running, go_if, has_bytes, moved_by, act}
-use Rattle.regress_machine.specs.TextsForBytePrograms.{ReadsBytes}
+use Rattle.regress_machine.specs.TextsForBytePrograms.{HasUtf8CharactersAndOffsets}
 use Rattle.regress_machine.proofs.Yields.{Ending, Yields, yields_none, yields_same, yields_turn}
 use Rattle.regress_machine.proofs.Frames.{kept_itself}
 use Rattle.regress_machine.proofs.Nodes.{and_then-ticks, direction_at, over, state_at, Finds, Rising, act_at, inside_by, leaf_yields}
@@ -88,13 +88,13 @@ module _ (text : Text) where
   has_bytes-stands rightwards bs at = starts-stands (drop at (bytes text)) bs
   has_bytes-stands leftwards bs at = starts-stands (reverse (take at (bytes text))) (reverse bs)
 
-  byte_tries-are : ReadsBytes text → (d : Direction) (bs : List ℕ) (p : ℕ) → p ≤ last_place text
+  byte_tries-are : HasUtf8CharactersAndOffsets text → (d : Direction) (bs : List ℕ) (p : ℕ) → p ≤ last_place text
       → byte_tries text bs d p ≡ compared_chunks (chunks_read d (in_code_order d (chunks bs))) (bytes_near text d (offset text p))
   byte_tries-are reads rightwards bs p inside = ap (compared_chunks (chunks bs)) (sym (bytes_near-side text reads rightwards p inside))
   byte_tries-are reads leftwards bs p inside = ap (compared_chunks (map reverse (reverse (chunks bs)))) (sym (bytes_near-side text reads leftwards p inside))
 
   -- a text's bytes stand near an offset where its characters do
-  near-stands : ReadsBytes text → (d : Direction) (xs : List ℕ) (p : ℕ) → p ≤ last_place text → scalars xs ≡ true
+  near-stands : HasUtf8CharactersAndOffsets text → (d : Direction) (xs : List ℕ) (p : ℕ) → p ≤ last_place text → scalars xs ≡ true
       → stands nat_eq (in_reading_order text d (encode_utf8_all xs)) (bytes_near text d (offset text p)) ≡ stands nat_eq (in_reading_order text d xs) (nearest_first text d p)
   near-stands reads d xs p inside spelt =
       ap (stands nat_eq (in_reading_order text d (encode_utf8_all xs))) (bytes_near-side text reads d p inside)
@@ -115,7 +115,7 @@ module _ (text : Text) where
       go (one_more c is rest left within) =
           ap (stands nat_eq (b ∷ [])) rest ∙ and-true (nat_eq b c) ∙ same_number b c ∙ sym (ap (λ o. is_some_and o (contains (b ∷ []))) is)
 
-module _ (program : Program) (text : Text) (is_text : IsText text) where
+module _ (program : Program) (text : Text) (is_text : HasRisingPlaceOffsets text) where
   module _ (d : Direction) (E : Ending) (g : Groups) (s : List ℕ) (ls : List LoopData) where
     -- ---- Chunks in a row
 
@@ -196,7 +196,7 @@ module _ (program : Program) (text : Text) (is_text : IsText text) where
 
     -- ---- A sequence
 
-    sequence_yields : ReadsBytes text → (bs : List ℕ) (m n : Counters) (p : ℕ) (k : Outcome → List TickOrOutcome) → is_utf8 bs ≡ true → p ≤ last_place text
+    sequence_yields : HasUtf8CharactersAndOffsets text → (bs : List ℕ) (m n : Counters) (p : ℕ) (k : Outcome → List TickOrOutcome) → is_utf8 bs ≡ true → p ≤ last_place text
         → HasInsnsBetween program (map ByteSeq (in_code_order d (chunks bs))) m n
         → ((q : ℕ) → IsOnward text d p q → q ≤ last_place text → Yields program text d E (running (state_at program text is_text n.insn q g s ls) ∷ []) (k (record { end = q; groups = g })))
         → Yields program text d E (running (state_at program text is_text m.insn p g s ls) ∷ [])
@@ -234,7 +234,7 @@ module _ (program : Program) (text : Text) (is_text : IsText text) where
 
     -- ---- One byte
 
-    byte_yields : ReadsBytes text → (b : ℕ) (m n : Counters) (p : ℕ) (k : Outcome → List TickOrOutcome) → b < 128 → p ≤ last_place text → HasInsnsBetween program (ByteSeq (b ∷ []) ∷ []) m n
+    byte_yields : HasUtf8CharactersAndOffsets text → (b : ℕ) (m n : Counters) (p : ℕ) (k : Outcome → List TickOrOutcome) → b < 128 → p ≤ last_place text → HasInsnsBetween program (ByteSeq (b ∷ []) ∷ []) m n
         → ((q : ℕ) → IsOnward text d p q → q ≤ last_place text → Yields program text d E (running (state_at program text is_text n.insn q g s ls) ∷ []) (k (record { end = q; groups = g })))
         → Yields program text d E (running (state_at program text is_text m.insn p g s ls) ∷ []) (outcomes_replaced_by_lists (one_items program text is_text (contains (b ∷ [])) d p g) k)
     byte_yields reads b m n p k low inside has behind =
@@ -270,7 +270,7 @@ module _ (program : Program) (text : Text) (is_text : IsText text) where
   code_in_order true cs = refl
   code_in_order false cs = refl
 
-  in_direction_finds : (behind : Bool) (bs : List ℕ) → ReadsBytes text → is_utf8 bs ≡ true → Finds program text is_text (direction_at behind) behind (byte_sequence bs)
+  in_direction_finds : (behind : Bool) (bs : List ℕ) → HasUtf8CharactersAndOffsets text → is_utf8 bs ≡ true → Finds program text is_text (direction_at behind) behind (byte_sequence bs)
   unfolding IsCode ticked outcomes
   in_direction_finds behind bs reads u E m n p g s ls k code enters on =
       let d = direction_at behind in
@@ -281,13 +281,13 @@ module _ (program : Program) (text : Text) (is_text : IsText text) where
       (kept_itself [] m.loop n.loop s ls))
 
   -- in the direction that the code was made for
-  pub byte_sequence_finds : (d : Direction) (behind : Bool) (bs : List ℕ) → d ≡ direction_at behind → ReadsBytes text
+  pub byte_sequence_finds : (d : Direction) (behind : Bool) (bs : List ℕ) → d ≡ direction_at behind → HasUtf8CharactersAndOffsets text
       → has_text_in_sequence (byte_sequence bs) ≡ true → Finds program text is_text d behind (byte_sequence bs)
   byte_sequence_finds d behind bs same reads spelt =
       subst (λ (d : Direction). Finds program text is_text d behind (byte_sequence bs)) (sym same)
       (in_direction_finds behind bs reads (and-right (nat_lt 0 (length bs)) _ spelt))
 
-  pub byte_set_finds : (d : Direction) (behind : Bool) (members : List ℕ) → ReadsBytes text → fits_instructions (byte_set members) ≡ true
+  pub byte_set_finds : (d : Direction) (behind : Bool) (members : List ℕ) → HasUtf8CharactersAndOffsets text → sets_and_strings_fit_instructions (byte_set members) ≡ true
       → Finds program text is_text d behind (byte_set members)
   unfolding IsCode ticked outcomes
   byte_set_finds d behind [] reads fits E m n p g s ls k code enters on = none_finds program text is_text d E m n p g s ls k code

@@ -5,11 +5,11 @@ use Rattle.regex_meaning.specs.Tree.{Tree}
 use Rattle.regex_meaning.specs.Text.{Text, rightwards, last_place}
 use Rattle.regex_meaning.specs.CodeUnitOffsets.{offset}
 use Rattle.regex_meaning.specs.FirstAndAllMatches.{no_groups, first_outcome, match_at}
-use Rattle.regex_meaning.specs.OutcomesWithStepTicks.{TickOrOutcome, tick, pair, outcomes_without_ticks, is_empty, ticks_to_first, items_at, ticks_at}
+use Rattle.regex_meaning.specs.OutcomesWithStepTicks.{TickOrOutcome, tick, pair, outcomes_without_ticks, has_no_outcome, ticks_to_first, items_at, ticks_at}
 use Rattle.regex_meaning.specs.CompilationRelation.{Program}
 use Rattle.regex_meaning.proofs.Ticked.{pairs-ticked}
 use Rattle.regress_machine.specs.Machine.{running, Found, search}
-use Rattle.regress_machine.specs.SearchResults.{state_before_first_insn, end_of, end_in_offsets, match_in_offsets, first_pair, turns_at, ProgramCanSearchText}
+use Rattle.regress_machine.specs.SearchResults.{state_before_first_insn, end_of, end_in_offsets, match_in_offsets, first_pair, turns_at, TreeProgramCanSearchText}
 use Rattle.regress_machine.proofs.Search.{search_more}
 use Rattle.regress_machine.proofs.Whole.{searches-find}
 
@@ -19,7 +19,7 @@ first_of-pairs text place [] = refl
 first_of-pairs text place (tick ∷ items) = first_of-pairs text place items
 first_of-pairs text place (pair o ∷ items) = refl
 
-is_empty-pairs : (items : List TickOrOutcome) → is_empty (outcomes_without_ticks items) ≡ (if is_some (first_pair items) then false else true)
+is_empty-pairs : (items : List TickOrOutcome) → has_no_outcome (outcomes_without_ticks items) ≡ (if is_some (first_pair items) then false else true)
 is_empty-pairs [] = refl
 is_empty-pairs (tick ∷ items) = is_empty-pairs items
 is_empty-pairs (pair o ∷ items) = refl
@@ -30,7 +30,7 @@ same_some f g None (Some y) e = cc
 same_some f g (Some x) None e = cc
 same_some f g (Some x) (Some y) e = refl
 
-module _ (program : Program) (tree : Tree) (text : Text) (can : ProgramCanSearchText program tree text) (place : ℕ) (inside : place ≤ last_place text) where
+module _ (program : Program) (tree : Tree) (text : Text) (can : TreeProgramCanSearchText program tree text) (place : ℕ) (inside : place ≤ last_place text) where
   -- whatever number of turns a search takes, it is the one that is known
   found_so : (turns : ℕ) (f : Found) → search program text turns rightwards (running (state_before_first_insn program (offset text place)) ∷ []) ≡ Some f
       → (f.steps ≡ ticks_to_first (items_at tree text place)) × (option_map end_of f.end ≡ option_map (end_in_offsets text) (first_pair (items_at tree text place)))

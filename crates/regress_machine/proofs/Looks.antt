@@ -4,12 +4,12 @@ use Rattle.std.proofs.Common.{append-nil}
 use Rattle.std.specs.Prelude.{if◌then◌else◌}
 use Rattle.regex_meaning.specs.Tree.{Lookaround, Node, lookaround, group_ids}
 use Rattle.regex_meaning.specs.Text.{Text, Direction, rightwards, leftwards}
-use Rattle.regex_meaning.specs.CodeUnitOffsets.{IsText}
+use Rattle.regex_meaning.specs.CodeUnitOffsets.{HasRisingPlaceOffsets}
 use Rattle.regex_meaning.specs.Outcomes.{Groups, Outcome, lookaround_outcomes, direction_of}
 use Rattle.regex_meaning.specs.OutcomesWithStepTicks.{TickOrOutcome, tick, pair, outcomes_without_ticks, ticks, ticks_to_first, outcomes_replaced_by_lists, ticks_before_outcomes, ticked}
 use Rattle.regex_meaning.specs.CompilationRelation.{Program, Counters, counters_after_insn, IsCode, Goal, Lookahead, Lookbehind, lookaround_insn}
 use Rattle.regex_meaning.proofs.Onward.{IsOnward-refl}
-use Rattle.regress_machine.specs.Machine.{LoopData, State, running, asks, at_ip, next_ip, after_lookaround, act_on}
+use Rattle.regress_machine.specs.Machine.{LoopData, State, running, asks, state_at_ip, state_at_next_ip, after_lookaround, act_on}
 use Rattle.regress_machine.proofs.Yields.{Ending, EndIs, first_pair, Yields, yields_none, yields_same, yields_end, yields_asks}
 use Rattle.regress_machine.proofs.Frames.{Kept, kept_itself, kept_more, inside_itself}
 use Rattle.regress_machine.proofs.Nodes.{and_then-ticks, state_at, Reached, GoesOn, Enters, here, act_at, Finds}
@@ -28,7 +28,7 @@ looked-pairs negate (tick ∷ items) p g = looked-pairs negate items p g
 looked-pairs false (pair o ∷ items) p g = refl
 looked-pairs true (pair o ∷ items) p g = refl
 
-module _ (program : Program) (text : Text) (is_text : IsText text) where
+module _ (program : Program) (text : Text) (is_text : HasRisingPlaceOffsets text) where
   -- an end of the contents, from where the lookaround was entered
   abbrev Inner : Direction → (ip p : ℕ) → (ids : List ℕ) → (lo hi : ℕ) → Groups → List ℕ → List LoopData → Ending
   Inner d ip p ids lo hi g s ls o t =
@@ -36,7 +36,7 @@ module _ (program : Program) (text : Text) (is_text : IsText text) where
 
   asks-if : (d : Direction) (backwards negate : Bool) (start_group end_group c : ℕ) (t : State)
       → act_on program text d (Some (if backwards then Lookbehind negate start_group end_group c else Lookahead negate start_group end_group c)) t
-      ≡ asks (if backwards then leftwards else rightwards) negate (next_ip t) (at_ip c t)
+      ≡ asks (if backwards then leftwards else rightwards) negate (state_at_next_ip t) (state_at_ip c t)
   asks-if d true negate start_group end_group c t = refl
   asks-if d false negate start_group end_group c t = refl
 

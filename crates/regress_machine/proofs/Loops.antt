@@ -9,13 +9,13 @@ use Rattle.regex_meaning.specs.NumberListHelpers.{numbers_from}
 use Rattle.regex_meaning.specs.Laws.{IsOnward}
 use Rattle.regex_meaning.specs.Tree.{Quantifier, Node, loop, group_ids}
 use Rattle.regex_meaning.specs.Text.{Text, Direction, rightwards, leftwards, last_place, characters_ahead}
-use Rattle.regex_meaning.specs.CodeUnitOffsets.{IsText, offset}
+use Rattle.regex_meaning.specs.CodeUnitOffsets.{HasRisingPlaceOffsets, offset}
 use Rattle.regex_meaning.specs.Outcomes.{Groups, Outcome, cleared, max_iterations, Repetition, repetition}
 use Rattle.regex_meaning.specs.OutcomesWithStepTicks.{TickOrOutcome, tick, pair, ticks, outcomes_replaced_by_lists, ticked_preferred, ticked_bounded_repeat, ticked}
 use Rattle.regex_meaning.specs.CompilationRelation.{Program, LoopFields, Insn, Counters, counters_after_insn, HasInsnsBetween, IsCode, ResetCaptureGroup, EnterLoop, LoopAgain}
 use Rattle.regex_meaning.proofs.TextLemmas.{offset-injective}
-use Rattle.regress_machine.specs.Machine.{LoopData, State, Thread, running, waiting, goes, go, with_some, only_if, first_runs_others_wait, preferring, iteration_started}
-use Rattle.regress_machine.specs.Machine.{iteration_ended, loop_repeated, act}
+use Rattle.regress_machine.specs.Machine.{LoopData, State, Thread, running, waiting, goes, go, with_some, only_if, first_runs_others_wait, preferring, iterate_or_leave_loop}
+use Rattle.regress_machine.specs.Machine.{next_iteration_unless_empty, loop_repeated, act}
 use Rattle.regress_machine.proofs.Yields.{Ending, Yields, yields_none, yields_append, yields_same, yields_turn, yields_wait}
 use Rattle.regress_machine.proofs.Frames.{Kept, kept_itself, kept_more, kept_both, inside_itself, slice_get-set_same, slice_get-set_other}
 use Rattle.regress_machine.proofs.Nodes.{over, state_at, RangeFits, Fit, Reached, GoesOn, Enters, here, reached_both, act_at, Finds, at_mark, Rising}
@@ -51,7 +51,7 @@ AreBelow first count bound = (i : ℕ) → first ≤ i → i < first + count →
 
 -- ---- Rounds
 
-module _ (program : Program) (text : Text) (is_text : IsText text) where
+module _ (program : Program) (text : Text) (is_text : HasRisingPlaceOffsets text) where
   Fit-cleared : (first n : ℕ) (g : Groups) → Fit program text is_text g → Fit program text is_text (cleared first n g)
   Fit-cleared first zero g f = f
   Fit-cleared first (suc n) g f = Fit-cleared (first + 1) n (slice_set g first None) (Each-set (RangeFits program text is_text) g first None f tt)
@@ -156,7 +156,7 @@ module _ (program : Program) (text : Text) (is_text : IsText text) where
     in_loops ls e = let a = rise j l body in omega (arith, j_loop, l_loop, enters.loops)
 
     turn_is : (i : ℕ) (t : State) → m.loop < length t.loops
-        → iteration_started fields m.insn i t
+        → iterate_or_leave_loop fields m.insn i t
         ≡ goes (first_runs_others_wait (preferring q.greedy (if nat_lt i (max_iterations q) then record t { ip = m.insn + 1; loops = slice_set t.loops m.loop (record { iters = i; entry = t.pos }) } ∷ [] else []) (if nat_le q.min i then record t { ip = n.insn } ∷ [] else [])))
     turn_is i t h =
         ap (λ b. only_if b (goes (first_runs_others_wait (preferring q.greedy (if nat_lt i (max_iterations q) then record t { ip = m.insn + 1; loops = slice_set t.loops m.loop (record { iters = i; entry = t.pos }) } ∷ [] else []) (if nat_le q.min i then record t { ip = n.insn } ∷ [] else []))))) (lt-ltb m.loop (length t.loops) h)
@@ -229,10 +229,10 @@ module _ (program : Program) (text : Text) (is_text : IsText text) where
         ≡ (if nat_eq e p && nat_lt q.min (i + 1) then goes [] else goes (threads (i + 1) e h s' ls'))
     again_is i p e h s' ls' few in_p in_e len got =
         let v = state_at program text is_text l.insn e h s' ls' in
-        let more = iteration_started fields m.insn (i + 1) v in
+        let more = iterate_or_leave_loop fields m.insn (i + 1) v in
         act_at program text is_text d v (LoopAgain m.insn) jump
         ∙ ap (λ o. loop_repeated o m.insn v) enter
-        ∙ ap (λ o. with_some o (λ x. iteration_ended fields m.insn x v)) got
+        ∙ ap (λ o. with_some o (λ x. next_iteration_unless_empty fields m.insn x v)) got
         ∙ ap (λ b. only_if b (if offset text p == offset text e && nat_lt q.min (i + 1) then goes [] else more)) few
         ∙ ap (λ b. if b && nat_lt q.min (i + 1) then goes [] else more) (same_place p e in_p in_e)
         ∙ ap (λ x. if nat_eq e p && nat_lt q.min (i + 1) then goes [] else x) (turn_is (i + 1) v (in_loops ls' len))

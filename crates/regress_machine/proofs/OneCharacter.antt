@@ -10,15 +10,15 @@ use Rattle.regex_meaning.specs.Laws.{Each, IsOnward}
 use Rattle.regex_meaning.specs.Tree.{Quantifier, Node, char, char_set, byte_set, byte_sequence, bracket, match_any, match_any_except_line_terminator}
 use Rattle.regex_meaning.specs.Tree.{loop_1_char_body, group_ids}
 use Rattle.regex_meaning.specs.Text.{Text, Direction, rightwards, leftwards, last_place, next_character, moved, characters_ahead, next_characters}
-use Rattle.regex_meaning.specs.CodeUnitOffsets.{IsText, offset, place_at}
+use Rattle.regex_meaning.specs.CodeUnitOffsets.{HasRisingPlaceOffsets, offset, place_at}
 use Rattle.regex_meaning.specs.Outcomes.{Groups, Outcome, accepts, is_some_and, max_iterations, repetition, repeat, one_character, spelled, outcomes}
-use Rattle.regex_meaning.specs.WellFormedTrees.{is_one_character, has_text_in_sequence, fits_instructions}
+use Rattle.regex_meaning.specs.WellFormedTrees.{is_one_character, has_text_in_sequence, sets_and_strings_fit_instructions}
 use Rattle.regex_meaning.specs.OutcomesWithStepTicks.{TickOrOutcome, tick, ticks, outcomes_replaced_by_lists, with_ticks_between, nearest_first, body_tries, ticked}
 use Rattle.regex_meaning.specs.CompilationRelation.{Program, Counters, counters_after_insn, HasInsnAt, IsCode, Loop1CharBody}
 use Rattle.regex_meaning.proofs.Each.{Each-map, Each-drop, Each-take, Each-reverse}
 use Rattle.regex_meaning.proofs.TextLemmas.{place_at-offset}
 use Rattle.regress_machine.specs.Machine.{LoopData, State, running, waiting, first_runs_others_wait, with_some, run_states, scan, scans, act}
-use Rattle.regress_machine.specs.TextsForBytePrograms.{ReadsBytes, reads_bytes}
+use Rattle.regress_machine.specs.TextsForBytePrograms.{HasUtf8CharactersAndOffsets, tree_contains_byte_nodes}
 use Rattle.regress_machine.proofs.Yields.{Ending, Yields, yields_none, yields_append, yields_same, yields_wait, yields_scan}
 use Rattle.regress_machine.proofs.Frames.{kept_itself}
 use Rattle.regress_machine.proofs.Nodes.{and_then-ticks, state_at, Enters, GoesOn, Finds, Rising, act_at, inside_by}
@@ -74,7 +74,7 @@ body_is_one text d (byte_sequence bytes) one p g inside =
     ∙ ap (λ (cs : List ℕ). one_character text (λ e. pointwise nat_eq cs (e ∷ [])) d p g) (sym c.1)
 body_is_one text d _ one p g inside = cc
 
-module _ (program : Program) (text : Text) (is_text : IsText text) where
+module _ (program : Program) (text : Text) (is_text : HasRisingPlaceOffsets text) where
   -- one thread after another, of which all but the first wait
   turns_yield : (d : Direction) (E : Ending) (st : ℕ → State) (out : ℕ → Outcome) (k : Outcome → List TickOrOutcome) (ns : List ℕ)
       → Each (λ n. Yields program text d E (running (st n) ∷ []) (k (out n))) ns
@@ -136,7 +136,7 @@ module _ (program : Program) (text : Text) (is_text : IsText text) where
       (turns_yield d E st (outcome_at text d p g) k ns yields))
 
   pub loop_1_char_body_finds : (d : Direction) (behind : Bool) (q : Quantifier) (loopee : Node) → is_one_character loopee ≡ true → has_text_in_sequence loopee ≡ true
-      → fits_instructions loopee ≡ true → (reads_bytes loopee ≡ true → ReadsBytes text) → Finds program text is_text d behind (loop_1_char_body q loopee)
+      → sets_and_strings_fit_instructions loopee ≡ true → (tree_contains_byte_nodes loopee ≡ true → HasUtf8CharactersAndOffsets text) → Finds program text is_text d behind (loop_1_char_body q loopee)
   unfolding IsCode ticked outcomes
   loop_1_char_body_finds d behind q loopee one spelt fits reads E m n p g s ls k code enters on =
       yields_same program text d E _ _ _

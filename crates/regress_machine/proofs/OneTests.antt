@@ -18,12 +18,12 @@ use Rattle.regex_meaning.specs.Tree.{match_any_except_line_terminator}
 use Rattle.regex_meaning.specs.Text.{Text, is_scalar}
 use Rattle.regex_meaning.specs.Outcomes.{accepts, exclusive_or, in_intervals}
 use Rattle.regex_meaning.specs.StartPredicate.{bytes_that_pass}
-use Rattle.regex_meaning.specs.WellFormedTrees.{is_one_character, has_text_in_sequence, fits_instructions}
+use Rattle.regex_meaning.specs.WellFormedTrees.{is_one_character, has_text_in_sequence, sets_and_strings_fit_instructions}
 use Rattle.regex_meaning.specs.CompilationRelation.{Program, Insn, Counters, HasInsnsBetween, IsCode, JustFail, Char, CharSet, ByteSet, ByteSeq, AsciiBracket, Bracket}
 use Rattle.regex_meaning.specs.CompilationRelation.{MatchAny, MatchAnyExceptLineTerminator, padded, ordered, is_ascii_set, chunks, chunks_of}
 use Rattle.regex_meaning.proofs.FirstBytes.{true-in_range, encode-1}
 use Rattle.regress_machine.specs.Machine.{test_of}
-use Rattle.regress_machine.specs.TextsForBytePrograms.{ReadsBytes, reads_bytes}
+use Rattle.regress_machine.specs.TextsForBytePrograms.{HasUtf8CharactersAndOffsets, tree_contains_byte_nodes}
 use Rattle.regress_machine.proofs.Sets.{contains-padded, ascii_accepts}
 use Rattle.regex_meaning.proofs.Booleans.{same-truth, and-left, and-right}
 use Rattle.regex_meaning.proofs.Each.{Each-all}
@@ -136,7 +136,7 @@ module _ (program : Program) (text : Text) where
   exactly : (node : Node) → Each (λ c. accepts node c ≡ accepts node c) text.characters
   exactly node = Each-all (λ c. accepts node c ≡ accepts node c) (λ c. refl) text.characters
 
-  sequence_reads : (behind : Bool) (bytes : List ℕ) (m n : Counters) → is_utf8 bytes ≡ true → (length (chars bytes) == 1) ≡ true → ReadsBytes text
+  sequence_reads : (behind : Bool) (bytes : List ℕ) (m n : Counters) → is_utf8 bytes ≡ true → (length (chars bytes) == 1) ≡ true → HasUtf8CharactersAndOffsets text
       → HasInsnsBetween program (map ByteSeq (ordered behind (chunks bytes))) m n → ReadsOne (byte_sequence bytes) m n
   sequence_reads behind bytes m n u one reads has =
       let is : ordered behind (chunks bytes) ≡ bytes ∷ [] = ap (ordered behind) (one_chunk bytes u one) ∙ ordered_one behind bytes in
@@ -144,7 +144,7 @@ module _ (program : Program) (text : Text) where
       (subst (λ (cs : List (List ℕ)). HasInsnsBetween program (map ByteSeq cs) m n) is has) refl
       (each_scalar (λ d. pointwise nat_eq (encode_utf8_all (d ∷ [])) bytes ≡ pointwise nat_eq (chars bytes) (d ∷ [])) (sequence_test bytes u) text.characters reads.scalars)
 
-  byte_reads : (b : ℕ) (m n : Counters) → b < 128 → ReadsBytes text → HasInsnsBetween program (ByteSeq (b ∷ []) ∷ []) m n → ReadsOne (byte_set (b ∷ [])) m n
+  byte_reads : (b : ℕ) (m n : Counters) → b < 128 → HasUtf8CharactersAndOffsets text → HasInsnsBetween program (ByteSeq (b ∷ []) ∷ []) m n → ReadsOne (byte_set (b ∷ [])) m n
   byte_reads b m n low reads has =
       reads_by (byte_set (b ∷ [])) (ByteSeq (b ∷ [])) (λ d. pointwise nat_eq (encode_utf8_all (d ∷ [])) (b ∷ [])) m n has refl
       (each_scalar (λ d. pointwise nat_eq (encode_utf8_all (d ∷ [])) (b ∷ []) ≡ contains (b ∷ []) d) (byte_test b low) text.characters reads.scalars)
@@ -165,8 +165,8 @@ module _ (program : Program) (text : Text) where
     end = end_of (Bracket m.bracket) (record m { bracket = m.bracket + 1 }) n has.0;
   }
 
-  pub reads_one : (behind : Bool) (node : Node) → is_one_character node ≡ true → has_text_in_sequence node ≡ true → fits_instructions node ≡ true
-      → (reads_bytes node ≡ true → ReadsBytes text) → (m n : Counters) → IsCode program behind node m n → ReadsOne node m n
+  pub reads_one : (behind : Bool) (node : Node) → is_one_character node ≡ true → has_text_in_sequence node ≡ true → sets_and_strings_fit_instructions node ≡ true
+      → (tree_contains_byte_nodes node ≡ true → HasUtf8CharactersAndOffsets text) → (m n : Counters) → IsCode program behind node m n → ReadsOne node m n
   unfolding IsCode
   reads_one behind (char c) one spelt fits reads m n code = reads_by (char c) (Char c) (accepts (char c)) m n code refl (exactly (char c))
   reads_one behind (char_set []) one spelt fits reads m n code = reads_by (char_set []) JustFail (λ d. false) m n code refl (exactly (char_set []))

@@ -11,16 +11,16 @@ use Rattle.regex_meaning.specs.Tree.{Node, char, char_set, byte_set, byte_sequen
 use Rattle.regex_meaning.specs.Tree.{capture_group, back_ref, lookaround, loop, loop_1_char_body, group_ids, every_node_passes}
 use Rattle.regex_meaning.specs.Text.{Text}
 use Rattle.regex_meaning.specs.WellFormedTrees.{IsWellFormed, encloses, names_the_groups_inside, refers_to_a_group, is_one_character}
-use Rattle.regex_meaning.specs.WellFormedTrees.{has_one_character_body, has_text_in_sequence, fits_instructions}
+use Rattle.regex_meaning.specs.WellFormedTrees.{has_one_character_body, has_text_in_sequence, sets_and_strings_fit_instructions}
 use Rattle.regex_meaning.proofs.WellFormedLemmas.{clauses}
-use Rattle.regress_machine.specs.TextsForBytePrograms.{ReadsBytes, reads_bytes}
+use Rattle.regress_machine.specs.TextsForBytePrograms.{HasUtf8CharactersAndOffsets, tree_contains_byte_nodes}
 use Rattle.regress_machine.proofs.Loops.{AreBelow}
 use Rattle.regex_meaning.proofs.Booleans.{or-false-left, or-false-right, and-left, and-right}
 
 -- what the proofs of a node rest on, where there are n groups
 abbrev pub Ready : Text → (n : ℕ) → Node → Type 0
-Ready text n (byte_set members) = ReadsBytes text × (fits_instructions (byte_set members) ≡ true)
-Ready text n (byte_sequence bytes) = ReadsBytes text × (has_text_in_sequence (byte_sequence bytes) ≡ true)
+Ready text n (byte_set members) = HasUtf8CharactersAndOffsets text × (sets_and_strings_fit_instructions (byte_set members) ≡ true)
+Ready text n (byte_sequence bytes) = HasUtf8CharactersAndOffsets text × (has_text_in_sequence (byte_sequence bytes) ≡ true)
 Ready text n (cat first rest) = Ready text n first × Ready text n rest
 Ready text n (alt left right) = Ready text n left × Ready text n right
 Ready text n (capture_group id name contents) = (id < n) × (contains (group_ids contents) id ≡ false) × Ready text n contents
@@ -28,8 +28,8 @@ Ready text n (back_ref group icase) = group - 1 < n
 Ready text n (lookaround l contents) = Ready text n contents
 Ready text n (loop q first end loopee) = AreBelow first (end - first) n × Ready text n loopee
 Ready text n (loop_1_char_body q loopee) =
-    (is_one_character loopee ≡ true) × (has_text_in_sequence loopee ≡ true) × (fits_instructions loopee ≡ true)
-    × (reads_bytes loopee ≡ true → ReadsBytes text) × Ready text n loopee
+    (is_one_character loopee ≡ true) × (has_text_in_sequence loopee ≡ true) × (sets_and_strings_fit_instructions loopee ≡ true)
+    × (tree_contains_byte_nodes loopee ≡ true → HasUtf8CharactersAndOffsets text) × Ready text n loopee
 Ready text n _ = Unit {0}
 
 -- ---- Ids
@@ -180,8 +180,8 @@ pub record Sound (text : Text) (n : ℕ) (node : Node) : Type 0 where
   pub refers : every_node_passes (refers_to_a_group n) node ≡ true
   pub bodies : every_node_passes has_one_character_body node ≡ true
   pub sequences : every_node_passes has_text_in_sequence node ≡ true
-  pub sets : every_node_passes fits_instructions node ≡ true
-  pub bytes : reads_bytes node ≡ true → ReadsBytes text
+  pub sets : every_node_passes sets_and_strings_fit_instructions node ≡ true
+  pub bytes : tree_contains_byte_nodes node ≡ true → HasUtf8CharactersAndOffsets text
   pub below : AllBelow n (group_ids node)
   pub distinct : Distinct (group_ids node)
 
@@ -198,13 +198,13 @@ of_right test node a b holds h = and-right (test node && every_node_passes test 
 
 -- of a node inside another one
 sound_part : (text : Text) (n : ℕ) (node a : Node) → ((test : Node → Bool) → every_node_passes test node ≡ true → every_node_passes test a ≡ true)
-    → (reads_bytes a ≡ true → reads_bytes node ≡ true) → AllBelow n (group_ids a) → Distinct (group_ids a) → Sound text n node → Sound text n a
+    → (tree_contains_byte_nodes a ≡ true → tree_contains_byte_nodes node ≡ true) → AllBelow n (group_ids a) → Distinct (group_ids a) → Sound text n node → Sound text n a
 sound_part text n node a holds reads below distinct s = record {
   names = holds names_the_groups_inside s.names;
   refers = holds (refers_to_a_group n) s.refers;
   bodies = holds has_one_character_body s.bodies;
   sequences = holds has_text_in_sequence s.sequences;
-  sets = holds fits_instructions s.sets;
+  sets = holds sets_and_strings_fit_instructions s.sets;
   bytes = λ h. s.bytes (reads h);
   below = below;
   distinct = distinct;
@@ -212,22 +212,22 @@ sound_part text n node a holds reads below distinct s = record {
 
 -- of one that holds two, each
 module _ (text : Text) (n : ℕ) (node a b : Node) (holds : Holds node a b) (ids : group_ids node ≡ group_ids a ++ group_ids b)
-    (reads : reads_bytes node ≡ (reads_bytes a || reads_bytes b)) (s : Sound text n node) where
+    (reads : tree_contains_byte_nodes node ≡ (tree_contains_byte_nodes a || tree_contains_byte_nodes b)) (s : Sound text n node) where
   sound_left : Sound text n a
   sound_left =
-      sound_part text n node a (λ test. of_left test node a b holds) (λ h. reads ∙ or_left (reads_bytes a) (reads_bytes b) h)
+      sound_part text n node a (λ test. of_left test node a b holds) (λ h. reads ∙ or_left (tree_contains_byte_nodes a) (tree_contains_byte_nodes b) h)
       (λ id h. s.below id (ap (λ (l : List ℕ). contains l id) ids ∙ contains-left (group_ids a) (group_ids b) id h))
       (distinct-left (group_ids a) (group_ids b) (subst Distinct ids s.distinct)) s
 
   sound_right : Sound text n b
   sound_right =
-      sound_part text n node b (λ test. of_right test node a b holds) (λ h. reads ∙ or_right (reads_bytes a) (reads_bytes b) h)
+      sound_part text n node b (λ test. of_right test node a b holds) (λ h. reads ∙ or_right (tree_contains_byte_nodes a) (tree_contains_byte_nodes b) h)
       (λ id h. s.below id (ap (λ (l : List ℕ). contains l id) ids ∙ contains-right (group_ids a) (group_ids b) id h))
       (distinct-right (group_ids a) (group_ids b) (subst Distinct ids s.distinct)) s
 
 -- of a node that holds one other
 sound_inside : (text : Text) (n : ℕ) (node a : Node) → ((test : Node → Bool) → every_node_passes test node ≡ (test node && every_node_passes test a))
-    → reads_bytes node ≡ reads_bytes a → AllBelow n (group_ids a) → Distinct (group_ids a) → Sound text n node → Sound text n a
+    → tree_contains_byte_nodes node ≡ tree_contains_byte_nodes a → AllBelow n (group_ids a) → Distinct (group_ids a) → Sound text n node → Sound text n a
 sound_inside text n node a holds reads below distinct s =
     sound_part text n node a (λ test h. and-right (test node) (every_node_passes test a) (sym (holds test) ∙ h)) (λ h. reads ∙ h) below distinct s
 
@@ -281,13 +281,13 @@ module _ (text : Text) (n : ℕ) where
       let inside = sound_inside text n (loop_1_char_body q loopee) loopee (λ test. refl) refl s.below s.distinct s in (
         one,
         of_one has_text_in_sequence loopee one inside.sequences,
-        of_one fits_instructions loopee one inside.sets,
+        of_one sets_and_strings_fit_instructions loopee one inside.sets,
         s.bytes,
         ready loopee inside,
       )
   ready _ s = tt
 
-pub root_ready : (text : Text) (root : Node) → IsWellFormed root → (IsTrue (reads_bytes root) → ReadsBytes text) → Ready text (length (group_ids root)) root
+pub root_ready : (text : Text) (root : Node) → IsWellFormed root → (IsTrue (tree_contains_byte_nodes root) → HasUtf8CharactersAndOffsets text) → Ready text (length (group_ids root)) root
 root_ready text root well_formed bytes =
     let w = clauses root well_formed in
     let ids = group_ids root in

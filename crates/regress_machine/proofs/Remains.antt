@@ -2,13 +2,13 @@
 use Rattle.std.proofs.Common.{◌≡◌, ℕ, ◌+◌, ◌<◌, ◌≤◌, List, [], ◌∷◌, ◌++◌, Option, Some, None, Bool, refl, ap, sym, ◌∙◌, subst, arith, ◌-◌}
 use Rattle.std.specs.Prelude.{is_some, IsTrue, IsSome, slice_get}
 use Rattle.regex_meaning.specs.Text.{Text, Direction}
-use Rattle.regex_meaning.specs.CodeUnitOffsets.{IsText, units}
+use Rattle.regex_meaning.specs.CodeUnitOffsets.{HasRisingPlaceOffsets, units}
 use Rattle.regex_meaning.specs.CompilationRelation.{Program, Insn}
-use Rattle.regress_machine.specs.TextsForBytePrograms.{ReadsBytes}
+use Rattle.regress_machine.specs.TextsForBytePrograms.{HasUtf8CharactersAndOffsets}
 use Rattle.regress_machine.specs.Machine as machine
 use Rattle.regress_machine.specs.Machine.{Thread, running, waiting, Next, goes, scans, ends, asks, stuck, Found, result_without_threads, after_lookaround, act, search}
 use Rattle.regress_machine.proofs.Search.{Later, waits-later, goes-later, scans-later, ends-found, never_stuck, asked-inner}
-use Rattle.regress_machine.specs.InsnEffects.{IsNotStuck, is_byte_literal_insn, end_of_search}
+use Rattle.regress_machine.specs.InsnEffects.{IsNotStuck, is_byte_sequence_insn, end_of_search}
 use Rattle.regress_machine.proofs.Inside.{AllIn, NextIn, in-append, in-resumed, act-inside}
 
 -- how many steps a search takes
@@ -85,7 +85,7 @@ module _ (program : Program) (text : Text) (turns : ℕ) (d : Direction) where
         by : (n : ℕ) → turns ≡ n → None ≡ end
         by n q = let e : Some result_without_threads ≡ Some r.found = r.searches in let is : result_without_threads ≡ r.found = cc in ap (λ (f : Found). f.end) is ∙ r.ends_there
 
-    module _ (is : IsText text) (reads : (i : ℕ) (insn : Insn) → slice_get program.insns i ≡ Some insn → IsTrue (is_byte_literal_insn insn) → ReadsBytes text) where
+    module _ (is : HasRisingPlaceOffsets text) (reads : (i : ℕ) (insn : Insn) → slice_get program.insns i ≡ Some insn → IsTrue (is_byte_sequence_insn insn) → HasUtf8CharactersAndOffsets text) where
       next-inside : (s : machine.State) (ts : List Thread) (x : Next) → Remains top end (running s ∷ ts) → act program text d s ≡ x → NextIn (units text) x
       next-inside s ts x r e = subst (NextIn (units text)) e (act-inside text is program d (slice_get program.insns s.ip) s (reads s.ip) r.inside.0)
 

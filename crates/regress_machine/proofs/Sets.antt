@@ -8,7 +8,7 @@ use Rattle.std.proofs.lemmas.List.Folds.{list_any-append}
 use Rattle.regex_meaning.specs.NumberListHelpers.{contains, numbers_from}
 use Rattle.regex_meaning.specs.Tree.{Intervals, BracketContents, char, char_set, byte_set, bracket, match_any, match_any_except_line_terminator}
 use Rattle.regex_meaning.specs.Text.{Text, Direction, next_character, moved}
-use Rattle.regex_meaning.specs.CodeUnitOffsets.{IsText}
+use Rattle.regex_meaning.specs.CodeUnitOffsets.{HasRisingPlaceOffsets}
 use Rattle.regex_meaning.specs.Outcomes.{Groups, Outcome, accepts, exclusive_or, in_intervals, is_some_and, one_character, outcomes}
 use Rattle.regex_meaning.specs.StartPredicate.{bytes_that_pass}
 use Rattle.regex_meaning.specs.OutcomesWithStepTicks.{TickOrOutcome, tick, pair, outcomes_replaced_by_lists, ticked}
@@ -96,7 +96,7 @@ ascii_accepts contents h c =
     contains-bytes_same (in_intervals contents.intervals) (λ c t. low_intervals contents.intervals c low t) c
     ∙ ap (λ b. exclusive_or b (in_intervals contents.intervals c)) (sym plain)
 
-module _ (program : Program) (text : Text) (is_text : IsText text) where
+module _ (program : Program) (text : Text) (is_text : HasRisingPlaceOffsets text) where
   -- the node's items: one outcome behind a character that is accepted
   abbrev pub one_items : (ℕ → Bool) → Direction → ℕ → Groups → List TickOrOutcome
   one_items test d p g = tick ∷ map pair (one_character text test d p g)

@@ -6,7 +6,7 @@ use Rattle.regex_meaning.specs.NumberListHelpers.{contains}
 use Rattle.regex_meaning.specs.Laws.{IsOnward}
 use Rattle.regex_meaning.specs.Tree.{string_set}
 use Rattle.regex_meaning.specs.Text.{Text, Direction, rightwards, leftwards, last_place, next_character, moved, characters_ahead, expand_code_point}
-use Rattle.regex_meaning.specs.CodeUnitOffsets.{IsText}
+use Rattle.regex_meaning.specs.CodeUnitOffsets.{HasRisingPlaceOffsets}
 use Rattle.regex_meaning.specs.Outcomes.{Groups, Outcome, is_some_and, is_case_variant, spelled}
 use Rattle.regex_meaning.specs.OutcomesWithStepTicks.{TickOrOutcome, tick, pair, ticks, compared_count, outcomes_replaced_by_lists, ticks_before_outcomes, nearest_first, string_tries, ticked_string}
 use Rattle.regex_meaning.specs.OutcomesWithStepTicks.{ticked_strings, ticked}
@@ -45,7 +45,7 @@ same_number c d =
     same-truth (c == d) (contains (c ∷ []) d) (λ h. or_left (nat_eq d c) false (eq-eqb d c (sym (eqb-true c d h))))
     (λ h. eq-eqb c d (sym (eqb-true d c (or_false (nat_eq d c) h))))
 
-module _ (program : Program) (text : Text) (is_text : IsText text) where
+module _ (program : Program) (text : Text) (is_text : HasRisingPlaceOffsets text) where
   in_order : (behind : Bool) (cs : List ℕ) → in_reading_order text (direction_at behind) cs ≡ ordered behind cs
   in_order true cs = refl
   in_order false cs = refl
@@ -155,8 +155,8 @@ module _ (program : Program) (text : Text) (is_text : IsText text) where
           ∙ ap (λ (l : List TickOrOutcome). ticks (string_tries text icase string d p) ++ l) (sym (items_if-pair _ o k))
           ∙ sym (and_then-ticks (string_tries text icase string d p) (map pair (spelled text same string d p g)) k))
           (row_yields E same (λ c. case_variants_insn (expand_code_point c icase program.flags.unicode))
-          (λ c ip q within at_ip. subst (λ (u : Bool). Reads ip q (contains (expand_code_point c icase u))) (sym unicode)
-          (spelling_reads (expand_code_point c icase program.flags.unicode) ip q within at_ip))
+          (λ c ip q within state_at_ip. subst (λ (u : Bool). Reads ip q (contains (expand_code_point c icase u))) (sym unicode)
+          (spelling_reads (expand_code_point c icase program.flags.unicode) ip q within state_at_ip))
           cs m n p (k o) inside has
           (λ all.
           let enough = stands-length same cs near all in

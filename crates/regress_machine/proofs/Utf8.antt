@@ -13,7 +13,7 @@ use Rattle.regex_meaning.specs.Text.{Text, Direction, rightwards, leftwards, las
 use Rattle.regex_meaning.specs.CodeUnitOffsets.{offset}
 use Rattle.regex_meaning.specs.OutcomesWithStepTicks.{nearest_first}
 use Rattle.regress_machine.specs.Machine.{moved_by}
-use Rattle.regress_machine.specs.TextsForBytePrograms.{ReadsBytes}
+use Rattle.regress_machine.specs.TextsForBytePrograms.{HasUtf8CharactersAndOffsets}
 use Rattle.regress_machine.proofs.OneTests.{scalar_of}
 use Rattle.regress_machine.proofs.Stands.{stands, in_reading_order}
 use Rattle.regex_meaning.proofs.Booleans.{same-truth, and-left, and-right}
@@ -142,7 +142,7 @@ module _ (text : Text) where
       omega (arith, more, l, w)
 
   -- a place's offset is the length of the bytes before it
-  pub offset-is : ReadsBytes text → (p : ℕ) → p ≤ last_place text → offset text p ≡ length (encode_utf8_all (take p text.characters))
+  pub offset-is : HasUtf8CharactersAndOffsets text → (p : ℕ) → p ≤ last_place text → offset text p ≡ length (encode_utf8_all (take p text.characters))
   offset-is reads p inside = ap (λ (os : List ℕ). get_or os p 0) reads.offsets ∙ offsets-are text.characters 0 p inside ∙ zero-add _
 
   -- the bytes of the text
@@ -157,7 +157,7 @@ module _ (text : Text) where
   bytes_near rightwards at = drop at bytes
   bytes_near leftwards at = reverse (take at bytes)
 
-  pub bytes_near-side : ReadsBytes text → (d : Direction) (p : ℕ) → p ≤ last_place text
+  pub bytes_near-side : HasUtf8CharactersAndOffsets text → (d : Direction) (p : ℕ) → p ≤ last_place text
       → bytes_near d (offset text p) ≡ in_reading_order text d (encode_utf8_all (side d p))
   bytes_near-side reads rightwards p inside =
       let a = encode_utf8_all (take p text.characters) in
@@ -168,7 +168,7 @@ module _ (text : Text) where
       let b = encode_utf8_all (drop p text.characters) in
       ap (λ n. reverse (take n bytes)) (offset-is reads p inside) ∙ ap (λ (l : List ℕ). reverse (take (length a) l)) (parted p) ∙ ap reverse (take-append_seam a b)
 
-  pub offset-inside : ReadsBytes text → (p : ℕ) → p ≤ last_place text → offset text p ≤ length bytes
+  pub offset-inside : HasUtf8CharactersAndOffsets text → (p : ℕ) → p ≤ last_place text → offset text p ≤ length bytes
   offset-inside reads p inside =
       let o = offset-is reads p inside in
       let a = encode_utf8_all (take p text.characters) in
@@ -177,7 +177,7 @@ module _ (text : Text) where
       omega (arith, o, l)
 
   -- the offset behind characters that stand beside a place
-  pub offset-moved : ReadsBytes text → (d : Direction) (xs : List ℕ) (p : ℕ) → p ≤ last_place text
+  pub offset-moved : HasUtf8CharactersAndOffsets text → (d : Direction) (xs : List ℕ) (p : ℕ) → p ≤ last_place text
       → stands nat_eq (in_reading_order text d xs) (nearest_first text d p) ≡ true → moved text d (length xs) p ≤ last_place text
       → offset text (moved text d (length xs) p) ≡ moved_by d (length (encode_utf8_all xs)) (offset text p)
   offset-moved reads rightwards xs p inside h within =

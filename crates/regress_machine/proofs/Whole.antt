@@ -7,14 +7,14 @@ use Rattle.regex_meaning.specs.Tree.{Node, empty, goal, char, char_set, byte_set
 use Rattle.regex_meaning.specs.Tree.{match_any, match_any_except_line_terminator, anchor, word_boundary, capture_group, back_ref, lookaround, loop}
 use Rattle.regex_meaning.specs.Tree.{loop_1_char_body, group_ids, Flags, Tree}
 use Rattle.regex_meaning.specs.Text.{Text, Direction, rightwards, last_place}
-use Rattle.regex_meaning.specs.CodeUnitOffsets.{IsText, offset}
+use Rattle.regex_meaning.specs.CodeUnitOffsets.{HasRisingPlaceOffsets, offset}
 use Rattle.regex_meaning.specs.Outcomes.{Groups, Outcome, direction_of, outcomes}
 use Rattle.regex_meaning.specs.FirstAndAllMatches.{no_groups}
 use Rattle.regex_meaning.specs.OutcomesWithStepTicks.{TickOrOutcome, tick, pair, outcomes_replaced_by_lists, ticked, items_at}
-use Rattle.regex_meaning.specs.WellFormedTrees.{number_of_goals, is_end_of_cat, ends_in_goal}
+use Rattle.regex_meaning.specs.WellFormedTrees.{number_of_goal_nodes, is_end_of_cat, ends_in_goal}
 use Rattle.regex_meaning.specs.CompilationRelation.{Program, Counters, counters_after_insn, counters_at_start, IsCode, Goal, anchor_insn, word_boundary_insn, BackRef}
 use Rattle.regress_machine.specs.Machine.{LoopData, State, running, result_without_threads, search}
-use Rattle.regress_machine.specs.SearchResults.{state_before_first_insn, end_in_offsets, end_of, first_pair, ProgramCanSearchText, turns_at, FindsFirstOutcome}
+use Rattle.regress_machine.specs.SearchResults.{state_before_first_insn, end_in_offsets, end_of, first_pair, TreeProgramCanSearchText, turns_at, FindsFirstOutcome}
 use Rattle.regress_machine.proofs.Search.{search_enough}
 use Rattle.regress_machine.proofs.Yields.{Ending, EndIs, found_first, Yields, yields_same, yields_end}
 use Rattle.regress_machine.proofs.Nodes.{direction_at, state_at, RangeFits, Enters, act_at, Finds, Rising, nothing_finds, cat_finds, alt_finds}
@@ -39,17 +39,17 @@ and_then-itself (tick ∷ items) = ap (λ (l : List TickOrOutcome). tick ∷ l) 
 and_then-itself (pair o ∷ items) = ap (λ (l : List TickOrOutcome). pair o ∷ l) (and_then-itself items)
 
 -- a node that ends in a goal has one
-goal_inside : (node : Node) → ends_in_goal node ≡ true → 1 ≤ number_of_goals node
+goal_inside : (node : Node) → ends_in_goal node ≡ true → 1 ≤ number_of_goal_nodes node
 goal_inside goal h = omega arith
 goal_inside (cat first rest) h = by (is_end_of_cat rest) h (goal_inside first) (goal_inside rest)
   where
-    by : (b : Bool) → (if b then ends_in_goal first else ends_in_goal rest) ≡ true → (ends_in_goal first ≡ true → 1 ≤ number_of_goals first)
-        → (ends_in_goal rest ≡ true → 1 ≤ number_of_goals rest) → 1 ≤ number_of_goals (cat first rest)
+    by : (b : Bool) → (if b then ends_in_goal first else ends_in_goal rest) ≡ true → (ends_in_goal first ≡ true → 1 ≤ number_of_goal_nodes first)
+        → (ends_in_goal rest ≡ true → 1 ≤ number_of_goal_nodes rest) → 1 ≤ number_of_goal_nodes (cat first rest)
     by true h f r = let a = f h in omega arith
     by false h f r = let a = r h in omega arith
 goal_inside _ h = cc
 
-module _ (program : Program) (text : Text) (is_text : IsText text) where
+module _ (program : Program) (text : Text) (is_text : HasRisingPlaceOffsets text) where
   -- the mark's number of loops does not fall
   tree_rising : (behind : Bool) (node : Node) → Ready text program.groups node → Rising program text is_text behind node
   unfolding IsCode
@@ -86,7 +86,7 @@ module _ (program : Program) (text : Text) (is_text : IsText text) where
 
   module _ (unicode : text.unicode ≡ program.flags.unicode) where
     -- the code of a node without a goal
-    tree_finds : (d : Direction) (behind : Bool) → d ≡ direction_at behind → (node : Node) → Ready text program.groups node → number_of_goals node ≡ 0 → Finds program text is_text d behind node
+    tree_finds : (d : Direction) (behind : Bool) → d ≡ direction_at behind → (node : Node) → Ready text program.groups node → number_of_goal_nodes node ≡ 0 → Finds program text is_text d behind node
     unfolding IsCode ticked outcomes
     tree_finds d behind ahead empty r h E m n p g s ls k code enters on = nothing_finds program text is_text d E m n p [] g s ls k code enters on
     tree_finds d behind ahead goal r h E m n p g s ls k code enters on = cc
@@ -126,7 +126,7 @@ module _ (program : Program) (text : Text) (is_text : IsText text) where
         loop_1_char_body_finds program text is_text d behind q loopee r.0 r.1 r.2 r.3 E m n p g s ls k code enters on
 
     -- the code of a node that ends in the goal
-    root_finds : (node : Node) → Ready text program.groups node → ends_in_goal node ≡ true → number_of_goals node ≡ 1
+    root_finds : (node : Node) → Ready text program.groups node → ends_in_goal node ≡ true → number_of_goal_nodes node ≡ 1
         → (m n : Counters) (p : ℕ) (g : Groups) (s : List ℕ) (ls : List LoopData) → IsCode program false node m n → Enters program text is_text p g s ls n.loop
         → Yields program text rightwards AtEnd (running (state_at program text is_text m.insn p g s ls) ∷ []) (ticked text node rightwards p g)
     unfolding IsCode ticked outcomes
@@ -161,7 +161,7 @@ same_end : (text : Text) (first : Option Outcome) (e : Option State) → EndIs (
 same_end text None e is = ap (option_map end_of) is
 same_end text (Some o) e is = ap (option_map end_of) is.1 ∙ ap Some is.2
 
-pub searches-find : (program : Program) (tree : Tree) (text : Text) → ProgramCanSearchText program tree text → (place : ℕ) → place ≤ last_place text
+pub searches-find : (program : Program) (tree : Tree) (text : Text) → TreeProgramCanSearchText program tree text → (place : ℕ) → place ≤ last_place text
     → FindsFirstOutcome program tree text place
 unfolding search
 searches-find program tree text can place inside =
@@ -181,8 +181,8 @@ searches-find program tree text can place inside =
     let last : Counters = record { insn = length program.insns; loop = program.loops; bracket = length program.brackets } in
     let items = items_at tree text place in
     let unicode : text.unicode ≡ program.flags.unicode = can.unicode ∙ ap (λ (f : Flags). f.unicode) (sym can.code.flags) in
-    let y = root_finds program text can.is_text unicode root ready (and-right (number_of_goals root == 1) (ends_in_goal root) (clauses root can.well_formed).goal_last)
-    (eqb-true (number_of_goals root) 1 (and-left (number_of_goals root == 1) (ends_in_goal root) (clauses root can.well_formed).goal_last)) counters_at_start last place g starts loops can.code.code
+    let y = root_finds program text can.is_text unicode root ready (and-right (number_of_goal_nodes root == 1) (ends_in_goal root) (clauses root can.well_formed).goal_last)
+    (eqb-true (number_of_goal_nodes root) 1 (and-left (number_of_goal_nodes root == 1) (ends_in_goal root) (clauses root can.well_formed).goal_last)) counters_at_start last place g starts loops can.code.code
     (record { inside = inside; fit = Each-replicate (RangeFits program text can.is_text) n none tt; groups = len_g; starts = len_s ∙ sym len_g; loops = omega (arith, len_l) }) in
     let s0 = state_at program text can.is_text 0 place g starts loops in
     let begins : s0 ≡ state_before_first_insn program (offset text place) =

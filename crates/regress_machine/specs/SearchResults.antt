@@ -2,14 +2,14 @@
 use Rattle.std.specs.Prelude.{◌≡◌, ℕ, ◌+◌, ◌≤◌, List, [], ◌∷◌, map, replicate, Option, Some, None, option_map, is_some, if◌then◌else◌, IsTrue}
 use Rattle.regex_meaning.specs.Tree.{Tree}
 use Rattle.regex_meaning.specs.Text.{Text, rightwards, last_place}
-use Rattle.regex_meaning.specs.CodeUnitOffsets.{IsText, offset}
+use Rattle.regex_meaning.specs.CodeUnitOffsets.{HasRisingPlaceOffsets, offset}
 use Rattle.regex_meaning.specs.Outcomes.{Groups, Outcome}
 use Rattle.regex_meaning.specs.FirstAndAllMatches.{Found as Match, match_at}
 use Rattle.regex_meaning.specs.OutcomesWithStepTicks.{TickOrOutcome, tick, pair, ticks_to_first, items_at, ticks_at}
 use Rattle.regex_meaning.specs.WellFormedTrees.{IsWellFormed}
 use Rattle.regex_meaning.specs.CompilationRelation.{Program, IsCodeOf}
 use Rattle.regress_machine.specs.Machine.{State, running, Found, search}
-use Rattle.regress_machine.specs.TextsForBytePrograms.{ReadsBytes, reads_bytes}
+use Rattle.regress_machine.specs.TextsForBytePrograms.{HasUtf8CharactersAndOffsets, tree_contains_byte_nodes}
 
 -- The state before the first instruction, at an offset.
 abbrev pub state_before_first_insn : Program → (at : ℕ) → State
@@ -40,12 +40,12 @@ abbrev pub end_of : State → ℕ × Groups
 end_of s = (s.pos, s.groups)
 
 -- The program is the code of the tree, which is well-formed, and can search the text.
-pub record ProgramCanSearchText (program : Program) (tree : Tree) (text : Text) : Type 0 where
+pub record TreeProgramCanSearchText (program : Program) (tree : Tree) (text : Text) : Type 0 where
   pub code : IsCodeOf program tree
   pub well_formed : IsWellFormed tree.root
-  pub is_text : IsText text
+  pub is_text : HasRisingPlaceOffsets text
   pub unicode : text.unicode ≡ tree.flags.unicode
-  pub bytes : IsTrue (reads_bytes tree.root) → ReadsBytes text
+  pub bytes : IsTrue (tree_contains_byte_nodes tree.root) → HasUtf8CharactersAndOffsets text
 
 -- A number of operations that suffices at a place: one for each step to the first outcome, and one
 -- more.
@@ -62,7 +62,7 @@ pub record FindsFirstOutcome (program : Program) (tree : Tree) (text : Text) (pl
 
 -- Searches from all places of a text find the first outcome.
 abbrev pub SearchesFindFirst : Type 0
-SearchesFindFirst = (program : Program) (tree : Tree) (text : Text) → ProgramCanSearchText program tree text
+SearchesFindFirst = (program : Program) (tree : Tree) (text : Text) → TreeProgramCanSearchText program tree text
     → (place : ℕ) → place ≤ last_place text → FindsFirstOutcome program tree text place
 
 -- ---- Consequences
@@ -72,8 +72,8 @@ abbrev pub match_in_offsets : Text → Match → ℕ × Groups
 match_in_offsets text m = (offset text m.end, groups_in_offsets text m.groups)
 
 -- With any number of operations that suffices, a search from a place ends with the match there.
-abbrev pub SearchesFindMatches : Type 0
-SearchesFindMatches = (program : Program) (tree : Tree) (text : Text) → ProgramCanSearchText program tree text
+abbrev pub SearchFindsMatchAtPlace : Type 0
+SearchFindsMatchAtPlace = (program : Program) (tree : Tree) (text : Text) → TreeProgramCanSearchText program tree text
     → (place : ℕ) → place ≤ last_place text → (turns : ℕ) (f : Found)
     → search program text turns rightwards (running (state_before_first_insn program (offset text place)) ∷ []) ≡ Some f
     → option_map end_of f.end ≡ option_map (match_in_offsets text) (match_at tree.root text place)
@@ -81,7 +81,7 @@ SearchesFindMatches = (program : Program) (tree : Tree) (text : Text) → Progra
 -- The ticks of places that are tried one after another are the steps of the search from the first
 -- one and, if it fails, the ticks of the others.
 abbrev pub TicksAreSteps : Type 0
-TicksAreSteps = (program : Program) (tree : Tree) (text : Text) → ProgramCanSearchText program tree text
+TicksAreSteps = (program : Program) (tree : Tree) (text : Text) → TreeProgramCanSearchText program tree text
     → (place : ℕ) (places : List ℕ) → place ≤ last_place text → (turns : ℕ) (f : Found)
     → search program text turns rightwards (running (state_before_first_insn program (offset text place)) ∷ []) ≡ Some f
     → ticks_at tree text (place ∷ places) ≡ f.steps + (if is_some f.end then 0 else ticks_at tree text places)

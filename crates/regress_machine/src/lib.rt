@@ -6,7 +6,7 @@
 //! tree's list has ticks up to that outcome.
 #![tactic(auto)]
 
-ghost use Rattle.regress_machine.specs.{TextsForBytePrograms.{ByteTextsAreRead}, SearchResults.{SearchesFindFirst, SearchesFindMatches, TicksAreSteps}};
+ghost use Rattle.regress_machine.specs.{TextsForBytePrograms.{ByteTextsHaveUtf8Offsets}, SearchResults.{SearchesFindFirst, SearchFindsMatchAtPlace, TicksAreSteps}};
 
 /// A search of a tree's program from a place takes one step for each tick of the tree's list up to
 /// the first outcome. It ends with that outcome, or with none if the list has none.
@@ -17,7 +17,7 @@ pub fn searches_find_first()
 /// A search of a tree's program from a place ends with the match there, or with none if there is
 /// none.
 pub fn searches_find_matches()
-    ensures { SearchesFindMatches }
+    ensures { SearchFindsMatchAtPlace }
 {}
 
 /// The ticks of places that are tried one after another are the steps of a search from the first
@@ -28,5 +28,5 @@ pub fn ticks_are_steps()
 
 /// Byte programs can run on texts of UTF-8 bytes and on texts of ASCII bytes.
 pub fn byte_texts_are_read()
-    ensures { ByteTextsAreRead }
+    ensures { ByteTextsHaveUtf8Offsets }
 {}

@@ -4,13 +4,13 @@ use Rattle.std.proofs.lemmas.List.{map-append}
 use Rattle.std.specs.Borrow.{Bor}
 use Rattle.std.specs.Prelude.{Result, Ok, Err, IfErr, slice_range}
 use Rattle.std.specs.Result.{IsErrAnd, IsOkAnd}
-use Rattle.regex_meaning.specs.Captures.{Answer}
+use Rattle.regex_meaning.specs.GroupsByNumberAndName.{Answer}
 use Rattle.regex_meaning.specs.Replace.{replaced}
 use Rattle.regex_meaning.proofs.Each.{Each-append}
 use Rattle.regress_exec.specs.declared.exec.Match.{Match}
-use Rattle.regress_match.specs.ClosureReplacements.{Answered, AllAnswered, IsErrorOfClosureResult, CanRefuseWith, IsReplacedBy, IsRefusedAt}
-use Rattle.regress_match.specs.declared.api.error.ReplaceError.{ReplaceError}
-use Rattle.regress_match.specs.declared.api.error.ReplaceError.TheVariants.{Search, Closure}
+use Rattle.regress_match.specs.ClosureReplacements.{Answered, AllAnswered, IsClosureErrorOrOutOfMemory, CanRefuseWith, IsReplacedBy, IsRefusedAt}
+use Rattle.regress_match.specs.declared.api.compile_and_replace_errors.ReplaceError.{ReplaceError}
+use Rattle.regress_match.specs.declared.api.compile_and_replace_errors.ReplaceError.TheVariants.{Search, Closure}
 
 module _ {T E : Type 0} (says : Bor Match → Result T E → Type 0) (units : T → List ℕ) (text : List ℕ) where
   -- What is made of all these matches so far, where some are left: an answer stands for each of the others, and whatever
@@ -83,11 +83,11 @@ module _ {T E : Type 0} (says : Bor Match → Result T E → Type 0) (units : T 
           by (Err e) n h = absurd n
 
       -- one that was refused
-      pub refuses-answered : {W : Type 0} (r : Result W (ReplaceError E)) (e : ReplaceError E) → IsErrAnd r (λ x. x ≡ e) → IsErrorOfClosureResult answer e
+      pub refuses-answered : {W : Type 0} (r : Result W (ReplaceError E)) (e : ReplaceError E) → IsErrAnd r (λ x. x ≡ e) → IsClosureErrorOrOutOfMemory answer e
           → IfErr r (CanRefuseWith says units ms)
       refuses-answered (Ok x) e h can = absurd h
       refuses-answered (Err x) e h can = subst (CanRefuseWith says units ms) (sym h) (by e can)
         where
-          by : (e : ReplaceError E) → IsErrorOfClosureResult answer e → CanRefuseWith says units ms e
+          by : (e : ReplaceError E) → IsClosureErrorOrOutOfMemory answer e → CanRefuseWith says units ms e
           by (Search e) can = can.1
           by (Closure e) can = refuses rest m e l (subst (Answered says m) can says_so)

@@ -8,7 +8,7 @@ use Rattle.regex_meaning.specs.Tree.{Node}
 use Rattle.regex_meaning.specs.Text.{utf8_text}
 use Rattle.regex_meaning.specs.Laws.{Each, StandInOrder, IsAnswerOf, IsRange}
 use Rattle.regex_meaning.specs.Outcomes.{group_range}
-use Rattle.regex_meaning.specs.Captures.{Answer, answers_from, first_appearances, first_range, ids_named, named_groups}
+use Rattle.regex_meaning.specs.GroupsByNumberAndName.{Answer, answers_from, first_appearances, first_range, ids_named, named_groups}
 use Rattle.regex_meaning.specs.StepBudget.{those_within}
 use Rattle.regex_meaning.proofs.Encodings.{ascii-utf8}
 use Rattle.regex_meaning.proofs.Ordered.{answers-IsAnswerOf, answers-StandInOrder}
@@ -19,8 +19,8 @@ use Rattle.regress_exec.specs.RemainingAnswers.{RemainingView, NextYields}
 use Rattle.regress_exec.specs.declared.exec.Match.{Match}
 use Rattle.regress_exec.specs.declared.exec.SearchError.{SearchError}
 use Rattle.regress_match.specs.Laws.{MatchesStandInText}
-use Rattle.regress_match.specs.RegexPrograms.{byte_tree, ascii_answers}
-use Rattle.regress_match.specs.Replacements.{IsCharBoundaryRange, MatchFitsText, MatchesAreOrderedFrom}
+use Rattle.regress_match.specs.ProgramTreesAndAnswers.{byte_tree, ascii_answers}
+use Rattle.regress_match.specs.ExpansionsAndMatchRanges.{IsCharBoundaryRange, MatchFitsText, MatchesAreOrderedFrom}
 use Rattle.regress_match.specs.declared.api.regex.Regex.{Regex}
 
 -- ---- Where matches stand

@@ -5,8 +5,8 @@ use Rattle.regex_meaning.specs.Tree.{Node, Tree}
 use Rattle.regex_pattern_front.specs.AstToSpecTree.{tree_of}
 use Rattle.regex_pattern_front.specs.declared.ir.Regex.{Regex}
 use Rattle.regex_meaning.specs.Text.{Text, last_place}
-use Rattle.regex_meaning.specs.CodeUnitOffsets.{IsBoundary, IsText, units}
-use Rattle.regex_meaning.specs.Captures.{Answer, answers_from}
+use Rattle.regex_meaning.specs.CodeUnitOffsets.{IsBoundary, HasRisingPlaceOffsets, units}
+use Rattle.regex_meaning.specs.GroupsByNumberAndName.{Answer, answers_from}
 use Rattle.regex_meaning.specs.SearchAnswers.{answer_at, answer_then_list, answers_on, first_answer, next_start}
 use Rattle.regex_meaning.specs.Laws.{Each, IsAnswerOf, IsRange}
 use Rattle.regex_meaning.proofs.AnswerLemmas.{answers-go_on, first_answer-stands}
@@ -15,9 +15,9 @@ use Rattle.regex_meaning.proofs.Ordered.{answers-IsAnswerOf}
 use Rattle.regex_meaning.proofs.TextLemmas.{IsBoundary-place, offset-le}
 use Rattle.regress_exec.specs.MatchAnswers.{answer_of}
 use Rattle.regress_exec.specs.declared.exec.Match.{Match}
-use Rattle.regress_match.specs.Replacements.{MatchFitsText, MatchFitsCodeUnits, IsRangeWithinUnits, MatchesAreOrderedFrom}
+use Rattle.regress_match.specs.ExpansionsAndMatchRanges.{MatchFitsText, MatchFitsCodeUnits, IsRangeWithinUnits, MatchesAreOrderedFrom}
 
-module _ (root : Node) (text : Text) (is : IsText text) where
+module _ (root : Node) (text : Text) (is : HasRisingPlaceOffsets text) where
   -- the first answer is the head of the list
   first-heads : (start : ℕ) (m : Answer) → first_answer root text start ≡ Some m
       → answers_from root text start ≡ m ∷ answers_on root text (next_start root text start)
@@ -83,7 +83,7 @@ at-found make re program tree text at found is_tree is_text same e =
     e ∙ ap₂ (λ (t : Tree) (x : Text). answer_at t.root x at) is_tree is_text ∙ ap (λ re. answer_at (tree_of re).root (make (tree_of re).flags.unicode) at) same
 
 -- the head of the list is the first answer
-pub head-first : (root : Node) (text : Text) (is : IsText text) (start : ℕ) → slice_get (answers_from root text start) 0 ≡ first_answer root text start
+pub head-first : (root : Node) (text : Text) (is : HasRisingPlaceOffsets text) (start : ℕ) → slice_get (answers_from root text start) 0 ≡ first_answer root text start
 head-first root text is start = ap (λ ms. slice_get ms 0) (answers-go_on root text is start) ∙ by (first_answer root text start)
   where
     by : (first : Option Answer) → slice_get (answer_then_list root text first (next_start root text start)) 0 ≡ first

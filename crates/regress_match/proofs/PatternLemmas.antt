@@ -2,14 +2,14 @@
 use Rattle.std.proofs.Common.{◌≡◌, ℕ, List, Bool, true, refl, sym, ap, ◌∙◌, subst}
 use Rattle.regex_meaning.specs.Tree.{Tree, Node, Flags}
 use Rattle.regex_meaning.specs.Text as text
-use Rattle.regex_meaning.specs.Captures.{Answer, answers_from}
+use Rattle.regex_meaning.specs.GroupsByNumberAndName.{Answer, answers_from}
 use Rattle.regex_grammar.specs.Grammar.{Parses}
 use Rattle.regex_grammar.proofs.Whole.{one_tree}
 use Rattle.regex_pattern_front.proofs.OptimizedLemmas.{answers-optimized}
-use Rattle.regress_program.specs.TreeToRun.{planned_tree}
+use Rattle.regress_program.specs.OptimizedTreeUnlessNoOpt.{planned_tree}
 use Rattle.regress_program.proofs.RunningLemmas.{planned-same}
 use Rattle.regress_match.specs.Laws.{SearchesFollowThePattern}
-use Rattle.regress_match.specs.RegexPrograms.{IsCompiledWith, byte_tree, unit_tree}
+use Rattle.regress_match.specs.ProgramTreesAndAnswers.{IsCompiledWith, byte_tree, unit_tree}
 use Rattle.regress_match.specs.declared.api.regex.Regex.{Regex}
 
 module _ (flags : Flags) (pattern : List ℕ) (re : Regex) (tree : Tree) (is : IsCompiledWith flags pattern re) (parsed : Parses flags pattern tree) where

@@ -1,30 +1,37 @@
 -- What refuses a pattern.
-use Rattle.std.proofs.Common.{◌≡◌, false, refl, sym, ◌∙◌, subst, IsTrue}
+use Rattle.std.proofs.Common.{◌≡◌, ◌≤◌, ◌^◌, false, length, refl, sym, ◌∙◌, subst, arith, IsTrue}
 use Rattle.std.specs.Prelude.{ℕ, List, Result, Ok, Err, IfErr}
 use Rattle.std.specs.Result.{IsErrAnd}
 use Rattle.regex_pattern_front.specs.declared.parse.ParseError.{ParseError}
 use Rattle.regex_pattern_front.specs.declared.parse.ParseError.TheVariants as parse
 use Rattle.regress_program.specs.declared.emit.EmitError.{EmitError}
 use Rattle.regress_program.specs.declared.emit.EmitError.TheVariants as emit
-use Rattle.regex_meaning.specs.Tree.{Node, Tree, Flags}
-use Rattle.regex_meaning.specs.CompilationRelation.{reads_bytes}
-use Rattle.regress_match.specs.declared.api.error.Error.{Error}
+use Rattle.regex_meaning.specs.Tree.{Node, Tree, Flags, group_ids}
+use Rattle.regex_meaning.specs.CompilationRelation.{tree_contains_byte_nodes}
+use Rattle.regress_match.specs.declared.api.compile_and_replace_errors.Error.{Error}
 use Rattle.regress_program.specs.CompileRefusals.{IsByteCompileErrorCause}
 use Rattle.regex_grammar.specs.Grammar.{Parses}
-use Rattle.regex_grammar.specs.ParserInvariants.{HasNoTree}
+use Rattle.regex_grammar.specs.ParserInvariants.{OpensTooManyGroups, group_names_of}
+use Rattle.regex_grammar.proofs.Trees.{groups_are_counted}
+use Rattle.regex_pattern_front.specs.ParseErrors.{IsParseErrorOf}
 use Rattle.regress_match.specs.CompileErrors.{error_of_parse, error_of_emit, IsPatternRefusedWith}
 
 module _ (flags : Flags) (pattern : List ℕ) where
-  pub parse-refuses : (e : ParseError) → (e ≡ parse.Syntax → HasNoTree flags pattern) → IsPatternRefusedWith flags pattern (error_of_parse e)
-  parse-refuses parse.Memory none = tt
-  parse-refuses parse.Syntax none = none refl
+  pub parse-refuses : (e : ParseError) → IsParseErrorOf flags pattern e → IsPatternRefusedWith flags pattern (error_of_parse e)
+  parse-refuses parse.Memory told = tt
+  parse-refuses (parse.Syntax d) told = told
+  parse-refuses parse.TooManyGroups many = many
+
+  -- a tree with too many groups is that of a pattern that opens as many
+  opens-many : (tree : Tree) → Parses flags pattern tree → 2 ^ 16 ≤ length (group_ids tree.root) → OpensTooManyGroups pattern
+  opens-many tree parsed many = let same : length (group_ids tree.root) ≡ length (group_names_of pattern) = (groups_are_counted flags pattern tree parsed).0 in omega (arith, same, many)
 
   pub emit-refuses : (tree : Tree) → Parses flags pattern tree → (e : EmitError)
       → ¬ (e ≡ emit.NotWellFormed) → ¬ (e ≡ emit.BytesInUnits) → IsByteCompileErrorCause e tree
       → IsPatternRefusedWith flags pattern (error_of_emit e)
   emit-refuses tree parsed emit.NotWellFormed h k refused = h refl
   emit-refuses tree parsed emit.BytesInUnits h k refused = k refl
-  emit-refuses tree parsed emit.TooManyGroups h k refused = record { tree = tree; parsed = parsed; refused = refused }
+  emit-refuses tree parsed emit.TooManyGroups h k refused = opens-many tree parsed refused.1.groups
   emit-refuses tree parsed emit.TooManyLoops h k refused = record { tree = tree; parsed = parsed; refused = refused }
   emit-refuses tree parsed emit.TooManyInstructions h k refused = record { tree = tree; parsed = parsed; refused = refused }
   emit-refuses tree parsed emit.Memory h k refused = tt
@@ -35,5 +42,5 @@ pub err-refused : {T : Type 0} (r : Result T Error) (e : Error) (P : Error → T
 err-refused (Ok x) e P R same h can = absurd h
 err-refused (Err x) e P R same h can = subst R (sym (same x h)) can
 
-pub reads-not : (root : Node) → reads_bytes root ≡ false → IsTrue (reads_bytes root) → ⊥
+pub reads-not : (root : Node) → tree_contains_byte_nodes root ≡ false → IsTrue (tree_contains_byte_nodes root) → ⊥
 reads-not root h k = cc (sym k ∙ h)

@@ -1,36 +1,35 @@
 -- A search that is gone on with from a number.
-use Rattle.std.proofs.Common.{◌≡◌, ℕ, ◌-◌, ◌^◌, ◌<◌, ◌⊎◌, inl, inr, le_refl, [], ◌∷◌, List, length, Option, Some, None, Result, Ok, Err, Bool, true}
+use Rattle.std.proofs.Common.{◌≡◌, ℕ, ◌-◌, ◌^◌, ◌<◌, ◌⊎◌, inl, inr, [], ◌∷◌, ◌++◌, List, length, Option, Some, None, Result, Ok, Err, Bool, true}
 use Rattle.std.proofs.Common.{false, refl, sym, ap, ◌∙◌, subst, arith, IsTrue}
-use Rattle.std.proofs.lemmas.Bool.{lt-leb}
+use Rattle.std.proofs.lemmas.Bool.{leb-false, lt-leb}
 use Rattle.std.specs.Prelude.{nat_le, if◌then◌else◌, option_map, unwrap_or}
+use Rattle.std.specs.Option.{option_map_or}
 use Rattle.std.specs.Result.{IsErrAnd}
 use Rattle.regex_meaning.specs.SearchAnswers.{first_answer, next_start, answer_then_list}
 use Rattle.regex_meaning.specs.Laws.{Each, IsAnswerOf}
-use Rattle.regex_meaning.specs.Captures.{Answer, answers_from}
-use Rattle.regex_meaning.specs.CodeUnitOffsets.{IsBoundary, IsText, units}
-use Rattle.regex_meaning.specs.StepBudget.{IsBudgetAtMost, answers_next, answers_within, end_next, finishes_within, is_within, remaining_budget, need_from}
+use Rattle.regex_meaning.specs.GroupsByNumberAndName.{Answer, answers_from}
+use Rattle.regex_meaning.specs.CodeUnitOffsets.{IsBoundary, HasRisingPlaceOffsets, place_at, units}
+use Rattle.regex_meaning.specs.OutcomesWithStepTicks.{need}
+use Rattle.regex_meaning.specs.StepBudget.{answers_next, answers_within, end_next, finishes_within, is_within, remaining_budget, need_from}
 use Rattle.regex_meaning.specs.Text.{Text}
 use Rattle.regex_meaning.specs.Tree.{Tree, group_ids}
 use Rattle.regex_meaning.proofs.AnswerLemmas.{answers-go_on, next_start-ahead}
 use Rattle.regex_meaning.proofs.Ordered.{answers-IsAnswerOf}
 use Rattle.regex_meaning.proofs.StepLemmas.{within-some, within-none, beyond}
+use Rattle.regex_meaning.proofs.TextLemmas.{place_at-past}
 use Rattle.regress_exec.specs.MatchAnswers.{answer_of}
-use Rattle.regress_exec.specs.StepCosts.{CostsSteps}
+use Rattle.regress_exec.specs.BudgetAndContinuationAfterSearch.{SpendsNeedOrReachesLimit}
 use Rattle.regress_exec.specs.declared.exec.Match.{Match}
 use Rattle.regress_exec.specs.declared.exec.SearchError.{SearchError}
 use Rattle.regress_exec.specs.declared.exec.SearchError.TheVariants.{Memory, StepLimit}
-use Rattle.regress_exec.proofs.Budget.{handed, left-no_more}
+use Rattle.regress_exec.proofs.Budget.{handed}
 use Rattle.regress_exec.proofs.Coming.{new-comes}
-use Rattle.regress_match.specs.RegexPrograms.{IsValidStart}
-use Rattle.regress_match.specs.Resuming.{ResumesFrom, IsExhaustedFrom, FindsNext}
-use Rattle.regress_match.specs.declared.api.resumable_searches.Step.{Step}
+use Rattle.regress_match.specs.ProgramTreesAndAnswers.{IsBoundaryOrPastEnd}
+use Rattle.regress_match.specs.Resuming.{ResumesFrom, IsExhaustedFrom, FindInTurn, FindsNext, budget_after}
+use Rattle.regress_match.specs.declared.api.searches_resumed_at_offsets.Step.{Step}
 
 abbrev pub greatest : ℕ
 greatest = 2 ^ 64 - 1
-
-IsNoMore-refl : (budget : Option ℕ) → IsBudgetAtMost budget budget
-IsNoMore-refl None = tt
-IsNoMore-refl (Some n) = le_refl n
 
 offset-is : (b : Bool) (at start : ℕ) → Some at ≡ (if b then Some start else None) → at ≡ start
 offset-is true at start e = cc
@@ -45,16 +44,30 @@ pub place-none : {P : Type 0} (offset : P → ℕ) (found : Option P) (last star
     → option_map offset found ≡ (if nat_le start last then Some start else None) → None ≡ (if nat_le start last then Some start else None)
 place-none offset found last start e at = sym (ap (option_map offset) e) ∙ at
 
-module _ (tree : Tree) (text : Text) (is : IsText text) where
-  -- past the end nothing is to come
+module _ (tree : Tree) (text : Text) (is : HasRisingPlaceOffsets text) where
+  -- past the end no step is taken
+  past-steps : (budget : Option ℕ) (start : ℕ) → None ≡ (if nat_le start (units text) then Some start else None) → budget ≡ budget_after tree text budget start
+  past-steps budget start e = by (nat_le start (units text)) refl e
+    where
+      none-spent : (budget : Option ℕ) → budget ≡ remaining_budget budget 0
+      none-spent None = refl
+      none-spent (Some n) = let same : n ≡ n - 0 = omega arith in ap Some same
+
+      by : (b : Bool) → nat_le start (units text) ≡ b → None ≡ (if b then Some start else None) → budget ≡ budget_after tree text budget start
+      by true q e = absurd (cc e)
+      by false q e =
+          let zero : need_from tree text start ≡ 0 =
+          ap (λ place. option_map_or (need tree text) place 0) (place_at-past text start is (leb-false start (units text) q)) in
+          subst (λ n. budget ≡ remaining_budget budget n) (sym zero) (none-spent budget)
+
+  -- and nothing is to come
   pub past-over : (budget : Option ℕ) (start : ℕ) → None ≡ (if nat_le start (units text) then Some start else None)
-      → IsExhaustedFrom tree text budget start × IsBudgetAtMost budget budget
-  past-over budget start e = let n = new-comes tree text is budget start None e in ((sym n.0, sym n.1), IsNoMore-refl budget)
+      → IsExhaustedFrom tree text budget start × (budget ≡ budget_after tree text budget start)
+  past-over budget start e = let n = new-comes tree text is budget start None e in ((sym n.0, sym n.1), past-steps budget start e)
 
   pub none-over : {X : Type 0} (budget : Option ℕ) (start : ℕ) (x : X) (after : Option ℕ) → None ≡ first_answer tree.root text start
-      → CostsSteps (need_from tree text start) budget (Ok x) after → IsExhaustedFrom tree text budget start × IsBudgetAtMost after budget
-  none-over budget start x after found (within, left) =
-      (within-none tree text is budget start (sym found) within, subst (λ l. IsBudgetAtMost l budget) (sym left) (left-no_more budget (need_from tree text start)))
+      → SpendsNeedOrReachesLimit (need_from tree text start) budget (Ok x) after → IsExhaustedFrom tree text budget start × (after ≡ budget_after tree text budget start)
+  none-over budget start x after found (within, left) = (within-none tree text is budget start (sym found) within, left)
 
   -- where the list goes on, as a number
   module _ (fits : units text < greatest) where
@@ -64,7 +77,7 @@ module _ (tree : Tree) (text : Text) (is : IsText text) where
     comes-next budget (Some q) = (refl, refl)
     comes-next budget None = new-comes tree text is budget greatest None (ap (λ b. if b then Some greatest else None) (sym (lt-leb greatest (units text) fits)))
 
-    starts-next : (start : ℕ) (next : Option ℕ) → next ≡ next_start tree.root text start → IsValidStart text (unwrap_or next greatest)
+    starts-next : (start : ℕ) (next : Option ℕ) → next ≡ next_start tree.root text start → IsBoundaryOrPastEnd text (unwrap_or next greatest)
     starts-next start (Some q) e = inl (next_start-ahead tree.root text is start q (sym e)).1
     starts-next start None e = inr fits
 
@@ -76,7 +89,7 @@ module _ (tree : Tree) (text : Text) (is : IsText text) where
 
     pub steps-to : {X : Type 0} (budget : Option ℕ) (start : ℕ) (m : Match) (x : X) (next after : Option ℕ) (n : ℕ) → n ≡ unwrap_or next greatest
         → Some (answer_of m) ≡ first_answer tree.root text start → next ≡ next_start tree.root text start
-        → CostsSteps (need_from tree text start) budget (Ok x) after → FindsNext tree text budget start (record { found = m; next = n }) after
+        → SpendsNeedOrReachesLimit (need_from tree text start) budget (Ok x) after → FindsNext tree text budget start (answer_of m) n after
     steps-to budget start m x next after n e found on (within, left) =
         let w = within-some tree text is budget start (answer_of m) (sym found) within in
         let here = comes-next after next in
@@ -90,18 +103,28 @@ module _ (tree : Tree) (text : Text) (is : IsText text) where
         record {
           answers = a;
           limit = l;
-          starts = subst (λ k. IsValidStart text k) (sym e) (starts-next start next on);
-          fewer = subst (λ l. IsBudgetAtMost l budget) (sym left) (left-no_more budget (need_from tree text start));
+          starts = subst (λ k. IsBoundaryOrPastEnd text k) (sym e) (starts-next start next on);
+          steps = left;
           groups = answer-groups start (answer_of m) found;
         }
 
   refusal-from : (budget : Option ℕ) (start : ℕ) (e : SearchError) (after : Option ℕ)
-      → CostsSteps {X = Option Step} (need_from tree text start) budget (Err e) after → ResumesFrom tree text budget start (Err e) after
-  refusal-from budget start Memory after s = s.0
+      → SpendsNeedOrReachesLimit {X = Option Step} (need_from tree text start) budget (Err e) after → ResumesFrom tree text budget start (Err e) after
+  refusal-from budget start Memory after s = s
   refusal-from budget start StepLimit after s = let b = beyond tree text is budget start s.0 in (b.0, b.1, s.1)
 
   pub refused-from : (X : Type 0) (budget : Option ℕ) (start : ℕ) (e : SearchError) (after : Option ℕ) (r : Result (Option Step) SearchError) → IsErrAnd r (λ f. f ≡ e)
-      → CostsSteps {X = X} (need_from tree text start) budget (Err e) after → ResumesFrom tree text budget start r after
+      → SpendsNeedOrReachesLimit {X = X} (need_from tree text start) budget (Err e) after → ResumesFrom tree text budget start r after
   refused-from X budget start e after (Ok y) h s = absurd h
   refused-from X budget start e after (Err f) h s =
       refusal-from budget start f after (handed X (Option Step) (need_from tree text start) budget after e (Err f) h s)
+
+-- one match more
+pub turn-more : (tree : Tree) (text : Text) (budget : Option ℕ) (start : ℕ) (ms : List Answer) (m : Answer) (left left' : Option ℕ) (next next' : ℕ)
+    → FindInTurn tree text budget start ms left next → FindsNext tree text left next m next' left' → FindInTurn tree text budget start (ms ++ m ∷ []) left' next'
+turn-more tree text budget start [] m left left' next next' (e, f) s =
+    let here : FindsNext tree text budget start m next' left' =
+    subst (λ b. FindsNext tree text b start m next' left') e (subst (λ n. FindsNext tree text left n m next' left') f s) in
+    (next', subst (λ l. FindsNext tree text budget start m next' l) here.steps here, (here.steps, refl))
+turn-more tree text budget start (x ∷ ms) m left left' next next' (to, h, k) s =
+    (to, h, turn-more tree text (budget_after tree text budget start) to ms m left left' next next' k s)

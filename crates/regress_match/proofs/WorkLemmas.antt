@@ -1,20 +1,28 @@
 -- Searches in so much work: what they yield, and what their calls answer in a row.
-use Rattle.std.proofs.Common.{◌≡◌, ◌≤◌, ◌<◌, ◌⊎◌, ◌+◌, ◌*◌, ℕ, Bool, List, [], ◌∷◌, true, false, refl, sym, ap, ◌∙◌, subst, inl, inr, nat_le, nat_lt, not, if◌then◌else◌, arith}
-use Rattle.std.specs.Prelude.{Option, Some, None, Ok, Err, IfSome}
-use Rattle.std.proofs.Math.Nat.{mul-le-mul_right}
-use Rattle.std.proofs.Math.Dec.{leb-zero}
-use Rattle.std.proofs.lemmas.Bool.{le-leb, ltb-false, ltb-true}
+use Rattle.std.proofs.Common.{◌≡◌, ◌≤◌, ◌<◌, ◌⊎◌, ◌+◌, ◌*◌, ℕ, suc, Bool, List, [], ◌∷◌, length, max, true, false, refl, sym, ap, ◌∙◌, subst, inl, inr, nat_le, nat_lt, if◌then◌else◌, arith}
+use Rattle.std.specs.Arc.{arc_value}
+use Rattle.std.specs.List.{fold}
+use Rattle.std.specs.Prelude.{Option, Some, None, Ok, Err, IfSome, slice_get, unwrap_or}
+use Rattle.std.proofs.Math.Logic.{∥∥₁_elim}
+use Rattle.std.proofs.Math.Nat.{mul-le-mul_left, mul-le-mul_right}
+use Rattle.std.proofs.Props.{props}
+use Rattle.std.proofs.lemmas.Bool.{ltb-false, ltb-true}
 use Rattle.std.proofs.lemmas.Bool.Decides.{leb_tells}
 use Rattle.regex_meaning.specs.Laws.{Each}
 use Rattle.regex_meaning.specs.CodeUnitOffsets.{units}
-use Rattle.regex_meaning.specs.StepBudget.{answers_within, finishes_within}
 use Rattle.regex_meaning.specs.Text.{Text}
 use Rattle.regex_meaning.specs.Tree.{Tree}
-use Rattle.regress_exec.specs.WorkLimits.{WorkView, is_work_enough}
+use Rattle.regress_exec.specs.WorkLimits.{WorkView}
 use Rattle.regress_exec.specs.declared.exec.work_matches.WorkError.TheVariants.{Memory, WorkLimit}
-use Rattle.regress_bounded.specs.ProgramWorkBounds.{IsAtStart, IsBoundOf}
+use Rattle.regress_memo_analysis.specs.AnalysisContents.{no_insn_analysis}
+use Rattle.regress_memo_analysis.specs.CheckedAnalysis.{AreCodesCountedAndDisjoint}
+use Rattle.regress_memo_analysis.specs.declared.analysis.InsnAnalysis.{InsnAnalysis}
+use Rattle.regress_memo_analysis.specs.declared.analysis.MemoAnalysis.{MemoAnalysis}
+use Rattle.regress_program.specs.CompilationOfTreesAsFunction.{compiled}
+use Rattle.regress_bounded.specs.ProgramWorkBounds.{IsBoundOf, IsWorkBoundOfTree, most_memo_codes_per_insn, program_size}
 use Rattle.regress_bounded.specs.declared.work_bound.WorkBound.{WorkBound}
-use Rattle.regress_match.specs.WorkBounds.{NextResultWithinWork, AnswerInWork, BoundedView, CallsYieldWithinWork, SearchesAnswerInWork, YieldsWithinWork, total_work, higher}
+use Rattle.regress_match.specs.WorkBounds.{NextResultWithinWork, AnswerInWork, BoundedView, CallsYieldWithinWork, SearchesAnswerInWork, WorkBoundsAreLimited, YieldsWithinWork, total_work, higher, work_per_unit_limit}
+use Rattle.regress_match.specs.ProgramTreesAndAnswers.{byte_tree, unit_tree}
 use Rattle.regress_match.specs.declared.api.regex.Regex.{Regex}
 
 -- ---- Calls in a row
@@ -75,44 +83,59 @@ higher-right a b = by (nat_lt a b) refl
     by true e = omega arith
     by false e = ltb-false a b e
 
--- what is enough by a number is enough by a lower one
-lower-enough : (few many places work : ℕ) → few ≤ many → many * places ≤ work → nat_le (few * places) work ≡ true
-lower-enough few many places work l e =
-    let less : few * places ≤ many * places = mul-le-mul_right places l in
-    le-leb (few * places) work (omega (arith, less, e))
-
--- an executor that has tried nothing has all before it, from whatever start
-fresh-enough : (enough : Bool) (ahead : ℕ) (test : Bool) (start : ℕ)
-    → enough ≡ true → ahead ≡ 0 → is_work_enough enough ahead (if test then Some start else None) ≡ true
-fresh-enough enough ahead true start e z = rw (e, z) (leb-zero start)
-fresh-enough enough ahead false start e z = e
-
--- What is to come of an executor at its start is what it yields; the bound of its program is at most `many`.
-abbrev pub HasBegun : (tree : Tree) (text : Text) (budget : Option ℕ) (enough : Bool) (ahead left start : ℕ) (it : WorkView) → Type 0
-HasBegun tree text budget enough ahead left start it =
-    (it.come.answers ≡ answers_within tree text budget start) × (it.come.limited ≡ not (finishes_within tree text budget start)) × (it.come.text_end ≡ units text)
-    × (it.left ≡ left) × (it.enough ≡ is_work_enough enough ahead (if nat_le start (units text) then Some start else None))
-
-begun-Yields : (tree : Tree) (text : Text) (few many work : ℕ) (its_tree : Tree) (its_text : Text) (budget : Option ℕ) (enough : Bool) (ahead left start : ℕ) (it : WorkView)
-    → IsAtStart tree text few work its_tree its_text budget enough ahead left
-    → HasBegun its_tree its_text budget enough ahead left start it → few ≤ many
+-- What is yielded within a bound is yielded within a higher one.
+more-Yields : {tree : Tree} {text : Text} {few many work start : ℕ} {it : WorkView} → few ≤ many → YieldsWithinWork tree text start few work it
     → YieldsWithinWork tree text start many work it
-begun-Yields tree text few many work its_tree its_text budget enough ahead left start it s b l = record {
-  answers = b.0 ∙ rw (s.of_tree, s.of_text, s.unlimited) refl;
-  unlimited = b.1 ∙ rw (s.of_tree, s.of_text, s.unlimited) refl;
-  text_end = b.2 ∙ ap units s.of_text;
-  left = b.3 ∙ s.has_left;
-  enough = λ e. b.4
-      ∙ fresh-enough enough ahead (nat_le start (units its_text)) start (s.is_enough ∙ lower-enough few many (units text + 1) work l e) s.first;
+more-Yields {tree} {text} {few} {many} {work} {start} {it} l y = record {
+  answers = y.answers;
+  unlimited = y.unlimited;
+  text_end = y.text_end;
+  left = y.left;
+  enough = λ e. let less : total_work few text ≤ total_work many text = mul-le-mul_right (units text + 1) l in y.enough (omega (arith, less, e));
 }
 
 -- The same of a pattern with its number, as its fields show it, by a program of one of its trees (`of`).
-pub bound-Yields : {b : BoundedView} {own its_tree : Tree} {its_text : Text} {budget : Option ℕ} {enough : Bool} {few many work ahead left start : ℕ} {it : WorkView}
+pub bound-Yields : {b : BoundedView} {own : Tree} {few many work start : ℕ} {it : WorkView}
     (of : Regex → Tree) (re : Regex) (text_of : Bool → Text) → few ≤ many → record { re = re; per_unit = many } ≡ b → own ≡ of re
-    → IsAtStart own (text_of own.flags.unicode) few work its_tree its_text budget enough ahead left
-    → HasBegun its_tree its_text budget enough ahead left start it
+    → YieldsWithinWork own (text_of own.flags.unicode) start few work it
     → YieldsWithinWork (of b.re) (text_of (of b.re).flags.unicode) start b.per_unit work it
-bound-Yields {b} {own} {its_tree} {its_text} {budget} {enough} {few} {many} {work} {ahead} {left} {start} {it} of re text_of l view same s h =
+bound-Yields {b} {own} {few} {many} {work} {start} {it} of re text_of l view same y =
     subst (λ (v : BoundedView). YieldsWithinWork (of v.re) (text_of (of v.re).flags.unicode) start v.per_unit work it) view
-    (subst (λ (t : Tree). YieldsWithinWork t (text_of t.flags.unicode) start many work it) same
-    (begun-Yields own (text_of own.flags.unicode) few many work its_tree its_text budget enough ahead left start it s h l))
+    (subst (λ (t : Tree). YieldsWithinWork t (text_of t.flags.unicode) start many work it) same (more-Yields l y))
+
+-- ---- What no bound exceeds
+
+-- each instruction has few codes, so the most that one has are few
+codes-each : (xs : List InsnAnalysis) → ((i : ℕ) → i < length xs → (unwrap_or (slice_get xs i) no_insn_analysis).codes ≤ 64) → Each (λ x. x.codes ≤ 64) xs
+codes-each [] h = tt
+codes-each (x ∷ xs) h = (h 0 (omega arith), codes-each xs (λ i l. h (suc i) (omega (arith, l))))
+
+codes-most : (xs : List InsnAnalysis) (most : ℕ) → most ≤ 64 → Each (λ x. x.codes ≤ 64) xs → fold (λ most x. max most x.codes) most xs ≤ 64
+codes-most [] most l h = l
+codes-most (x ∷ xs) most l h = let few : x.codes ≤ 64 = h.0 in codes-most xs (max most x.codes) (omega (arith, l, few)) h.1
+
+codes-few : (t : MemoAnalysis) → AreCodesCountedAndDisjoint t → most_memo_codes_per_insn t ≤ 64
+codes-few t h = codes-most t.lines.items 0 (omega arith) (codes-each t.lines.items (λ i l. subst (λ n. n ≤ 64) (h.counted i l) (h.few i)))
+
+bound-limited : (tree : Tree) (bound : WorkBound) → IsBoundOf tree bound → bound.per_unit ≤ 64 * (64 * program_size (compiled tree))
+bound-limited tree bound is = ∥∥₁_elim is (Prim.hlevel props) (λ (b : IsWorkBoundOfTree tree bound).
+    let size = program_size (compiled tree) in
+    let codes = most_memo_codes_per_insn (arc_value bound.memo_analysis) in
+    let few : size * codes ≤ size * 64 = mul-le-mul_left size (codes-few (arc_value bound.memo_analysis) b.has.memo_analysis.coded) in
+    let all : bound.per_unit ≤ 64 * (size * codes) = b.few in
+    omega (arith, few, all))
+
+higher-most : (a b m n : ℕ) → a ≤ 64 * (64 * m) → b ≤ 64 * (64 * n) → higher a b ≤ 64 * (64 * higher m n)
+higher-most a b m n l k = by (nat_lt a b)
+  where
+    by : (t : Bool) → (if t then b else a) ≤ 64 * (64 * higher m n)
+    by true = let more : n ≤ higher m n = higher-right m n in omega (arith, k, more)
+    by false = let more : m ≤ higher m n = higher-left m n in omega (arith, l, more)
+
+pub bounds-limited : WorkBoundsAreLimited
+bounds-limited re per_unit (bytes, units', are, is) =
+    let least : per_unit ≤ work_per_unit_limit re =
+    subst (λ n. n ≤ work_per_unit_limit re) (sym is)
+    (higher-most bytes.per_unit units'.per_unit (program_size (compiled (byte_tree re))) (program_size (compiled (unit_tree re)))
+    (bound-limited (byte_tree re) bytes are.bound_for_bytes) (bound-limited (unit_tree re) units' are.bound_for_units)) in
+    (least, λ text. mul-le-mul_right (units text + 1) least)

@@ -2,18 +2,18 @@
 use Rattle.std.specs.Prelude.{◌≡◌, ℕ, List, ◌∷◌, ◌++◌, map, IsOk, Result, Ok, Err}
 use Rattle.std.specs.Borrow.{Bor}
 use Rattle.regex_meaning.specs.Laws.{Each}
-use Rattle.regex_meaning.specs.Captures.{Answer}
+use Rattle.regex_meaning.specs.GroupsByNumberAndName.{Answer}
 use Rattle.regex_meaning.specs.Replace.{replaced}
 use Rattle.regress_exec.specs.MatchAnswers.{answer_of}
 use Rattle.regress_exec.specs.declared.exec.Match.{Match}
 use Rattle.regress_match.specs.CompileErrors.{IsOutOfMemory}
-use Rattle.regress_match.specs.declared.api.error.ReplaceError.{ReplaceError}
-use Rattle.regress_match.specs.declared.api.error.ReplaceError.TheVariants.{Search, Closure}
+use Rattle.regress_match.specs.declared.api.compile_and_replace_errors.ReplaceError.{ReplaceError}
+use Rattle.regress_match.specs.declared.api.compile_and_replace_errors.ReplaceError.TheVariants.{Search, Closure}
 
 -- The error after one closure result: `Memory` if it was a text, otherwise the closure's error.
-abbrev pub IsErrorOfClosureResult : {T E : Type 0} → Result T E → ReplaceError E → Type 0
-IsErrorOfClosureResult answer (Search e) = IsOk answer × IsOutOfMemory e
-IsErrorOfClosureResult answer (Closure e) = answer ≡ Err e
+abbrev pub IsClosureErrorOrOutOfMemory : {T E : Type 0} → Result T E → ReplaceError E → Type 0
+IsClosureErrorOrOutOfMemory answer (Search e) = IsOk answer × IsOutOfMemory e
+IsClosureErrorOrOutOfMemory answer (Closure e) = answer ≡ Err e
 
 -- `says` relates a match to the results that the closure may return for it.
 module _ {T E : Type 0} (says : Bor Match → Result T E → Type 0) where

@@ -2,18 +2,18 @@
 use Rattle.std.specs.Prelude.{◌≡◌, ℕ, List, IsUtf8, codes, take}
 use Rattle.regex_meaning.specs.Tree.{Tree, Flags}
 use Rattle.regex_meaning.specs.Text.{utf8_text, ascii_text, utf16_text, ucs2_text}
-use Rattle.regex_meaning.specs.Captures.{answers_from}
+use Rattle.regex_meaning.specs.GroupsByNumberAndName.{answers_from}
 use Rattle.regex_meaning.specs.Replace.{replaced}
 use Rattle.regex_grammar.specs.Grammar.{Parses}
-use Rattle.regress_match.specs.RegexPrograms.{IsCompiledWith, utf8_answers, ascii_answers, utf16_answers, ucs2_answers}
-use Rattle.regress_match.specs.Replacements.{MatchesAreOrderedFrom, expansion_of_each_match}
+use Rattle.regress_match.specs.ProgramTreesAndAnswers.{IsCompiledWith, utf8_answers, ascii_answers, utf16_answers, ucs2_answers}
+use Rattle.regress_match.specs.ExpansionsAndMatchRanges.{MatchesAreOrderedFrom, matches_with_expansions}
 use Rattle.regress_match.specs.declared.api.regex.Regex.{Regex}
 
 -- Replacing the first match, or all matches, by `$0` gives the text back.
 abbrev pub WholeMatchesGiveBack : Type 0
 WholeMatchesGiveBack = (re : Regex) (text : List ℕ)
     → let answers = utf8_answers re text 0 in
-    (replaced text 0 (expansion_of_each_match text (codes "$0") (take 1 answers)) ≡ text) × (replaced text 0 (expansion_of_each_match text (codes "$0") answers) ≡ text)
+    (replaced text 0 (matches_with_expansions text (codes "$0") (take 1 answers)) ≡ text) × (replaced text 0 (matches_with_expansions text (codes "$0") answers) ≡ text)
 
 -- The matches in a text, in each encoding, are those of the tree that the grammar gives to the
 -- pattern.

@@ -1,11 +1,11 @@
 pub mod ClosureReplacements
 pub mod ReplacementClosures
-pub mod Flags
+pub mod PublicFlagsAsSpecFlags
 pub mod Laws
-pub mod RegexPrograms
+pub mod ProgramTreesAndAnswers
 pub mod ReplacementParts
 pub mod CompileErrors
-pub mod Replacements
+pub mod ExpansionsAndMatchRanges
 pub mod SearchResults
 pub mod Resuming
 pub mod WorkBounds

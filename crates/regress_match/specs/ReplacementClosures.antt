@@ -2,11 +2,11 @@
 use Rattle.std.specs.Prelude.{ℕ, List, Result, String, string_bytes}
 use Rattle.std.specs.Borrow.{Bor}
 use Rattle.std.specs.List.{Contains}
-use Rattle.regex_meaning.specs.Captures.{Answer}
+use Rattle.regex_meaning.specs.GroupsByNumberAndName.{Answer}
 use Rattle.regress_exec.specs.MatchAnswers.{answer_of}
 use Rattle.regress_exec.specs.declared.exec.Match.{Match}
 use Rattle.regress_match.specs.ClosureReplacements as answered
-use Rattle.regress_match.specs.declared.api.error.ReplaceError.{ReplaceError}
+use Rattle.regress_match.specs.declared.api.compile_and_replace_errors.ReplaceError.{ReplaceError}
 
 -- The closure's precondition holds for each of these matches.
 abbrev pub ClosureCanBeCalled : (takes : Bor Match → Type 0) → List Answer → Type 0

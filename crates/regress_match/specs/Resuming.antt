@@ -1,32 +1,46 @@
 -- Searches that resume from an offset.
-use Rattle.std.specs.Prelude.{◌≡◌, ℕ, Bool, true, false, [], ◌∷◌, length, Option, Some, None, Result, Ok, Err}
+use Rattle.std.specs.Prelude.{◌≡◌, ℕ, true, false, List, [], ◌∷◌, length, Option, Some, None, Result, Ok, Err}
+use Rattle.regex_meaning.specs.GroupsByNumberAndName.{Answer}
 use Rattle.regex_meaning.specs.Tree.{Tree, group_ids}
 use Rattle.regex_meaning.specs.Text.{Text}
-use Rattle.regex_meaning.specs.StepBudget.{IsBudgetAtMost, answers_within, finishes_within}
+use Rattle.regex_meaning.specs.StepBudget.{IsBudgetAtMost, answers_within, finishes_within, need_from, remaining_budget}
 use Rattle.regress_exec.specs.MatchAnswers.{answer_of}
 use Rattle.regress_exec.specs.declared.exec.SearchError.{SearchError}
 use Rattle.regress_exec.specs.declared.exec.SearchError.TheVariants.{Memory, StepLimit}
-use Rattle.regress_match.specs.RegexPrograms.{IsValidStart}
-use Rattle.regress_match.specs.declared.api.resumable_searches.Step.{Step}
+use Rattle.regress_match.specs.ProgramTreesAndAnswers.{IsBoundaryOrPastEnd}
+use Rattle.regress_match.specs.declared.api.searches_resumed_at_offsets.Step.{Step}
 
 module _ (tree : Tree) (text : Text) where
+  -- The budget that is left once the first match from an offset on is found, or is known not to
+  -- exist. The steps taken are exactly those that this needs, and none past the end of the text.
+  abbrev pub budget_after : (budget : Option ℕ) → (start : ℕ) → Option ℕ
+  budget_after budget start = remaining_budget budget (need_from tree text start)
+
   -- No match remains from an offset on, and the budget is enough to find that out.
   abbrev pub IsExhaustedFrom : (budget : Option ℕ) → (start : ℕ) → Type 0
   IsExhaustedFrom budget start = (answers_within tree text budget start ≡ []) × (finishes_within tree text budget start ≡ true)
 
-  -- A match remains, and after it the matches from `step.next` on within the budget that is left.
-  -- The match has an entry for each group.
-  pub record FindsNext (budget : Option ℕ) (start : ℕ) (step : Step) (left : Option ℕ) : Type 0 where
-    pub answers : answers_within tree text budget start ≡ answer_of step.found ∷ answers_within tree text left step.next
-    pub limit : finishes_within tree text budget start ≡ finishes_within tree text left step.next
-    pub starts : IsValidStart text step.next
-    pub fewer : IsBudgetAtMost left budget
-    pub groups : length (answer_of step.found).captures ≡ length (group_ids tree.root)
+  -- A match remains, and after it the matches from `next` on within the budget that is left. The
+  -- match has an entry for each group.
+  pub record FindsNext (budget : Option ℕ) (start : ℕ) (found : Answer) (next : ℕ) (left : Option ℕ) : Type 0 where
+    pub answers : answers_within tree text budget start ≡ found ∷ answers_within tree text left next
+    pub limit : finishes_within tree text budget start ≡ finishes_within tree text left next
+    pub starts : IsBoundaryOrPastEnd text next
+    pub steps : left ≡ budget_after budget start
+    pub groups : length found.captures ≡ length (group_ids tree.root)
 
-  -- The result of a call from an offset on, and the budget that is left after it.
+  -- These matches are found one after another from an offset on. They take the budget to `left` and
+  -- the search to the offset `next`.
+  abbrev pub FindInTurn : (budget : Option ℕ) → (start : ℕ) → List Answer → (left : Option ℕ) → (next : ℕ) → Type 0
+  FindInTurn budget start [] left next = (left ≡ budget) × (next ≡ start)
+  FindInTurn budget start (m ∷ ms) left next =
+      (to : ℕ) × FindsNext budget start m to (budget_after budget start) × FindInTurn (budget_after budget start) to ms left next
+
+  -- The result of a call from an offset on, and the budget that is left after it. Allocation failure
+  -- may occur at any step: it leaves no more than there was, and no less than a result would leave.
   abbrev pub ResumesFrom : (budget : Option ℕ) → (start : ℕ) → Result (Option Step) SearchError → (left : Option ℕ) → Type 0
-  ResumesFrom budget start (Ok (Some step)) left = FindsNext budget start step left
-  ResumesFrom budget start (Ok None) left = IsExhaustedFrom budget start × IsBudgetAtMost left budget
-  ResumesFrom budget start (Err Memory) left = IsBudgetAtMost left budget
+  ResumesFrom budget start (Ok (Some step)) left = FindsNext budget start (answer_of step.found) step.next left
+  ResumesFrom budget start (Ok None) left = IsExhaustedFrom budget start × (left ≡ budget_after budget start)
+  ResumesFrom budget start (Err Memory) left = IsBudgetAtMost left budget × IsBudgetAtMost (budget_after budget start) left
   ResumesFrom budget start (Err StepLimit) left =
       (answers_within tree text budget start ≡ []) × (finishes_within tree text budget start ≡ false) × (left ≡ Some 0)

@@ -3,7 +3,7 @@ use Rattle.std.specs.Prelude.{◌≡◌, ℕ, List, [], ◌∷◌, false, Option
 use Rattle.regex_meaning.specs.Tree.{Tree}
 use Rattle.regex_meaning.specs.Text.{Text}
 use Rattle.regex_meaning.specs.CodeUnitOffsets.{units}
-use Rattle.regex_meaning.specs.Captures.{Answer, answers_from}
+use Rattle.regex_meaning.specs.GroupsByNumberAndName.{Answer, answers_from}
 use Rattle.regress_exec.specs.MatchAnswers.{answer_of}
 use Rattle.regress_exec.specs.RemainingAnswers.{RemainingView, NextYields}
 use Rattle.regress_exec.specs.declared.exec.Match.{Match}

@@ -1,8 +1,7 @@
 -- Work bounds of patterns, and what a search within a work budget yields.
-use Rattle.std.specs.Prelude.{◌≡◌, ◌≤◌, ◌<◌, ◌*◌, ◌+◌, ℕ, List, [], ◌∷◌, true, false, Option, Some, None, Result, Ok, Err, if◌then◌else◌, nat_lt}
+use Rattle.std.specs.Prelude.{◌≡◌, ◌≤◌, ◌<◌, ◌*◌, ℕ, List, [], ◌∷◌, Option, Some, None, Result, Ok, Err, if◌then◌else◌, nat_lt}
 use Rattle.regex_meaning.specs.Laws.{Each}
-use Rattle.regex_meaning.specs.Captures.{Answer, answers_from}
-use Rattle.regex_meaning.specs.CodeUnitOffsets.{units}
+use Rattle.regex_meaning.specs.GroupsByNumberAndName.{Answer, answers_from}
 use Rattle.regex_meaning.specs.Text.{Text}
 use Rattle.regex_meaning.specs.Tree.{Tree}
 use Rattle.regress_exec.specs.MatchAnswers.{answer_of}
@@ -10,10 +9,12 @@ use Rattle.regress_exec.specs.WorkLimits.{WorkView, NextYieldsWithinWork}
 use Rattle.regress_exec.specs.declared.exec.Match.{Match}
 use Rattle.regress_exec.specs.declared.exec.work_matches.WorkError.{WorkError}
 use Rattle.regress_exec.specs.declared.exec.work_matches.WorkError.TheVariants.{Memory, WorkLimit}
-use Rattle.regress_bounded.specs.ProgramWorkBounds.{IsBoundOf}
+use Rattle.regress_program.specs.CompilationOfTreesAsFunction.{compiled}
+use Rattle.regress_bounded.specs.ProgramWorkBounds.{IsBoundOf, program_size}
+pub use Rattle.regress_bounded.specs.ProgramWorkBounds.{YieldsWithinWork, total_work}
 use Rattle.regress_bounded.specs.declared.work_bound.WorkBound.{WorkBound}
 use Rattle.regress_match.specs.declared.api.regex.Regex.{Regex}
-use Rattle.regress_match.specs.RegexPrograms.{byte_tree, unit_tree}
+use Rattle.regress_match.specs.ProgramTreesAndAnswers.{byte_tree, unit_tree}
 
 -- ---- Bounds
 
@@ -40,21 +41,16 @@ pub record AreBoundsOf (re : Regex) (bytes units : WorkBound) : Type 0 where
 abbrev pub IsWorkBoundOfBothPrograms : Regex → ℕ → Type 0
 IsWorkBoundOfBothPrograms re per_unit = (bytes : WorkBound) × (units : WorkBound) × AreBoundsOf re bytes units × (per_unit ≡ higher_of bytes units)
 
--- ---- Searches
+-- A number that no bound of the pattern exceeds, by its two programs alone: 64 for each unit of the
+-- greater program's size, for each of the 64 codes that an instruction may have.
+abbrev pub work_per_unit_limit : Regex → ℕ
+work_per_unit_limit re = 64 * (64 * higher (program_size (compiled (byte_tree re))) (program_size (compiled (unit_tree re))))
 
--- The work that is enough for a text: `per_unit` for each unit of it, and once more.
-abbrev pub total_work : (per_unit : ℕ) → Text → ℕ
-total_work per_unit text = per_unit * (units text + 1)
-
--- The remaining matches of a search from `start` are the tree's list of matches in the text, and no
--- step limit ends the list. `work` is left, and it is enough for all of them if it is at least
--- `total_work`.
-pub record YieldsWithinWork (tree : Tree) (text : Text) (start per_unit work : ℕ) (it : WorkView) : Type 0 where
-  pub answers : it.come.answers ≡ answers_from tree.root text start
-  pub unlimited : it.come.limited ≡ false
-  pub text_end : it.come.text_end ≡ units text
-  pub left : it.left ≡ work
-  pub enough : total_work per_unit text ≤ work → it.enough ≡ true
+-- Whatever bound of the pattern a search answers by, this much work for each unit of a text, and
+-- once more, is enough.
+abbrev pub WorkBoundsAreLimited : Type 0
+WorkBoundsAreLimited = (re : Regex) (per_unit : ℕ) → IsWorkBoundOfBothPrograms re per_unit
+    → (per_unit ≤ work_per_unit_limit re) × ((text : Text) → total_work per_unit text ≤ total_work (work_per_unit_limit re) text)
 
 -- ---- Results of its calls
 

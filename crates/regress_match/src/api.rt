@@ -1,8 +1,8 @@
 //! The public API of the crate. The crate root re-exports all of it except the laws.
 
 mod code_unit_searches;
+mod compile_and_replace_errors;
 mod diagnosis;
-mod error;
 mod escaping;
 mod flags;
 mod laws;
@@ -10,16 +10,19 @@ mod match_at;
 mod pattern_info;
 mod regex;
 mod replace;
-mod resumable_searches;
+mod searches_resumed_at_offsets;
 mod work_budget_searches;
 
-pub use self::error::{Error, ReplaceError};
+pub use self::compile_and_replace_errors::{Error, ReplaceError};
 pub use self::escaping::escape;
 pub use self::flags::Flags;
-pub use self::laws::{matches_stand_in_text, searches_answer_in_turn, searches_answer_in_work};
+pub use self::laws::{
+    matches_stand_in_text, searches_answer_in_turn, searches_answer_in_work,
+    searches_follow_the_pattern, work_bounds_are_limited,
+};
 pub use self::regex::{AsciiMatches, LimitedMatches, Matches, Regex};
 pub use self::replace::whole_matches_give_back;
-pub use self::resumable_searches::{Step, next_from};
+pub use self::searches_resumed_at_offsets::{Step, next_from};
 pub use self::work_budget_searches::{BoundedRegex, MatchesInWork};
 pub use regex_pattern_front::diagnosis::{CaretDiagnosis, Cause, Diagnosis};
 pub use regress_exec::exec::{Groups, Match, NamedGroups, SearchError, WorkError};

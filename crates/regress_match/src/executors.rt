@@ -3,10 +3,10 @@
 ghost use Rattle.std.specs.Prelude.{◌≡◌, IfErr, IfOk, nat_le, not};
 ghost use Rattle.regex_meaning.specs.CodeUnitOffsets.{units};
 ghost use Rattle.regex_pattern_front.specs.AstToSpecTree.{tree_of};
-ghost use Rattle.regress_match.specs.{RegexPrograms.{IsValidStart}, CompileErrors.{IsOutOfMemory}, SearchResults.{YieldsMatches}};
+ghost use Rattle.regress_match.specs.{ProgramTreesAndAnswers.{IsBoundaryOrPastEnd}, CompileErrors.{IsOutOfMemory}, SearchResults.{YieldsMatches}};
 
 pub use regress_backtrack::classicalbacktrack::{BacktrackExecutor, LimitedExecutor};
-use regress_exec::exec::{Matches, SearchError, Searcher};
+use regress_exec::exec::{Matches, ProducerFromProgramAndText, SearchError};
 use regress_input::indexing::{AsciiInput, Ucs2Input, Utf8Input, Utf16Input};
 use regress_program::insn::CompiledRegex;
 
@@ -23,13 +23,13 @@ pub type DefaultUtf16Executor<'r, 't> = BacktrackExecutor<'r, Utf16Input<'t>>;
 pub type DefaultUcs2Executor<'r, 't> = BacktrackExecutor<'r, Ucs2Input<'t>>;
 
 // Returns the matches of this program from an offset on, as found by the executor `S`.
-pub(crate) fn search_from<'r, S: Searcher<'r>>(
+pub(crate) fn search_with_executor_from<'r, S: ProducerFromProgramAndText<'r>>(
     re: &'r CompiledRegex,
     text: S::Text,
     start: usize,
 ) -> Result<Matches<S>, SearchError>
     requires can { S.can_search text }
-    requires start { IsValidStart (S.text_of text (tree_of re.now).flags.unicode) start }
+    requires start { IsBoundaryOrPastEnd (S.text_of text (tree_of re.now).flags.unicode) start }
     ensures answers { IfOk result
         (YieldsMatches (tree_of re.now) (S.text_of text (tree_of re.now).flags.unicode) start) }
     ensures ended { IfOk result (λ it. it.ended

@@ -16,21 +16,21 @@ use Rattle.regress_machine.proofs.Beside.{moved-zero}
 use Rattle.regress_simulation.specs.CharLoopExitStates.{behind}
 use Rattle.regress_memo_laws.specs.Liveness.{Agree, outermost}
 use Rattle.regress_memo_laws.specs.DistinctLists.{IsIn, IsNew, AreDistinct}
-use Rattle.regress_memo_laws.specs.LoopDataKeyCodes.{Question, is_empty, how_many, answers, bool_as_digit, answer, code_of, plan_code, plan_codes, key_of, own_row}
+use Rattle.regress_memo_laws.specs.LoopDataKeyCodes.{Question, is_empty, how_many, number_of_possible_answers, bool_as_digit, answer_to_loop_question, code_of, plan_code, plan_codes, key_of, own_row}
 use Rattle.regress_memo_laws.specs.LoopDataKeyCodes.{HasSlotsOfProgram}
 use Rattle.regress_memo_laws.specs.CharLoopMemoKeys.{row_by, plan_rows, char_loop_greediness_at, insn_before, CharLoopRecords, run_key}
-use Rattle.regress_memo_laws.specs.MemoPlans.{plan_taken}
+use Rattle.regress_memo_laws.specs.MemoPlanChecksAndGuarantees.{plan_taken}
 use Rattle.regress_memo_laws.specs.MemoSearch.{Key, KeyStandsFor, IsKnown, known_to_fail, known_to_reach}
 use Rattle.regress_memo_laws.specs.ThreadPotentials.{is_one_of}
 use Rattle.regress_memo_laws.proofs.Codes.{plans-tell}
 use Rattle.regress_memo_laws.proofs.Weights.{in-places}
 use Rattle.regress_memo_analysis.specs.declared.analysis.MemoAnalysis.{MemoAnalysis}
 use Rattle.regress_memo_analysis.specs.AnalysisContents.{insn_analysis_of, liveness_of, key_code_questions_of, insn_direction, recorded}
-use Rattle.regress_memo_analysis.specs.CheckedAnalysis.{HasBit, IsAnalysisOf}
+use Rattle.regress_memo_analysis.specs.CheckedAnalysis.{MemoKeyHasBit, IsAnalysisOf}
 use Rattle.regress_memo_analysis.proofs.WholeLemmas.{recorded-is, not-recorded}
 use Rattle.regress_memo.specs.MemoContractView.{MemoView}
 use Rattle.regress_memo.specs.MemoContents.{same_key, memo_key_at, has_failure, has_success, knows, IsEmptyMemo, RecordsFailure, RecordsSuccess}
-use Rattle.regress_memo.specs.Laws.{analysis_keys, KeyFails, KeyReaches, IsTrueOf, Holds, HasMemory, RecordingAddsKnownKeys, MemosAreSound, BitsAreKeys}
+use Rattle.regress_memo.specs.Laws.{analysis_keys, KeyFails, KeyReaches, IsTrueOf, Holds, HasMemory, RecordingAddsKnownKeys, MemosAreSound, AnalysisKeysAreThoseAssignedBits}
 use Rattle.regress_memo.proofs.MemoLemmas.{same-is, same-itself, bit-there, line-there}
 
 -- ---- Lists
@@ -95,7 +95,7 @@ records-there t ip records = true_from_ne_false (is_one_of (recorded t) ip) (λ 
 
 module _ (program : Program) (text : Text) (t : MemoAnalysis) (of : IsAnalysisOf program t) where
   key-has-bit : (d : Direction) (k : Key) (ts : List Thread)
-      → KeyStandsFor program text (liveness_of t) (analysis_keys program text t) d k ts → HasBit t (units text + 1) k
+      → KeyStandsFor program text (liveness_of t) (analysis_keys program text t) d k ts → MemoKeyHasBit t (units text + 1) k
   key-has-bit d k ts is =
       let h = is.is_of in
       let h1 = and-right (nat_lt k.code (plan_codes (key_code_questions_of t) k.ip)) _ h in
@@ -106,7 +106,7 @@ module _ (program : Program) (text : Text) (t : MemoAnalysis) (of : IsAnalysisOf
       let counted = of.coded.counted k.ip there in
       record { there = there; records = records; at = omega (arith, within); code = omega (arith, code, counted) }
 
-  key-inside : (k : Key) → HasBit t (units text + 1) k → IsIn k (analysis_keys program text t).all
+  key-inside : (k : Key) → MemoKeyHasBit t (units text + 1) k → IsIn k (analysis_keys program text t).all
   key-inside k has =
       let counted = of.coded.counted k.ip has.there in
       let code = has.code in
@@ -134,7 +134,7 @@ module _ (program : Program) (text : Text) (t : MemoAnalysis) where
           (records-there t s.ip e) way of_program sound own)
 
 -- a code asks for the offset and for what loops hold, and for nothing else
-answer-same : (q : Question) (u v : State) → u.pos ≡ v.pos → u.loops ≡ v.loops → answer q u ≡ answer q v
+answer-same : (q : Question) (u v : State) → u.pos ≡ v.pos → u.loops ≡ v.loops → answer_to_loop_question q u ≡ answer_to_loop_question q v
 answer-same (is_empty l) u v pos loops =
     ap (λ n. unwrap_or (option_map (λ (x : LoopData). bool_as_digit (x.entry == n)) (slice_get u.loops l)) 0) pos
     ∙ ap (λ ls. unwrap_or (option_map (λ (x : LoopData). bool_as_digit (x.entry == v.pos)) (slice_get ls l)) 0) loops
@@ -143,7 +143,7 @@ answer-same (how_many l most) u v pos loops = ap (λ ls. unwrap_or (option_map (
 code-same : (qs : List Question) (u v : State) → u.pos ≡ v.pos → u.loops ≡ v.loops → code_of qs u ≡ code_of qs v
 code-same [] u v pos loops = refl
 code-same (q ∷ qs) u v pos loops =
-    ap (λ n. n + answers q * code_of qs u) (answer-same q u v pos loops) ∙ ap (λ n. answer q v + answers q * n) (code-same qs u v pos loops)
+    ap (λ n. n + number_of_possible_answers q * code_of qs u) (answer-same q u v pos loops) ∙ ap (λ n. answer_to_loop_question q v + number_of_possible_answers q * n) (code-same qs u v pos loops)
 
 run-key-is : (program : Program) (text : Text) (t : MemoAnalysis) (d : Direction) (test : ℕ → Bool) (greedy : Bool) (s : State) (place : ℕ)
     → CharLoopRecords program (liveness_of t) (key_code_questions_of t) (insn_direction t) (recorded t) d test greedy s.ip
@@ -159,7 +159,7 @@ run-key-is program text t d test greedy s place r =
     let make : ℕ → Key = λ c. record { ip = s.ip + 1; at = offset text place; code = c } in
     ap (λ b. if b then Some (key_of (plan_code (key_code_questions_of t)) u) else None) records ∙ ap (λ c. Some (make c)) code
 
-pub keys-are-there : BitsAreKeys
+pub keys-are-there : AnalysisKeysAreThoseAssignedBits
 keys-are-there = record { has_bit = key-has-bit; inside = key-inside; thread = λ program text t of. thread-key program text t; run = run-key-is }
 
 -- ---- What is known is so
@@ -260,9 +260,9 @@ chosen-distinct f (k ∷ ks) = by (chosen-distinct (λ i. f i && not (same_key i
     by others on false = on
 
 module _ (program : Program) (text : Text) (m : MemoView) (is : IsTrueOf program text m) where
-  known-has-bit : (k : Key) → knows m k ≡ true → HasBit m.memo_analysis (units text + 1) k
+  known-has-bit : (k : Key) → knows m k ≡ true → MemoKeyHasBit m.memo_analysis (units text + 1) k
   known-has-bit k h =
-      subst (λ n. HasBit m.memo_analysis n k) is.places
+      subst (λ n. MemoKeyHasBit m.memo_analysis n k) is.places
       (elim (or_cases (has_failure m k) (has_success m k) h) [
         | inl e ↦ bit-there m.memo_analysis m.places k (and-left _ _ e)
         | inr e ↦ bit-there m.memo_analysis m.places k (and-left _ _ (and-right _ _ e))

@@ -5,7 +5,7 @@ use Rattle.std.proofs.lemmas.List.{length-replicate}
 use Rattle.regex_meaning.specs.Laws.{Each}
 use Rattle.regex_meaning.proofs.Each.{Each-append}
 use Rattle.regex_meaning.specs.Text.{Text, Direction, rightwards}
-use Rattle.regex_meaning.specs.CodeUnitOffsets.{IsText, units}
+use Rattle.regex_meaning.specs.CodeUnitOffsets.{HasRisingPlaceOffsets, units}
 use Rattle.regex_meaning.specs.CompilationRelation.{Program}
 use Rattle.regress_machine.specs.SearchResults.{state_before_first_insn}
 use Rattle.regress_machine.specs.Machine.{State, Thread, running, waiting, goes, act}
@@ -15,7 +15,7 @@ use Rattle.regress_memo_laws.specs.LoopDataKeyCodes.{HasSlotsOfProgram, plan_cod
 use Rattle.regress_memo_laws.specs.DistinctLists.{IsNew}
 use Rattle.regress_memo_laws.specs.PreservedSlotCounts.{state_of_thread}
 use Rattle.regress_memo_laws.specs.AmortizedStepCosts.{potential_by}
-use Rattle.regress_memo_laws.specs.MemoPlans.{IsRecorded, plan_taken}
+use Rattle.regress_memo_laws.specs.MemoPlanChecksAndGuarantees.{IsRecorded, plan_taken}
 use Rattle.regress_memo_laws.specs.MemoSearch.{Key, Entry, tried, noted, tries, threads_in, at_first, gives, reaches}
 use Rattle.regress_memo_laws.specs.ThreadPotentials.{is_one_of}
 use Rattle.regress_memo_laws.proofs.Beside.{others-paid}
@@ -35,7 +35,7 @@ use Rattle.regress_memo_analysis.proofs.Ways.{ways-stay}
 use Rattle.regress_memo_analysis.proofs.WholeLemmas.{recorded-is, ledgers-serve}
 use Rattle.regress_memo.specs.Laws.{analysis_keys, KeyFails}
 use Rattle.regress_memo.specs.MemoContents.{memo_key_at}
-use Rattle.regress_memo.specs.MemoSearchCosts.{IsKeyed, AreKeyed, HasCome, ComesOn, SearchCostsAreCovered}
+use Rattle.regress_memo.specs.MemoSearchCosts.{IsKeyed, AreKeyed, HasCome, ComesOn, WorkIsCoveredByKeyCosts}
 use Rattle.regress_memo.proofs.LawLemmas.{thread-key, records-there}
 
 -- ---- Keys
@@ -86,7 +86,7 @@ module _ (program : Program) (text : Text) (t : MemoAnalysis) (d : Direction) wh
 
 -- ---- Turns
 
-module _ (program : Program) (t : MemoAnalysis) (of : IsAnalysisOf program t) (bounded : IsWorkBounded t program) (text : Text) (is_text : IsText text) (bytes : ReadsAsBytes program text)
+module _ (program : Program) (t : MemoAnalysis) (of : IsAnalysisOf program t) (bounded : IsWorkBounded t program) (text : Text) (is_text : HasRisingPlaceOffsets text) (bytes : ReadsAsBytes program text)
     (less : units text < 2 ^ 63) (d : Direction) (memory : List Key) (first : List Entry) (work : ℕ) (now : List Key) (rest : List Entry) where
   abbrev Come : (work : ℕ) → List Key → List Entry → Type 0
   Come work now row = HasCome program text t d memory first work now row
@@ -166,7 +166,7 @@ module _ (program : Program) (t : MemoAnalysis) (of : IsAnalysisOf program t) (b
 
 -- ---- The beginning
 
-first-keyed : (program : Program) (t : MemoAnalysis) → IsAnalysisOf program t → (text : Text) → IsText text → ReadsAsBytes program text → units text < 2 ^ 63 → (at : ℕ) → at ≤ units text
+first-keyed : (program : Program) (t : MemoAnalysis) → IsAnalysisOf program t → (text : Text) → HasRisingPlaceOffsets text → ReadsAsBytes program text → units text < 2 ^ 63 → (at : ℕ) → at ≤ units text
     → IsKeyed program text t rightwards (state_before_first_insn program at)
 first-keyed program t of text is_text bytes less at inside = record {
   of = record { groups = length-replicate _ _; starts = length-replicate _ _; loops = length-replicate _ _ };
@@ -176,7 +176,7 @@ first-keyed program t of text is_text bytes less at inside = record {
   no_body = refl;
 }
 
-pub searches-are-paid : SearchCostsAreCovered
+pub searches-are-paid : WorkIsCoveredByKeyCosts
 searches-are-paid = record {
   begins = λ program t of text is_text bytes less at inside memory. record {
     comes = at_first;

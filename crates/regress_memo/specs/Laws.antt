@@ -8,11 +8,11 @@ use Rattle.regress_memo_laws.specs.Liveness.{Agree, outermost}
 use Rattle.regress_memo_laws.specs.DistinctLists.{IsIn, IsNew}
 use Rattle.regress_memo_laws.specs.LoopDataKeyCodes.{HasSlotsOfProgram}
 use Rattle.regress_memo_laws.specs.CharLoopMemoKeys.{plan_keys, char_loop_greediness_at, insn_before, CharLoopRecords, run_key}
-use Rattle.regress_memo_laws.specs.MemoPlans.{plan_taken}
+use Rattle.regress_memo_laws.specs.MemoPlanChecksAndGuarantees.{plan_taken}
 use Rattle.regress_memo_laws.specs.MemoSearch.{Key, Keys, KeyStandsFor, Fails, Succeeds, IsMemory}
 use Rattle.regress_memo_analysis.specs.declared.analysis.MemoAnalysis.{MemoAnalysis}
 use Rattle.regress_memo_analysis.specs.AnalysisContents.{liveness_of, key_code_questions_of, insn_direction, recorded}
-use Rattle.regress_memo_analysis.specs.CheckedAnalysis.{HasBit, IsAnalysisOf}
+use Rattle.regress_memo_analysis.specs.CheckedAnalysis.{MemoKeyHasBit, IsAnalysisOf}
 use Rattle.regress_memo.specs.MemoContractView.{MemoView}
 use Rattle.regress_memo.specs.MemoContents.{memo_key_at, has_failure, has_success, knows, IsEmptyMemo, RecordsFailure, RecordsSuccess}
 
@@ -82,13 +82,13 @@ pub record MemosAreSound : Type 0 where
   pub all : (program : Program) (text : Text) (m : MemoView) → IsTrueOf program text m → HasMemory program text m (knows m)
 
 -- The keys of a memo analysis are exactly those that have bits.
-pub record BitsAreKeys : Type 0 where
+pub record AnalysisKeysAreThoseAssignedBits : Type 0 where
   -- A key that stands for threads has a bit.
   pub has_bit : (program : Program) (text : Text) (t : MemoAnalysis) → IsAnalysisOf program t
       → (d : Direction) (k : Key) (ts : List Thread)
-      → KeyStandsFor program text (liveness_of t) (analysis_keys program text t) d k ts → HasBit t (units text + 1) k
+      → KeyStandsFor program text (liveness_of t) (analysis_keys program text t) d k ts → MemoKeyHasBit t (units text + 1) k
   pub inside : (program : Program) (text : Text) (t : MemoAnalysis) → IsAnalysisOf program t
-      → (k : Key) → HasBit t (units text + 1) k → IsIn k (analysis_keys program text t).all
+      → (k : Key) → MemoKeyHasBit t (units text + 1) k → IsIn k (analysis_keys program text t).all
   -- A running thread has a key if its instruction records and is not the body of a char loop.
   pub thread : (program : Program) (text : Text) (t : MemoAnalysis) → IsAnalysisOf program t
       → (d : Direction) (s : State) (k : Key) → memo_key_at t s ≡ Some k → char_loop_greediness_at (insn_before program s.ip) ≡ None

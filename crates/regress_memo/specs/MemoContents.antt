@@ -5,13 +5,13 @@ use Rattle.regress_memo_laws.specs.MemoSearch.{Key}
 use Rattle.regress_memo_laws.specs.LoopDataKeyCodes.{plan_code, key_of}
 use Rattle.regress_memo_analysis.specs.declared.analysis.MemoAnalysis.{MemoAnalysis}
 use Rattle.regress_memo_analysis.specs.AnalysisContents.{insn_analysis_of, key_code_questions_of, bit_of}
-use Rattle.regress_memo.specs.declared.memo.MemoKey.{MemoKey as Stored}
+use Rattle.regress_memo.specs.declared.memo.ThreadMemoKey.{ThreadMemoKey as Stored}
 use Rattle.regress_memo.specs.BitSet.{is_set}
 use Rattle.regress_memo.specs.MemoContractView.{MemoView}
 
 -- ---- Keys
 
--- A `MemoKey` as a key of `regress_memo_laws`.
+-- A `ThreadMemoKey` as a key of `regress_memo_laws`.
 abbrev pub as_key : Stored → Key
 as_key k = record { ip = k.ip; at = k.at; code = k.code }
 
@@ -23,7 +23,7 @@ same_key j k = (j.ip == k.ip) && ((j.at == k.at) && (j.code == k.code))
 abbrev pub memo_key_at : MemoAnalysis → State → Option Key
 memo_key_at t s = if (insn_analysis_of t s.ip).records then Some (key_of (plan_code (key_code_questions_of t)) s) else None
 
--- Whether a key has a bit (the test for `HasBit`).
+-- Whether a key has a bit (the test for `MemoKeyHasBit`).
 abbrev pub has_bit : MemoAnalysis → (places : ℕ) → Key → Bool
 has_bit t places k =
     nat_lt k.ip (length t.lines.items)

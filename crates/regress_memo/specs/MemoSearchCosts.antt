@@ -3,7 +3,7 @@
 use Rattle.std.specs.Prelude.{◌≡◌, ◌≤◌, ◌<◌, ◌^◌, ℕ, ◌+◌, List, ◌∷◌, ◌++◌, [], Some, None}
 use Rattle.regex_meaning.specs.Laws.{Each}
 use Rattle.regex_meaning.specs.Text.{Text, Direction, rightwards}
-use Rattle.regex_meaning.specs.CodeUnitOffsets.{IsText, units}
+use Rattle.regex_meaning.specs.CodeUnitOffsets.{HasRisingPlaceOffsets, units}
 use Rattle.regex_meaning.specs.CompilationRelation.{Program}
 use Rattle.regress_machine.specs.Machine.{State, Thread, running, waiting, goes, act}
 use Rattle.regress_memo_laws.specs.Liveness.{Agree, outermost, ReadsAsBytes}
@@ -64,12 +64,12 @@ module _ (program : Program) (text : Text) (t : MemoAnalysis) (d : Direction) wh
 -- ---- Laws
 
 -- Each attempt begins with the initial thread, and each unit of work is covered.
-pub record SearchCostsAreCovered : Type 0 where
+pub record WorkIsCoveredByKeyCosts : Type 0 where
   pub begins : (program : Program) (t : MemoAnalysis) → IsAnalysisOf program t
-      → (text : Text) → IsText text → ReadsAsBytes program text → units text < 2 ^ 63
+      → (text : Text) → HasRisingPlaceOffsets text → ReadsAsBytes program text → units text < 2 ^ 63
       → (at : ℕ) → at ≤ units text → (memory : List Key)
       → HasCome program text t rightwards memory (tries (first_row program at)) 0 memory (tries (first_row program at))
   pub comes_on : (program : Program) (t : MemoAnalysis) → IsAnalysisOf program t → IsWorkBounded t program
-      → (text : Text) → IsText text → ReadsAsBytes program text → units text < 2 ^ 63
+      → (text : Text) → HasRisingPlaceOffsets text → ReadsAsBytes program text → units text < 2 ^ 63
       → (d : Direction) (memory : List Key) (first : List Entry) (work : ℕ) (now : List Key) (rest : List Entry)
       → ComesOn program text t d memory first work now rest

@@ -1,6 +1,6 @@
 //! Laws of memo tables.
 
-ghost use Rattle.regress_memo.specs.{Laws.{RecordingAddsKnownKeys, MemosAreSound, BitsAreKeys}, MemoSearchCosts.{SearchCostsAreCovered}};
+ghost use Rattle.regress_memo.specs.{Laws.{RecordingAddsKnownKeys, MemosAreSound, AnalysisKeysAreThoseAssignedBits}, MemoSearchCosts.{WorkIsCoveredByKeyCosts}};
 
 /// The contents of a memo table are a list of keys, and recording a key adds it to that list.
 pub fn recording_adds_known_keys()
@@ -16,11 +16,11 @@ pub fn memos_are_sound()
 /// Each memo key has a bit, and the keys that have bits are exactly those that may be remembered. A
 /// thread at an instruction that records has such a key.
 pub fn bits_are_keys()
-    ensures { BitsAreKeys }
+    ensures { AnalysisKeysAreThoseAssignedBits }
 {}
 
 /// If the memo analysis is bounded, each thread of a search has a key where its instruction
 /// records. The cost of each step, each backtrack and each record that is reached is covered.
 pub fn search_costs_are_covered()
-    ensures { SearchCostsAreCovered }
+    ensures { WorkIsCoveredByKeyCosts }
 {}

@@ -3,20 +3,20 @@
 ghost use Rattle.std.specs.Prelude.{◌≡◌, ◌≤◌, ◌<◌, ◌*◌, ◌^◌, ◌↔◌, true, option_map, IfOk, IfSome, IsTrue, MatchOption};
 ghost use Rattle.std.specs.Arc.{arc_value};
 ghost use Rattle.regress_machine.specs.Machine.{State};
-ghost use Rattle.regress_memo_analysis.specs.{AnalysisContents.{bit_of as bit_of_key}, CheckedAnalysis.{HasKeyCodes, HasBit}};
+ghost use Rattle.regress_memo_analysis.specs.{AnalysisContents.{bit_of as bit_of_key}, CheckedAnalysis.{AreCodesCountedAndDisjoint, MemoKeyHasBit}};
 ghost use Rattle.regress_memo.specs.MemoContents.{as_key, memo_key_at as key_of_state, has_failure, has_success, IsEmptyMemo, RecordsFailure, RecordsSuccess};
 ghost use Rattle.regress_memo.specs.MemoContractView.{MemoView, HasRoom};
 
 use crate::bit_set::Bits;
 use regress_memo_analysis::analysis::MemoAnalysis;
-use regress_memo_analysis::key_codes::LoopStates;
+use regress_memo_analysis::key_codes::IterationStatesOfAllLoops;
 use std::alloc::{AllocError, Global};
 use std::marker::Model;
 use std::sync::Arc;
 
 /// The memo key of a thread: its instruction, its offset, and a code for the states of its loops.
 #[derive(Clone, Copy)]
-pub struct MemoKey {
+pub struct ThreadMemoKey {
     pub ip: usize,
     pub at: usize,
     pub code: usize,
@@ -60,7 +60,7 @@ impl MemoTable {
         places: usize,
         records_successes: bool,
     ) -> Result<Option<MemoTable>, AllocError>
-        requires { HasKeyCodes memo_analysis }
+        requires { AreCodesCountedAndDisjoint memo_analysis }
         ensures { IfOk result (λ found. MatchOption found (2 ^ 64 ≤ memo_analysis.codes * places)
             (IsEmptyMemo memo_analysis places records_successes)) }
     {
@@ -79,7 +79,7 @@ impl MemoTable {
         places: usize,
         records_successes: bool,
     ) -> Result<Option<MemoTable>, AllocError>
-        requires { HasKeyCodes (arc_value memo_analysis) }
+        requires { AreCodesCountedAndDisjoint (arc_value memo_analysis) }
         ensures { IfOk result (λ found. MatchOption found (2 ^ 64 ≤ (arc_value memo_analysis).codes * places)
             (IsEmptyMemo (arc_value memo_analysis) places records_successes)) }
     {
@@ -116,13 +116,18 @@ impl MemoTable {
     /// Returns the key of a thread at an instruction and an offset with these loop states, or
     /// `None` if the instruction does not record.
     #[inline(always)]
-    pub fn key_at<R: LoopStates>(&self, ip: usize, at: usize, rounds: &R) -> Option<MemoKey>
+    pub fn key_at<R: IterationStatesOfAllLoops>(
+        &self,
+        ip: usize,
+        at: usize,
+        rounds: &R,
+    ) -> Option<ThreadMemoKey>
         ensures key { (s : State) → s.ip ≡ ip → s.pos ≡ at → s.loops ≡ R.rounds rounds.now
             → option_map as_key result ≡ key_of_state self.now.memo_analysis s }
         ensures bit { at < self.now.places
-            → IfSome result (λ key. HasBit self.now.memo_analysis self.now.places (as_key key)) }
+            → IfSome result (λ key. MemoKeyHasBit self.now.memo_analysis self.now.places (as_key key)) }
     {
-        let line = self.memo_analysis.line(ip);
+        let line = self.memo_analysis.insn_analysis_at(ip);
         if !line.records {
             return None;
         }
@@ -131,15 +136,15 @@ impl MemoTable {
         } else {
             self.memo_analysis.code_at(ip, at, rounds)
         };
-        Some(MemoKey { ip, at, code })
+        Some(ThreadMemoKey { ip, at, code })
     }
 
     /// Checks whether the key exists: its instruction records, and its offset and its code are in
     /// range.
-    pub fn has(&self, key: MemoKey) -> bool
-        ensures { IsTrue result ↔ HasBit self.now.memo_analysis self.now.places (as_key key) }
+    pub fn has(&self, key: ThreadMemoKey) -> bool
+        ensures { IsTrue result ↔ MemoKeyHasBit self.now.memo_analysis self.now.places (as_key key) }
     {
-        let line = self.memo_analysis.line(key.ip);
+        let line = self.memo_analysis.insn_analysis_at(key.ip);
         key.ip < self.memo_analysis.lines.len()
             && line.records
             && key.at < self.places
@@ -148,8 +153,8 @@ impl MemoTable {
 
     /// Checks whether the key is known to fail.
     #[inline(always)]
-    pub fn fails(&self, key: MemoKey) -> bool
-        requires { HasBit self.now.memo_analysis self.now.places (as_key key) }
+    pub fn fails(&self, key: ThreadMemoKey) -> bool
+        requires { MemoKeyHasBit self.now.memo_analysis self.now.places (as_key key) }
         ensures { result ≡ has_failure self.now (as_key key) }
     {
         let bit = bit_of(&self.memo_analysis, self.places, key);
@@ -158,8 +163,8 @@ impl MemoTable {
 
     /// Checks whether the key is known to reach an end.
     #[inline(always)]
-    pub fn reaches(&self, key: MemoKey) -> bool
-        requires { HasBit self.now.memo_analysis self.now.places (as_key key) }
+    pub fn is_known_to_reach_end(&self, key: ThreadMemoKey) -> bool
+        requires { MemoKeyHasBit self.now.memo_analysis self.now.places (as_key key) }
         ensures { result ≡ has_success self.now (as_key key) }
     {
         let bit = bit_of(&self.memo_analysis, self.places, key);
@@ -168,8 +173,8 @@ impl MemoTable {
 
     /// Records that the key fails.
     #[inline(always)]
-    pub fn record_failure(&mut self, key: MemoKey)
-        requires { HasBit self.old.memo_analysis self.old.places (as_key key) }
+    pub fn record_failure(&mut self, key: ThreadMemoKey)
+        requires { MemoKeyHasBit self.old.memo_analysis self.old.places (as_key key) }
         ensures { RecordsFailure (as_key key) self.old self.new }
     {
         let bit = bit_of(&self.memo_analysis, self.places, key);
@@ -178,9 +183,9 @@ impl MemoTable {
 
     /// Records that the key reaches an end.
     #[inline(always)]
-    pub fn record_success(&mut self, key: MemoKey)
+    pub fn record_success(&mut self, key: ThreadMemoKey)
         requires wanted { self.old.records_successes ≡ true }
-        requires key { HasBit self.old.memo_analysis self.old.places (as_key key) }
+        requires key { MemoKeyHasBit self.old.memo_analysis self.old.places (as_key key) }
         ensures { RecordsSuccess (as_key key) self.old self.new }
     {
         let bit = bit_of(&self.memo_analysis, self.places, key);
@@ -190,9 +195,9 @@ impl MemoTable {
 
 // Returns the index of a key's bit.
 #[inline(always)]
-fn bit_of(memo_analysis: &MemoAnalysis, places: usize, key: MemoKey) -> usize
-    requires coded { HasKeyCodes memo_analysis.now }
-    requires key { HasBit memo_analysis.now places (as_key key) }
+fn bit_of(memo_analysis: &MemoAnalysis, places: usize, key: ThreadMemoKey) -> usize
+    requires coded { AreCodesCountedAndDisjoint memo_analysis.now }
+    requires key { MemoKeyHasBit memo_analysis.now places (as_key key) }
     requires fits { memo_analysis.now.codes * places < 2 ^ 64 }
     ensures bit { result ≡ bit_of_key memo_analysis.now places key.ip key.at key.code }
     ensures below { result < memo_analysis.now.codes * places }

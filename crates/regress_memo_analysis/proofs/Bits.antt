@@ -9,9 +9,9 @@ use Rattle.regress_memo_laws.proofs.Codes.{digits-same}
 use Rattle.regress_memo_analysis.specs.declared.analysis.InsnAnalysis.{InsnAnalysis}
 use Rattle.regress_memo_analysis.specs.declared.analysis.MemoAnalysis.{MemoAnalysis}
 use Rattle.regress_memo_analysis.specs.AnalysisContents.{insn_analysis_of, code_base_of, code_width_of, bit_of}
-use Rattle.regress_memo_analysis.specs.CheckedAnalysis.{HasKeyCodes, HasBit, KeysHaveDistinctBits}
+use Rattle.regress_memo_analysis.specs.CheckedAnalysis.{AreCodesCountedAndDisjoint, MemoKeyHasBit, KeysHaveDistinctBits}
 
-module _ (t : MemoAnalysis) (coded : HasKeyCodes t) where
+module _ (t : MemoAnalysis) (coded : AreCodesCountedAndDisjoint t) where
   bases-below : (n ip : ℕ) → ip + n ≡ length t.lines.items → code_base_of t ip ≤ t.codes
   bases-below zero ip e =
       let past : nat_lt ip (length t.lines.items) ≡ false = le-ltb ip (length t.lines.items) (omega (arith, e)) in
@@ -33,7 +33,7 @@ module _ (t : MemoAnalysis) (coded : HasKeyCodes t) where
       let here = coded.apart (ip + n + 1) (omega (arith, less)) in
       omega (arith, before, here, same)
 
-  module _ (places : ℕ) (k : Key) (has : HasBit t places k) where
+  module _ (places : ℕ) (k : Key) (has : MemoKeyHasBit t places k) where
     width-is : code_width_of t k.ip ≡ (insn_analysis_of t k.ip).codes
     width-is = ap (λ b. if b then (insn_analysis_of t k.ip).codes else 0) has.records
 
@@ -73,7 +73,7 @@ module _ (t : MemoAnalysis) (coded : HasKeyCodes t) where
         omega (arith, base, row, fits)
 
   -- a key at an earlier instruction has an earlier bit
-  earlier : (places : ℕ) (j k : Key) → HasBit t places j → HasBit t places k → j.ip < k.ip
+  earlier : (places : ℕ) (j k : Key) → MemoKeyHasBit t places j → MemoKeyHasBit t places k → j.ip < k.ip
       → bit_of t places j.ip j.at j.code < bit_of t places k.ip k.at k.code
   earlier places j k has_j has_k less =
       let n : ℕ = k.ip - (j.ip + 1) in
@@ -83,7 +83,7 @@ module _ (t : MemoAnalysis) (coded : HasKeyCodes t) where
       let inside = within places j has_j (code_base_of t k.ip) (omega (arith, rise, same)) in
       omega (arith, inside)
 
-  same-key : (places : ℕ) (j k : Key) → HasBit t places j → HasBit t places k → j.ip ≡ k.ip
+  same-key : (places : ℕ) (j k : Key) → MemoKeyHasBit t places j → MemoKeyHasBit t places k → j.ip ≡ k.ip
       → bit_of t places j.ip j.at j.code ≡ bit_of t places k.ip k.at k.code → j ≡ k
   same-key places j k has_j has_k is e =
       let code : j.code < (insn_analysis_of t k.ip).codes = subst (λ i. j.code < (insn_analysis_of t i).codes) is has_j.code in
@@ -93,7 +93,7 @@ module _ (t : MemoAnalysis) (coded : HasKeyCodes t) where
       let make : ℕ → ℕ → ℕ → Key = λ i a c. record { ip = i; at = a; code = c } in
       ap (λ i. make i j.at j.code) is ∙ ap (λ a. make k.ip a j.code) both.1 ∙ ap (λ c. make k.ip k.at c) both.0
 
-pub bits-apart : (t : MemoAnalysis) → HasKeyCodes t → (places : ℕ) (j k : Key) → HasBit t places j → HasBit t places k
+pub bits-apart : (t : MemoAnalysis) → AreCodesCountedAndDisjoint t → (places : ℕ) (j k : Key) → MemoKeyHasBit t places j → MemoKeyHasBit t places k
     → bit_of t places j.ip j.at j.code ≡ bit_of t places k.ip k.at k.code → j ≡ k
 bits-apart t coded places j k has_j has_k e = elim (cases_lt j.ip k.ip) [
   | inl less ↦ let before = earlier t coded places j k has_j has_k less in absurd (omega (arith, before, e))

@@ -17,16 +17,16 @@ use Rattle.regress_machine.specs.Machine.{running}
 use Rattle.regress_memo_laws.specs.AllSearchesWorkBudget.{price_at_one, enough_for_one}
 use Rattle.regress_memo_laws.specs.LoopDataKeyCodes.{plan_codes}
 use Rattle.regress_memo_laws.specs.AmortizedStepCosts.{potential_by}
-use Rattle.regress_memo_laws.specs.MemoPlans.{plan_taken}
+use Rattle.regress_memo_laws.specs.MemoPlanChecksAndGuarantees.{plan_taken}
 use Rattle.regress_memo_laws.specs.MemoSearch.{tried}
 use Rattle.regress_memo_laws.proofs.Budget.{budgets-enough}
 use Rattle.regress_memo_laws.proofs.Paid.{one-weighs}
 use Rattle.regress_memo_analysis.specs.declared.analysis.MemoAnalysis.{MemoAnalysis}
 use Rattle.regress_memo_analysis.specs.declared.analysis.InsnAnalysis.{InsnAnalysis}
 use Rattle.regress_memo_analysis.specs.AnalysisContents.{no_insn_analysis, insn_analysis_of, liveness_of, key_code_questions_of, recorded_from, recorded, potentials_of, key_cost_of, insn_direction}
-use Rattle.regress_memo_analysis.specs.CheckedAnalysis.{HasKeyCodes}
+use Rattle.regress_memo_analysis.specs.CheckedAnalysis.{AreCodesCountedAndDisjoint}
 use Rattle.regress_memo_analysis.specs.AnalysisChecks.{unlimited}
-use Rattle.regress_memo_analysis.specs.Successors.{HasInsns, successors_in}
+use Rattle.regress_memo_analysis.specs.Successors.{AreInsnsOfProgram, successors_in}
 use Rattle.regress_memo_analysis.specs.WorkBound.{LookIsBounded, InsnIsBounded, IsStepWorkBounded, insn_key_cost, cost_of_all_keys, work_per_position, first_row}
 use Rattle.regress_memo_analysis.specs.WorkBound.{AnalysesBoundTotalWork}
 use Rattle.regress_memo_analysis.proofs.WholeLemmas.{ledgers-serve}
@@ -64,7 +64,7 @@ inside [] i x e = absurd (nothing i x e)
 inside (y ∷ lines) zero x e = omega arith
 inside (y ∷ lines) (suc i) x e = let l = inside lines i x e in omega (arith, l)
 
-module _ (t : MemoAnalysis) (coded : HasKeyCodes t) where
+module _ (t : MemoAnalysis) (coded : AreCodesCountedAndDisjoint t) where
   abbrev cost : ℕ → ℕ
   cost ip = key_cost_of t ip * plan_codes (key_code_questions_of t) ip
 
@@ -152,7 +152,7 @@ module _ (t : MemoAnalysis) where
       no-look e = cc
   bounded-insn x ip h = record { look = λ l e. cc; lazy = λ least e. cc }
 
-  pub bounded-all : (program : Program) (insns : List declared.Insn) → HasInsns program insns
+  pub bounded-all : (program : Program) (insns : List declared.Insn) → AreInsnsOfProgram program insns
       → ((ip : ℕ) → ip < length insns → IsStepWorkBounded t (successors_in ip (slice_get (map spec_insn_of insns) ip)) ip)
       → (ip : ℕ) → InsnIsBounded t (slice_get program.insns ip) ip
   bounded-all program insns has each ip =

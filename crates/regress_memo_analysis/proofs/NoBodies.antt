@@ -18,8 +18,8 @@ use Rattle.regress_memo_laws.proofs.Weights.{turns-weighed}
 use Rattle.regress_memo_analysis.specs.declared.analysis.MemoAnalysis.{MemoAnalysis}
 use Rattle.regress_memo_analysis.specs.declared.successors.Successors.{Successors}
 use Rattle.regress_memo_analysis.specs.declared.successors.Successors.TheVariants.{Ends, One, Two, Enter, Again, Run, Look, Same}
-use Rattle.regress_memo_analysis.specs.UnreachedCharLoopBodies.{are_char_loop_successors, IsNotLoopBody, EntersPastBodies, FlowsPastBodies, BodiesAreUnreached}
-use Rattle.regress_memo_analysis.specs.Successors.{HasInsns, successors_in}
+use Rattle.regress_memo_analysis.specs.UnreachedCharLoopBodies.{are_char_loop_successors, IsNotLoopBody, EntersPastBodies, FlowsPastBodies, CharLoopBodiesAreUnreached}
+use Rattle.regress_memo_analysis.specs.Successors.{AreInsnsOfProgram, successors_in}
 use Rattle.regress_memo_analysis.specs.AnalysisChecks.{IsConsistentAt}
 use Rattle.regress_memo_analysis.specs.CheckedAnalysis.{IsAnalysisOf, ip_of}
 use Rattle.regress_memo_analysis.proofs.StepLemmas.{EnoughBy, has-enough}
@@ -31,7 +31,7 @@ no-run (Some (Loop1CharBody least most greedy)) ip e = cc
 no-run _ ip e = refl
 
 -- an instruction behind no run, or the first one
-pub no-body : (program : Program) (insns : List declared.Insn) (ip : ℕ) → HasInsns program insns → 0 < ip
+pub no-body : (program : Program) (insns : List declared.Insn) (ip : ℕ) → AreInsnsOfProgram program insns → 0 < ip
     → are_char_loop_successors (successors_in (ip - 1) (slice_get (map spec_insn_of insns) (ip - 1))) ≡ false → IsNotLoopBody program ip
 no-body program insns zero has some e = absurd (omega (arith, some))
 no-body program insns (suc ip) has some e =
@@ -40,7 +40,7 @@ no-body program insns (suc ip) has some e =
     (ap (λ xs. are_char_loop_successors (successors_in ip (slice_get xs ip))) has ∙ subst (λ k. are_char_loop_successors (successors_in k (slice_get (map spec_insn_of insns) k)) ≡ false) at e)
 
 -- an instruction that there is not leads nowhere
-pub past-all : (program : Program) (insns : List declared.Insn) → HasInsns program insns
+pub past-all : (program : Program) (insns : List declared.Insn) → AreInsnsOfProgram program insns
     → ((k : ℕ) → k < length insns → FlowsPastBodies program (successors_in k (slice_get program.insns k)) k)
     → (ip : ℕ) → FlowsPastBodies program (successors_in ip (slice_get program.insns ip)) ip
 past-all program insns has each ip = elim (cases_lt ip (length insns)) [
@@ -106,6 +106,6 @@ module _ (program : Program) where
       let sum = sum_by-cons (potential_of (bodies-weigh program)) (waiting s) ts in
       (light-body (char_loop_greediness_at (insn_before program s.ip)) (omega (arith, le, sum)), light ts (omega (arith, le, sum)))
 
-pub bodies-apart : BodiesAreUnreached
+pub bodies-apart : CharLoopBodiesAreUnreached
 bodies-apart program t of past text d s ts turn =
     light program ts (turns-weighed.weighed program text (bodies-weigh program) (all-enough program t of past) d s ts turn)

@@ -11,7 +11,7 @@ use Rattle.regress_memo_analysis.specs.declared.analysis.InsnAnalysis.{InsnAnaly
 use Rattle.regress_memo_analysis.specs.declared.analysis.MemoAnalysis.{MemoAnalysis}
 use Rattle.regress_memo_analysis.specs.declared.analysis.LoopFact.{LoopFact}
 use Rattle.regress_memo_analysis.specs.declared.analysis.LoopFact.TheVariants.{Inside, Moved, Empty}
-use Rattle.regress_memo_analysis.specs.AnalysisContents.{insn_analysis_of, enclosing_loops_of, entry_states_fact, states_loop_fact, knows_or_distinguishes_reads, preserves_groups}
+use Rattle.regress_memo_analysis.specs.AnalysisContents.{insn_analysis_of, enclosing_loops_of, enclosing_loop_entry_has_fact, states_loop_fact, iteration_read_known_or_distinguished, groups_stay_unchanged_from}
 use Rattle.regress_memo_analysis.specs.AnalysisChecks.{is_entered, LoopFactsFlow, AllLoopFactsFlow, IsConsistentFlow}
 
 or-left : (a b : Bool) → a ≡ true → (a || b) ≡ true
@@ -24,18 +24,18 @@ or-right false b e = e
 
 -- ---- One of them says it
 
-pub holds-there : (said : LoopFact) (l : ℕ) (rows : List EnclosingLoop) (k : ℕ) (r : EnclosingLoop) → slice_get rows k ≡ Some r → r.id ≡ l → entry_states_fact said r ≡ true
+pub holds-there : (said : LoopFact) (l : ℕ) (rows : List EnclosingLoop) (k : ℕ) (r : EnclosingLoop) → slice_get rows k ≡ Some r → r.id ≡ l → enclosing_loop_entry_has_fact said r ≡ true
     → states_loop_fact said l rows ≡ true
 holds-there said l [] k r there is h = cc
 holds-there said l (x ∷ rows) zero r there is h =
     let same : x ≡ r = cc in
-    or-left ((x.id == l) && entry_states_fact said x) (states_loop_fact said l rows)
-    (subst (λ (y : EnclosingLoop). ((y.id == l) && entry_states_fact said y) ≡ true) (sym same) (ap (λ b. b && entry_states_fact said r) (eq-eqb r.id l is) ∙ h))
+    or-left ((x.id == l) && enclosing_loop_entry_has_fact said x) (states_loop_fact said l rows)
+    (subst (λ (y : EnclosingLoop). ((y.id == l) && enclosing_loop_entry_has_fact said y) ≡ true) (sym same) (ap (λ b. b && enclosing_loop_entry_has_fact said r) (eq-eqb r.id l is) ∙ h))
 holds-there said l (x ∷ rows) (suc k) r there is h =
-    or-right ((x.id == l) && entry_states_fact said x) (states_loop_fact said l rows) (holds-there said l rows k r there is h)
+    or-right ((x.id == l) && enclosing_loop_entry_has_fact said x) (states_loop_fact said l rows) (holds-there said l rows k r there is h)
 
 pub holds-more : (said : LoopFact) (l : ℕ) (r : EnclosingLoop) (rows : List EnclosingLoop) → states_loop_fact said l rows ≡ true → states_loop_fact said l (r ∷ rows) ≡ true
-holds-more said l r rows h = or-right ((r.id == l) && entry_states_fact said r) (states_loop_fact said l rows) h
+holds-more said l r rows h = or-right ((r.id == l) && enclosing_loop_entry_has_fact said r) (states_loop_fact said l rows) h
 
 -- the row that does
 pub record Says (said : LoopFact) (l : ℕ) (rows : List EnclosingLoop) : Type 0 where
@@ -43,15 +43,15 @@ pub record Says (said : LoopFact) (l : ℕ) (rows : List EnclosingLoop) : Type 0
   pub row : EnclosingLoop
   pub there : slice_get rows k ≡ Some row
   pub is : row.id ≡ l
-  pub says_it : entry_states_fact said row ≡ true
+  pub says_it : enclosing_loop_entry_has_fact said row ≡ true
 
 pub holds-in : (said : LoopFact) (l : ℕ) (rows : List EnclosingLoop) → states_loop_fact said l rows ≡ true → Says said l rows
 holds-in said l [] h = cc
-holds-in said l (x ∷ rows) h = by (λ k. holds-in said l rows k) ((x.id == l) && entry_states_fact said x) refl
+holds-in said l (x ∷ rows) h = by (λ k. holds-in said l rows k) ((x.id == l) && enclosing_loop_entry_has_fact said x) refl
   where
-    by : (states_loop_fact said l rows ≡ true → Says said l rows) → (b : Bool) → ((x.id == l) && entry_states_fact said x) ≡ b → Says said l (x ∷ rows)
+    by : (states_loop_fact said l rows ≡ true → Says said l rows) → (b : Bool) → ((x.id == l) && enclosing_loop_entry_has_fact said x) ≡ b → Says said l (x ∷ rows)
     by on true e =
-        let both = and_parts (x.id == l) (entry_states_fact said x) e in
+        let both = and_parts (x.id == l) (enclosing_loop_entry_has_fact said x) e in
         record { k = 0; row = x; there = refl; is = eqb-true x.id l both.0; says_it = both.1 }
     by on false e =
         let rest : states_loop_fact said l rows ≡ true = sym (ap (λ b. b || states_loop_fact said l rows) e) ∙ h in
@@ -102,7 +102,7 @@ module _ (t : MemoAnalysis) (reads : Bool) (entered : Option ℕ) (ip next : ℕ
       cc
 
   pub leads-on : (insn_analysis_of t ip).from ≤ (insn_analysis_of t next).from → (insn_analysis_of t ip).forward ≡ (insn_analysis_of t next).forward
-      → (preserves_groups t ip ≡ true → preserves_groups t next ≡ true) → IsConsistentFlow t reads entered ip next
+      → (groups_stay_unchanged_from t ip ≡ true → groups_stay_unchanged_from t next ≡ true) → IsConsistentFlow t reads entered ip next
   leads-on from forward silent = record {
     account = record {
       start = λ id h b. cc;
@@ -116,7 +116,7 @@ module _ (t : MemoAnalysis) (reads : Bool) (entered : Option ℕ) (ip next : ℕ
           ((at-row Moved l found).moved (not-entered l found.row.id found.is e) r found.says_it);
       empty = λ l h e r.
           let found = holds-in Empty l (enclosing_loops_of t next) h in
-          subst (λ i. knows_or_distinguishes_reads i (enclosing_loops_of t ip) ≡ true) found.is
+          subst (λ i. iteration_read_known_or_distinguished i (enclosing_loops_of t ip) ≡ true) found.is
           ((at-row Empty l found).empty (not-entered l found.row.id found.is e) r found.says_it);
       fresh = λ l h. fresh l h (states_loop_fact Moved l (enclosing_loops_of t next)) refl;
       writes = λ l h. below-from (insn_analysis_of t ip).from (insn_analysis_of t next).from l from h;

@@ -8,7 +8,7 @@ use Rattle.regress_memo_analysis.specs.declared.analysis.EnclosingLoop.{Enclosin
 use Rattle.regress_memo_analysis.specs.declared.analysis.MemoAnalysis.{MemoAnalysis}
 use Rattle.regress_memo_analysis.specs.declared.analysis.LoopFact.TheVariants.{Inside, Moved}
 use Rattle.regress_memo_analysis.specs.AnalysisContents.{insn_analysis_of, enclosing_loops_of, states_loop_fact, count_bound_of, liveness_of, insn_direction}
-use Rattle.regress_memo_analysis.specs.LoopStateCheck.{direction_from_forward, IsAtMost, IsSoundEntryLoopState}
+use Rattle.regress_memo_analysis.specs.LoopStateReachabilityCheck.{direction_from_forward, IsAtMost, IsSoundEnclosingLoopState}
 use Rattle.regress_memo_analysis.proofs.Rows.{holds-there, holds-in}
 
 -- ---- Iterations
@@ -32,7 +32,7 @@ at-most false up_to d top x all few = few refl
 module _ (t : MemoAnalysis) (top : ℕ) where
   abbrev pub AreSoundRows : (ip at : ℕ) → List LoopData → Direction → Type 0
   AreSoundRows ip at loops d = (k : ℕ) (row : EnclosingLoop) → slice_get (enclosing_loops_of t ip) k ≡ Some row
-      → IsSoundEntryLoopState t d top at (slice_get loops row.id) row
+      → IsSoundEnclosingLoopState t d top at (slice_get loops row.id) row
 
   module _ (s : State) (d : Direction) where
     loop-sound : AreSoundRows s.ip s.pos s.loops d → (l : ℕ) (x : LoopData) → states_loop_fact Inside l (enclosing_loops_of t s.ip) ≡ true
@@ -88,5 +88,5 @@ module _ (t : MemoAnalysis) (top : ℕ) where
 
     -- that of a row at hand
     pub sound-row-there : (rows : List EnclosingLoop) → rows ≡ enclosing_loops_of t ip → IsSoundState (liveness_of t) top (insn_direction t ip) s → (k : ℕ) (row : EnclosingLoop)
-        → slice_get rows k ≡ Some row → IsSoundEntryLoopState t (direction_from_forward forward) top at (slice_get loops row.id) row
+        → slice_get rows k ≡ Some row → IsSoundEnclosingLoopState t (direction_from_forward forward) top at (slice_get loops row.id) row
     sound-row-there rows same sound k row there = sound-rows sound k row (ap (λ xs. slice_get xs k) (sym same) ∙ there)

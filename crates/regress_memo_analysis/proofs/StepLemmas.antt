@@ -16,12 +16,12 @@ use Rattle.regress_memo_analysis.specs.declared.analysis.LoopFact.TheVariants.{I
 use Rattle.regress_memo_analysis.specs.declared.successors.Look as look
 use Rattle.regress_memo_analysis.specs.declared.successors.Successors.{Successors}
 use Rattle.regress_memo_analysis.specs.declared.successors.Successors.TheVariants.{Ends, One, Two, Enter, Again, Run, Look, Same}
-use Rattle.regress_memo_analysis.specs.AnalysisContents.{insn_analysis_of, enclosing_loops_of, states_loop_fact, liveness_of, potentials_of, preserves_groups, insn_direction}
-use Rattle.regress_memo_analysis.specs.Successors.{HasInsns, successors_in}
+use Rattle.regress_memo_analysis.specs.AnalysisContents.{insn_analysis_of, enclosing_loops_of, states_loop_fact, liveness_of, potentials_of, groups_stay_unchanged_from, insn_direction}
+use Rattle.regress_memo_analysis.specs.Successors.{AreInsnsOfProgram, successors_in}
 use Rattle.regress_memo_analysis.specs.AnalysisChecks.{MayBeginIteration, MayRepeatLoopAt, IsolatesLookaround, IsConsistentAt, IsCoveredAt}
 use Rattle.regress_memo_analysis.proofs.Rows.{holds-in, below-from}
 
-pub at-step : (P : Successors → Type 0) (program : Program) (insns : List declared.Insn) (ip : ℕ) (s : Successors) → HasInsns program insns
+pub at-step : (P : Successors → Type 0) (program : Program) (insns : List declared.Insn) (ip : ℕ) (s : Successors) → AreInsnsOfProgram program insns
     → s ≡ successors_in ip (slice_get (map spec_insn_of insns) ip) → P s → P (successors_in ip (slice_get program.insns ip))
 at-step P program insns ip s has is p =
     let e : s ≡ successors_in ip (slice_get program.insns ip) = is ∙ ap (λ xs. successors_in ip (slice_get xs ip)) (sym has) in
@@ -42,9 +42,9 @@ module _ (t : MemoAnalysis) (program : Program) where
     repeated : (x : Option Insn) (ip begin : ℕ) → MayRepeatLoopAt t x ip begin → IsRepeated (liveness_of t) top x ip begin
     repeated (Some (EnterLoop f)) ip begin h = record {
       enters = enters f ip begin h.begins;
-      inside = h.round.inside;
-      empty = h.round.empty;
-      decides = h.round.decides top less;
+      inside = h.loop_iteration_state.inside;
+      empty = h.loop_iteration_state.empty;
+      decides = h.loop_iteration_state.decides top less;
     }
     repeated _ ip begin h = tt
 
@@ -120,12 +120,12 @@ module _ (t : MemoAnalysis) (program : Program) where
 
   -- ---- Groups
 
-  silent-again : (x : Option Insn) (ip begin : ℕ) → MayRepeatLoopAt t x ip begin → preserves_groups t ip ≡ true → IsSilentAgain (preserves_groups t) x begin
+  silent-again : (x : Option Insn) (ip begin : ℕ) → MayRepeatLoopAt t x ip begin → groups_stay_unchanged_from t ip ≡ true → IsSilentAgain (groups_stay_unchanged_from t) x begin
   silent-again (Some (EnterLoop f)) ip begin h s = (h.begins.again.silent s, h.begins.leave.silent s)
   silent-again _ ip begin h s = tt
 
-  pub silent-at : (x : Option Insn) (ip : ℕ) → IsConsistentAt t program (successors_in ip x) ip → preserves_groups t ip ≡ true
-      → IsSilentAt (preserves_groups t) program x ip
+  pub silent-at : (x : Option Insn) (ip : ℕ) → IsConsistentAt t program (successors_in ip x) ip → groups_stay_unchanged_from t ip ≡ true
+      → IsSilentAt (groups_stay_unchanged_from t) program x ip
   silent-at None ip h s = tt
   silent-at (Some Goal) ip h s = tt
   silent-at (Some JustFail) ip h s = tt
@@ -145,7 +145,7 @@ module _ (t : MemoAnalysis) (program : Program) where
 
   pub record LookIsRight (l : behind.LookaroundInsn) (ip : ℕ) : Type 0 where
     pub way : insn_direction t (ip + 1) ≡ l.inner
-    pub quiet : l.negate ≡ false → preserves_groups t (ip + 1) ≡ true
+    pub quiet : l.negate ≡ false → groups_stay_unchanged_from t (ip + 1) ≡ true
 
   pub look-right : (x : Option Insn) (l : behind.LookaroundInsn) (ip : ℕ) → lookaround_at x ≡ Some l → IsConsistentAt t program (successors_in ip x) ip → LookIsRight l ip
   look-right (Some (Lookahead negate start_group end_group continuation)) l ip e h =

@@ -12,7 +12,7 @@ use Rattle.regress_plan.specs.InsnsAsSpecInsns.{spec_insn_of}
 use Rattle.regress_plan.specs.declared.insn.Insn as declared
 use Rattle.regress_memo_laws.specs.LoopDataKeyCodes.{Question, is_empty, how_many, codes_of, plan_codes}
 use Rattle.regress_memo_laws.specs.DistinctLists.{IsIn}
-use Rattle.regress_memo_laws.specs.MemoPlans.{IsPlan, plan_taken}
+use Rattle.regress_memo_laws.specs.MemoPlanChecksAndGuarantees.{IsPlan, plan_taken}
 use Rattle.regress_memo_laws.proofs.Plans.{plans-serve}
 use Rattle.regress_memo_laws.specs.ThreadPotentials.{is_one_of}
 use Rattle.regress_memo_analysis.specs.declared.analysis.EnclosingLoop.{EnclosingLoop}
@@ -21,7 +21,7 @@ use Rattle.regress_memo_analysis.specs.declared.analysis.MemoAnalysis.{MemoAnaly
 use Rattle.regress_memo_analysis.specs.declared.analysis.LoopFact.TheVariants.{Inside, Empty}
 use Rattle.regress_memo_analysis.specs.AnalysisContents.{no_insn_analysis, insn_analysis_of, rows_in, enclosing_loops_of, states_loop_fact, count_bound_of, liveness_of, with_count, questions_on, key_code_questions_of}
 use Rattle.regress_memo_analysis.specs.AnalysisContents.{recorded_from, recorded, insn_direction}
-use Rattle.regress_memo_analysis.specs.Successors.{HasInsns, successors_in}
+use Rattle.regress_memo_analysis.specs.Successors.{AreInsnsOfProgram, successors_in}
 use Rattle.regress_memo_analysis.specs.AnalysisChecks.{IsConsistentAt, IsCoveredAt, IsInsnCostCovered, IsInsnChecked}
 use Rattle.regress_memo_analysis.specs.CheckedAnalysis.{IsAnalysisOf, StartsAtTopLevel, AnalysesAreMemoPlans}
 use Rattle.regress_memo_analysis.proofs.Rows.{holds-there, holds-more}
@@ -193,7 +193,7 @@ module _ (up : ℕ → ℕ) where
 
 -- ---- The whole
 
-module _ (t : MemoAnalysis) (program : Program) (insns : List declared.Insn) (starts : StartsAtTopLevel t) (long : length t.lines.items ≡ length insns) (has : HasInsns program insns)
+module _ (t : MemoAnalysis) (program : Program) (insns : List declared.Insn) (starts : StartsAtTopLevel t) (long : length t.lines.items ≡ length insns) (has : AreInsnsOfProgram program insns)
     (written : (ip : ℕ) → ip < length insns → IsInsnChecked t program (successors_in ip (slice_get program.insns ip)) ip) where
   as-long : length program.insns ≡ length insns
   as-long = ap (λ (xs : List Insn). length xs) has ∙ length-map insns spec_insn_of
@@ -262,7 +262,7 @@ module _ (t : MemoAnalysis) (program : Program) (insns : List declared.Insn) (st
   }
 
 -- some program has these instructions, so what is said of all that have them and names none is so
-pub some-program : (insns : List declared.Insn) → (program : Program) × HasInsns program insns
+pub some-program : (insns : List declared.Insn) → (program : Program) × AreInsnsOfProgram program insns
 some-program insns = (
   record {
     insns = map spec_insn_of insns;

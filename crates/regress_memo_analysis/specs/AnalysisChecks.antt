@@ -16,8 +16,8 @@ use Rattle.regress_memo_analysis.specs.declared.successors.Successors.{Successor
 use Rattle.regress_memo_analysis.specs.declared.successors.Successors.TheVariants.{Ends, One, Two, Enter, Again, Run, Look, Same}
 use Rattle.regress_memo_analysis.specs.declared.successors.Look as look
 use Rattle.regress_memo_analysis.specs.declared.successors.CharLoopMinMaxAndGreed as bounds
-use Rattle.regress_memo_analysis.specs.AnalysisContents.{insn_analysis_of, enclosing_loops_of, states_loop_fact, knows_or_distinguishes_reads, count_bound_of, liveness_of, key_code_questions_of, recorded, potentials_of, key_cost_of, insn_direction}
-use Rattle.regress_memo_analysis.specs.AnalysisContents.{preserves_groups, code_base_of, code_width_of}
+use Rattle.regress_memo_analysis.specs.AnalysisContents.{insn_analysis_of, enclosing_loops_of, states_loop_fact, iteration_read_known_or_distinguished, count_bound_of, liveness_of, key_code_questions_of, recorded, potentials_of, key_cost_of, insn_direction}
+use Rattle.regress_memo_analysis.specs.AnalysisContents.{groups_stay_unchanged_from, code_base_of, code_width_of}
 
 -- The loop is the one that is entered, if one is.
 abbrev pub is_entered : Option ℕ → (l : ℕ) → Bool
@@ -29,8 +29,8 @@ abbrev pub unlimited : ℕ
 unlimited = 18446744073709551615
 
 -- The maximum number of codes at an instruction.
-abbrev pub max_code_count : ℕ
-max_code_count = 64
+abbrev pub max_codes_per_insn : ℕ
+max_codes_per_insn = 64
 
 module _ (t : MemoAnalysis) where
   -- ---- From an instruction to a successor
@@ -42,7 +42,7 @@ module _ (t : MemoAnalysis) where
     pub moved : is_entered entered row.id ≡ false → reads ≡ false → row.moved ≡ true
         → states_loop_fact Moved row.id (enclosing_loops_of t ip) ≡ true
     pub empty : is_entered entered row.id ≡ false → reads ≡ false → row.empty ≡ true
-        → knows_or_distinguishes_reads row.id (enclosing_loops_of t ip) ≡ true
+        → iteration_read_known_or_distinguished row.id (enclosing_loops_of t ip) ≡ true
 
   -- All entries of the successor follow.
   abbrev pub AllLoopFactsFlow : (reads : Bool) (entered : Option ℕ) (ip next : ℕ) → Type 0
@@ -53,7 +53,7 @@ module _ (t : MemoAnalysis) where
   pub record IsConsistentFlow (reads : Bool) (entered : Option ℕ) (ip next : ℕ) : Type 0 where
     pub account : IsConsistentEdge (liveness_of t) reads (none (liveness_of t)) (is_entered entered) ip next
     pub way : insn_direction t next ≡ insn_direction t ip
-    pub silent : preserves_groups t ip ≡ true → preserves_groups t next ≡ true
+    pub silent : groups_stay_unchanged_from t ip ≡ true → groups_stay_unchanged_from t next ≡ true
 
   -- ---- Loops
 
@@ -71,13 +71,13 @@ module _ (t : MemoAnalysis) where
   -- An iteration may end, and all is known that decides how the loop continues.
   pub record MayEndIteration (f : layout.LoopFields) (ip : ℕ) : Type 0 where
     pub inside : states_loop_fact Inside f.loop_id (enclosing_loops_of t ip) ≡ true
-    pub empty : knows_or_distinguishes_reads f.loop_id (enclosing_loops_of t ip) ≡ true
+    pub empty : iteration_read_known_or_distinguished f.loop_id (enclosing_loops_of t ip) ≡ true
     pub decides : CountDecides f (states_loop_fact Moved f.loop_id (enclosing_loops_of t ip))
 
   -- An iteration may end and another one may begin.
   pub record MayRepeatLoop (f : layout.LoopFields) (ip begin : ℕ) : Type 0 where
     pub begins : MayBeginIteration f ip begin
-    pub round : MayEndIteration f ip
+    pub loop_iteration_state : MayEndIteration f ip
 
   -- `MayRepeatLoop` if the instruction is a loop head.
   abbrev pub MayRepeatLoopAt : Option Insn → (ip begin : ℕ) → Type 0
@@ -98,8 +98,8 @@ module _ (t : MemoAnalysis) where
     pub left : LoopsAreBefore l.past (insn_analysis_of t (ip + 1)).from
     pub from : (insn_analysis_of t ip).from ≤ (insn_analysis_of t (ip + 1)).from
     pub way : insn_direction t (ip + 1) ≡ (if l.forward then rightwards else leftwards)
-    pub silent : preserves_groups t ip ≡ true → preserves_groups t (ip + 1) ≡ true
-    pub quiet : l.negate ≡ false → preserves_groups t (ip + 1) ≡ true
+    pub silent : groups_stay_unchanged_from t ip ≡ true → groups_stay_unchanged_from t (ip + 1) ≡ true
+    pub quiet : l.negate ≡ false → groups_stay_unchanged_from t (ip + 1) ≡ true
 
   -- ---- Char loops
 
@@ -136,16 +136,16 @@ module _ (t : MemoAnalysis) where
     pub passed : (insn_analysis_of t ip).records ≡ false → (insn_analysis_of t ip).left + 1 ≤ (insn_analysis_of t ip).ready
 
   -- The codes of an instruction are counted and few, and its bits are before those of the next one.
-  pub record HasKeyCodesAt (ip : ℕ) : Type 0 where
+  pub record AreCodesCountedAndDisjointAt (ip : ℕ) : Type 0 where
     pub codes : plan_codes (key_code_questions_of t) ip ≡ (insn_analysis_of t ip).codes
-    pub few : (insn_analysis_of t ip).codes ≤ max_code_count
+    pub few : (insn_analysis_of t ip).codes ≤ max_codes_per_insn
     pub apart : code_base_of t ip + code_width_of t ip ≤ code_base_of t (ip + 1)
 
   module _ (program : Program) where
     -- The facts at an instruction are consistent with those at its successors.
     abbrev pub IsConsistentAt : Successors → (ip : ℕ) → Type 0
     IsConsistentAt Ends ip = Unit {0}
-    IsConsistentAt (One n) ip = IsConsistentFlow n.reads None ip n.to × (preserves_groups t ip ≡ true → n.silent ≡ true)
+    IsConsistentAt (One n) ip = IsConsistentFlow n.reads None ip n.to × (groups_stay_unchanged_from t ip ≡ true → n.silent ≡ true)
     IsConsistentAt (Two other) ip = IsConsistentFlow false None ip (ip + 1) × IsConsistentFlow false None ip other
     IsConsistentAt (Enter f) ip = MayBeginIteration (spec_loop_fields_of f) ip ip
     IsConsistentAt (Again begin) ip = MayRepeatLoopAt (slice_get program.insns begin) ip begin
@@ -169,4 +169,4 @@ module _ (t : MemoAnalysis) where
       pub right : IsConsistentAt step ip
       pub enough : IsCoveredAt step ip
       pub paid : IsInsnCostCovered ip
-      pub codes : HasKeyCodesAt ip
+      pub codes : AreCodesCountedAndDisjointAt ip

@@ -6,7 +6,7 @@ use Rattle.regress_memo_laws.specs.Liveness.{Liveness}
 use Rattle.regress_memo_laws.specs.LoopDataKeyCodes.{Question, is_empty, how_many}
 use Rattle.regress_memo_laws.specs.ThreadPotentials.{Potentials}
 use Rattle.regress_memo_analysis.specs.declared.analysis.EnclosingLoop.{EnclosingLoop}
-use Rattle.regress_memo_analysis.specs.declared.analysis.LoopCountBound.{LoopCountBound}
+use Rattle.regress_memo_analysis.specs.declared.analysis.LoopCountsDistinguishedUpTo.{LoopCountsDistinguishedUpTo}
 use Rattle.regress_memo_analysis.specs.declared.analysis.InsnAnalysis.{InsnAnalysis}
 use Rattle.regress_memo_analysis.specs.declared.analysis.MemoAnalysis.{MemoAnalysis}
 use Rattle.regress_memo_analysis.specs.declared.analysis.LoopFact.{LoopFact}
@@ -44,28 +44,28 @@ abbrev pub enclosing_loops_of : MemoAnalysis → (ip : ℕ) → List EnclosingLo
 enclosing_loops_of t ip = rows_in t.rows.items (insn_analysis_of t ip)
 
 -- The entry states this fact of its loop.
-abbrev pub entry_states_fact : LoopFact → EnclosingLoop → Bool
-entry_states_fact Inside r = true
-entry_states_fact Moved r = r.moved
-entry_states_fact Empty r = r.empty
+abbrev pub enclosing_loop_entry_has_fact : LoopFact → EnclosingLoop → Bool
+enclosing_loop_entry_has_fact Inside r = true
+enclosing_loop_entry_has_fact Moved r = r.moved
+enclosing_loop_entry_has_fact Empty r = r.empty
 
 -- One of the entries states the fact of loop `l`.
 abbrev pub states_loop_fact : LoopFact → (l : ℕ) → List EnclosingLoop → Bool
 states_loop_fact said l [] = false
-states_loop_fact said l (r ∷ rows) = ((r.id == l) && entry_states_fact said r) || states_loop_fact said l rows
+states_loop_fact said l (r ∷ rows) = ((r.id == l) && enclosing_loop_entry_has_fact said r) || states_loop_fact said l rows
 
 -- It is known that a character was read in the loop's iteration, or the key distinguishes whether
 -- one was.
-abbrev pub knows_or_distinguishes_reads : (l : ℕ) → List EnclosingLoop → Bool
-knows_or_distinguishes_reads l rows = states_loop_fact Empty l rows || states_loop_fact Moved l rows
+abbrev pub iteration_read_known_or_distinguished : (l : ℕ) → List EnclosingLoop → Bool
+iteration_read_known_or_distinguished l rows = states_loop_fact Empty l rows || states_loop_fact Moved l rows
 
 -- The count bound of a loop whose iteration count is never distinguished.
-abbrev pub no_count_bound : LoopCountBound
-no_count_bound = record { up_to = 0; counted = false }
+abbrev pub bound_of_undistinguished_count : LoopCountsDistinguishedUpTo
+bound_of_undistinguished_count = record { up_to = 0; counted = false }
 
 -- The count bound of a loop.
-abbrev pub count_bound_of : MemoAnalysis → (l : ℕ) → LoopCountBound
-count_bound_of t l = unwrap_or (slice_get t.counts.items l) no_count_bound
+abbrev pub count_bound_of : MemoAnalysis → (l : ℕ) → LoopCountsDistinguishedUpTo
+count_bound_of t l = unwrap_or (slice_get t.counts.items l) bound_of_undistinguished_count
 
 -- ---- Liveness
 
@@ -126,8 +126,8 @@ abbrev pub insn_direction : MemoAnalysis → (ip : ℕ) → Direction
 insn_direction t ip = if (insn_analysis_of t ip).forward then rightwards else leftwards
 
 -- Capture groups stay unchanged from this instruction on.
-abbrev pub preserves_groups : MemoAnalysis → (ip : ℕ) → Bool
-preserves_groups t ip = (insn_analysis_of t ip).silent
+abbrev pub groups_stay_unchanged_from : MemoAnalysis → (ip : ℕ) → Bool
+groups_stay_unchanged_from t ip = (insn_analysis_of t ip).silent
 
 -- ---- Bits
 

@@ -3,27 +3,27 @@ use Rattle.std.specs.Prelude.{◌≡◌, ◌≤◌, ◌<◌, ℕ, ◌+◌, ◌*�
 use Rattle.std.specs.Prelude.{length}
 use Rattle.regex_meaning.specs.Laws.{Each}
 use Rattle.regex_meaning.specs.Text.{Text, Direction, rightwards}
-use Rattle.regex_meaning.specs.CodeUnitOffsets.{IsText, units}
+use Rattle.regex_meaning.specs.CodeUnitOffsets.{HasRisingPlaceOffsets, units}
 use Rattle.regex_meaning.specs.CompilationRelation.{Program, Loop1CharBody}
 use Rattle.regress_machine.specs.Machine.{State, Thread, running, waiting, LoopData, goes, act}
 use Rattle.regress_memo_laws.specs.Liveness.{IsSoundLiveness, ReadsAsBytes}
 use Rattle.regress_memo_laws.specs.LookaroundContinuations.{LookaroundInsn, lookaround_at, AsksOnly}
 use Rattle.regress_memo_laws.specs.LoopDataKeyCodes.{bool_as_digit, plan_codes}
 use Rattle.regress_memo_laws.specs.AmortizedStepCosts.{AreCostsCovered}
-use Rattle.regress_memo_laws.specs.MemoPlans.{IsPlan, PlanServes, plan_taken}
+use Rattle.regress_memo_laws.specs.MemoPlanChecksAndGuarantees.{IsPlan, PlanServes, plan_taken}
 use Rattle.regress_memo_laws.specs.GroupPreservingInsns.{AreGroupPreserving}
 use Rattle.regress_memo_laws.specs.MemoSearch.{Key}
 use Rattle.regress_memo_analysis.specs.declared.analysis.MemoAnalysis.{MemoAnalysis}
-use Rattle.regress_memo_analysis.specs.declared.key_codes.LoopState.{LoopState}
+use Rattle.regress_memo_analysis.specs.declared.key_codes.LoopCountAndIterationStart.{LoopCountAndIterationStart}
 use Rattle.regress_memo_analysis.specs.declared.analysis.EnclosingLoop.{EnclosingLoop}
-use Rattle.regress_memo_analysis.specs.AnalysisContents.{insn_analysis_of, enclosing_loops_of, liveness_of, key_code_questions_of, recorded, potentials_of, key_cost_of, insn_direction, preserves_groups, code_base_of}
+use Rattle.regress_memo_analysis.specs.AnalysisContents.{insn_analysis_of, enclosing_loops_of, liveness_of, key_code_questions_of, recorded, potentials_of, key_cost_of, insn_direction, groups_stay_unchanged_from, code_base_of}
 use Rattle.regress_memo_analysis.specs.AnalysisContents.{code_width_of, bit_of}
-use Rattle.regress_memo_analysis.specs.AnalysisChecks.{IsCharLoopChecked, IsConsistentAt, max_code_count}
+use Rattle.regress_memo_analysis.specs.AnalysisChecks.{IsCharLoopChecked, IsConsistentAt, max_codes_per_insn}
 use Rattle.regress_memo_analysis.specs.Successors.{successors_in}
 
 -- Codes are counted and few, and the bits of each instruction are before those of the next one.
-pub record HasKeyCodes (t : MemoAnalysis) : Type 0 where
-  pub few : (ip : ℕ) → plan_codes (key_code_questions_of t) ip ≤ max_code_count
+pub record AreCodesCountedAndDisjoint (t : MemoAnalysis) : Type 0 where
+  pub few : (ip : ℕ) → plan_codes (key_code_questions_of t) ip ≤ max_codes_per_insn
   pub counted : (ip : ℕ) → ip < length t.lines.items → plan_codes (key_code_questions_of t) ip ≡ (insn_analysis_of t ip).codes
   pub apart : (ip : ℕ) → ip < length t.lines.items → code_base_of t ip + code_width_of t ip ≤ code_base_of t (ip + 1)
 
@@ -39,13 +39,13 @@ module _ (program : Program) (t : MemoAnalysis) where
     pub starts : StartsAtTopLevel t
     pub steps : (ip : ℕ) → IsConsistentAt t program (successors_in ip (slice_get program.insns ip)) ip
     pub right : (top : ℕ) → top < 2 ^ 63 → IsSoundLiveness (liveness_of t) top program
-    pub coded : HasKeyCodes t
+    pub coded : AreCodesCountedAndDisjoint t
     pub paid : AreCostsCovered program (potentials_of t) (key_cost_of t) (recorded t)
     pub runs : (ip least most : ℕ) (greedy : Bool) → slice_get program.insns ip ≡ Some (Loop1CharBody least most greedy)
         → IsCharLoopChecked t program (record { least = least; most = most; greedy = greedy }) ip
-    pub silent : AreGroupPreserving (preserves_groups t) program
+    pub silent : AreGroupPreserving (groups_stay_unchanged_from t) program
     pub quiet : (ip : ℕ) (look : LookaroundInsn) → lookaround_at (slice_get program.insns ip) ≡ Some look → look.negate ≡ false
-        → preserves_groups t (ip + 1) ≡ true
+        → groups_stay_unchanged_from t (ip + 1) ≡ true
     pub ways : (ip : ℕ) (look : LookaroundInsn) → lookaround_at (slice_get program.insns ip) ≡ Some look
         → insn_direction t (ip + 1) ≡ look.inner
 
@@ -56,12 +56,12 @@ module _ (program : Program) (t : MemoAnalysis) where
     pub only : AsksOnly (key_code_questions_of t) (liveness_of t)
 
 -- A loop's number of finished iterations, and the offset at which the current iteration began.
-abbrev pub loop_data_of : LoopState → LoopData
-loop_data_of r = record { iters = r.iters; entry = r.entry }
+abbrev pub spec_count_and_iteration_start_of : LoopCountAndIterationStart → LoopData
+spec_count_and_iteration_start_of r = record { iters = r.iters; entry = r.entry }
 
 -- The number of digits of an entry whose loop's counts are distinguished up to `up_to`.
-abbrev pub digit_count_of : (up_to : ℕ) → EnclosingLoop → ℕ
-digit_count_of up_to r = (if r.empty then 2 else 1) * (up_to + 1)
+abbrev pub radix_of_loop_digit : (up_to : ℕ) → EnclosingLoop → ℕ
+radix_of_loop_digit up_to r = (if r.empty then 2 else 1) * (up_to + 1)
 
 -- The digit of an entry for a loop state; 0 if there is no state.
 abbrev pub digit_of : (up_to at : ℕ) → Option LoopData → EnclosingLoop → ℕ
@@ -69,7 +69,7 @@ digit_of up_to at None r = 0
 digit_of up_to at (Some x) r = if r.empty then bool_as_digit (x.entry == at) + 2 * min x.iters up_to else min x.iters up_to
 
 -- The key's instruction exists and records, and its offset and its code are in range.
-pub record HasBit (t : MemoAnalysis) (places : ℕ) (k : Key) : Type 0 where
+pub record MemoKeyHasBit (t : MemoAnalysis) (places : ℕ) (k : Key) : Type 0 where
   pub there : k.ip < length t.lines.items
   pub records : (insn_analysis_of t k.ip).records ≡ true
   pub at : k.at < places
@@ -80,7 +80,7 @@ pub record HasBit (t : MemoAnalysis) (places : ℕ) (k : Key) : Type 0 where
 -- An analysis of a program is a memo plan of it in each text.
 abbrev pub AnalysesAreMemoPlans : Type 0
 AnalysesAreMemoPlans = (program : Program) (t : MemoAnalysis) → IsAnalysisOf program t
-    → (text : Text) → IsText text → ReadsAsBytes program text → units text < 2 ^ 63 → Serves program t text
+    → (text : Text) → HasRisingPlaceOffsets text → ReadsAsBytes program text → units text < 2 ^ 63 → Serves program t text
 
 -- The instruction of a thread.
 abbrev pub ip_of : Thread → ℕ
@@ -96,5 +96,5 @@ DirectionsAreKept = (program : Program) (t : MemoAnalysis) → IsAnalysisOf prog
 -- Different keys have different bits.
 abbrev pub KeysHaveDistinctBits : Type 0
 KeysHaveDistinctBits = (program : Program) (t : MemoAnalysis) → IsAnalysisOf program t → (places : ℕ) (j k : Key)
-    → HasBit t places j → HasBit t places k
+    → MemoKeyHasBit t places j → MemoKeyHasBit t places k
     → bit_of t places j.ip j.at j.code ≡ bit_of t places k.ip k.at k.code → j ≡ k

@@ -2,6 +2,6 @@ pub mod AnalysisContents
 pub mod Successors
 pub mod AnalysisChecks
 pub mod CheckedAnalysis
-pub mod LoopStateCheck
+pub mod LoopStateReachabilityCheck
 pub mod UnreachedCharLoopBodies
 pub mod WorkBound

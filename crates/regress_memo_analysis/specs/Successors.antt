@@ -9,8 +9,8 @@ use Rattle.regress_memo_analysis.specs.declared.successors.Successors.{Successor
 use Rattle.regress_memo_analysis.specs.declared.successors.Successors.TheVariants.{Ends, One, Two, Enter, Again, Run, Look, Same}
 
 -- The program has these instructions.
-abbrev pub HasInsns : Program → List declared.Insn → Type 0
-HasInsns program insns = program.insns ≡ map spec_insn_of insns
+abbrev pub AreInsnsOfProgram : Program → List declared.Insn → Type 0
+AreInsnsOfProgram program insns = program.insns ≡ map spec_insn_of insns
 
 -- The next instruction is the only successor.
 abbrev pub fall_through : (ip : ℕ) → (reads silent : Bool) → Successors

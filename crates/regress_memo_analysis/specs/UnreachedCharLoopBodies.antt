@@ -43,8 +43,8 @@ module _ (program : Program) where
 -- ---- Laws
 
 -- If no instruction leads to a char loop's body, no step leaves a thread at one.
-abbrev pub BodiesAreUnreached : Type 0
-BodiesAreUnreached = (program : Program) (t : MemoAnalysis) → IsAnalysisOf program t
+abbrev pub CharLoopBodiesAreUnreached : Type 0
+CharLoopBodiesAreUnreached = (program : Program) (t : MemoAnalysis) → IsAnalysisOf program t
     → ((ip : ℕ) → FlowsPastBodies program (successors_in ip (slice_get program.insns ip)) ip)
     → (text : Text) (d : Direction) (s : State) (ts : List Thread)
     → act program text d s ≡ goes ts → Each (λ u. IsNotLoopBody program (ip_of u)) ts

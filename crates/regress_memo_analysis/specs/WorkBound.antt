@@ -2,7 +2,7 @@
 use Rattle.std.specs.Prelude.{◌≡◌, ◌≤◌, ◌<◌, ℕ, ◌+◌, ◌*◌, ◌^◌, true, false, if◌then◌else◌, List, [], ◌∷◌, Option, Some, slice_get}
 use Rattle.std.specs.List.{sum_by}
 use Rattle.regex_meaning.specs.Text.{Text}
-use Rattle.regex_meaning.specs.CodeUnitOffsets.{IsText, units}
+use Rattle.regex_meaning.specs.CodeUnitOffsets.{HasRisingPlaceOffsets, units}
 use Rattle.regex_meaning.specs.CompilationRelation.{Program, Insn, Loop1CharBody}
 use Rattle.regress_machine.specs.SearchResults.{state_before_first_insn}
 use Rattle.regress_machine.specs.Machine.{Thread, running}
@@ -10,7 +10,7 @@ use Rattle.regress_memo_laws.specs.Liveness.{ReadsAsBytes}
 use Rattle.regress_memo_laws.specs.LookaroundContinuations.{LookaroundInsn, lookaround_at}
 use Rattle.regress_memo_laws.specs.AllSearchesWorkBudget.{AreInTwoStages}
 use Rattle.regress_memo_laws.specs.AmortizedStepCosts.{potential_by}
-use Rattle.regress_memo_laws.specs.MemoPlans.{plan_taken}
+use Rattle.regress_memo_laws.specs.MemoPlanChecksAndGuarantees.{plan_taken}
 use Rattle.regress_memo_analysis.specs.declared.analysis.MemoAnalysis.{MemoAnalysis}
 use Rattle.regress_memo_analysis.specs.declared.analysis.InsnAnalysis.{InsnAnalysis}
 use Rattle.regress_memo_analysis.specs.declared.successors.Successors.{Successors}
@@ -73,7 +73,7 @@ first_row program at = running (state_before_first_insn program at) ∷ []
 -- the work allowed at first and one more step.
 abbrev pub AnalysesBoundTotalWork : Type 0
 AnalysesBoundTotalWork = (program : Program) (t : MemoAnalysis) → IsAnalysisOf program t
-    → (text : Text) → IsText text → ReadsAsBytes program text → units text < 2 ^ 63 → (at_first work : ℕ)
+    → (text : Text) → HasRisingPlaceOffsets text → ReadsAsBytes program text → units text < 2 ^ 63 → (at_first work : ℕ)
     → AreInTwoStages program text (liveness_of t) (key_code_questions_of t) (insn_direction t) (recorded t) (plan_taken program) (key_cost_of t)
     (potential_by program (potentials_of t) (key_cost_of t) (recorded t)) (first_row program) at_first work
     → work ≤ (at_first + 1 + work_per_position t) * (units text + 1)

@@ -1,7 +1,7 @@
 //! The memo analysis of a program: what it states of each instruction and each loop.
 
 ghost use Rattle.std.specs.Prelude.{◌≡◌, true};
-ghost use Rattle.regress_memo_analysis.specs.AnalysisContents.{no_insn_analysis, insn_analysis_of, enclosing_loops_of, no_count_bound, count_bound_of, entry_states_fact, states_loop_fact};
+ghost use Rattle.regress_memo_analysis.specs.AnalysisContents.{no_insn_analysis, insn_analysis_of, enclosing_loops_of, bound_of_undistinguished_count, count_bound_of, enclosing_loop_entry_has_fact, states_loop_fact};
 
 use regex_pattern_front::types::LoopID;
 
@@ -18,7 +18,7 @@ pub struct EnclosingLoop {
 /// The iteration count up to which memo keys distinguish a loop's counts, and whether the count
 /// never exceeds it.
 #[derive(Clone, Copy)]
-pub struct LoopCountBound {
+pub struct LoopCountsDistinguishedUpTo {
     pub up_to: u16,
     pub counted: bool,
 }
@@ -55,7 +55,7 @@ pub struct MemoAnalysis {
     /// The enclosing loops, to which `lines` refer by range.
     pub rows: Vec<EnclosingLoop>,
     /// Indexed by loop number.
-    pub counts: Vec<LoopCountBound>,
+    pub counts: Vec<LoopCountsDistinguishedUpTo>,
     /// The number of codes at all recording instructions together.
     pub codes: usize,
 }
@@ -69,14 +69,14 @@ pub(crate) enum LoopFact {
 }
 
 impl MemoAnalysis {
-    /// Returns the analysis of an instruction, or the default `none()` if it has none.
+    /// Returns the analysis of an instruction, or the default `default_insn_analysis()` if it has none.
     #[inline(always)]
-    pub fn line(&self, ip: usize) -> InsnAnalysis
+    pub fn insn_analysis_at(&self, ip: usize) -> InsnAnalysis
         ensures { result ≡ insn_analysis_of self.now ip }
     {
         match self.lines.get(ip) {
             Some(line) => *line,
-            None => none(),
+            None => default_insn_analysis(),
         }
     }
 
@@ -84,7 +84,7 @@ impl MemoAnalysis {
     pub(crate) fn enclosing_loops(&self, ip: usize) -> &[EnclosingLoop]
         ensures { result.now ≡ enclosing_loops_of self.now ip }
     {
-        let line = self.line(ip);
+        let line = self.insn_analysis_at(ip);
         if line.first <= line.end && line.end <= self.rows.len() {
             &self.rows[line.first..line.end]
         } else {
@@ -92,13 +92,13 @@ impl MemoAnalysis {
         }
     }
 
-    // Returns the count bound of a loop, or `uncounted_loop_bound()` if it has none.
-    pub(crate) fn count(&self, id: LoopID) -> LoopCountBound
+    // Returns the count bound of a loop, or `bound_of_undistinguished_loop_count()` if it has none.
+    pub(crate) fn count_bound_of_loop(&self, id: LoopID) -> LoopCountsDistinguishedUpTo
         ensures { result ≡ count_bound_of self.now id }
     {
         match self.counts.get(usize::from(id)) {
             Some(count) => *count,
-            None => uncounted_loop_bound(),
+            None => bound_of_undistinguished_loop_count(),
         }
     }
 
@@ -118,7 +118,7 @@ impl MemoAnalysis {
 
 // Returns the analysis of an instruction that has none.
 #[inline(always)]
-pub(crate) fn none() -> InsnAnalysis
+pub(crate) fn default_insn_analysis() -> InsnAnalysis
     ensures { result ≡ no_insn_analysis }
 {
     InsnAnalysis {
@@ -137,10 +137,10 @@ pub(crate) fn none() -> InsnAnalysis
 }
 
 // Returns the count bound of a loop whose iteration count is never distinguished.
-pub(crate) fn uncounted_loop_bound() -> LoopCountBound
-    ensures { result ≡ no_count_bound }
+pub(crate) fn bound_of_undistinguished_loop_count() -> LoopCountsDistinguishedUpTo
+    ensures { result ≡ bound_of_undistinguished_count }
 {
-    LoopCountBound {
+    LoopCountsDistinguishedUpTo {
         up_to: 0,
         counted: false,
     }
@@ -148,7 +148,7 @@ pub(crate) fn uncounted_loop_bound() -> LoopCountBound
 
 // Checks whether an entry states this fact of its loop.
 fn says_of(said: LoopFact, row: &EnclosingLoop) -> bool
-    ensures { result ≡ entry_states_fact said row.now }
+    ensures { result ≡ enclosing_loop_entry_has_fact said row.now }
 {
     match said {
         LoopFact::Inside => true,

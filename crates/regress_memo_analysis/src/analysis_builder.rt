@@ -2,10 +2,11 @@
 
 ghost use Rattle.std.specs.Prelude.{◌<◌, ◌^◌, length, IfOk, IfSome};
 ghost use Rattle.regex_meaning.specs.CompilationRelation.{Program};
-ghost use Rattle.regress_memo_analysis.specs.{Successors.{HasInsns}, CheckedAnalysis.{IsAnalysisOf, HasKeyCodes}};
+ghost use Rattle.regress_memo_analysis.specs.{Successors.{AreInsnsOfProgram}, CheckedAnalysis.{IsAnalysisOf, AreCodesCountedAndDisjoint}};
 
 use crate::analysis::{
-    EnclosingLoop, InsnAnalysis, LoopCountBound, LoopFact, MemoAnalysis, none, uncounted_loop_bound,
+    EnclosingLoop, InsnAnalysis, LoopCountsDistinguishedUpTo, LoopFact, MemoAnalysis,
+    bound_of_undistinguished_loop_count, default_insn_analysis,
 };
 use crate::flow_edges::{FlowEdge, enters_loop, flow_edges_from, loop_ending_at};
 use crate::successors::{Successors, successors_at};
@@ -50,8 +51,8 @@ impl MemoAnalysis {
         loops: usize,
     ) -> Result<Option<MemoAnalysis>, AllocError>
         ensures of { IfOk result (λ found. IfSome found (λ memo_analysis. (program : Program)
-            → HasInsns program insns.now → IsAnalysisOf program memo_analysis)) }
-        ensures coded { IfOk result (λ found. IfSome found HasKeyCodes) }
+            → AreInsnsOfProgram program insns.now → IsAnalysisOf program memo_analysis)) }
+        ensures coded { IfOk result (λ found. IfSome found AreCodesCountedAndDisjoint) }
     {
         let made = MemoAnalysis::build_unchecked_analysis(alloc, insns, loops)?;
         if made.is_analysis_of_program(insns) {
@@ -70,7 +71,7 @@ impl MemoAnalysis {
         let mut made = MemoAnalysis {
             lines: Vec::with_capacity(alloc, insns.len())?,
             rows: Vec::new(alloc),
-            counts: Vec::from_elem(alloc, uncounted_loop_bound(), loops)?,
+            counts: Vec::from_elem(alloc, bound_of_undistinguished_loop_count(), loops)?,
             codes: 0,
         };
         made.open_all(alloc, insns)?;
@@ -102,7 +103,7 @@ impl MemoAnalysis {
                     })?;
                 }
                 Successors::Look(look) => {
-                    let mut line = self.line(ip);
+                    let mut line = self.insn_analysis_at(ip);
                     line.from = from;
                     line.forward = look.forward;
                     line.silent |= !look.negate;
@@ -121,7 +122,10 @@ impl MemoAnalysis {
     // for the loops around it.
     fn add_line(&mut self, levels: &[EnclosingScopeWithEnd]) -> Result<(), AllocError> {
         let first = self.rows.len();
-        let mut line = InsnAnalysis { from: 0, ..none() };
+        let mut line = InsnAnalysis {
+            from: 0,
+            ..default_insn_analysis()
+        };
         if levels.len() <= DEEPEST {
             for level in levels {
                 match level.open {
@@ -166,7 +170,7 @@ impl MemoAnalysis {
         let Some(edge) = edge else {
             return false;
         };
-        let line = self.line(edge.to);
+        let line = self.insn_analysis_at(edge.to);
         let mut changed = false;
         for number in line.first..line.end.min(self.rows.len()) {
             let row = self.rows[number];
@@ -225,7 +229,7 @@ impl MemoAnalysis {
         let Some(edge) = edge else {
             return false;
         };
-        let line = self.line(edge.to);
+        let line = self.insn_analysis_at(edge.to);
         let mut changed = false;
         for number in line.first..line.end {
             if let Some(row) = self.rows.get(number).copied() {
@@ -239,7 +243,7 @@ impl MemoAnalysis {
     // Sets `empty` for a loop at an instruction where `moved` is not known; returns whether it was
     // clear.
     fn distinguish_empty_iterations(&mut self, ip: usize, id: LoopID) -> bool {
-        let line = self.line(ip);
+        let line = self.insn_analysis_at(ip);
         for number in line.first..line.end.min(self.rows.len()) {
             let row = self.rows[number];
             if row.id == id && !row.moved && !row.empty {
@@ -254,7 +258,7 @@ impl MemoAnalysis {
     fn share_bodies(&mut self, insns: &[Insn]) {
         for ip in 0..insns.len() {
             if let Successors::Run(_) = successors_at(insns, ip) {
-                let behind = self.line(ip + 2);
+                let behind = self.insn_analysis_at(ip + 2);
                 if let Some(line) = self.lines.get_mut(ip + 1) {
                     line.first = behind.first;
                     line.end = behind.end;
@@ -297,7 +301,7 @@ fn close_ended_scopes(levels: &mut Vec<EnclosingScopeWithEnd>, ip: usize) {
 
 // Computes the count bound of a loop; `moved` states whether each iteration has read a character at
 // its end.
-fn count_for(fields: &LoopFields, moved: bool) -> LoopCountBound {
+fn count_for(fields: &LoopFields, moved: bool) -> LoopCountsDistinguishedUpTo {
     let counted = fields.max_iters != usize::MAX;
     let up_to = if counted {
         fields.max_iters.saturating_sub(1)
@@ -306,7 +310,7 @@ fn count_for(fields: &LoopFields, moved: bool) -> LoopCountBound {
     } else {
         fields.min_iters
     };
-    LoopCountBound {
+    LoopCountsDistinguishedUpTo {
         up_to: u16::try_from(up_to).unwrap_or(u16::MAX),
         counted,
     }

@@ -4,22 +4,22 @@ ghost use Rattle.std.specs.Prelude.{◌≡◌, ◌≤◌, ◌<◌, ◌+◌, ◌^
 ghost use Rattle.regex_meaning.specs.CompilationRelation.{Program};
 ghost use Rattle.regress_plan.specs.InsnsAsSpecInsns.{spec_insn_of, spec_loop_fields_of};
 ghost use Rattle.regress_memo_laws.specs.ThreadPotentials.{CoversOne, CoversTwo};
-ghost use Rattle.regress_memo_analysis.specs.{AnalysisContents.{enclosing_loops_of, insn_analysis_of, preserves_groups, potentials_of, states_loop_fact, knows_or_distinguishes_reads}, Successors.{HasInsns, successors_in}};
+ghost use Rattle.regress_memo_analysis.specs.{AnalysisContents.{enclosing_loops_of, insn_analysis_of, groups_stay_unchanged_from, potentials_of, states_loop_fact, iteration_read_known_or_distinguished}, Successors.{AreInsnsOfProgram, successors_in}};
 ghost use Rattle.regress_memo_analysis.specs.AnalysisChecks.{is_entered, LoopFactsFlow, AllLoopFactsFlow, IsConsistentFlow, MayBeginIteration, MayRepeatLoop, MayEndIteration, MayRepeatLoopAt};
 ghost use Rattle.regress_memo_analysis.specs.AnalysisChecks.{CountDecides, LoopsAreBefore, IsolatesLookaround, IsConsistentAt, IsCoveredAt, IsInsnCostCovered, IsCharLoopChecked, IsInsnChecked};
-ghost use Rattle.regress_memo_analysis.specs.CheckedAnalysis.{IsAnalysisOf, HasKeyCodes, StartsAtTopLevel};
+ghost use Rattle.regress_memo_analysis.specs.CheckedAnalysis.{IsAnalysisOf, AreCodesCountedAndDisjoint, StartsAtTopLevel};
 
 use crate::analysis::{EnclosingLoop, InsnAnalysis, LoopFact, MemoAnalysis};
 use crate::flow_edges::{FlowEdge, enters_loop};
-use crate::successors::{Look, Successor, Successors, successors_at};
+use crate::successors::{Look, SingleSuccessorAndEffects, Successors, successors_at};
 use regex_pattern_front::types::LoopID;
 use regress_plan::insn::{Insn, LoopFields};
 
 impl MemoAnalysis {
     // Checks whether this is an analysis of the program with these instructions.
     pub(crate) fn is_analysis_of_program(&self, insns: &[Insn]) -> bool
-        ensures of { result ≡ true → (program : Program) → HasInsns program insns.now → IsAnalysisOf program self.now }
-        ensures coded { result ≡ true → HasKeyCodes self.now }
+        ensures of { result ≡ true → (program : Program) → AreInsnsOfProgram program insns.now → IsAnalysisOf program self.now }
+        ensures coded { result ≡ true → AreCodesCountedAndDisjoint self.now }
     {
         if !self.starts_outside() {
             return false;
@@ -31,12 +31,12 @@ impl MemoAnalysis {
     fn starts_outside(&self) -> bool
         ensures { result ≡ true → StartsAtTopLevel self.now }
     {
-        self.enclosing_loops(0).is_empty() && self.line(0).forward
+        self.enclosing_loops(0).is_empty() && self.insn_analysis_at(0).forward
     }
 
     // Checks the analysis of each instruction.
     fn is_written(&self, insns: &[Insn]) -> bool
-        ensures { result ≡ true → (program : Program) → HasInsns program insns.now → (ip : ℕ)
+        ensures { result ≡ true → (program : Program) → AreInsnsOfProgram program insns.now → (ip : ℕ)
             → ip < length insns.now → IsInsnChecked self.now program (successors_in ip (slice_get program.insns ip)) ip }
     {
         for ip in 0..insns.len() {
@@ -50,13 +50,13 @@ impl MemoAnalysis {
     // Checks the analysis of one instruction.
     fn is_written_at(&self, insns: &[Insn], ip: usize) -> bool
         requires { ip < length insns.now }
-        ensures { result ≡ true → (program : Program) → HasInsns program insns.now
+        ensures { result ≡ true → (program : Program) → AreInsnsOfProgram program insns.now
             → IsInsnChecked self.now program (successors_in ip (slice_get program.insns ip)) ip }
     {
         self.is_right_at(insns, ip)
             && self.potential_covers_at(insns, ip)
             && self.insn_cost_is_covered(ip)
-            && self.has_key_codes_at(ip)
+            && self.are_codes_counted_and_disjoint_at(ip)
     }
 
     // ---- Consistency
@@ -64,7 +64,7 @@ impl MemoAnalysis {
     // Checks that the facts at an instruction are consistent with those at its successors.
     fn is_right_at(&self, insns: &[Insn], ip: usize) -> bool
         requires { ip < length insns.now }
-        ensures { result ≡ true → (program : Program) → HasInsns program insns.now
+        ensures { result ≡ true → (program : Program) → AreInsnsOfProgram program insns.now
             → IsConsistentAt self.now program (successors_in ip (slice_get program.insns ip)) ip }
     {
         match successors_at(insns, ip) {
@@ -86,11 +86,11 @@ impl MemoAnalysis {
     }
 
     // Checks consistency with the only successor.
-    fn agrees_with_only_successor(&self, ip: usize, next: Successor) -> bool
+    fn agrees_with_only_successor(&self, ip: usize, next: SingleSuccessorAndEffects) -> bool
         ensures next { result ≡ true → IsConsistentFlow self.now next.reads None ip next.to }
-        ensures silent { result ≡ true → preserves_groups self.now ip ≡ true → next.silent ≡ true }
+        ensures silent { result ≡ true → groups_stay_unchanged_from self.now ip ≡ true → next.silent ≡ true }
     {
-        (next.silent || !self.line(ip).silent)
+        (next.silent || !self.insn_analysis_at(ip).silent)
             && self.leads(FlowEdge {
                 ip,
                 to: next.to,
@@ -115,8 +115,8 @@ impl MemoAnalysis {
     fn leads(&self, edge: FlowEdge) -> bool
         ensures { result ≡ true → IsConsistentFlow self.now edge.reads edge.entered edge.ip edge.to }
     {
-        let here = self.line(edge.ip);
-        let next = self.line(edge.to);
+        let here = self.insn_analysis_at(edge.ip);
+        let next = self.insn_analysis_at(edge.to);
         is_onward(here, next) && self.rows_lead(edge)
     }
 
@@ -148,16 +148,16 @@ impl MemoAnalysis {
     fn row_stays(&self, ip: usize, row: &EnclosingLoop) -> bool
         ensures moved { result ≡ true → row.now.moved ≡ true
             → states_loop_fact LoopFact.Moved row.now.id (enclosing_loops_of self.now ip) ≡ true }
-        ensures empty { result ≡ true → row.now.empty ≡ true → knows_or_distinguishes_reads row.now.id (enclosing_loops_of self.now ip) ≡ true }
+        ensures empty { result ≡ true → row.now.empty ≡ true → iteration_read_known_or_distinguished row.now.id (enclosing_loops_of self.now ip) ≡ true }
     {
         (!row.moved || self.states_loop_fact(ip, LoopFact::Moved, row.id))
-            && (!row.empty || self.knows_or_distinguishes_reads(ip, row.id))
+            && (!row.empty || self.iteration_read_known_or_distinguished(ip, row.id))
     }
 
     // Checks whether a character is known to have been read in a loop's iteration, or the memo key
     // distinguishes whether one was.
-    fn knows_or_distinguishes_reads(&self, ip: usize, id: LoopID) -> bool
-        ensures { result ≡ true → knows_or_distinguishes_reads id (enclosing_loops_of self.now ip) ≡ true }
+    fn iteration_read_known_or_distinguished(&self, ip: usize, id: LoopID) -> bool
+        ensures { result ≡ true → iteration_read_known_or_distinguished id (enclosing_loops_of self.now ip) ≡ true }
     {
         self.states_loop_fact(ip, LoopFact::Empty, id)
             || self.states_loop_fact(ip, LoopFact::Moved, id)
@@ -170,9 +170,9 @@ impl MemoAnalysis {
         requires { begin + 1 < 2 ^ 64 }
         ensures { result ≡ true → MayBeginIteration self.now (spec_loop_fields_of fields.now) ip begin }
     {
-        let count = self.count(fields.loop_id);
+        let count = self.count_bound_of_loop(fields.loop_id);
         (!count.counted || fields.max_iters <= usize::from(count.up_to) + 1)
-            && self.line(ip).from <= u32::from(fields.loop_id)
+            && self.insn_analysis_at(ip).from <= u32::from(fields.loop_id)
             && self.agrees_with_nonreading_successor(ip, fields.exit as usize)
             && self.leads(FlowEdge {
                 ip,
@@ -184,7 +184,7 @@ impl MemoAnalysis {
 
     // Checks that another iteration may begin, if the instruction `begin` is a loop head.
     fn begins_again_at(&self, insns: &[Insn], ip: usize, begin: usize) -> bool
-        ensures { result ≡ true → (program : Program) → HasInsns program insns.now
+        ensures { result ≡ true → (program : Program) → AreInsnsOfProgram program insns.now
             → MayRepeatLoopAt self.now (slice_get program.insns begin) ip begin }
     {
         match successors_at(insns, begin) {
@@ -208,7 +208,7 @@ impl MemoAnalysis {
         ensures { result ≡ true → MayEndIteration self.now (spec_loop_fields_of fields.now) ip }
     {
         self.states_loop_fact(ip, LoopFact::Inside, fields.loop_id)
-            && self.knows_or_distinguishes_reads(ip, fields.loop_id)
+            && self.iteration_read_known_or_distinguished(ip, fields.loop_id)
             && self.decides(fields, ip)
     }
 
@@ -217,7 +217,7 @@ impl MemoAnalysis {
         ensures { let f = spec_loop_fields_of fields.now in result ≡ true
             → CountDecides self.now f (states_loop_fact LoopFact.Moved f.loop_id (enclosing_loops_of self.now ip)) }
     {
-        let count = self.count(fields.loop_id);
+        let count = self.count_bound_of_loop(fields.loop_id);
         if count.counted {
             return true;
         }
@@ -235,8 +235,8 @@ impl MemoAnalysis {
         requires { ip + 1 < 2 ^ 64 }
         ensures { result ≡ true → IsolatesLookaround self.now look ip }
     {
-        let here = self.line(ip);
-        let inner = self.line(ip + 1);
+        let here = self.insn_analysis_at(ip);
+        let inner = self.insn_analysis_at(ip + 1);
         here.from <= inner.from
             && inner.forward == look.forward
             && (inner.silent || !here.silent && look.negate)

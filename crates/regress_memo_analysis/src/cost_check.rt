@@ -3,7 +3,7 @@
 ghost use Rattle.std.specs.Prelude.{◌≡◌, ◌≤◌, ◌<◌, ◌+◌, ◌-◌, ◌*◌, ◌^◌, true, length, slice_get};
 ghost use Rattle.regex_meaning.specs.CompilationRelation.{Program};
 ghost use Rattle.regress_memo_laws.specs.ThreadPotentials.{CoversOne, CoversTwo, CoversRepeat};
-ghost use Rattle.regress_memo_analysis.specs.{AnalysisContents.{insn_analysis_of, potentials_of, key_code_questions_of, insn_direction}, Successors.{HasInsns, successors_in}};
+ghost use Rattle.regress_memo_analysis.specs.{AnalysisContents.{insn_analysis_of, potentials_of, key_code_questions_of, insn_direction}, Successors.{AreInsnsOfProgram, successors_in}};
 ghost use Rattle.regress_memo_analysis.specs.AnalysisChecks.{IsCoveredAt, IsInsnCostCovered, IsCharLoopChecked, CoversUnboundedLoop, CoversBoundedLoop, unlimited};
 
 use crate::analysis::MemoAnalysis;
@@ -17,7 +17,7 @@ impl MemoAnalysis {
     // Checks that the potential that an instruction leaves covers its successors.
     pub(crate) fn potential_covers_at(&self, insns: &[Insn], ip: usize) -> bool
         requires { ip < length insns.now }
-        ensures { result ≡ true → (program : Program) → HasInsns program insns.now
+        ensures { result ≡ true → (program : Program) → AreInsnsOfProgram program insns.now
             → IsCoveredAt self.now program (successors_in ip (slice_get program.insns ip)) ip }
     {
         match successors_at(insns, ip) {
@@ -36,20 +36,21 @@ impl MemoAnalysis {
     fn has_one(&self, ip: usize, next: usize) -> bool
         ensures { result ≡ true → CoversOne (potentials_of self.now) ip next }
     {
-        self.line(next).ready <= self.line(ip).left
+        self.insn_analysis_at(next).ready <= self.insn_analysis_at(ip).left
     }
 
     // Checks that it covers two threads, of which one is pending.
     fn has_two(&self, ip: usize, next: usize, other: usize) -> bool
         ensures { result ≡ true → CoversTwo (potentials_of self.now) ip next other }
     {
-        let ready = u64::from(self.line(next).ready) + u64::from(self.line(other).ready);
-        ready + 1 <= u64::from(self.line(ip).left)
+        let ready = u64::from(self.insn_analysis_at(next).ready)
+            + u64::from(self.insn_analysis_at(other).ready);
+        ready + 1 <= u64::from(self.insn_analysis_at(ip).left)
     }
 
     // Checks that it covers the threads after the end of an iteration.
     fn has_repeated(&self, insns: &[Insn], ip: usize, begin: usize) -> bool
-        ensures { result ≡ true → (program : Program) → HasInsns program insns.now
+        ensures { result ≡ true → (program : Program) → AreInsnsOfProgram program insns.now
             → CoversRepeat (potentials_of self.now) (slice_get program.insns begin) ip begin }
     {
         match successors_at(insns, begin) {
@@ -65,7 +66,7 @@ impl MemoAnalysis {
     pub(crate) fn insn_cost_is_covered(&self, ip: usize) -> bool
         ensures { result ≡ true → IsInsnCostCovered self.now ip }
     {
-        let line = self.line(ip);
+        let line = self.insn_analysis_at(ip);
         let left = u64::from(line.left);
         let ready = u64::from(line.ready);
         if line.records {
@@ -80,9 +81,9 @@ impl MemoAnalysis {
         requires { ip + 2 < 2 ^ 64 }
         ensures { result ≡ true → (program : Program) → IsCharLoopChecked self.now program bounds ip }
     {
-        self.line(ip + 1).forward == self.line(ip).forward
+        self.insn_analysis_at(ip + 1).forward == self.insn_analysis_at(ip).forward
             && if bounds.most == usize::MAX {
-                self.line(ip + 1).records
+                self.insn_analysis_at(ip + 1).records
                     && self.has_rows_of_next(ip + 1)
                     && self.run_is_enough(bounds, ip)
             } else {
@@ -95,8 +96,8 @@ impl MemoAnalysis {
         requires { ip + 1 < 2 ^ 64 }
         ensures { result ≡ true → key_code_questions_of self.now ip ≡ key_code_questions_of self.now (ip + 1) }
     {
-        let here = self.line(ip);
-        let next = self.line(ip + 1);
+        let here = self.insn_analysis_at(ip);
+        let next = self.insn_analysis_at(ip + 1);
         here.first == next.first && here.end == next.end
     }
 
@@ -106,10 +107,10 @@ impl MemoAnalysis {
         requires { ip + 2 < 2 ^ 64 }
         ensures { result ≡ true → CoversUnboundedLoop self.now bounds ip }
     {
-        let behind = u64::from(self.line(ip + 2).ready);
-        let ready = u64::from(self.line(ip).ready);
+        let behind = u64::from(self.insn_analysis_at(ip + 2).ready);
+        let ready = u64::from(self.insn_analysis_at(ip).ready);
         let first = if bounds.greedy { 2 } else { behind * 2 + 3 };
-        behind + 3 <= u64::from(self.line(ip + 1).price)
+        behind + 3 <= u64::from(self.insn_analysis_at(ip + 1).price)
             && first <= ready
             && bounds.least as u64 <= ready - first
     }
@@ -122,8 +123,8 @@ impl MemoAnalysis {
         if bounds.most >= MOST_CHARACTERS {
             return false;
         }
-        let behind = self.line(ip + 2).ready as usize;
+        let behind = self.insn_analysis_at(ip + 2).ready as usize;
         let places = (bounds.most + 1).saturating_sub(bounds.least);
-        bounds.most + 1 + places * (behind + 1) <= self.line(ip).left as usize
+        bounds.most + 1 + places * (behind + 1) <= self.insn_analysis_at(ip).left as usize
     }
 }

@@ -4,8 +4,8 @@
 ghost use Rattle.std.specs.Prelude.{◌≡◌, ◌≤◌, ◌<◌, ◌+◌, ◌*◌, ◌^◌, true, List, option_map, map, length, slice_get, IfSome};
 ghost use Rattle.regress_machine.specs.Machine.{State, LoopData};
 ghost use Rattle.regress_memo_laws.specs.LoopDataKeyCodes.{code_of, codes_of, plan_codes};
-ghost use Rattle.regress_memo_analysis.specs.{AnalysisContents.{insn_analysis_of, count_bound_of, key_code_questions_of, code_base_of, code_width_of, bit_of}, AnalysisChecks.{HasKeyCodesAt, max_code_count}};
-ghost use Rattle.regress_memo_analysis.specs.CheckedAnalysis.{loop_data_of, digit_of, digit_count_of, HasKeyCodes, HasBit};
+ghost use Rattle.regress_memo_analysis.specs.{AnalysisContents.{insn_analysis_of, count_bound_of, key_code_questions_of, code_base_of, code_width_of, bit_of}, AnalysisChecks.{AreCodesCountedAndDisjointAt, max_codes_per_insn}};
+ghost use Rattle.regress_memo_analysis.specs.CheckedAnalysis.{spec_count_and_iteration_start_of, digit_of, radix_of_loop_digit, AreCodesCountedAndDisjoint, MemoKeyHasBit};
 
 use crate::analysis::{EnclosingLoop, MemoAnalysis};
 use regex_pattern_front::types::LoopID;
@@ -15,85 +15,92 @@ pub const MOST_CODES: usize = 64;
 
 /// A loop's number of finished iterations, and the offset at which the current iteration began.
 #[derive(Clone, Copy)]
-pub struct LoopState {
+pub struct LoopCountAndIterationStart {
     pub iters: usize,
     pub entry: usize,
 }
 
 /// The states of all loops.
-pub trait LoopStates {
+pub trait IterationStatesOfAllLoops {
     ghost rounds: { Self → List LoopData };
 
     /// Returns the state of a loop, if it exists.
-    fn round(&self, id: LoopID) -> Option<LoopState>
-        ensures { option_map loop_data_of result ≡ slice_get (rounds self.now) id };
+    fn iteration_state_of_loop(&self, id: LoopID) -> Option<LoopCountAndIterationStart>
+        ensures { option_map spec_count_and_iteration_start_of result ≡ slice_get (rounds self.now) id };
 }
 
-impl LoopStates for Vec<LoopState> {
-    ghost rounds = { λ v. map loop_data_of v.items };
+impl IterationStatesOfAllLoops for Vec<LoopCountAndIterationStart> {
+    ghost rounds = { λ v. map spec_count_and_iteration_start_of v.items };
 
-    fn round(&self, id: LoopID) -> Option<LoopState> {
+    fn iteration_state_of_loop(&self, id: LoopID) -> Option<LoopCountAndIterationStart> {
         self.get(usize::from(id)).copied()
     }
 }
 
 // The first digits of a code, and the number of codes with that many digits.
 #[derive(Clone, Copy)]
-struct KeyCodeDigits {
+struct KeyCodePrefix {
     code: usize,
     codes: usize,
 }
 
 impl MemoAnalysis {
     /// Returns the code of a thread at an instruction and an offset with these loop states.
-    pub fn code_at<R: LoopStates>(&self, ip: usize, at: usize, rounds: &R) -> usize
-        requires { HasKeyCodes self.now }
+    pub fn code_at<R: IterationStatesOfAllLoops>(&self, ip: usize, at: usize, rounds: &R) -> usize
+        requires { AreCodesCountedAndDisjoint self.now }
         ensures { (s : State) → s.pos ≡ at → s.loops ≡ R.rounds rounds.now
             → result ≡ code_of (key_code_questions_of self.now ip) s }
     {
         let rows = self.enclosing_loops(ip);
-        let mut digits = KeyCodeDigits { code: 0, codes: 1 };
+        let mut digits = KeyCodePrefix { code: 0, codes: 1 };
         for row in rows {
-            let digit = self.digit(row, at, rounds.round(row.id));
-            let answers = self.answers(row);
-            digits = digits.with(digit, answers);
+            let digit = self.digit(row, at, rounds.iteration_state_of_loop(row.id));
+            let answers = self.number_of_digit_values(row);
+            digits = digits.append_digit(digit, answers);
         }
         digits.code
     }
 
     // Returns the digit of an entry.
-    fn digit(&self, row: &EnclosingLoop, at: usize, round: Option<LoopState>) -> usize
-        ensures { result ≡ digit_of (count_bound_of self.now row.now.id).up_to at (option_map loop_data_of round) row.now }
+    fn digit(
+        &self,
+        row: &EnclosingLoop,
+        at: usize,
+        loop_iteration_state: Option<LoopCountAndIterationStart>,
+    ) -> usize
+        ensures { result ≡ digit_of (count_bound_of self.now row.now.id).up_to at (option_map spec_count_and_iteration_start_of loop_iteration_state) row.now }
     {
-        let Some(round) = round else {
+        let Some(loop_iteration_state) = loop_iteration_state else {
             return 0;
         };
-        let count = round.iters.min(usize::from(self.count(row.id).up_to));
+        let count = loop_iteration_state
+            .iters
+            .min(usize::from(self.count_bound_of_loop(row.id).up_to));
         if row.empty {
-            usize::from(round.entry == at) + 2 * count
+            usize::from(loop_iteration_state.entry == at) + 2 * count
         } else {
             count
         }
     }
 
     // Returns the number of digits that an entry may have.
-    fn answers(&self, row: &EnclosingLoop) -> usize
-        ensures answers { result ≡ digit_count_of (count_bound_of self.now row.now.id).up_to row.now }
+    fn number_of_digit_values(&self, row: &EnclosingLoop) -> usize
+        ensures answers { result ≡ radix_of_loop_digit (count_bound_of self.now row.now.id).up_to row.now }
         ensures few { result ≤ 2 ^ 17 }
     {
-        let counts = usize::from(self.count(row.id).up_to) + 1;
+        let counts = usize::from(self.count_bound_of_loop(row.id).up_to) + 1;
         if row.empty { 2 * counts } else { counts }
     }
 
     // Returns the number of codes at an instruction, or `None` if there are more than `MOST_CODES`.
     pub(crate) fn code_count_at(&self, ip: usize) -> Option<usize>
         ensures codes { IfSome result (λ codes. plan_codes (key_code_questions_of self.now) ip ≡ codes) }
-        ensures few { IfSome result (λ codes. codes ≤ max_code_count) }
+        ensures few { IfSome result (λ codes. codes ≤ max_codes_per_insn) }
     {
         let rows = self.enclosing_loops(ip);
         let mut codes = 1usize;
         for row in rows {
-            let answers = self.answers(row);
+            let answers = self.number_of_digit_values(row);
             codes *= answers;
             if codes > MOST_CODES {
                 return None;
@@ -104,11 +111,11 @@ impl MemoAnalysis {
 
     // Checks that the codes of an instruction are counted, and that its bits are before those of
     // the next instruction.
-    pub(crate) fn has_key_codes_at(&self, ip: usize) -> bool
+    pub(crate) fn are_codes_counted_and_disjoint_at(&self, ip: usize) -> bool
         requires { ip + 1 < 2 ^ 64 }
-        ensures { result ≡ true → HasKeyCodesAt self.now ip }
+        ensures { result ≡ true → AreCodesCountedAndDisjointAt self.now ip }
     {
-        let codes = self.line(ip).codes;
+        let codes = self.insn_analysis_at(ip).codes;
         self.code_count_at(ip) == Some(codes) && self.is_apart(ip)
     }
 
@@ -117,7 +124,7 @@ impl MemoAnalysis {
         requires { ip + 1 < 2 ^ 64 }
         ensures { result ≡ true → code_base_of self.now ip + code_width_of self.now ip ≤ code_base_of self.now (ip + 1) }
     {
-        let line = self.line(ip);
+        let line = self.insn_analysis_at(ip);
         let width = if line.records { line.codes } else { 0 };
         let (base, next) = (self.base(ip), self.base(ip + 1));
         base <= next && width <= next - base
@@ -128,7 +135,7 @@ impl MemoAnalysis {
         ensures { result ≡ code_base_of self.now ip }
     {
         if ip < self.lines.len() {
-            self.line(ip).base
+            self.insn_analysis_at(ip).base
         } else {
             self.codes
         }
@@ -137,26 +144,26 @@ impl MemoAnalysis {
     /// Returns the bit index of a key in a memo table for `places` offsets.
     #[inline(always)]
     pub fn key_bit_index_at(&self, places: usize, ip: usize, at: usize, code: usize) -> usize
-        requires coded { HasKeyCodes self.now }
-        requires key { HasBit self.now places (record { ip = ip; at = at; code = code }) }
+        requires coded { AreCodesCountedAndDisjoint self.now }
+        requires key { MemoKeyHasBit self.now places (record { ip = ip; at = at; code = code }) }
         requires fits { self.now.codes * places < 2 ^ 64 }
         ensures bit { result ≡ bit_of self.now places ip at code }
         ensures below { result < self.now.codes * places }
     {
-        let line = self.line(ip);
+        let line = self.insn_analysis_at(ip);
         line.base * places + (at * line.codes + code)
     }
 }
 
-impl KeyCodeDigits {
+impl KeyCodePrefix {
     // Appends a digit with this base.
-    fn with(self, digit: usize, base: usize) -> KeyCodeDigits
+    fn append_digit(self, digit: usize, base: usize) -> KeyCodePrefix
         requires code { self.code < self.codes }
         requires digit { digit < base }
-        requires few { self.codes * base ≤ max_code_count }
+        requires few { self.codes * base ≤ max_codes_per_insn }
         ensures { result ≡ record { code = self.code + self.codes * digit; codes = self.codes * base } }
     {
-        KeyCodeDigits {
+        KeyCodePrefix {
             code: self.code + self.codes * digit,
             codes: self.codes * base,
         }

@@ -1,6 +1,6 @@
 //! Laws of memo analyses.
 
-ghost use Rattle.regress_memo_analysis.specs.{UnreachedCharLoopBodies.{BodiesAreUnreached}, WorkBound.{AnalysesBoundTotalWork}, CheckedAnalysis.{AnalysesAreMemoPlans, DirectionsAreKept, KeysHaveDistinctBits}};
+ghost use Rattle.regress_memo_analysis.specs.{UnreachedCharLoopBodies.{CharLoopBodiesAreUnreached}, WorkBound.{AnalysesBoundTotalWork}, CheckedAnalysis.{AnalysesAreMemoPlans, DirectionsAreKept, KeysHaveDistinctBits}};
 
 /// An analysis of a program is a memo plan in each text: its keys decide, its steps are steps with
 /// records, and the work of all attempts together is linear in the length of the text.
@@ -20,7 +20,7 @@ pub fn directions_are_kept()
 
 /// If no instruction leads to the body of a char loop, a step leaves no thread there.
 pub fn bodies_are_unreached()
-    ensures { BodiesAreUnreached }
+    ensures { CharLoopBodiesAreUnreached }
 {}
 
 /// Searches covered by an analysis of a program do no more work per position of a text than the

@@ -9,7 +9,7 @@ mod cost_check;
 mod flow_edges;
 pub mod key_codes;
 pub mod laws;
-pub mod loop_state_check;
+pub mod loop_state_reachability_check;
 mod memo_points_and_costs;
 pub mod successors;
 mod unreached_char_loop_bodies;

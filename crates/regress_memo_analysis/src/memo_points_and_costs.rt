@@ -25,17 +25,19 @@ impl MemoAnalysis {
         for ip in 0..insns.len() {
             let merges = matches!(ways.get(ip), Some(count) if *count > 1);
             match successors_at(insns, ip) {
-                Successors::Run(bounds) if bounds.most == usize::MAX => self.record(ip + 1),
+                Successors::Run(bounds) if bounds.most == usize::MAX => self.mark_as_recording(
+                    ip + 1,
+                ),
                 Successors::Look(look) if merges => count_flow_edge(&mut ways, look.past),
                 Successors::Ends | Successors::Look(_) => {}
-                _ if merges => self.record(ip),
+                _ if merges => self.mark_as_recording(ip),
                 _ => {}
             }
         }
         Ok(())
     }
 
-    fn record(&mut self, ip: usize) {
+    fn mark_as_recording(&mut self, ip: usize) {
         if let Some(line) = self.lines.get_mut(ip) {
             line.records = true;
         }
@@ -74,7 +76,7 @@ impl MemoAnalysis {
     fn ready(&self, ip: usize) -> u64
         ensures { result < 2 ^ 32 }
     {
-        u64::from(self.line(ip).ready)
+        u64::from(self.insn_analysis_at(ip).ready)
     }
 
     // Returns the potential needed for a thread and a pending one.
@@ -134,7 +136,7 @@ impl MemoAnalysis {
                 };
                 (bounds.least as u64).saturating_add(first)
             }
-            _ if self.line(ip).records => 1,
+            _ if self.insn_analysis_at(ip).records => 1,
             _ => left.saturating_add(1),
         }
     }

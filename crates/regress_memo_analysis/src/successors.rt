@@ -9,7 +9,7 @@ use regress_plan::insn::{Insn, LoopFields};
 /// A single successor; whether the instruction reads a character, and whether it leaves groups
 /// unchanged.
 #[derive(Clone, Copy)]
-pub struct Successor {
+pub struct SingleSuccessorAndEffects {
     pub to: usize,
     pub reads: bool,
     pub silent: bool,
@@ -37,7 +37,7 @@ pub enum Successors {
     /// No successor.
     Ends,
     /// One successor.
-    One(Successor),
+    One(SingleSuccessorAndEffects),
     /// The next instruction or this one.
     Two(usize),
     /// The instruction after this loop head, or the loop's exit.
@@ -67,7 +67,7 @@ fn of_insn(insn: &Insn, ip: usize) -> Successors
     requires { ip + 2 < 2 ^ 64 }
     ensures { result ≡ successors_of ip (spec_insn_of insn.now) }
 {
-    match insn.literal() {
+    match insn.bytes_of_literal_insn() {
         Some(bytes) => to_next(ip, !bytes.is_empty(), true),
         None => other_step(insn, ip),
     }
@@ -81,7 +81,7 @@ fn other_step(insn: &Insn, ip: usize) -> Successors
     match insn {
         Insn::Goal | Insn::JustFail => Successors::Ends,
         Insn::Alt { secondary } => Successors::Two(*secondary as usize),
-        Insn::Jump { target } => Successors::One(Successor {
+        Insn::Jump { target } => Successors::One(SingleSuccessorAndEffects {
             to: *target as usize,
             reads: false,
             silent: true,
@@ -144,7 +144,7 @@ fn to_next(ip: usize, reads: bool, silent: bool) -> Successors
     requires { ip + 2 < 2 ^ 64 }
     ensures { result ≡ next_at ip reads silent }
 {
-    Successors::One(Successor {
+    Successors::One(SingleSuccessorAndEffects {
         to: ip + 1,
         reads,
         silent,

@@ -2,14 +2,14 @@
 
 ghost use Rattle.std.specs.Prelude.{◌≡◌, ◌<◌, ℕ, true, length, slice_get};
 ghost use Rattle.regex_meaning.specs.CompilationRelation.{Program};
-ghost use Rattle.regress_memo_analysis.specs.{UnreachedCharLoopBodies.{are_char_loop_successors, IsNotLoopBody, EntersPastBodies, FlowsPastBodies}, Successors.{HasInsns, successors_in}};
+ghost use Rattle.regress_memo_analysis.specs.{UnreachedCharLoopBodies.{are_char_loop_successors, IsNotLoopBody, EntersPastBodies, FlowsPastBodies}, Successors.{AreInsnsOfProgram, successors_in}};
 
 use crate::successors::{Successors, successors_at};
 use regress_plan::insn::Insn;
 
 // Checks that no instruction leads to the body of a char loop, which the loop executes itself.
 pub(crate) fn no_char_loop_body_is_reached(insns: &[Insn]) -> bool
-    ensures { result ≡ true → (program : Program) → HasInsns program insns.now → (ip : ℕ)
+    ensures { result ≡ true → (program : Program) → AreInsnsOfProgram program insns.now → (ip : ℕ)
         → FlowsPastBodies program (successors_in ip (slice_get program.insns ip)) ip }
 {
     for ip in 0..insns.len() {
@@ -23,7 +23,7 @@ pub(crate) fn no_char_loop_body_is_reached(insns: &[Insn]) -> bool
 // Checks this of one instruction.
 fn leads_past(insns: &[Insn], ip: usize) -> bool
     requires { ip < length insns.now }
-    ensures { result ≡ true → (program : Program) → HasInsns program insns.now
+    ensures { result ≡ true → (program : Program) → AreInsnsOfProgram program insns.now
         → FlowsPastBodies program (successors_in ip (slice_get program.insns ip)) ip }
 {
     match successors_at(insns, ip) {
@@ -39,7 +39,7 @@ fn leads_past(insns: &[Insn], ip: usize) -> bool
 
 // Checks this of a jump to the head of a loop, if one is at `begin`.
 fn enters_past(insns: &[Insn], begin: usize) -> bool
-    ensures { result ≡ true → (program : Program) → HasInsns program insns.now
+    ensures { result ≡ true → (program : Program) → AreInsnsOfProgram program insns.now
         → EntersPastBodies program (slice_get program.insns begin) begin }
 {
     match successors_at(insns, begin) {
@@ -52,15 +52,15 @@ fn enters_past(insns: &[Insn], begin: usize) -> bool
 
 // Checks that neither of two instructions is the body of a char loop.
 fn are_no_bodies(insns: &[Insn], ip: usize, other: usize) -> bool
-    ensures one { result ≡ true → (program : Program) → HasInsns program insns.now → IsNotLoopBody program ip }
-    ensures other { result ≡ true → (program : Program) → HasInsns program insns.now → IsNotLoopBody program other }
+    ensures one { result ≡ true → (program : Program) → AreInsnsOfProgram program insns.now → IsNotLoopBody program ip }
+    ensures other { result ≡ true → (program : Program) → AreInsnsOfProgram program insns.now → IsNotLoopBody program other }
 {
     is_no_body(insns, ip) && is_no_body(insns, other)
 }
 
 // Checks that an instruction does not follow a char loop, whose body it would be.
 fn is_no_body(insns: &[Insn], ip: usize) -> bool
-    ensures { result ≡ true → (program : Program) → HasInsns program insns.now → IsNotLoopBody program ip }
+    ensures { result ≡ true → (program : Program) → AreInsnsOfProgram program insns.now → IsNotLoopBody program ip }
 {
     ip == 0 || !runs(successors_at(insns, ip - 1))
 }

@@ -4,7 +4,7 @@ ghost use Rattle.std.specs.Prelude.{◌≡◌, ◌≤◌, ◌<◌, ◌+◌, ◌^
 ghost use Rattle.regress_plan.specs.InsnsAsSpecInsns.{spec_insn_of};
 ghost use Rattle.regex_meaning.specs.CompilationRelation.{Program};
 ghost use Rattle.regress_memo_analysis.specs.{WorkBound.{insn_key_cost, cost_of_all_keys, work_per_position, IsStepWorkBounded, IsWorkBounded}, AnalysisContents.{insn_analysis_of}};
-ghost use Rattle.regress_memo_analysis.specs.Successors.{HasInsns, successors_in};
+ghost use Rattle.regress_memo_analysis.specs.Successors.{AreInsnsOfProgram, successors_in};
 
 use crate::analysis::{InsnAnalysis, MemoAnalysis};
 use crate::successors::{Look, Successors, successors_at};
@@ -16,14 +16,14 @@ impl MemoAnalysis {
     /// or `None` if no bound is known.
     pub fn work_per_position(&self, insns: &[Insn]) -> Option<u64>
         ensures work { IfSome result (λ work. work ≡ work_per_position self.now) }
-        ensures bounded { IsSome result → (program : Program) → HasInsns program insns.now
+        ensures bounded { IsSome result → (program : Program) → AreInsnsOfProgram program insns.now
             → IsWorkBounded self.now program }
     {
         if !self.all_is_paid(insns) {
             return None;
         }
         let prices = self.cost_of_all_keys()?;
-        let ready = u64::from(self.line(0).ready);
+        let ready = u64::from(self.insn_analysis_at(0).ready);
         prices.checked_add(ready)?.checked_mul(3)
     }
 
@@ -45,7 +45,7 @@ impl MemoAnalysis {
     // no lazy char loop without a maximum is searched to the left, and no thread reaches the body
     // of a char loop.
     fn all_is_paid(&self, insns: &[Insn]) -> bool
-        ensures { result ≡ true → (program : Program) → HasInsns program insns.now → IsWorkBounded self.now program }
+        ensures { result ≡ true → (program : Program) → AreInsnsOfProgram program insns.now → IsWorkBounded self.now program }
     {
         for ip in 0..insns.len() {
             if !self.is_paid_at(insns, ip) {
@@ -77,7 +77,7 @@ impl MemoAnalysis {
             Successors::Look(look) => self.has_both(ip, look.past)
                 && !self.records_within(look, ip),
             Successors::Run(bounds) => {
-                bounds.greedy || bounds.most != usize::MAX || self.line(ip).forward
+                bounds.greedy || bounds.most != usize::MAX || self.insn_analysis_at(ip).forward
             }
             _ => true,
         }
@@ -89,8 +89,9 @@ impl MemoAnalysis {
         ensures { result ≡ true → (insn_analysis_of self.now (ip + 1)).ready + (insn_analysis_of self.now past).ready
             ≤ (insn_analysis_of self.now ip).left }
     {
-        let ready = u64::from(self.line(ip + 1).ready) + u64::from(self.line(past).ready);
-        ready <= u64::from(self.line(ip).left)
+        let ready = u64::from(self.insn_analysis_at(ip + 1).ready)
+            + u64::from(self.insn_analysis_at(past).ready);
+        ready <= u64::from(self.insn_analysis_at(ip).left)
     }
 
     // Checks whether a lookaround or an instruction of its contents records.
@@ -99,7 +100,7 @@ impl MemoAnalysis {
             → (insn_analysis_of self.now inner).records ≡ false }
     {
         for inner in ip..look.past {
-            if self.line(inner).records {
+            if self.insn_analysis_at(inner).records {
                 return true;
             }
         }

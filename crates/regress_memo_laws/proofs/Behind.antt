@@ -7,7 +7,7 @@ use Rattle.regex_meaning.specs.Text.{Text, Direction, rightwards, leftwards}
 use Rattle.regex_meaning.specs.CodeUnitOffsets.{units}
 use Rattle.regex_meaning.specs.CompilationRelation.{Program, Insn, Lookahead, Lookbehind}
 use Rattle.regex_meaning.proofs.Options.{some-same}
-use Rattle.regress_machine.specs.Machine.{LoopData, State, Thread, running, waiting, asks, Found, after_lookaround, at_ip, next_ip, act_on, act, search, Next}
+use Rattle.regress_machine.specs.Machine.{LoopData, State, Thread, running, waiting, asks, Found, after_lookaround, state_at_ip, state_at_next_ip, act_on, act, search, Next}
 use Rattle.regress_machine.specs.Machine.{goes, scans, ends, stuck}
 use Rattle.regress_machine.proofs.Search.{asked-inner}
 use Rattle.regress_simulation.specs.ThreadSimulation.{Simulates}
@@ -17,7 +17,7 @@ use Rattle.regress_memo_laws.specs.Liveness.{Liveness, World, IsConsistentLookar
 use Rattle.regress_memo_laws.specs.GroupPreservingInsns.{SameGroups}
 use Rattle.regress_memo_laws.specs.DistinctLists.{IsIn}
 use Rattle.regress_memo_laws.specs.ThreadPotentials.{Shape, stands_there, has_shape}
-use Rattle.regress_memo_laws.specs.LoopDataKeyCodes.{Question, is_empty, how_many, answers, bool_as_digit, answer, code_of, plan_code}
+use Rattle.regress_memo_laws.specs.LoopDataKeyCodes.{Question, is_empty, how_many, number_of_possible_answers, bool_as_digit, answer_to_loop_question, code_of, plan_code}
 use Rattle.regress_memo_laws.specs.LookaroundContinuations.{LookaroundInsn, lookaround_at, GoesOn, SuccessGoesOn, TurnsAtHand, AsksOnly, ThreadsStayEquivalent}
 use Rattle.regress_memo_laws.proofs.Agree.{agree-of, agree-here, agree-inside, contents-world, agree-kept, threads-alike}
 use Rattle.regress_memo_laws.proofs.Silent.{groups-stay}
@@ -32,11 +32,11 @@ module _ (program : Program) (text : Text) (a : Liveness) (d : Direction) (s : S
       subst (λ (x : LookaroundInsn). IsConsistentLookaround a s.ip x.continuation) (some-same (record { inner = leftwards; negate = negate; continuation = continuation }) look e) r
   looks-there _ e r = cc
 
-  pub asks-there : (o : Option Insn) → lookaround_at o ≡ Some look → act_on program text d o s ≡ asks look.inner look.negate (next_ip s) (at_ip look.continuation s)
+  pub asks-there : (o : Option Insn) → lookaround_at o ≡ Some look → act_on program text d o s ≡ asks look.inner look.negate (state_at_next_ip s) (state_at_ip look.continuation s)
   asks-there (Some (Lookahead negate start_group end_group continuation)) e =
-      ap (λ (x : LookaroundInsn). asks x.inner x.negate (next_ip s) (at_ip x.continuation s)) (some-same (record { inner = rightwards; negate = negate; continuation = continuation }) look e)
+      ap (λ (x : LookaroundInsn). asks x.inner x.negate (state_at_next_ip s) (state_at_ip x.continuation s)) (some-same (record { inner = rightwards; negate = negate; continuation = continuation }) look e)
   asks-there (Some (Lookbehind negate start_group end_group continuation)) e =
-      ap (λ (x : LookaroundInsn). asks x.inner x.negate (next_ip s) (at_ip x.continuation s)) (some-same (record { inner = leftwards; negate = negate; continuation = continuation }) look e)
+      ap (λ (x : LookaroundInsn). asks x.inner x.negate (state_at_next_ip s) (state_at_ip x.continuation s)) (some-same (record { inner = leftwards; negate = negate; continuation = continuation }) look e)
   asks-there _ e = cc
 
 -- ---- Behind contents
@@ -47,43 +47,43 @@ module _ (program : Program) (text : Text) (a : Liveness) (acc : IsLivenessFor p
   inner-world = contents-world a (units text) w d s s g continuation
 
   -- an end of the contents is sound in their world
-  end-sound : (turns : ℕ) (f : Found) (e : State) → search program text turns inner (running (next_ip s) ∷ []) ≡ Some f → f.end ≡ Some e
+  end-sound : (turns : ℕ) (f : Found) (e : State) → search program text turns inner (running (state_at_next_ip s) ∷ []) ≡ Some f → f.end ≡ Some e
       → Agree a (units text) inner-world inner e e
   end-sound turns f e searches ended =
-      let both = threads-alike program text a acc turns inner-world inner (running (next_ip s) ∷ []) (running (next_ip s) ∷ [])
+      let both = threads-alike program text a acc turns inner-world inner (running (state_at_next_ip s) ∷ []) (running (state_at_next_ip s) ∷ [])
       (agree-inside a (units text) w d s s g continuation looks inner, tt) in
       let found = subst (λ o. AlikeAnswers (Agree a (units text) inner-world inner) o o) searches both in
       subst (λ o. AlikeEnds (Agree a (units text) inner-world inner) o o) ended found.ends
 
-  behind-agrees : (e : State) → SameGroups e (next_ip s) → Agree a (units text) inner-world inner e e
-      → Agree a (units text) w d (at_ip continuation s) (record e { ip = continuation; pos = s.pos })
+  behind-agrees : (e : State) → SameGroups e (state_at_next_ip s) → Agree a (units text) inner-world inner e e
+      → Agree a (units text) w d (state_at_ip continuation s) (record e { ip = continuation; pos = s.pos })
   behind-agrees e same sound =
       agree-of a (units text) _ _ _ _ refl refl g.within (sym (ap length same.groups)) (λ h. sym same.groups) (sym (ap length same.starts))
       (λ id h. ap (λ xs. slice_get xs id) (sym same.starts)) (sym same.loops)
       (λ l h. subst (λ o. SimilarAt a (units text) d s.pos continuation l (slice_get s.loops l) o) (sym (unwritten l (looks.left l h))) (here.loops l h))
       (λ l h. still l (here.kept l h) (g.kept l h))
     where
-      here : Agree a (units text) w d (at_ip continuation s) (record s { ip = continuation; pos = s.pos })
+      here : Agree a (units text) w d (state_at_ip continuation s) (record s { ip = continuation; pos = s.pos })
       here = agree-here a (units text) w d s s g continuation looks.on
 
       unwritten : (l : ℕ) → a.writes (s.ip + 1) l ≡ false → slice_get e.loops l ≡ slice_get s.loops l
       unwritten l h = let k = sound.kept l (ap not h) in k.left
 
-      still : (l : ℕ) → IsKeptIn a (units text) w (at_ip continuation s) (record s { ip = continuation; pos = s.pos }) l → IsKeptIn a (units text) w s s l
-          → IsKeptIn a (units text) w (at_ip continuation s) (record e { ip = continuation; pos = s.pos }) l
+      still : (l : ℕ) → IsKeptIn a (units text) w (state_at_ip continuation s) (record s { ip = continuation; pos = s.pos }) l → IsKeptIn a (units text) w s s l
+          → IsKeptIn a (units text) w (state_at_ip continuation s) (record e { ip = continuation; pos = s.pos }) l
       still l k before = record { left = k.left; right = unwritten l (looks.writes l before.writes) ∙ k.right; writes = k.writes }
 
 success-goes-on : (program : Program) (text : Text) (a : Liveness) → SuccessGoesOn program text a
 success-goes-on program text a acc silent are w d s look is positive quiet g found turns vs f e =
     let looks = looks-there program text a d s look (slice_get program.insns s.ip) is (acc.right.right s.ip) in
     let asked = asks-there program text a d s look (slice_get program.insns s.ip) is
-    ∙ ap (λ b. asks look.inner b (next_ip s) (at_ip look.continuation s)) positive in
-    let x = asked-inner program text turns d look.inner false s (next_ip s) (at_ip look.continuation s) vs f asked e in
+    ∙ ap (λ b. asks look.inner b (state_at_next_ip s) (state_at_ip look.continuation s)) positive in
+    let x = asked-inner program text turns d look.inner false s (state_at_next_ip s) (state_at_ip look.continuation s) vs f asked e in
     by looks asked x.found.end turns x.found x.searches refl (found turns x.found x.searches)
   where
-    by : IsConsistentLookaround a s.ip look.continuation → act program text d s ≡ asks look.inner false (next_ip s) (at_ip look.continuation s)
-        → (end : Option State) (n : ℕ) (h : Found) → search program text n look.inner (running (next_ip s) ∷ []) ≡ Some h → h.end ≡ end → IsSome h.end
-        → GoesOn program text a w d (at_ip look.continuation s) s
+    by : IsConsistentLookaround a s.ip look.continuation → act program text d s ≡ asks look.inner false (state_at_next_ip s) (state_at_ip look.continuation s)
+        → (end : Option State) (n : ℕ) (h : Found) → search program text n look.inner (running (state_at_next_ip s) ∷ []) ≡ Some h → h.end ≡ end → IsSome h.end
+        → GoesOn program text a w d (state_at_ip look.continuation s) s
     by looks asked None n h searches ended some = absurd (none h.end ended some)
       where
         none : (o : Option State) → o ≡ None → IsSome o → ⊥
@@ -92,11 +92,11 @@ success-goes-on program text a acc silent are w d s look is positive quiet g fou
     by looks asked (Some u) n h searches ended some = record {
       behind = record u { ip = look.continuation; pos = s.pos };
       agrees = behind-agrees program text a acc w d s g look.continuation looks look.inner u
-          (groups-stay program text silent are look.inner n (next_ip s) u h quiet searches ended)
+          (groups-stay program text silent are look.inner n (state_at_next_ip s) u h quiet searches ended)
           (end-sound program text a acc w d s g look.continuation looks look.inner n h u searches ended);
-      simulates = subst (λ o. Simulates program text false d 1 (after_lookaround false (at_ip look.continuation s) o) (running s ∷ [])) ended
-          (simulates-fewer program text d 1 (1 + h.steps) (after_lookaround false (at_ip look.continuation s) h.end) (running s ∷ []) (omega arith)
-          (simulates-asks program text false d look.inner false s (next_ip s) (at_ip look.continuation s) n h asked searches));
+      simulates = subst (λ o. Simulates program text false d 1 (after_lookaround false (state_at_ip look.continuation s) o) (running s ∷ [])) ended
+          (simulates-fewer program text d 1 (1 + h.steps) (after_lookaround false (state_at_ip look.continuation s) h.end) (running s ∷ []) (omega arith)
+          (simulates-asks program text false d look.inner false s (state_at_next_ip s) (state_at_ip look.continuation s) n h asked searches));
     }
 
 -- ---- Turns
@@ -162,7 +162,7 @@ module _ (program : Program) (text : Text) (a : Liveness) (questions : ℕ → L
   count-agrees pos ip l most None (Some y) h le = absurd h
   count-agrees pos ip l most (Some x) None h le = absurd h
 
-  answer-agrees : (s t : State) → Agreeing s t → (q : Question) → IsIn q (questions s.ip) → answer q s ≡ answer q t
+  answer-agrees : (s t : State) → Agreeing s t → (q : Question) → IsIn q (questions s.ip) → answer_to_loop_question q s ≡ answer_to_loop_question q t
   answer-agrees s t g (is_empty l) h =
       let asked = (only.only s.ip).empty l h in
       empty-agrees s.pos s.ip l (slice_get s.loops l) (slice_get t.loops l) (g.loops l asked.0) asked.1
@@ -171,9 +171,9 @@ module _ (program : Program) (text : Text) (a : Liveness) (questions : ℕ → L
       let asked = (only.only s.ip).count l most h in
       count-agrees s.pos s.ip l most (slice_get s.loops l) (slice_get t.loops l) (g.loops l asked.0) asked.1
 
-  codes-agree : (s t : State) → (qs : List Question) → ((q : Question) → IsIn q qs → answer q s ≡ answer q t) → code_of qs s ≡ code_of qs t
+  codes-agree : (s t : State) → (qs : List Question) → ((q : Question) → IsIn q qs → answer_to_loop_question q s ≡ answer_to_loop_question q t) → code_of qs s ≡ code_of qs t
   codes-agree s t [] h = refl
-  codes-agree s t (q ∷ qs) h = ap₂ (λ m n. m + answers q * n) (h q (inl refl)) (codes-agree s t qs (λ p there. h p (inr there)))
+  codes-agree s t (q ∷ qs) h = ap₂ (λ m n. m + number_of_possible_answers q * n) (h q (inl refl)) (codes-agree s t qs (λ p there. h p (inr there)))
 
   code-agrees : (s t : State) → Agreeing s t → plan_code questions s ≡ plan_code questions t
   code-agrees s t g = codes-agree s t (questions s.ip) (answer-agrees s t g) ∙ ap (λ i. code_of (questions i) t) g.ip

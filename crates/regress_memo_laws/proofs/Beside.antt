@@ -14,8 +14,8 @@ use Rattle.regress_memo_laws.specs.ThreadPotentials.{Potentials, potential_of}
 use Rattle.regress_memo_laws.specs.LoopDataKeyCodes.{Question, plan_code, key_of}
 use Rattle.regress_memo_laws.specs.CharLoopMemoKeys.{plan_keys}
 use Rattle.regress_memo_laws.specs.AmortizedStepCosts.{potential_by, AreCostsCovered}
-use Rattle.regress_memo_laws.specs.MemoPlans.{IsPlan}
-use Rattle.regress_memo_laws.specs.BoundedLoopAndLookaroundCosts.{LimitedRunIsPaid, ScanIsPaid, EndIsPaid, ScanGives, BoundedLoopCostsAreCovered, BoundedLoopsAreMemoSteps, LookaroundCostsAreCovered}
+use Rattle.regress_memo_laws.specs.MemoPlanChecksAndGuarantees.{IsPlan}
+use Rattle.regress_memo_laws.specs.BoundedCharLoopsAndLookarounds.{LimitedRunIsPaid, ScanIsPaid, EndIsPaid, ScanGives, BoundedCharLoopCostsCovered, BoundedLoopsAreMemoSteps, LookaroundCostsAreCovered}
 use Rattle.regress_memo_laws.proofs.Onward.{turns-move-on}
 use Rattle.regress_memo_laws.proofs.Paid.{tries-weigh, one-weighs}
 use Rattle.regress_memo_laws.proofs.Plans.{bare-tries, own}
@@ -88,7 +88,7 @@ module _ (program : Program) (w : Potentials) (price : ℕ → ℕ) (ips : List 
         let x = one-weighs program w price ips (tried (running s)) in let y = paid.ready in omega (arith, x, y, le);
   }
 
-pub others-paid : BoundedLoopCostsAreCovered
+pub others-paid : BoundedCharLoopCostsCovered
 others-paid = record {
   scans = λ program w price ips paid code s least most enough. scan-paid program w price ips paid code s least most enough;
   ends = λ program w price ips s. end-paid program w price ips s;

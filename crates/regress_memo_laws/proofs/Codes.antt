@@ -14,7 +14,7 @@ use Rattle.regress_memo_laws.specs.MemoKeys.{SamePlace}
 use Rattle.regress_memo_laws.specs.DistinctLists.{IsIn}
 use Rattle.regress_memo_laws.specs.MemoSearch.{Key}
 use Rattle.regress_memo_laws.specs.ThreadPotentials.{Shape, is_way, stands_there, has_shape}
-use Rattle.regress_memo_laws.specs.LoopDataKeyCodes.{Question, is_empty, how_many, answers, bool_as_digit, answer, code_of, codes_of, plan_code, plan_codes, AsksAll}
+use Rattle.regress_memo_laws.specs.LoopDataKeyCodes.{Question, is_empty, how_many, number_of_possible_answers, bool_as_digit, answer_to_loop_question, code_of, codes_of, plan_code, plan_codes, AsksAll}
 use Rattle.regress_memo_laws.specs.LoopDataKeyCodes.{HasSlotsOfProgram, key_of, own_row, ThreadHasKey, CodesDistinguish}
 use Rattle.regress_memo_laws.proofs.Keys.{unasked-count}
 
@@ -46,7 +46,7 @@ number-below : (o : Option LoopData) (number : LoopData → ℕ) (n : ℕ) → 0
 number-below None number n some below = some
 number-below (Some x) number n some below = below x
 
-pub answer-below : (q : Question) (s : State) → answer q s < answers q
+pub answer-below : (q : Question) (s : State) → answer_to_loop_question q s < number_of_possible_answers q
 answer-below (is_empty l) s = number-below (slice_get s.loops l) _ 2 (omega arith) (λ x. bit (x.entry == s.pos))
   where
     bit : (b : Bool) → bool_as_digit b < 2
@@ -56,16 +56,16 @@ answer-below (how_many l most) s = number-below (slice_get s.loops l) _ (most + 
 
 pub code-below : (qs : List Question) (s : State) → code_of qs s < codes_of qs
 code-below [] s = omega arith
-code-below (q ∷ qs) s = digit-below (answers q) (answer q s) (codes_of qs) (code_of qs s) (answer-below q s) (code-below qs s)
+code-below (q ∷ qs) s = digit-below (number_of_possible_answers q) (answer_to_loop_question q s) (codes_of qs) (code_of qs s) (answer-below q s) (code-below qs s)
 
-answers-same : (qs : List Question) (s t : State) → code_of qs s ≡ code_of qs t → (q : Question) → IsIn q qs → answer q s ≡ answer q t
+answers-same : (qs : List Question) (s t : State) → code_of qs s ≡ code_of qs t → (q : Question) → IsIn q qs → answer_to_loop_question q s ≡ answer_to_loop_question q t
 answers-same [] s t e q h = absurd h
 answers-same (r ∷ qs) s t e q h =
-    let both = digits-same (answers r) (answer r s) (answer r t) (code_of qs s) (code_of qs t) (answer-below r s) (answer-below r t) e in
+    let both = digits-same (number_of_possible_answers r) (answer_to_loop_question r s) (answer_to_loop_question r t) (code_of qs s) (code_of qs t) (answer-below r s) (answer-below r t) e in
     by both.0 (λ there. answers-same qs s t both.1 q there) h
   where
-    by : (answer r s ≡ answer r t) → (IsIn q qs → answer q s ≡ answer q t) → IsIn q (r ∷ qs) → answer q s ≡ answer q t
-    by same later (inl i) = subst (λ p. answer p s ≡ answer p t) i same
+    by : (answer_to_loop_question r s ≡ answer_to_loop_question r t) → (IsIn q qs → answer_to_loop_question q s ≡ answer_to_loop_question q t) → IsIn q (r ∷ qs) → answer_to_loop_question q s ≡ answer_to_loop_question q t
+    by same later (inl i) = subst (λ p. answer_to_loop_question p s ≡ answer_to_loop_question p t) i same
     by same later (inr there) = later there
 
 -- an answer of a loop that is there
@@ -79,7 +79,7 @@ bit-same true false e = cc
 bit-same false true e = cc
 
 module _ (questions : ℕ → List Question) (a : Liveness) (asks : AsksAll questions a) (s t : State) (place : SamePlace s t) (same : plan_code questions s ≡ plan_code questions t) where
-  all-same : (q : Question) → IsIn q (questions s.ip) → answer q s ≡ answer q t
+  all-same : (q : Question) → IsIn q (questions s.ip) → answer_to_loop_question q s ≡ answer_to_loop_question q t
   all-same q h = answers-same (questions s.ip) s t (same ∙ ap (λ i. code_of (questions i) t) (sym place.ip)) q h
 
   empty-same : (l : ℕ) (x y : LoopData) → a.inside s.ip l ≡ true → a.empty s.ip l ≡ true → slice_get s.loops l ≡ Some x → slice_get t.loops l ≡ Some y

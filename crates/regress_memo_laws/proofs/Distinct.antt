@@ -5,7 +5,7 @@ use Rattle.std.proofs.lemmas.List.Sums.{sum_by-cons, sum_by-append}
 use Rattle.regex_meaning.specs.Laws.{Each}
 use Rattle.regex_meaning.proofs.Each.{Each-append}
 use Rattle.regress_memo_laws.specs.DistinctLists.{IsIn, IsNew, AreDistinct, AreIn}
-use Rattle.regress_memo_laws.specs.MemoSearch.{DistinctKeysCostNoMore}
+use Rattle.regress_memo_laws.specs.MemoSearch.{DistinctKeysCostAtMostList}
 
 module _ {K : Type 0} where
   -- the list without this key, once
@@ -99,7 +99,7 @@ module _ {K : Type 0} where
   pub price-few : (price : K → ℕ) (ks all : List K) → AreDistinct ks → AreIn ks all → sum_by price ks ≤ sum_by price all
   price-few price ks all distinct there = few-price price ks all distinct there
 
-pub distinct-few : DistinctKeysCostNoMore
+pub distinct-few : DistinctKeysCostAtMostList
 distinct-few = record {
   price = λ price ks all distinct there. few-price price ks all distinct there;
   number = λ ks all distinct there. few-number ks all distinct there;

@@ -7,7 +7,7 @@ use Rattle.regress_machine.specs.Machine.{LoopData, State, running, Found, searc
 use Rattle.regress_simulation.proofs.Simulates.{simulates-goes, simulates-scans, simulates-fewer, simulates-then, simulates-before}
 use Rattle.regress_memo_laws.specs.Bisimulation.{AlikeAnswers}
 use Rattle.regress_memo_laws.specs.Liveness.{Liveness, outermost, IsSound, SimilarAt, Agree}
-use Rattle.regress_memo_laws.specs.MemoKeys.{IsSoundState, SameKey, AsksNoGroups, MemoKeysDecideFailure, PositionsDecideFailure, NoKeyRecurs, RecordedFailuresAreRight}
+use Rattle.regress_memo_laws.specs.MemoKeys.{IsSoundState, SameKey, AsksNoGroups, MemoKeysDecideFailure, PositionsDecideFailure, NoStateRecursWhilePending, RecordedFailuresAreRight}
 use Rattle.regress_memo_laws.proofs.Agree.{BothThere, both-there, agreeing-alike}
 use Rattle.regress_memo_laws.proofs.Alone.{splits, failure-shared}
 
@@ -81,7 +81,7 @@ records-right program text = record {
   ended = λ d s r. r.simulates;
 }
 
-pub nothing-returns : NoKeyRecurs
+pub nothing-returns : NoStateRecursWhilePending
 nothing-returns program text a acc d s t rest turns f g r e =
     let w = r.simulates.within turns [] f e in
     let x = splits program text d (rest ++ []) turns turns (omega arith) (running t ∷ []) w.found w.searches in

@@ -12,7 +12,7 @@ use Rattle.regex_meaning.specs.OutcomesWithStepTicks.{nearest_first}
 use Rattle.regex_meaning.specs.CompilationRelation.{Program, LoopFields, Insn, Goal, JustFail, ByteSeq, StartOfLine, EndOfLine, WordBoundary}
 use Rattle.regex_meaning.specs.CompilationRelation.{WordBoundaryUnicodeICase, Alt, Jump, EnterLoop, LoopAgain, ResetCaptureGroup, Loop1CharBody}
 use Rattle.regex_meaning.specs.CompilationRelation.{BeginCaptureGroup, EndCaptureGroup, BackRef, Lookahead, Lookbehind}
-use Rattle.regress_machine.specs.Machine.{State, Thread, running, waiting, Next, goes, at_ip, with_some, go, go_if, range_between_offsets, test_of, on_to, moved_by}
+use Rattle.regress_machine.specs.Machine.{State, Thread, running, waiting, Next, goes, state_at_ip, with_some, go, go_if, range_swapped_if_leftwards, test_of, on_to, moved_by}
 use Rattle.regress_machine.specs.Machine.{read_one, stay_if, read_group, run_states, scan, act_on, act}
 use Rattle.regress_machine.proofs.Leaving.{IsOfThread, IsOfNext, of-in_turn, of-with_some, of-only_if, of-go_if, of-map, of-loop_turn, of-again_at}
 use Rattle.regress_memo_laws.specs.LoopDataKeyCodes.{HasSlotsOfProgram}
@@ -26,7 +26,7 @@ module _ (program : Program) (text : Text) (d : Direction) (s : State) (is : Has
   stays : (ip pos : ℕ) → Good (record s { ip = ip; pos = pos })
   stays ip pos = record { groups = is.groups; starts = is.starts; loops = is.loops }
 
-  at : (ip : ℕ) → Good (at_ip ip s)
+  at : (ip : ℕ) → Good (state_at_ip ip s)
   at ip = record { groups = is.groups; starts = is.starts; loops = is.loops }
 
   on : (p : ℕ) → Good (on_to text p s)
@@ -86,9 +86,9 @@ module _ (program : Program) (text : Text) (d : Direction) (s : State) (is : Has
       (go (record s { ip = s.ip + 1; groups = slice_set s.groups id None; starts = slice_set s.starts id s.pos }))
       (record { groups = length-set s.groups id None ∙ is.groups; starts = length-set s.starts id s.pos ∙ is.starts; loops = is.loops }, tt)
   acts (Some (EndCaptureGroup id)) =
-      let closed : ℕ → Next = λ start. go (record s { ip = s.ip + 1; groups = slice_set s.groups id (Some (range_between_offsets d start s.pos)) }) in
+      let closed : ℕ → Next = λ start. go (record s { ip = s.ip + 1; groups = slice_set s.groups id (Some (range_swapped_if_leftwards d start s.pos)) }) in
       of-only_if Good (nat_lt id (length s.groups)) (with_some (slice_get s.starts id) closed)
-      (of-with_some Good (slice_get s.starts id) closed (λ start e. (with_group id (Some (range_between_offsets d start s.pos)), tt)))
+      (of-with_some Good (slice_get s.starts id) closed (λ start e. (with_group id (Some (range_swapped_if_leftwards d start s.pos)), tt)))
   acts (Some (BackRef group icase)) = of-with_some Good (slice_get s.groups group) (λ range. read_group text icase d range s) (λ range e. reads_group icase range)
   acts (Some (Lookahead negate start_group end_group continuation)) = (at (s.ip + 1), at continuation)
   acts (Some (Lookbehind negate start_group end_group continuation)) = (at (s.ip + 1), at continuation)

@@ -19,7 +19,7 @@ use Rattle.regress_memo_laws.specs.Liveness.{Liveness, World, IsLivenessFor, Agr
 use Rattle.regress_memo_laws.specs.DistinctLists.{IsIn, IsNew, AreDistinct, AreIn}
 use Rattle.regress_memo_laws.specs.MemoSearch.{Key, Keys, Entry, tried, kept, noted, IsBare, tries, threads_in, keys_in, FindEnd, KeyStandsFor, AreKeys, Succeeds}
 use Rattle.regress_memo_laws.specs.MemoSearch.{IsKnown, known_to_reach, AreNoted, AreAnswered, HoldsInvariant, ReachesBySteps, at_first, gives, reaches, learns}
-use Rattle.regress_memo_laws.specs.LookaroundMemo.{LookaroundsLearnKeys, SuccessIsShared, SearchesKeepSoundness, LookaroundsAreDecided}
+use Rattle.regress_memo_laws.specs.LookaroundsWithSharedMemo.{LookaroundsLearnKeys, FoundEndMakesRecordsBelowSucceed, SoundStatesLeaveSoundThreads, KnownResultsDecideLookarounds}
 use Rattle.regress_memo_laws.proofs.Agree.{agree-of, agree-kept}
 use Rattle.regress_memo_laws.proofs.Failing.{same-answers, row-ends}
 use Rattle.regress_memo_laws.proofs.Distinct.{Each-left, Each-right, distinct-right, distinct-moved}
@@ -127,7 +127,7 @@ module _ (program : Program) (text : Text) (d : Direction) where
       let over = left-ends program text false n d 0 s t [] f is w in
       subst IsSome over.ends_so refl
 
-pub success-shared : SuccessIsShared
+pub success-shared : FoundEndMakesRecordsBelowSucceed
 success-shared program text a keys acc are d = record {
   ends = ends-found-here program text d;
   shared = λ memory front rest f b found h. row-found program text a keys acc are d memory front rest f b found h;
@@ -158,7 +158,7 @@ module _ (program : Program) (text : Text) (a : Liveness) (acc : IsLivenessFor p
       either-way true c e = refl
       either-way false c e = cc
 
-pub soundness-stays : SearchesKeepSoundness
+pub soundness-stays : SoundStatesLeaveSoundThreads
 soundness-stays program text a acc d = record {
   at_first = begins-sound program text a acc d;
   goes = λ w s ts g e. next-sound program text a acc d w s (goes ts) g e;
@@ -177,7 +177,7 @@ module _ (program : Program) (text : Text) (d : Direction) where
   resumed-some t None h = cc
   resumed-some t (Some x) h = simulates-same program text false d []
 
-pub looks-decided : LookaroundsAreDecided
+pub looks-decided : KnownResultsDecideLookarounds
 looks-decided program text d = record {
   fails = λ inner negate s u t is none.
       simulates-asks-any program text d inner negate s u t 0 (after_lookaround negate t None) is (λ k g e. resumed-none program text d negate t g.end (row-ends program text inner k (running u ∷ []) g none e));

@@ -13,7 +13,7 @@ use Rattle.regress_machine.specs.Machine.{Thread}
 use Rattle.regress_memo_laws.specs.Liveness.{Liveness, IsLivenessFor}
 use Rattle.regress_memo_laws.specs.DistinctLists.{IsIn}
 use Rattle.regress_memo_laws.specs.MemoSearch.{Key, Keys, Entry, tried, kept, noted, at_of, AreOnward, keys_in, AreKeys, IsMemory}
-use Rattle.regress_memo_laws.specs.AllMatchesWork.{Searched, at_first, failed, found, AllMatchesAreBounded, TotalWorkIsLinear}
+use Rattle.regress_memo_laws.specs.AllMatchesWork.{Searched, at_first, failed, found, AllMatchesAreBounded, AllMatchesWorkIsLinear}
 use Rattle.regress_memo_laws.specs.ThreadPotentials.{place_keys}
 use Rattle.regress_memo_laws.proofs.Weights.{places-keys}
 use Rattle.regress_memo_laws.proofs.Distinct.{Each-left, Each-right, distinct-left, distinct-right, price-few}
@@ -172,7 +172,7 @@ module _ (program : Program) (text : Text) (a : Liveness) (keys : Keys) (acc : I
 pub matches-together : AllMatchesAreBounded
 matches-together program text a keys acc are price weight from work ready memory s = together program text a keys acc are price weight from work ready memory s
 
-pub linear-in-places : TotalWorkIsLinear
+pub linear-in-places : AllMatchesWorkIsLinear
 linear-in-places program text a way ips code codes rows taken acc no_groups tells price weight from work ready memory s =
     let keys = place_keys program code way ips (units text) codes rows taken in
     let bound = together program text a keys acc (places-keys.are program text a way ips code codes rows taken acc no_groups tells) (λ k. price k.ip) weight from work ready memory s in

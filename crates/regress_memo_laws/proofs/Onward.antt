@@ -9,7 +9,7 @@ use Rattle.regex_meaning.specs.Laws.{Each}
 use Rattle.regex_meaning.proofs.Each.{Each-map, Each-reverse}
 use Rattle.regex_meaning.specs.NumberListHelpers.{numbers_from}
 use Rattle.regex_meaning.specs.Text.{Text, rightwards, next_character, moved, characters_ahead}
-use Rattle.regex_meaning.specs.CodeUnitOffsets.{IsText, offset, place_at}
+use Rattle.regex_meaning.specs.CodeUnitOffsets.{HasRisingPlaceOffsets, offset, place_at}
 use Rattle.regex_meaning.specs.Outcomes.{is_some_and}
 use Rattle.regex_meaning.specs.OutcomesWithStepTicks.{nearest_first}
 use Rattle.regex_meaning.specs.CompilationRelation.{Program, Insn, Goal, JustFail, Char, CharSet, ByteSet, ByteSeq, AsciiBracket, Bracket, MatchAny}
@@ -23,7 +23,7 @@ use Rattle.regress_machine.proofs.Beside.{length-nearest}
 use Rattle.regress_machine.proofs.Run.{numbers_between}
 use Rattle.regress_machine.proofs.Leaving.{IsOfThread, IsOfNext, of-in_turn, of-with_some, of-only_if, of-go_if, of-map, of-loop_turn, of-again_at}
 use Rattle.regress_memo_laws.specs.MemoSearch.{Key, noted, tries, at_of, AreOnward}
-use Rattle.regress_memo_laws.specs.ThreadPotentials.{InsnsMoveForward}
+use Rattle.regress_memo_laws.specs.ThreadPotentials.{RightwardInsnsNeverMoveLeft}
 use Rattle.regress_memo_laws.proofs.Agree.{moves-on, moves-one}
 use Rattle.regress_memo_laws.proofs.Turns.{keys-tries, keys-joined}
 
@@ -39,7 +39,7 @@ module _ (from : ℕ) where
       at-or-past (running s) h = h
       at-or-past (waiting s) h = h
 
-module _ (program : Program) (text : Text) (is : IsText text) (s : State) where
+module _ (program : Program) (text : Text) (is : HasRisingPlaceOffsets text) (s : State) where
   abbrev Past : State → Type 0
   Past = On s.pos
 
@@ -126,7 +126,7 @@ noted-onward from (t ∷ ts) us k h e =
     let here = h.0 in
     (here, subst (λ ks. Each (λ k. k.at ≤ at_of t) ks) (sym (keys-joined (tries ts) (noted k us ∷ []) ∙ ap (λ ks. ks ++ k ∷ []) (keys-tries ts))) (omega (arith, here, e), tt), noted-onward from ts us k h.2 e)
 
-pub turns-move-on : InsnsMoveForward
+pub turns-move-on : RightwardInsnsNeverMoveLeft
 turns-move-on = record {
   goes = λ program text is s ts e. all-onward s.pos ts (subst (IsOfNext (On s.pos)) e (act-on program text is s (slice_get program.insns s.ip)));
   scans = λ program text is s n ts e. all-onward s.pos ts (subst (IsOfNext (On s.pos)) e (act-on program text is s (slice_get program.insns s.ip)));

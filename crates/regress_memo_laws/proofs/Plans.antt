@@ -4,7 +4,7 @@ use Rattle.std.proofs.Common.{add-one, slice_get}
 use Rattle.regex_meaning.specs.Text.{Text, Direction, rightwards, leftwards}
 use Rattle.regex_meaning.specs.CodeUnitOffsets.{units, place_at}
 use Rattle.regex_meaning.specs.CompilationRelation.{Program}
-use Rattle.regress_machine.specs.Machine.{State, Thread, running, waiting, goes, asks, after_lookaround, at_ip, next_ip, act, test_of}
+use Rattle.regress_machine.specs.Machine.{State, Thread, running, waiting, goes, asks, after_lookaround, state_at_ip, state_at_next_ip, act, test_of}
 use Rattle.regress_simulation.specs.ThreadSimulation.{Simulates}
 use Rattle.regress_simulation.proofs.Simulates.{simulates-goes, simulates-waits, simulates-asks}
 use Rattle.regress_memo_laws.specs.Liveness.{Liveness}
@@ -12,7 +12,7 @@ use Rattle.regress_memo_laws.specs.MemoSearch.{Key, Keys, tried, noted, tries, t
 use Rattle.regress_memo_laws.specs.LoopDataKeyCodes.{Question, plan_code, plan_codes, key_of}
 use Rattle.regress_memo_laws.specs.CharLoopMemoKeys.{row_by, plan_rows, plan_keys, char_loop_greediness_at, insn_before}
 use Rattle.regress_memo_laws.specs.LookaroundContinuations.{LookaroundInsn, lookaround_at}
-use Rattle.regress_memo_laws.specs.MemoPlans.{IsPlan, IsRecorded, ThreadGives, LookGives, CheckedMemoPlansAreSound, taken_at, MemoPlanStepsAreTaken}
+use Rattle.regress_memo_laws.specs.MemoPlanChecksAndGuarantees.{IsPlan, IsRecorded, ThreadGives, LookGives, CheckedMemoPlansAreSound, taken_at, NoStepBelowGreedyCharLoopRecords}
 use Rattle.regress_memo_laws.proofs.Behind.{asks-there}
 use Rattle.regress_memo_laws.proofs.Codes.{plans-tell}
 use Rattle.regress_memo_laws.proofs.Looks.{looks-decided}
@@ -83,22 +83,22 @@ module _ (program : Program) (text : Text) (a : Liveness) (questions : ℕ → L
 
       module _ (look : LookaroundInsn) (is : lookaround_at (slice_get program.insns s.ip) ≡ Some look) where
         abbrev after-it : State
-        after-it = at_ip look.continuation s
+        after-it = state_at_ip look.continuation s
 
-        asked : act program text d s ≡ asks look.inner look.negate (next_ip s) after-it
+        asked : act program text d s ≡ asks look.inner look.negate (state_at_next_ip s) after-it
         asked = asks-there program text a d s look (slice_get program.insns s.ip) is
 
         look-gives : LookGives program text a questions way ips taken d memory s look
         look-gives = record {
           searched = λ turns f e. gives-on (1 + f.steps) (after_lookaround look.negate after-it f.end)
-              (simulates-asks program text false d look.inner look.negate s (next_ip s) after-it turns f asked e) (resumed-onward d look.negate after-it refl f.end);
+              (simulates-asks program text false d look.inner look.negate s (state_at_next_ip s) after-it turns f asked e) (resumed-onward d look.negate after-it refl f.end);
           fails = λ none. gives-on 1 (after_lookaround look.negate after-it None)
-              ((looks-decided program text d).fails look.inner look.negate s (next_ip s) after-it asked none) (resumed-onward d look.negate after-it refl None);
+              ((looks-decided program text d).fails look.inner look.negate s (state_at_next_ip s) after-it asked none) (resumed-onward d look.negate after-it refl None);
           reaches = λ negative found. gives-on 1 []
-              ((looks-decided program text d).reaches look.inner s (next_ip s) after-it (asked ∙ ap (λ b. asks look.inner b (next_ip s) after-it) negative) found) (none-onward d);
+              ((looks-decided program text d).reaches look.inner s (state_at_next_ip s) after-it (asked ∙ ap (λ b. asks look.inner b (state_at_next_ip s) after-it) negative) found) (none-onward d);
         }
 
-pub plans-take : MemoPlanStepsAreTaken
+pub plans-take : NoStepBelowGreedyCharLoopRecords
 plans-take = record {
   threads = λ program k e. ap taken_at e;
   greedy = λ program ip at code e. ap (λ i. taken_at (char_loop_greediness_at (insn_before program i))) (add-one ip) ∙ ap taken_at e;

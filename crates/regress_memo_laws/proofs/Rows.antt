@@ -9,8 +9,8 @@ use Rattle.regex_meaning.specs.Text.{Text}
 use Rattle.regex_meaning.specs.CodeUnitOffsets.{units}
 use Rattle.regex_meaning.specs.CompilationRelation.{Insn, ByteSeq}
 use Rattle.regex_meaning.proofs.Booleans.{and-left, and-right}
-use Rattle.regress_machine.specs.TextsForBytePrograms.{ReadsBytes}
-use Rattle.regress_machine.specs.InsnEffects.{is_byte_literal_insn}
+use Rattle.regress_machine.specs.TextsForBytePrograms.{HasUtf8CharactersAndOffsets}
+use Rattle.regress_machine.specs.InsnEffects.{is_byte_sequence_insn}
 use Rattle.regress_memo_laws.specs.Liveness.{IsConsistentEdge, IsConsistentPlainEdge, none, by_minimum, IsSoundLivenessAt, ReadsAsBytes}
 use Rattle.regress_memo_laws.specs.LoopDataKeyCodes.{Question, is_empty, how_many, AsksAll}
 use Rattle.regress_memo_laws.specs.LivenessExamples.{row_program, row_account, in_loop, twice_program, twice_account, twice_questions, twice_at, twice_left}
@@ -131,7 +131,7 @@ twice-asks = record {
 twice-bytes : (text : Text) (most : ℕ) (flags : Flags) (start : StartPredicate) → ReadsAsBytes (twice_program most flags start) text
 twice-bytes text most flags start ip x e literal = by ip x e literal
   where
-    by : (ip : ℕ) (x : Insn) → slice_get (twice_program most flags start).insns ip ≡ Some x → IsTrue (is_byte_literal_insn x) → ReadsBytes text
+    by : (ip : ℕ) (x : Insn) → slice_get (twice_program most flags start).insns ip ≡ Some x → IsTrue (is_byte_sequence_insn x) → HasUtf8CharactersAndOffsets text
     by zero (ByteSeq bytes) e l = cc
     by (suc zero) (ByteSeq bytes) e l = cc
     by (suc (suc zero)) (ByteSeq bytes) e l = cc

@@ -6,7 +6,7 @@ use mathlib.Core.Logic.{inl, inr}
 use Rattle.std.proofs.lemmas.Bool.{eqb-true, eqb-false, lt-ltb, le-leb}
 use Rattle.regex_meaning.specs.NumberListHelpers.{numbers_from}
 use Rattle.regex_meaning.specs.Text.{Text, Direction, last_place}
-use Rattle.regex_meaning.specs.CodeUnitOffsets.{IsText, offset, place_at, units}
+use Rattle.regex_meaning.specs.CodeUnitOffsets.{HasRisingPlaceOffsets, offset, place_at, units}
 use Rattle.regex_meaning.specs.CompilationRelation.{Program}
 use Rattle.regex_meaning.proofs.Each.{Each, Each-map, Each-reverse}
 use Rattle.regex_meaning.proofs.TextLemmas.{place_at-offset}
@@ -17,12 +17,12 @@ use Rattle.regress_machine.proofs.Run.{numbers_between}
 use Rattle.regress_simulation.specs.CharLoopExitStates.{behind, fewest_first, most_first}
 use Rattle.regress_simulation.proofs.Runs.{most-parts}
 use Rattle.regress_memo_laws.specs.Bisimulation.{Relation, AlikeThreads}
-use Rattle.regress_memo_laws.specs.Liveness.{Liveness, IsPassedOrCurrent, IsSound, Agree, outermost}
+use Rattle.regress_memo_laws.specs.Liveness.{Liveness, IsOffsetPassedOrCurrent, IsSound, Agree, outermost}
 use Rattle.regress_memo_laws.specs.MemoKeys.{IsSoundState}
 use Rattle.regress_memo_laws.specs.DistinctLists.{IsIn}
 use Rattle.regress_memo_laws.specs.MemoSearch.{Key, Keys, AreSound}
 use Rattle.regress_memo_laws.specs.ThreadPotentials.{Shape, stands_there, has_shape}
-use Rattle.regress_memo_laws.specs.LoopDataKeyCodes.{Question, is_empty, how_many, answers, bool_as_digit, answer, code_of, codes_of, plan_code, plan_codes, HasSlotsOfProgram}
+use Rattle.regress_memo_laws.specs.LoopDataKeyCodes.{Question, is_empty, how_many, number_of_possible_answers, bool_as_digit, answer_to_loop_question, code_of, codes_of, plan_code, plan_codes, HasSlotsOfProgram}
 use Rattle.regress_memo_laws.specs.CharLoopThreads.{passing, greedy_loop_threads, pending_loop_threads}
 use Rattle.regress_memo_laws.specs.CharLoopMemoKeys.{answer_on, code_on, first_runs, shape_on, run_row, char_loop_greediness_at, insn_before, row_by, plan_rows, CharLoopRecords}
 use Rattle.regress_memo_laws.specs.CharLoopMemoKeys.{run_key, plan_keys, IsOfPlan, RunHasKeys, CharLoopsHaveKeys}
@@ -33,16 +33,16 @@ use Rattle.regress_memo_laws.proofs.Codes.{digits-same, answer-below, code-below
 
 -- ---- Codes
 
-code-on : (qs : List Question) (s t : State) → ((q : Question) → IsIn q qs → answer q t ≡ answer_on q (answer q s)) → code_of qs t ≡ code_on qs (code_of qs s)
+code-on : (qs : List Question) (s t : State) → ((q : Question) → IsIn q qs → answer_to_loop_question q t ≡ answer_on q (answer_to_loop_question q s)) → code_of qs t ≡ code_on qs (code_of qs s)
 code-on [] s t each = refl
 code-on (q ∷ qs) s t each =
-    let r = answers q in
-    let n = answer q s + r * code_of qs s in
+    let r = number_of_possible_answers q in
+    let n = answer_to_loop_question q s + r * code_of qs s in
     let below = answer-below q s in
     let some : 0 < r = omega (arith, below) in
     let less : n % r < r = omega (arith, some) in
-    let parts : n % r + r * (n / r) ≡ answer q s + r * code_of qs s = omega (arith, some) in
-    let both = digits-same r (n % r) (answer q s) (n / r) (code_of qs s) less below parts in
+    let parts : n % r + r * (n / r) ≡ answer_to_loop_question q s + r * code_of qs s = omega (arith, some) in
+    let both = digits-same r (n % r) (answer_to_loop_question q s) (n / r) (code_of qs s) less below parts in
     ap₂ (λ m k. m + r * k) (each q (inl refl) ∙ ap (answer_on q) (sym both.0))
     (code-on qs s t (λ p there. each p (inr there)) ∙ ap (code_on qs) (sym both.1))
 
@@ -73,7 +73,7 @@ module _ (R : Relation) where
 
 -- ---- Runs
 
-module _ (program : Program) (text : Text) (a : Liveness) (d : Direction) (test : ℕ → Bool) (questions : ℕ → List Question) (place : ℕ) (s : State) (is : IsText text) (within : place ≤ last_place text) (of : HasSlotsOfProgram program s) where
+module _ (program : Program) (text : Text) (a : Liveness) (d : Direction) (test : ℕ → Bool) (questions : ℕ → List Question) (place : ℕ) (s : State) (is : HasRisingPlaceOffsets text) (within : place ≤ last_place text) (of : HasSlotsOfProgram program s) where
   abbrev at-place : ℕ → State
   at-place n = behind text d place s n
 
@@ -100,10 +100,10 @@ module _ (program : Program) (text : Text) (a : Liveness) (d : Direction) (test 
       let few = passing-left text test d place within in
       let m = moves-on text is d (offset text place) place n (place_at-offset text place is within) (omega (arith, few, le)) in
       let here : (at-place 0).pos ≡ offset text place = ap (offset text) (moved-zero text d place) in
-      not-here d x.entry (offset text place) (at-place n).pos (subst (λ p. IsPassedOrCurrent d x.entry p) here sound.passed) m.passed (m.further (lt-ltb 0 n (omega (arith, some))))
+      not-here d x.entry (offset text place) (at-place n).pos (subst (λ p. IsOffsetPassedOrCurrent d x.entry p) here sound.passed) m.passed (m.further (lt-ltb 0 n (omega (arith, some))))
 
   module _ (sound : IsSoundState a (units text) d (at-place 0)) (asked : Asked) where
-    answer-further : (n : ℕ) → (n ≡ 0 → ⊥) → n ≤ passing text test d place → (q : Question) → IsIn q behind-it → answer q (at-place n) ≡ answer_on q (answer q (at-place 0))
+    answer-further : (n : ℕ) → (n ≡ 0 → ⊥) → n ≤ passing text test d place → (q : Question) → IsIn q behind-it → answer_to_loop_question q (at-place n) ≡ answer_on q (answer_to_loop_question q (at-place 0))
     answer-further n some le (how_many l most) h = refl
     answer-further n some le (is_empty l) h = by (slice_get s.loops l) refl
       where

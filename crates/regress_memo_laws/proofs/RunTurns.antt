@@ -6,7 +6,7 @@ use Rattle.std.proofs.lemmas.Bool.{lt-ltb}
 use Rattle.std.proofs.lemmas.List.{reverse-append}
 use Rattle.regex_meaning.specs.NumberListHelpers.{numbers_from}
 use Rattle.regex_meaning.specs.Text.{Text, Direction, rightwards, leftwards, last_place, moved, characters_ahead}
-use Rattle.regex_meaning.specs.CodeUnitOffsets.{IsText, offset, units}
+use Rattle.regex_meaning.specs.CodeUnitOffsets.{HasRisingPlaceOffsets, offset, units}
 use Rattle.regex_meaning.specs.CompilationRelation.{Program}
 use Rattle.regex_meaning.proofs.Each.{Each, Each-map, Each-reverse}
 use Rattle.regex_meaning.proofs.TextLemmas.{place_at-offset, offset-place_at}
@@ -18,7 +18,7 @@ use Rattle.regress_simulation.specs.CharLoopExitStates.{behind, fewest_first, mo
 use Rattle.regress_simulation.proofs.Simulates.{simulates-scans, simulates-waits, simulates-before, simulates-same}
 use Rattle.regress_simulation.proofs.Runs.{behind-from}
 use Rattle.regress_memo_laws.specs.Bisimulation.{Relation, AlikeThreads}
-use Rattle.regress_memo_laws.specs.Liveness.{Liveness, IsLivenessFor, IsPassedOrCurrent, Agree, outermost}
+use Rattle.regress_memo_laws.specs.Liveness.{Liveness, IsLivenessFor, IsOffsetPassedOrCurrent, Agree, outermost}
 use Rattle.regress_memo_laws.specs.DistinctLists.{IsNew, AreDistinct}
 use Rattle.regress_memo_laws.specs.MemoSearch.{Key, Keys, Entry, tried, kept, noted, keys_in, at_of, AreOnward, GoesOnward, KeyStandsFor, AreSound, IsMemoStep}
 use Rattle.regress_memo_laws.specs.ThreadPotentials.{each_noted, AreOfEach}
@@ -61,7 +61,7 @@ pub place-inside : (text : Text) (d : Direction) (n p : ℕ) → p ≤ last_plac
 place-inside text rightwards n p inside few = omega (arith, few, inside)
 place-inside text leftwards n p inside few = omega (arith, inside)
 
-module _ (text : Text) (is : IsText text) (test : ℕ → Bool) where
+module _ (text : Text) (is : HasRisingPlaceOffsets text) (test : ℕ → Bool) where
   -- the way from a place of a run to another one that is further on
   way-on : (d : Direction) (m n p : ℕ) → p ≤ last_place text → m + n ≤ passing text test d p
       → Moves d (nat_lt 0 n) (offset text (moved text d m p)) (offset text (moved text d (m + n) p))
@@ -75,10 +75,10 @@ module _ (text : Text) (is : IsText text) (test : ℕ → Bool) where
       (moves-on text is d (offset text q) q n (place_at-offset text q is within) (omega (arith, sum, left', few)))
 
   pub run-onward : (d : Direction) (m M p : ℕ) → p ≤ last_place text → m ≤ M → M ≤ passing text test d p
-      → IsPassedOrCurrent d (offset text (moved text d m p)) (offset text (moved text d M p))
+      → IsOffsetPassedOrCurrent d (offset text (moved text d m p)) (offset text (moved text d M p))
   run-onward d m M p inside le few =
       let e : m + (M - m) ≡ M = omega (arith, le) in
-      subst (λ n. IsPassedOrCurrent d (offset text (moved text d m p)) (offset text (moved text d n p))) e (way-on d m (M - m) p inside (omega (arith, le, few))).passed
+      subst (λ n. IsOffsetPassedOrCurrent d (offset text (moved text d m p)) (offset text (moved text d n p))) e (way-on d m (M - m) p inside (omega (arith, le, few))).passed
 
   run-apart : (d : Direction) (m M p : ℕ) → p ≤ last_place text → m < M → M ≤ passing text test d p
       → offset text (moved text d m p) ≡ offset text (moved text d M p) → ⊥
@@ -88,7 +88,7 @@ module _ (text : Text) (is : IsText text) (test : ℕ → Bool) where
 
 -- ---- Rows of a run
 
-module _ (text : Text) (is : IsText text) (test : ℕ → Bool) (d : Direction) (p : ℕ) (s : State) (inside : p ≤ last_place text) where
+module _ (text : Text) (is : HasRisingPlaceOffsets text) (test : ℕ → Bool) (d : Direction) (p : ℕ) (s : State) (inside : p ≤ last_place text) where
   -- the row from so many characters on
   abbrev row-from : ℕ → List Thread
   row-from n = greedy_loop_threads text test d 0 (moved text d n p) s
@@ -115,7 +115,7 @@ module _ (text : Text) (is : IsText text) (test : ℕ → Bool) (d : Direction) 
       let here : behind text d p s n ≡ behind text d q s 0 = ap (behind text d p s) zero_on ∙ behind-from text d p s n 0 in
       ap (λ u. running u ∷ []) here ∙ ap (λ m. first_runs_others_wait (most_first text d q s 0 m)) one
 
-module _ (program : Program) (text : Text) (a : Liveness) (questions : ℕ → List Question) (way : ℕ → Direction) (ips : List ℕ) (taken : Key → ℕ) (test : ℕ → Bool) (s : State) (is : IsText text) (p : ℕ) (inside : p ≤ last_place text) where
+module _ (program : Program) (text : Text) (a : Liveness) (questions : ℕ → List Question) (way : ℕ → Direction) (ips : List ℕ) (taken : Key → ℕ) (test : ℕ → Bool) (s : State) (is : HasRisingPlaceOffsets text) (p : ℕ) (inside : p ≤ last_place text) where
   abbrev keys : Keys
   keys = plan_keys program text a questions way ips taken
 

@@ -11,7 +11,7 @@ use Rattle.regress_machine.specs.Machine.{State, running, waiting, scans, first_
 use Rattle.regress_machine.proofs.Beside.{Beside, nothing_left, one_more, beside, length-nearest, moved-suc, moved-zero}
 use Rattle.regress_simulation.specs.CharLoopExitStates.{behind, fewest_first, most_first}
 use Rattle.regress_simulation.proofs.Runs.{most-parts, most-first, behind-from, fewest-from, run-turn}
-use Rattle.regress_memo_laws.specs.CharLoopThreads.{passing, greedy_loop_threads, lazy_loop_threads, LazyRunGoesOn, CharLoopsLeaveThreads, GreedyLoopsSplit, LazyLoopsUnfold}
+use Rattle.regress_memo_laws.specs.CharLoopThreads.{passing, greedy_loop_threads, lazy_loop_threads, LazyRunGoesOn, CharLoopsLeaveThreads, GreedyThreadsSplitAtLaterPlace, LazyLoopsUnfold}
 
 turn-joined : (xs ys : List State) → (xs ≡ [] → ⊥) → first_runs_others_wait (xs ++ ys) ≡ first_runs_others_wait xs ++ map waiting ys
 turn-joined [] ys some = absurd (some refl)
@@ -88,7 +88,7 @@ runs-leave program text test d place least most greedy s here one at few =
     by true = refl
     by false = refl
 
-pub runs-begin : GreedyLoopsSplit
+pub runs-begin : GreedyThreadsSplitAtLaterPlace
 runs-begin text test d place least n s inside le few =
     let sum = passing-on text test d n place inside few in
     let q = moved text d n place in

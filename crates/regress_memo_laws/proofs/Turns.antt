@@ -13,9 +13,9 @@ use Rattle.regress_memo_laws.specs.DistinctLists.{IsIn, IsNew, AreDistinct, AreI
 use Rattle.regress_memo_laws.specs.MemoSearch.{Key, Keys, Entry, tried, kept, noted, IsBare, tries, threads_in, keys_in, at_of, AreOnward, GoesOnward}
 use Rattle.regress_memo_laws.specs.MemoSearch.{entry_potential, Answers, KeyStandsFor, AreKeys, Fails, IsKnown, known_to_fail, IsMemory, AreNoted, AreAnswered, HoldsInvariant}
 use Rattle.regress_memo_laws.specs.MemoSearch.{IsOpened, AreOpened, IsMemoStep, ReachesBySteps, at_first, gives, reaches, learns, RecordedFailuresStayRight, TurnsOf, StepsKeepInvariant}
-use Rattle.regress_memo_laws.specs.MemoSearch.{SearchesMoveForward, HasCome, WorkIsBounded}
+use Rattle.regress_memo_laws.specs.MemoSearch.{RightwardSearchesNeverMoveLeft, HasCome, WorkIsBounded}
 use Rattle.regress_memo_laws.specs.StepSoundness.{IsSoundStep}
-use Rattle.regress_memo_laws.specs.KnownSuccesses.{ReachedRecordsFail}
+use Rattle.regress_memo_laws.specs.KnownSuccesses.{KeyFailsWhenRecordReached}
 use Rattle.regress_memo_laws.proofs.Alone.{splits}
 use Rattle.regress_memo_laws.proofs.Failing.{row-takes, row-shared, same-answers}
 use Rattle.regress_memo_laws.proofs.Distinct.{Each-left, Each-right, distinct-moved, in-moved, sum-moved, distinct-joined, price-few}
@@ -396,8 +396,8 @@ turns-right program text a keys acc are d = turns-of program text a keys d acc a
 pub work-is-bounded : WorkIsBounded
 work-is-bounded program text a keys acc are d price weight memory ts n f m e work now row c = work-bounded program text a keys d acc are price weight memory ts n f m e work now row c
 
-pub turns-onward : SearchesMoveForward
+pub turns-onward : RightwardSearchesNeverMoveLeft
 turns-onward program text a keys d price weight memory ts from work now row e h c = turns-go-on program text a keys d price weight memory ts from work now row e h c
 
-pub reached-fail : ReachedRecordsFail
+pub reached-fail : KeyFailsWhenRecordReached
 reached-fail program text a keys acc are d memory k ts rest f h = record-fails program text a keys d acc are memory k ts rest f h

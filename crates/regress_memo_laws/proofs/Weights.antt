@@ -12,8 +12,8 @@ use Rattle.regex_meaning.specs.CompilationRelation.{Program, LoopFields, Insn, G
 use Rattle.regex_meaning.specs.CompilationRelation.{WordBoundaryUnicodeICase, Alt, Jump, EnterLoop, LoopAgain, ResetCaptureGroup, Loop1CharBody}
 use Rattle.regex_meaning.specs.CompilationRelation.{BeginCaptureGroup, EndCaptureGroup, BackRef, Lookahead, Lookbehind}
 use Rattle.regex_meaning.proofs.Booleans.{and-left, and-right}
-use Rattle.regress_machine.specs.Machine.{State, Thread, running, waiting, Next, goes, at_ip, with_some, only_if, go, go_if, first_runs_others_wait, preferring}
-use Rattle.regress_machine.specs.Machine.{iteration_started, iteration_ended, loop_repeated, test_of, range_between_offsets, on_to, read_one, stay_if, read_group, scan, act_on, act}
+use Rattle.regress_machine.specs.Machine.{State, Thread, running, waiting, Next, goes, state_at_ip, with_some, only_if, go, go_if, first_runs_others_wait, preferring}
+use Rattle.regress_machine.specs.Machine.{iterate_or_leave_loop, next_iteration_unless_empty, loop_repeated, test_of, range_swapped_if_leftwards, on_to, read_one, stay_if, read_group, scan, act_on, act}
 use Rattle.regress_simulation.specs.ThreadSimulation.{Simulates, FindNothing}
 use Rattle.regress_simulation.proofs.Simulates.{simulates-same, simulates-fewer, simulates-then, simulates-before}
 use Rattle.regress_memo_laws.specs.Bisimulation.{AlikeThreads}
@@ -24,8 +24,8 @@ use Rattle.regress_memo_laws.specs.MemoSearch.{Key, Keys, Entry, tried, kept, no
 use Rattle.regress_memo_laws.specs.MemoSearch.{AreNoted, AreOpened, IsMemoStep}
 use Rattle.regress_memo_laws.specs.StepSoundness.{IsSoundStep, StepsAreSound}
 use Rattle.regress_memo_laws.specs.ThreadPotentials.{Potentials, potential_of, CoversOne, CoversRepeat, CoversInsn, AreCovering, is_way, is_one_of, places_of, Shape, Distinguishes}
-use Rattle.regress_memo_laws.specs.ThreadPotentials.{stands_there, has_shape, place_keys, each_noted, AreOfEach, StepsAreMemoSteps, StepsFitPotentials, RecordedLoopIsCovered}
-use Rattle.regress_memo_laws.specs.ThreadPotentials.{PositionsAreKeys}
+use Rattle.regress_memo_laws.specs.ThreadPotentials.{stands_there, has_shape, place_keys, each_noted, AreOfEach, StepsAreMemoSteps, StepsFitPotentials, RecordingCharLoopCostIsCovered}
+use Rattle.regress_memo_laws.specs.ThreadPotentials.{OffsetsAndCodesAreKeys}
 use Rattle.regress_memo_laws.proofs.Keys.{keys-agree, sound-state, unasked-count}
 use Rattle.regress_memo_laws.proofs.Turns.{threads-joined, keys-bare, given, turn-left}
 
@@ -202,16 +202,16 @@ module _ (w : Potentials) (most : ℕ) where
   few-preferring again leave h true false false = omega arith
   few-preferring again leave h false false false = omega arith
 
-  few-loop_turn : (f : LoopFields) (begin k : ℕ) (s : State) → w.at (begin + 1) + w.at f.exit + 1 ≤ most → NextFew (iteration_started f begin k s)
+  few-loop_turn : (f : LoopFields) (begin k : ℕ) (s : State) → w.at (begin + 1) + w.at f.exit + 1 ≤ most → NextFew (iterate_or_leave_loop f begin k s)
   few-loop_turn f begin k s h =
       few-only_if (nat_lt f.loop_id (length s.loops)) _
-      (few-preferring (record s { ip = begin + 1; loops = slice_set s.loops f.loop_id (record { iters = k; entry = s.pos }) }) (at_ip f.exit s) h f.greedy (nat_lt k f.max_iters) (nat_le f.min_iters k))
+      (few-preferring (record s { ip = begin + 1; loops = slice_set s.loops f.loop_id (record { iters = k; entry = s.pos }) }) (state_at_ip f.exit s) h f.greedy (nat_lt k f.max_iters) (nat_le f.min_iters k))
 
   few-again_at : (o : Option Insn) (ip begin : ℕ) (s : State) → w.left ip ≡ most → CoversRepeat w o ip begin → NextFew (loop_repeated o begin s)
   few-again_at (Some (EnterLoop f)) ip begin s e h =
-      few-with_some (slice_get s.loops f.loop_id) (λ d. iteration_ended f begin d s) (λ d.
-      few-only_if (nat_lt d.iters f.max_iters) (if d.entry == s.pos && nat_lt f.min_iters (d.iters + 1) then goes [] else iteration_started f begin (d.iters + 1) s)
-      (few-dropped (d.entry == s.pos && nat_lt f.min_iters (d.iters + 1)) (iteration_started f begin (d.iters + 1) s) (few-loop_turn f begin (d.iters + 1) s (omega (arith, h, e)))))
+      few-with_some (slice_get s.loops f.loop_id) (λ d. next_iteration_unless_empty f begin d s) (λ d.
+      few-only_if (nat_lt d.iters f.max_iters) (if d.entry == s.pos && nat_lt f.min_iters (d.iters + 1) then goes [] else iterate_or_leave_loop f begin (d.iters + 1) s)
+      (few-dropped (d.entry == s.pos && nat_lt f.min_iters (d.iters + 1)) (iterate_or_leave_loop f begin (d.iters + 1) s) (few-loop_turn f begin (d.iters + 1) s (omega (arith, h, e)))))
   few-again_at _ ip begin s e h = tt
 
 module _ (program : Program) (text : Text) (w : Potentials) (d : Direction) (s : State) where
@@ -243,10 +243,10 @@ module _ (program : Program) (text : Text) (w : Potentials) (d : Direction) (s :
   act-few (Some (WordBoundary invert)) h = stay-few _ h
   act-few (Some (WordBoundaryUnicodeICase invert)) h = stay-few _ h
   act-few (Some (Alt secondary)) h =
-      let p = sum_by-cons (potential_of w) (running (at_ip (s.ip + 1) s)) (waiting (at_ip secondary s) ∷ []) in
-      let q = sum_by-cons (potential_of w) (waiting (at_ip secondary s)) [] in
+      let p = sum_by-cons (potential_of w) (running (state_at_ip (s.ip + 1) s)) (waiting (state_at_ip secondary s) ∷ []) in
+      let q = sum_by-cons (potential_of w) (waiting (state_at_ip secondary s)) [] in
       omega (arith, p, q, h)
-  act-few (Some (Jump target)) h = few-go w (w.left s.ip) (at_ip target s) h
+  act-few (Some (Jump target)) h = few-go w (w.left s.ip) (state_at_ip target s) h
   act-few (Some (EnterLoop f)) h = few-loop_turn w (w.left s.ip) f s.ip 0 s h
   act-few (Some (LoopAgain begin)) h = few-again_at w (w.left s.ip) (slice_get program.insns begin) s.ip begin s refl h
   act-few (Some (ResetCaptureGroup id)) h =
@@ -257,7 +257,7 @@ module _ (program : Program) (text : Text) (w : Potentials) (d : Direction) (s :
       few-only_if w (w.left s.ip) (nat_lt id (length s.groups) && nat_lt id (length s.starts))
       (go (record s { ip = s.ip + 1; groups = slice_set s.groups id None; starts = slice_set s.starts id s.pos }))
       (few-go w (w.left s.ip) (record s { ip = s.ip + 1; groups = slice_set s.groups id None; starts = slice_set s.starts id s.pos }) h)
-  act-few (Some (EndCaptureGroup id)) h = few-only_if w (w.left s.ip) _ _ (few-with_some w (w.left s.ip) (slice_get s.starts id) _ (λ start. few-go w (w.left s.ip) (record s { ip = s.ip + 1; groups = slice_set s.groups id (Some (range_between_offsets d start s.pos)) }) h))
+  act-few (Some (EndCaptureGroup id)) h = few-only_if w (w.left s.ip) _ _ (few-with_some w (w.left s.ip) (slice_get s.starts id) _ (λ start. few-go w (w.left s.ip) (record s { ip = s.ip + 1; groups = slice_set s.groups id (Some (range_swapped_if_leftwards d start s.pos)) }) h))
   act-few (Some (BackRef group icase)) h = few-with_some w (w.left s.ip) (slice_get s.groups group) _ (λ range. group-few icase range h)
   act-few (Some (Lookahead negate start_group end_group continuation)) h = tt
   act-few (Some (Lookbehind negate start_group end_group continuation)) h = tt
@@ -477,7 +477,7 @@ module _ (program : Program) (text : Text) (a : Liveness) (no_groups : AsksNoGro
       inside = keys-inside;
     }
 
-pub places-keys : PositionsAreKeys
+pub places-keys : OffsetsAndCodesAreKeys
 places-keys = record {
   are = λ program text a way ips code codes rows taken acc no_groups tells. places-are program text a no_groups code tells way ips codes rows taken;
   cost = λ ips top codes price. places-cost top codes price ips;
@@ -492,7 +492,7 @@ places-keys = record {
 
 -- ---- Runs
 
-pub runs-pay : RecordedLoopIsCovered
+pub runs-pay : RecordingCharLoopCostIsCovered
 runs-pay price weight known [] first ready more le few each = omega (arith, le, few)
 runs-pay price weight known (x ∷ xs) first ready more le few each =
     let above = known ++ x.0 ∷ [] in

@@ -35,8 +35,8 @@ AllMatchesAreBounded = (program : Program) (text : Text) (a : Liveness) (keys : 
 
 -- The bound with the costs of the instructions that record, each times its codes, at each offset.
 -- If positions alone decide, an instruction has one code.
-abbrev pub TotalWorkIsLinear : Type 0
-TotalWorkIsLinear = (program : Program) (text : Text) (a : Liveness) (way : ℕ → Direction) (ips : List ℕ) (code : State → ℕ) (codes : ℕ → ℕ) (rows : Key → List Shape) (taken : Key → ℕ)
+abbrev pub AllMatchesWorkIsLinear : Type 0
+AllMatchesWorkIsLinear = (program : Program) (text : Text) (a : Liveness) (way : ℕ → Direction) (ips : List ℕ) (code : State → ℕ) (codes : ℕ → ℕ) (rows : Key → List Shape) (taken : Key → ℕ)
     → IsLivenessFor program text a → AsksNoGroups a → Distinguishes a (units text) code → (price : ℕ → ℕ) (weight : List Thread → ℕ) (from work ready : ℕ) (memory : List Key)
     → Searched program text a (place_keys program code way ips (units text) codes rows taken) (λ k. price k.ip) weight from work ready memory
     → work ≤ ready + 3 * (sum_by (λ ip. price ip * codes ip) ips * (units text + 1))

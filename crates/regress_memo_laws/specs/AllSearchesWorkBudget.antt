@@ -9,7 +9,7 @@ use Rattle.regress_memo_laws.specs.Liveness.{Liveness}
 use Rattle.regress_memo_laws.specs.MemoSearch.{Key}
 use Rattle.regress_memo_laws.specs.LoopDataKeyCodes.{Question, plan_codes}
 use Rattle.regress_memo_laws.specs.CharLoopMemoKeys.{plan_keys}
-use Rattle.regress_memo_laws.specs.MemoPlans.{IsPlan}
+use Rattle.regress_memo_laws.specs.MemoPlanChecksAndGuarantees.{IsPlan}
 use Rattle.regress_memo_laws.specs.AttemptCounts.{Attempted, ready_at}
 
 -- The cost of the keys at one offset.

@@ -62,8 +62,8 @@ module _ (program : Program) (text : Text) (a : Liveness) (keys : Keys)
 -- ---- Laws
 
 -- All attempts in a text satisfy these bounds.
-abbrev pub AttemptsPerPositionAreBounded : Type 0
-AttemptsPerPositionAreBounded = (program : Program) (text : Text) (a : Liveness) (keys : Keys)
+abbrev pub AttemptsAndTheirWorkAreBounded : Type 0
+AttemptsAndTheirWorkAreBounded = (program : Program) (text : Text) (a : Liveness) (keys : Keys)
     → IsLivenessFor program text a → AreKeys program text a keys
     → (price : Key → ℕ) (weight : List Thread → ℕ) (row : ℕ → List Thread) (from next looks work : ℕ)
     (memory : List Key) (starts : List ℕ)

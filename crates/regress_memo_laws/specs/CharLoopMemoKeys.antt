@@ -4,7 +4,7 @@ use Rattle.std.specs.Prelude.{◌≡◌, ◌≤◌, ℕ, zero, suc, ◌+◌, ◌
 use Rattle.std.specs.Prelude.{Option, Some, None, slice_get}
 use Rattle.regex_meaning.specs.NumberListHelpers.{numbers_from}
 use Rattle.regex_meaning.specs.Text.{Text, Direction, last_place, moved}
-use Rattle.regex_meaning.specs.CodeUnitOffsets.{IsText, offset, place_at, units}
+use Rattle.regex_meaning.specs.CodeUnitOffsets.{HasRisingPlaceOffsets, offset, place_at, units}
 use Rattle.regex_meaning.specs.CompilationRelation.{Program, Insn, Loop1CharBody}
 use Rattle.regress_machine.specs.Machine.{State, Thread, test_of}
 use Rattle.regress_simulation.specs.CharLoopExitStates.{behind}
@@ -12,7 +12,7 @@ use Rattle.regress_memo_laws.specs.Liveness.{Liveness}
 use Rattle.regress_memo_laws.specs.DistinctLists.{IsIn}
 use Rattle.regress_memo_laws.specs.MemoSearch.{Key, Keys, KeyStandsFor, AreSound}
 use Rattle.regress_memo_laws.specs.ThreadPotentials.{Shape, is_one_of, place_keys}
-use Rattle.regress_memo_laws.specs.LoopDataKeyCodes.{Question, is_empty, how_many, answers, plan_code, plan_codes, HasSlotsOfProgram, own_row}
+use Rattle.regress_memo_laws.specs.LoopDataKeyCodes.{Question, is_empty, how_many, number_of_possible_answers, plan_code, plan_codes, HasSlotsOfProgram, own_row}
 use Rattle.regress_memo_laws.specs.CharLoopThreads.{passing, greedy_loop_threads, pending_loop_threads}
 
 -- ---- Codes at later places
@@ -25,7 +25,7 @@ answer_on (how_many l most) n = n
 -- The code once a character was read, digit by digit.
 abbrev pub code_on : List Question → (code : ℕ) → ℕ
 code_on [] code = 0
-code_on (q ∷ qs) code = answer_on q (code % answers q) + answers q * code_on qs (code / answers q)
+code_on (q ∷ qs) code = answer_on q (code % number_of_possible_answers q) + number_of_possible_answers q * code_on qs (code / number_of_possible_answers q)
 
 -- ---- Threads of a key
 
@@ -124,5 +124,5 @@ module _ (program : Program) (text : Text) (a : Liveness) (questions : ℕ → L
 abbrev pub CharLoopsHaveKeys : Type 0
 CharLoopsHaveKeys = (program : Program) (text : Text) (a : Liveness) (questions : ℕ → List Question) (way : ℕ → Direction)
     (ips : List ℕ) (taken : Key → ℕ) (d : Direction) (test : ℕ → Bool) (place : ℕ) (s : State)
-    → IsText text → place ≤ last_place text → HasSlotsOfProgram program s
+    → HasRisingPlaceOffsets text → place ≤ last_place text → HasSlotsOfProgram program s
     → RunHasKeys program text a questions way ips taken d test place s

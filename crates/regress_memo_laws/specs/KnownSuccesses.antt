@@ -37,12 +37,12 @@ pub record RunsReach : Type 0 where
 -- ---- Laws
 
 -- Lists of threads and char loops find an end if a part of them does.
-pub record SuccessIsInherited : Type 0 where
+pub record SuccessOfPartSuffices : Type 0 where
   pub rows : (program : Program) (text : Text) (d : Direction) → RowsReach program text d
   pub runs : RunsReach
 
 -- The key of a record that is reached fails.
-abbrev pub ReachedRecordsFail : Type 0
-ReachedRecordsFail = (program : Program) (text : Text) (a : Liveness) (keys : Keys) → IsLivenessFor program text a → AreKeys program text a keys
+abbrev pub KeyFailsWhenRecordReached : Type 0
+KeyFailsWhenRecordReached = (program : Program) (text : Text) (a : Liveness) (keys : Keys) → IsLivenessFor program text a → AreKeys program text a keys
     → (d : Direction) (memory : List Key) (k : Key) (ts : List Thread) (rest : List Entry) (f : Found)
     → HoldsInvariant program text a keys d memory (noted k ts ∷ rest) f → Fails program text a keys k

@@ -6,7 +6,7 @@ pub mod DistinctLists
 pub mod MemoSearch
 pub mod AllMatchesWork
 pub mod ThreadPotentials
-pub mod LookaroundMemo
+pub mod LookaroundsWithSharedMemo
 pub mod GroupPreservingInsns
 pub mod CharLoopThreads
 pub mod LoopDataKeyCodes
@@ -14,14 +14,14 @@ pub mod CharLoopMemoKeys
 pub mod AttemptCounts
 pub mod LookaroundContinuations
 pub mod CharLoopSteps
-pub mod MemoPlans
+pub mod MemoPlanChecksAndGuarantees
 pub mod AmortizedStepCosts
 pub mod FusedStepCosts
 pub mod KnownSuccesses
 pub mod StepSoundness
 pub mod MemoSearchSoundness
-pub mod TotalKeyCosts
+pub mod TotalCostsOfRecordingInsns
 pub mod AllSearchesWorkBudget
-pub mod BoundedLoopAndLookaroundCosts
+pub mod BoundedCharLoopsAndLookarounds
 pub mod PreservedSlotCounts
 pub mod Laws

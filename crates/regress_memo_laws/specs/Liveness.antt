@@ -3,13 +3,13 @@
 use Rattle.std.specs.Prelude.{◌≡◌, ◌≤◌, ◌<◌, ℕ, ◌+◌, ◌-◌, min, Bool, true, false, ◌||◌, ◌==◌, List, [], ◌∷◌, length, Option, Some, None, IsTrue}
 use Rattle.std.specs.Prelude.{nat_lt, slice_get}
 use Rattle.regex_meaning.specs.Text.{Text, Direction, rightwards, leftwards}
-use Rattle.regex_meaning.specs.CodeUnitOffsets.{IsText, units}
+use Rattle.regex_meaning.specs.CodeUnitOffsets.{HasRisingPlaceOffsets, units}
 use Rattle.regex_meaning.specs.CompilationRelation.{Program, LoopFields, Insn, Goal, JustFail, Char, CharSet, ByteSet, ByteSeq, AsciiBracket, Bracket, MatchAny}
 use Rattle.regex_meaning.specs.CompilationRelation.{MatchAnyExceptLineTerminator, Alt, Jump, EnterLoop, LoopAgain, Loop1CharBody, BeginCaptureGroup}
 use Rattle.regex_meaning.specs.CompilationRelation.{EndCaptureGroup, BackRef, Lookahead, Lookbehind}
 use Rattle.regress_machine.specs.Machine.{Thread, LoopData, State, running, search}
-use Rattle.regress_machine.specs.TextsForBytePrograms.{ReadsBytes}
-use Rattle.regress_machine.specs.InsnEffects.{is_byte_literal_insn}
+use Rattle.regress_machine.specs.TextsForBytePrograms.{HasUtf8CharactersAndOffsets}
+use Rattle.regress_machine.specs.InsnEffects.{is_byte_sequence_insn}
 use Rattle.regress_simulation.specs.ThreadSimulation.{FindsNothing}
 use Rattle.regress_memo_laws.specs.Bisimulation.{AlikeThreads, AlikeAnswers}
 
@@ -127,9 +127,9 @@ module _ (a : Liveness) where
 -- ---- States that agree by the analysis
 
 -- The offset `entry` was passed, or is the current one.
-abbrev pub IsPassedOrCurrent : Direction → (entry pos : ℕ) → Type 0
-IsPassedOrCurrent rightwards entry pos = entry ≤ pos
-IsPassedOrCurrent leftwards entry pos = pos ≤ entry
+abbrev pub IsOffsetPassedOrCurrent : Direction → (entry pos : ℕ) → Type 0
+IsOffsetPassedOrCurrent rightwards entry pos = entry ≤ pos
+IsOffsetPassedOrCurrent leftwards entry pos = pos ≤ entry
 
 -- The number of units from an offset to the end in the direction.
 abbrev pub left_from : (top : ℕ) → Direction → ℕ → ℕ
@@ -139,7 +139,7 @@ left_from top leftwards at = at
 module _ (a : Liveness) (top : ℕ) (d : Direction) (pos ip l : ℕ) where
   -- What is known of the data of a loop that contains the instruction.
   pub record IsSound (x : LoopData) : Type 0 where
-    pub passed : IsPassedOrCurrent d x.entry pos
+    pub passed : IsOffsetPassedOrCurrent d x.entry pos
     pub moved : a.moved ip l ≡ true → (x.entry == pos) ≡ false
     pub all : a.counted l ≡ true → x.iters ≤ a.up_to l
     -- Each iteration has read a character, except for at most `a.up_to l` of them.
@@ -194,12 +194,12 @@ module _ (a : Liveness) (top : ℕ) where
 
 -- Literal bytes occur only in programs for texts of bytes.
 abbrev pub ReadsAsBytes : Program → Text → Type 0
-ReadsAsBytes program text = (ip : ℕ) (x : Insn) → slice_get program.insns ip ≡ Some x → IsTrue (is_byte_literal_insn x) → ReadsBytes text
+ReadsAsBytes program text = (ip : ℕ) (x : Insn) → slice_get program.insns ip ≡ Some x → IsTrue (is_byte_sequence_insn x) → HasUtf8CharactersAndOffsets text
 
 module _ (program : Program) (text : Text) (a : Liveness) where
   -- The analysis is sound for the program in the text.
   pub record IsLivenessFor : Type 0 where
-    pub is_text : IsText text
+    pub is_text : HasRisingPlaceOffsets text
     pub bytes : ReadsAsBytes program text
     pub right : IsSoundLiveness a (units text) program
 

@@ -3,7 +3,7 @@
 use Rattle.std.specs.Prelude.{◌≡◌, ◌<◌, ℕ, zero, suc, ◌+◌, Bool, true, false, if◌then◌else◌, ◌&&◌, ◌==◌, List, [], ◌∷◌, nat_le}
 use Rattle.regex_meaning.specs.Tree.{Flags}
 use Rattle.regex_meaning.specs.Text.{Text, Direction, rightwards}
-use Rattle.regex_meaning.specs.CodeUnitOffsets.{IsText, units}
+use Rattle.regex_meaning.specs.CodeUnitOffsets.{HasRisingPlaceOffsets, units}
 use Rattle.regex_meaning.specs.StartPredicate.{StartPredicate}
 use Rattle.regex_meaning.specs.CompilationRelation.{Program, Insn, Goal, Char, EnterLoop, LoopAgain, Loop1CharBody}
 use Rattle.regress_memo_laws.specs.Liveness.{Liveness, IsSoundLiveness}
@@ -12,7 +12,7 @@ use Rattle.regress_memo_laws.specs.LoopDataKeyCodes.{Question, is_empty, how_man
 use Rattle.regress_memo_laws.specs.CharLoopMemoKeys.{CharLoopRecords}
 use Rattle.regress_memo_laws.specs.LookaroundContinuations.{AsksOnly}
 use Rattle.regress_memo_laws.specs.MemoSearch.{Key}
-use Rattle.regress_memo_laws.specs.MemoPlans.{IsPlan}
+use Rattle.regress_memo_laws.specs.MemoPlanChecksAndGuarantees.{IsPlan}
 use Rattle.regress_memo_laws.specs.ThreadPotentials.{Potentials}
 use Rattle.regress_memo_laws.specs.AmortizedStepCosts.{AreCostsCovered, GreedyLoopIsCovered}
 
@@ -109,7 +109,7 @@ pub record TwiceIsRight : Type 0 where
       → CharLoopRecords (twice_program most flags start) twice_account twice_questions (λ ip. rightwards) (2 ∷ [])
       rightwards (λ c. 97 == c) true 1
   -- So it has a plan in each text in which the maximum is out of reach.
-  pub plan : (text : Text) (most : ℕ) (flags : Flags) (start : StartPredicate) → IsText text → units text + 2 < most
+  pub plan : (text : Text) (most : ℕ) (flags : Flags) (start : StartPredicate) → HasRisingPlaceOffsets text → units text + 2 < most
       → (way : ℕ → Direction) (ips : List ℕ) (taken : Key → ℕ)
       → IsPlan (twice_program most flags start) text twice_account twice_questions way ips taken
   -- A cost of 6 is enough.

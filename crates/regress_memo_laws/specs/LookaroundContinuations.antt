@@ -4,7 +4,7 @@ use Rattle.std.specs.Prelude.{◌≡◌, ◌≤◌, ℕ, ◌+◌, Bool, true, fa
 use Rattle.regex_meaning.specs.Text.{Text, Direction, rightwards, leftwards}
 use Rattle.regex_meaning.specs.CodeUnitOffsets.{units}
 use Rattle.regex_meaning.specs.CompilationRelation.{Program, Insn, Lookahead, Lookbehind}
-use Rattle.regress_machine.specs.Machine.{State, Thread, running, goes, scans, ends, Found, at_ip, next_ip, act, search}
+use Rattle.regress_machine.specs.Machine.{State, Thread, running, goes, scans, ends, Found, state_at_ip, state_at_next_ip, act, search}
 use Rattle.regress_simulation.specs.ThreadSimulation.{Simulates}
 use Rattle.regress_memo_laws.specs.Bisimulation.{AlikeThreads, IsBisimulation}
 use Rattle.regress_memo_laws.specs.Liveness.{Liveness, World, Agree, IsLivenessFor}
@@ -42,9 +42,9 @@ module _ (program : Program) (text : Text) (a : Liveness) where
   SuccessGoesOn = IsLivenessFor program text a → (silent : ℕ → Bool) → AreGroupPreserving silent program
       → (w : World) (d : Direction) (s : State) (look : LookaroundInsn) → lookaround_at (slice_get program.insns s.ip) ≡ Some look
       → look.negate ≡ false → silent (s.ip + 1) ≡ true → Agree a (units text) w d s s
-      → FindEnd program text look.inner (running (next_ip s) ∷ [])
+      → FindEnd program text look.inner (running (state_at_next_ip s) ∷ [])
       → (turns : ℕ) (vs : List Thread) (f : Found) → search program text turns d (running s ∷ vs) ≡ Some f
-      → GoesOn w d (at_ip look.continuation s) s
+      → GoesOn w d (state_at_ip look.continuation s) s
 
   -- What an available state leaves agrees with what the machine's state leaves. So an end has the
   -- same offset and, if groups are live, the same groups.

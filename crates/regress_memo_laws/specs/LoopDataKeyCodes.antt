@@ -19,9 +19,9 @@ pub data Question : Type 0 where
   how_many : (l most : ℕ) → Question
 
 -- The number of possible answers.
-abbrev pub answers : Question → ℕ
-answers (is_empty l) = 2
-answers (how_many l most) = most + 1
+abbrev pub number_of_possible_answers : Question → ℕ
+number_of_possible_answers (is_empty l) = 2
+number_of_possible_answers (how_many l most) = most + 1
 
 -- A number of a loop's data, 0 if the state does not have that loop.
 abbrev pub loop_data_number : State → (l : ℕ) → (LoopData → ℕ) → ℕ
@@ -33,20 +33,20 @@ bool_as_digit true = 1
 bool_as_digit false = 0
 
 -- The answer to a question in a state.
-abbrev pub answer : Question → State → ℕ
-answer (is_empty l) s = loop_data_number s l (λ x. bool_as_digit (x.entry == s.pos))
-answer (how_many l most) s = loop_data_number s l (λ x. min x.iters most)
+abbrev pub answer_to_loop_question : Question → State → ℕ
+answer_to_loop_question (is_empty l) s = loop_data_number s l (λ x. bool_as_digit (x.entry == s.pos))
+answer_to_loop_question (how_many l most) s = loop_data_number s l (λ x. min x.iters most)
 
 -- The code of a state: a number whose digits are the answers, each to the base of the number of
 -- possible answers.
 abbrev pub code_of : List Question → State → ℕ
 code_of [] s = 0
-code_of (q ∷ qs) s = answer q s + answers q * code_of qs s
+code_of (q ∷ qs) s = answer_to_loop_question q s + number_of_possible_answers q * code_of qs s
 
 -- The number of codes: the product of the numbers of possible answers.
 abbrev pub codes_of : List Question → ℕ
 codes_of [] = 1
-codes_of (q ∷ qs) = answers q * codes_of qs
+codes_of (q ∷ qs) = number_of_possible_answers q * codes_of qs
 
 -- ---- A plan: questions for each instruction
 

@@ -77,6 +77,6 @@ RecordedFailuresAreRight = (program : Program) (text : Text) → RecordsOf progr
 
 -- No state recurs while a record of it is pending: its search would take as many steps as the
 -- search of which it is a part.
-abbrev pub NoKeyRecurs : Type 0
-NoKeyRecurs = (program : Program) (text : Text) (a : Liveness) → IsLivenessFor program text a → (d : Direction) (s t : State) (rest : List Thread) (turns : ℕ) (f : Found)
+abbrev pub NoStateRecursWhilePending : Type 0
+NoStateRecursWhilePending = (program : Program) (text : Text) (a : Liveness) → IsLivenessFor program text a → (d : Direction) (s t : State) (rest : List Thread) (turns : ℕ) (f : Found)
     → Agree a (units text) outermost d s t → IsRecorded program text d (running t ∷ rest) s → search program text turns d (running s ∷ []) ≡ Some f → ⊥

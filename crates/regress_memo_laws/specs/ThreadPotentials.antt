@@ -6,7 +6,7 @@ use Rattle.std.specs.List.{sum_by}
 use Rattle.regex_meaning.specs.Laws.{Each}
 use Rattle.regex_meaning.specs.NumberListHelpers.{numbers_from}
 use Rattle.regex_meaning.specs.Text.{Text, Direction, rightwards, leftwards}
-use Rattle.regex_meaning.specs.CodeUnitOffsets.{IsText, units}
+use Rattle.regex_meaning.specs.CodeUnitOffsets.{HasRisingPlaceOffsets, units}
 use Rattle.regex_meaning.specs.CompilationRelation.{Program, Insn, Goal, JustFail, Alt, Jump, EnterLoop, LoopAgain, Loop1CharBody, Lookahead, Lookbehind}
 use Rattle.regress_machine.specs.Machine.{State, Thread, running, waiting, goes, scans, act}
 use Rattle.regress_simulation.specs.ThreadSimulation.{Simulates, FindNothing}
@@ -152,9 +152,9 @@ abbrev pub StepsAreMemoSteps : Type 0
 StepsAreMemoSteps = (program : Program) (text : Text) (a : Liveness) (keys : Keys) (d : Direction) (memory : List Key) → GivesOf program text a keys d memory
 
 -- In a rightward search no instruction and no char loop moves to a smaller offset.
-pub record InsnsMoveForward : Type 0 where
-  pub goes : (program : Program) (text : Text) → IsText text → (s : State) (ts : List Thread) → act program text rightwards s ≡ goes ts → AreOnward s.pos (tries ts)
-  pub scans : (program : Program) (text : Text) → IsText text → (s : State) (n : ℕ) (ts : List Thread) → act program text rightwards s ≡ scans n ts → AreOnward s.pos (tries ts)
+pub record RightwardInsnsNeverMoveLeft : Type 0 where
+  pub goes : (program : Program) (text : Text) → HasRisingPlaceOffsets text → (s : State) (ts : List Thread) → act program text rightwards s ≡ goes ts → AreOnward s.pos (tries ts)
+  pub scans : (program : Program) (text : Text) → HasRisingPlaceOffsets text → (s : State) (n : ℕ) (ts : List Thread) → act program text rightwards s ≡ scans n ts → AreOnward s.pos (tries ts)
   -- Nor does one with a record below.
   pub noted : (from : ℕ) (ts us : List Thread) (k : Key) → AreOnward from (tries ts) → k.at ≡ from → AreOnward from (tries ts ++ noted k us ∷ [])
 
@@ -167,14 +167,14 @@ pub record StepsFitPotentials : Type 0 where
 
 -- A char loop that records each of its positions is covered by its potential and by these keys:
 -- each covers a character, a thread and a record.
-abbrev pub RecordedLoopIsCovered : Type 0
-RecordedLoopIsCovered = (price : Key → ℕ) (weight : List Thread → ℕ) (known : List Thread) (xs : List (Thread × Key)) (first ready more : ℕ) → first ≤ ready → more ≤ first + length xs
+abbrev pub RecordingCharLoopCostIsCovered : Type 0
+RecordingCharLoopCostIsCovered = (price : Key → ℕ) (weight : List Thread → ℕ) (known : List Thread) (xs : List (Thread × Key)) (first ready more : ℕ) → first ≤ ready → more ≤ first + length xs
     → Each (λ x. weight (x.0 ∷ []) + 2 ≤ price x.1) xs → more + sum_by (entry_potential weight) (each_noted known xs) ≤ ready + sum_by price (keys_in (each_noted known xs))
 
 -- If a code distinguishes live loop data, instructions, offsets and codes are keys, also of lists
 -- of threads. All of them cost as much as the instructions that record, each times its codes, at
 -- each offset. If positions alone decide, one code is enough.
-pub record PositionsAreKeys : Type 0 where
+pub record OffsetsAndCodesAreKeys : Type 0 where
   pub are : (program : Program) (text : Text) (a : Liveness) (way : ℕ → Direction) (ips : List ℕ) (code : State → ℕ) (codes : ℕ → ℕ) (rows : Key → List Shape) (taken : Key → ℕ) → IsLivenessFor program text a
       → AsksNoGroups a → Distinguishes a (units text) code → AreKeys program text a (place_keys program code way ips (units text) codes rows taken)
   pub cost : (ips : List ℕ) (top : ℕ) (codes price : ℕ → ℕ)

@@ -36,8 +36,8 @@ pub fn recorded_failures_are_right()
 /// While a record is pending, no state that agrees with its state recurs, since both searches take
 /// the same number of steps. So no instruction, offset and key is current twice before its result
 /// is known.
-pub fn no_key_recurs()
-    ensures { laws.NoKeyRecurs }
+pub fn no_state_recurs_while_pending()
+    ensures { laws.NoStateRecursWhilePending }
 {}
 
 /// There are such liveness analyses: for `(?:ab)*c` an instruction and an offset decide, and for
@@ -54,7 +54,7 @@ pub fn agreeing_threads_end_alike()
 
 /// Distinct keys from a finite list are no more than the list has, and cost no more.
 pub fn distinct_keys_are_few()
-    ensures { laws.DistinctKeysCostNoMore }
+    ensures { laws.DistinctKeysCostAtMostList }
 {}
 
 /// The records in a list of entries stay right if the threads on top of them are replaced by
@@ -96,8 +96,8 @@ pub fn steps_fit_potentials()
 /// Instructions, offsets and codes that distinguish all live loop data are the keys, and their
 /// total cost is the costs of the instructions, times their codes, times the number of offsets. If
 /// positions alone decide, one code is enough.
-pub fn positions_are_keys()
-    ensures { laws.PositionsAreKeys }
+pub fn offsets_and_codes_are_keys()
+    ensures { laws.OffsetsAndCodesAreKeys }
 {}
 
 /// The code of a plan has the answers to its questions as digits. It distinguishes all live data
@@ -109,20 +109,20 @@ pub fn codes_distinguish()
 
 /// In a rightward search no instruction moves to a smaller offset.
 pub fn insns_move_forward()
-    ensures { laws.InsnsMoveForward }
+    ensures { laws.RightwardInsnsNeverMoveLeft }
 {}
 
 /// In a rightward search the threads and records are at or after the offset at which the search
 /// began, and no record is after the current thread.
 pub fn searches_move_forward()
-    ensures { laws.SearchesMoveForward }
+    ensures { laws.RightwardSearchesNeverMoveLeft }
 {}
 
 /// The work of all searches is linear in the offsets: at most the initial potentials plus three
 /// times the costs of the instructions, times their codes, times the number of offsets. If
 /// positions alone decide, each instruction has one code.
 pub fn total_work_is_linear()
-    ensures { laws.TotalWorkIsLinear }
+    ensures { laws.AllMatchesWorkIsLinear }
 {}
 
 /// A search of a lookaround's contents learns new keys, which cover its work: keys that fail and,
@@ -134,35 +134,35 @@ pub fn lookarounds_learn_keys()
 /// Success is shared as failure is: if a search ends, or reaches a key that is known to find an
 /// end, all its records are of threads that find one.
 pub fn success_is_shared()
-    ensures { laws.SuccessIsShared }
+    ensures { laws.FoundEndMakesRecordsBelowSucceed }
 {}
 
 /// A char loop that records each of its positions is covered by its potential and by these keys.
 pub fn recorded_loop_is_covered()
-    ensures { laws.RecordedLoopIsCovered }
+    ensures { laws.RecordingCharLoopCostIsCovered }
 {}
 
 /// Each step from sound threads leaves sound threads, also in a lookaround's contents and after
 /// them.
-pub fn searches_keep_soundness()
-    ensures { laws.SearchesKeepSoundness }
+pub fn sound_states_leave_sound_threads()
+    ensures { laws.SoundStatesLeaveSoundThreads }
 {}
 
 /// A lookaround is decided by what is known of its contents: that they fail or, if it is negative,
 /// that they find an end.
-pub fn lookarounds_are_decided()
-    ensures { laws.LookaroundsAreDecided }
+pub fn known_contents_decide_lookarounds()
+    ensures { laws.KnownResultsDecideLookarounds }
 {}
 
 /// A search of contents without groups ends with the groups with which it began.
 pub fn silent_searches_keep_groups()
-    ensures { laws.SilentSearchesKeepGroups }
+    ensures { laws.GroupPreservingInsnsKeepGroupsToEnd }
 {}
 
 /// The threads of a greedy char loop begin with those that it leaves from each later position that
 /// it reaches.
-pub fn greedy_loops_split()
-    ensures { laws.GreedyLoopsSplit }
+pub fn greedy_threads_split_at_later_place()
+    ensures { laws.GreedyThreadsSplitAtLaterPlace }
 {}
 
 /// A lazy char loop takes its nearest position. The threads that wait from a position on are the
@@ -185,8 +185,8 @@ pub fn char_loops_leave_threads()
 
 /// In searches for successive matches a position is tried twice at most. The numbers of looks, the
 /// potentials and the work are linear in the positions and in the costs of all keys.
-pub fn attempts_per_position_are_bounded()
-    ensures { laws.AttemptsPerPositionAreBounded }
+pub fn attempts_and_their_work_are_bounded()
+    ensures { laws.AttemptsAndTheirWorkAreBounded }
 {}
 
 /// The state that continues after a lookaround's contents without groups agrees with the state
@@ -217,8 +217,8 @@ pub fn step_costs_are_covered()
 
 /// Below the records of a plan as many steps are taken as the laws on steps of threads and of char
 /// loops require.
-pub fn memo_plan_steps_are_taken()
-    ensures { laws.MemoPlanStepsAreTaken }
+pub fn steps_below_records_are_known()
+    ensures { laws.NoStepBelowGreedyCharLoopRecords }
 {}
 
 /// Successive steps that are executed at once are covered together. The debts for records that were
@@ -229,13 +229,13 @@ pub fn fused_costs_are_covered()
 
 /// A list of threads finds an end if a part of it does. So does a char loop without a maximum, if
 /// it does from one of its positions on.
-pub fn success_is_inherited()
-    ensures { laws.SuccessIsInherited }
+pub fn success_of_part_suffices()
+    ensures { laws.SuccessOfPartSuffices }
 {}
 
 /// The key of a record that is reached fails.
-pub fn reached_records_fail()
-    ensures { laws.ReachedRecordsFail }
+pub fn key_fails_when_record_reached()
+    ensures { laws.KeyFailsWhenRecordReached }
 {}
 
 /// What a step must satisfy so that the search finds the right result. It keeps the invariant, at
@@ -254,8 +254,8 @@ pub fn searches_stay_sound()
 /// The potential of an instruction that does not record is passed on to one that does, so the costs
 /// of those that record are linear in the program: an amount of its own for each instruction, and 1
 /// for each edge to another one.
-pub fn key_costs_are_linear()
-    ensures { laws.KeyCostsAreLinear }
+pub fn recording_costs_linear_in_program()
+    ensures { laws.RecordingCostsLinearInProgram }
 {}
 
 /// A budget for each offset of a text that suffices for all searches: the initial allowance and one
@@ -267,8 +267,8 @@ pub fn work_budgets_suffice()
 
 /// The checks at each instruction also cover the steps of char loops with a maximum, and of threads
 /// that are known to fail.
-pub fn bounded_loop_costs_are_covered()
-    ensures { laws.BoundedLoopCostsAreCovered }
+pub fn bounded_char_loop_costs_covered()
+    ensures { laws.BoundedCharLoopCostsCovered }
 {}
 
 /// The steps of all char loops are memo steps, like those of threads.

@@ -6,7 +6,7 @@ use Rattle.regex_pattern_front.specs.AstToSpecTree.{tree_of}
 use Rattle.regex_pattern_front.specs.declared.ir.Regex.{Regex}
 use Rattle.regress_plan.specs.InsnsAsSpecInsns.{spec_insn_of}
 use Rattle.regress_plan.specs.declared.insn.Insn.{Insn}
-use Rattle.regress_program.specs.CodeOfTrees.{compiled}
+use Rattle.regress_program.specs.CompilationOfTreesAsFunction.{compiled}
 use Rattle.regress_machine.specs.Machine.{State, Next, act, test_of, with_some}
 use Rattle.regress_machine.specs.InsnEffects.{IsNotStuck}
 use Rattle.regress_machine.proofs.Fetched.{act-some, test-some, fetched-some, fetched-below}

@@ -6,14 +6,14 @@ use Rattle.std.proofs.lemmas.Simd.{map-map}
 use Rattle.regex_meaning.proofs.Lists.{map-replicate}
 use Rattle.std.specs.Prelude.{option_map, IsTrue, IsSome, slice_get}
 use Rattle.regex_meaning.specs.Text.{Text, Direction}
-use Rattle.regex_meaning.specs.CodeUnitOffsets.{IsText, units}
+use Rattle.regex_meaning.specs.CodeUnitOffsets.{HasRisingPlaceOffsets, units}
 use Rattle.regex_meaning.specs.CompilationRelation.{Program, Insn}
 use Rattle.regex_meaning.specs.Tree.{Tree}
-use Rattle.regress_input.specs.ReadsFromOffset.{reading_direction}
-use Rattle.regress_program.specs.SearchableTexts.{IsByteText}
+use Rattle.regress_input.specs.ReadsFromOffset.{direction_of_forward_flag}
+use Rattle.regress_program.specs.TextsSearchableByBytePrograms.{IsByteText}
 use Rattle.regress_scan.proofs.Literals.{literal-reads}
-use Rattle.regress_program.specs.CodeOfTrees.{compiled}
-use Rattle.regress_machine.specs.TextsForBytePrograms.{ReadsBytes, reads_bytes}
+use Rattle.regress_program.specs.CompilationOfTreesAsFunction.{compiled}
+use Rattle.regress_machine.specs.TextsForBytePrograms.{HasUtf8CharactersAndOffsets, tree_contains_byte_nodes}
 use Rattle.regress_machine.specs.Machine as machine
 use Rattle.regress_machine.specs.Machine.{Thread, running, waiting, first_runs_others_wait, Next, goes, scans, ends, asks, after_lookaround, act, search}
 use Rattle.regress_machine.specs.SearchResults.{state_before_first_insn, end_of}
@@ -23,7 +23,7 @@ use Rattle.regress_pikevm.specs.declared.pikevm.states.State.{State}
 use Rattle.regress_pikevm.specs.declared.pikevm.states.NextStates.{NextStates}
 use Rattle.regress_pikevm.specs.declared.pikevm.states.NextStates.TheVariants.{Dead, Continue, Fork, Lookaround}
 use Rattle.regress_pikevm.specs.States.{loop_of, next_threads, state_of, preferred_last, waiting_threads, TakesNextThread}
-use Rattle.regress_machine.specs.InsnEffects.{IsNotStuck, is_byte_literal_insn, end_of_search}
+use Rattle.regress_machine.specs.InsnEffects.{IsNotStuck, is_byte_sequence_insn, end_of_search}
 
 -- ---- The stack
 
@@ -64,22 +64,22 @@ initial-is P offset program s groups loops i g st ls eg el =
 -- ---- Turns of the executor
 
 -- what the code of a tree reads as bytes stands in a text of bytes
-pub reads-literals : (tree : Tree) (text : Text) {are_bytes : Bool} → (IsTrue (reads_bytes tree.root) → IsByteText text are_bytes)
-    → (i : ℕ) (insn : Insn) → slice_get (compiled tree).insns i ≡ Some insn → IsTrue (is_byte_literal_insn insn) → ReadsBytes text
+pub reads-literals : (tree : Tree) (text : Text) {are_bytes : Bool} → (IsTrue (tree_contains_byte_nodes tree.root) → IsByteText text are_bytes)
+    → (i : ℕ) (insn : Insn) → slice_get (compiled tree).insns i ≡ Some insn → IsTrue (is_byte_sequence_insn insn) → HasUtf8CharactersAndOffsets text
 reads-literals tree text bytes i insn q l = (bytes (literal-reads tree i insn q l)).reads
 
 -- The state that was taken up runs, and these wait behind it.
 pub record TakenUp {P : Type 0} (offset : P → ℕ) (program : Program) (text : Text) (turns : ℕ) (d : Direction) (top : ℕ) (end : Option machine.State) (ts : List Thread) (s : State P) (rest : List (State P)) : Type 0 where
-  is : IsText text
-  reads : (i : ℕ) (insn : Insn) → slice_get program.insns i ≡ Some insn → IsTrue (is_byte_literal_insn insn) → ReadsBytes text
+  is : HasRisingPlaceOffsets text
+  reads : (i : ℕ) (insn : Insn) → slice_get program.insns i ≡ Some insn → IsTrue (is_byte_sequence_insn insn) → HasUtf8CharactersAndOffsets text
   few : steps_left program text turns d ts ≤ top
   remains : Remains program text turns d top end (running (state_of offset s) ∷ waiting_threads offset rest)
   no_more : steps_left program text turns d (running (state_of offset s) ∷ waiting_threads offset rest) ≤ steps_left program text turns d ts
 
 -- What these lemmas speak of is what their first premise does.
 module _ {program : Program} {text : Text} {turns : ℕ} {d : Direction} {top : ℕ} {end : Option machine.State} {ts : List Thread} where
-  pub taken-up : {P : Type 0} (offset : P → ℕ) → Remains program text turns d top end ts → IsText text
-      → ((i : ℕ) (insn : Insn) → slice_get program.insns i ≡ Some insn → IsTrue (is_byte_literal_insn insn) → ReadsBytes text)
+  pub taken-up : {P : Type 0} (offset : P → ℕ) → Remains program text turns d top end ts → HasRisingPlaceOffsets text
+      → ((i : ℕ) (insn : Insn) → slice_get program.insns i ≡ Some insn → IsTrue (is_byte_sequence_insn insn) → HasUtf8CharactersAndOffsets text)
       → (s : State P) (rest : List (State P)) → TakesNextThread offset ts (Some s) rest → TakenUp offset program text turns d top end ts s rest
   taken-up offset r is reads s rest (inl e) = record {
     is = is;
@@ -157,8 +157,8 @@ module _ {program : Program} {text : Text} {turns : ℕ} {d : Direction} {top : 
         }
 
     pub turn-ask : (turn : NextStates P) → next_threads offset turn ≡ act program text d (state_of offset s) → (forward negate : Bool) (inner after : State P) → turn ≡ Lookaround forward negate inner after
-        → AskedOf (reading_direction forward) negate (state_of offset inner) (state_of offset after)
-    turn-ask turn is forward negate inner after was = turn-asks (state_of offset inner) (state_of offset after) (reading_direction forward) negate is (ap (next_threads offset) (sym was))
+        → AskedOf (direction_of_forward_flag forward) negate (state_of offset inner) (state_of offset after)
+    turn-ask turn is forward negate inner after was = turn-asks (state_of offset inner) (state_of offset after) (direction_of_forward_flag forward) negate is (ap (next_threads offset) (sym was))
 
     asked-left : {inner : Direction} {negate : Bool} {u w : machine.State} {l : List Thread} → AskedOf inner negate u w
         → l ≡ after_lookaround negate w (end_of_search (search program text turns inner (running u ∷ []))) → Left program text turns d top end ts (l ++ waiting_threads offset rest)
@@ -166,7 +166,7 @@ module _ {program : Program} {text : Text} {turns : ℕ} {d : Direction} {top : 
 
     -- and what goes on behind it
     pub turn-resumed : (turn : NextStates P) → next_threads offset turn ≡ act program text d (state_of offset s) → (forward negate : Bool) (inner after : State P) → turn ≡ Lookaround forward negate inner after
-        → {l : List Thread} → l ≡ after_lookaround negate (state_of offset after) (end_of_search (search program text turns (reading_direction forward) (running (state_of offset inner) ∷ [])))
+        → {l : List Thread} → l ≡ after_lookaround negate (state_of offset after) (end_of_search (search program text turns (direction_of_forward_flag forward) (running (state_of offset inner) ∷ [])))
         → Left program text turns d top end ts (l ++ waiting_threads offset rest)
     turn-resumed turn is forward negate inner after was e = asked-left (turn-ask turn is forward negate inner after was) e
 

@@ -4,20 +4,20 @@
 ghost use Rattle.std.specs.Prelude.{◌≡◌, ◌<◌, ◌≤◌, ◌++◌, map, IsTrue, IsAscii, IsSome, IfOk, option_map, ⊤};
 ghost use Rattle.regex_meaning.specs.{Text.{ascii_text, ucs2_text, utf16_text, utf8_text}, CodeUnitOffsets.{IsBoundary, units}};
 ghost use Rattle.regex_pattern_front.specs.AstToSpecTree.{tree_of};
-ghost use Rattle.regress_program.specs.{CodeOfTrees.{compiled}, InsnMeanings.{spec_insn_of}};
+ghost use Rattle.regress_program.specs.{CompilationOfTreesAsFunction.{compiled}, InsnMeanings.{spec_insn_of}};
 ghost use Rattle.regress_machine.specs.{Machine.{first_runs_others_wait}, InsnEffects.{IsNotStuck}};
-ghost use Rattle.regress_exec.specs.{Attempts.{match_end_at}, Executors.{StartsWithoutStepLimit, ReadsBytesAsAscii, AcceptsAllAsciiTexts}};
+ghost use Rattle.regress_exec.specs.{Attempts.{match_end_and_groups_at}, Executors.{StartsWithoutStepLimit, ReadsBytesAsAscii, AcceptsAllAsciiTexts}};
 ghost use Rattle.regress_pikevm.specs.InsnEffects.{end_and_groups, search_at, effect_at, HasRun};
 ghost use Rattle.regress_pikevm.specs.States.{groups_of, next_threads, waiting_threads, pending_threads, preferred_last, TakesNextThread};
 
 pub mod char_loops;
-pub mod execute;
 pub mod insn_matchers;
+pub mod single_insn_execution;
 pub mod states;
 
-use self::execute::execute_insn;
+use self::single_insn_execution::execute_insn;
 use self::states::{NextStates, State, initial_state, resume_after_lookaround};
-use regress_exec::exec::{Executor, MatchProducer, SearchError, Searcher};
+use regress_exec::exec::{Executor, MatchProducer, ProducerFromProgramAndText, SearchError};
 use regress_exec::program_and_input::ProgramAndInput;
 use regress_exec::search_loop::{AnchoredSearch, group_at};
 use regress_input::cursor::{Backward, Forward};
@@ -147,14 +147,14 @@ fn run<Input: InputIndexer>(
 }
 
 // Returns the state at the end of the preferred match from a position, or `None` if there is none.
-fn preferred_end<Input: InputIndexer>(
+fn preferred_final_state<Input: InputIndexer>(
     searched: &ProgramAndInput<'_, Input>,
     stack: &mut Vec<State<Input::Position>>,
     pos: Input::Position,
 ) -> Result<Option<State<Input::Position>>, AllocError>
     requires { IsBoundary (Input.text searched.now.input) (Input.Position.offset pos) }
     ensures { let s = searched.now in IfOk result (λ end. end_and_groups Input.Position.offset end
-        ≡ match_end_at (tree_of s.program.now) (Input.text s.input) (Input.Position.offset pos)) }
+        ≡ match_end_and_groups_at (tree_of s.program.now) (Input.text s.input) (Input.Position.offset pos)) }
 {
     let start = initial_state(searched.program, pos)?;
     let end = run(searched, pos, true, stack, start)?;
@@ -181,7 +181,7 @@ impl<'r, Input: InputIndexer> AnchoredSearch for PikeVMExecutor<'r, Input> {
     }
 
     fn attempt(&mut self, pos: Input::Position) -> Result<Option<Input::Position>, SearchError> {
-        match preferred_end(&self.searched, &mut self.stack, pos)? {
+        match preferred_final_state(&self.searched, &mut self.stack, pos)? {
             Some(end) => {
                 let pos = end.pos;
                 self.groups = end.groups;
@@ -199,16 +199,16 @@ impl<'r, Input: InputIndexer> AnchoredSearch for PikeVMExecutor<'r, Input> {
         group_at(&self.groups, id)
     }
 
-    fn start_from(&self, pos: Input::Position) -> Option<Input::Position> {
+    fn first_start_to_try_from(&self, pos: Input::Position) -> Option<Input::Position> {
         Some(pos)
     }
 
-    fn start_after(&self, tried: Input::Position) -> Option<Input::Position> {
-        self.searched.next_candidate(tried)
+    fn next_start_to_try_after(&self, tried: Input::Position) -> Option<Input::Position> {
+        self.searched.position_after_failed_attempt(tried)
     }
 }
 
-impl<'r, 't> Searcher<'r> for PikeVMExecutor<'r, Utf8Input<'t>> {
+impl<'r, 't> ProducerFromProgramAndText<'r> for PikeVMExecutor<'r, Utf8Input<'t>> {
     type Text = &'t str;
 
     ghost can_search = { λ _. ⊤ };
@@ -216,7 +216,7 @@ impl<'r, 't> Searcher<'r> for PikeVMExecutor<'r, Utf8Input<'t>> {
     ghost text_of = { λ text. utf8_text text.now };
 
     fn new(re: &'r CompiledRegex, text: &'t str) -> Result<Self, AllocError> {
-        Ok(PikeVMExecutor::new_executor(ProgramAndInput::in_utf8(re, text)))
+        Ok(PikeVMExecutor::new_executor(ProgramAndInput::pair_with_utf8_text(re, text)))
     }
 }
 
@@ -224,7 +224,7 @@ impl<'r, 't> Executor<'r, 't> for PikeVMExecutor<'r, Utf8Input<'t>> {
     type AsAscii = PikeVMExecutor<'r, AsciiInput<'t>>;
 }
 
-impl<'r, 't> Searcher<'r> for PikeVMExecutor<'r, AsciiInput<'t>> {
+impl<'r, 't> ProducerFromProgramAndText<'r> for PikeVMExecutor<'r, AsciiInput<'t>> {
     type Text = &'t str;
 
     // `is_ascii` is the test
@@ -233,7 +233,7 @@ impl<'r, 't> Searcher<'r> for PikeVMExecutor<'r, AsciiInput<'t>> {
     ghost text_of = { λ text. ascii_text text.now };
 
     fn new(re: &'r CompiledRegex, text: &'t str) -> Result<Self, AllocError> {
-        Ok(PikeVMExecutor::new_executor(ProgramAndInput::in_ascii(re, text)))
+        Ok(PikeVMExecutor::new_executor(ProgramAndInput::pair_with_ascii_text(re, text)))
     }
 }
 
@@ -251,7 +251,7 @@ impl<'r, 't> PikeVMExecutor<'r, Utf16Input<'t>> {
         ensures { IfOk result
             (StartsWithoutStepLimit ⟦<PikeVMExecutor<'r, Utf16Input<'t>> as MatchProducer>⟧ (tree_of re.now) (utf16_text text.now)) }
     {
-        Ok(PikeVMExecutor::new_executor(ProgramAndInput::in_utf16(re, text)))
+        Ok(PikeVMExecutor::new_executor(ProgramAndInput::pair_with_utf16_text(re, text)))
     }
 }
 
@@ -265,7 +265,7 @@ impl<'r, 't> PikeVMExecutor<'r, Ucs2Input<'t>> {
         ensures { IfOk result
             (StartsWithoutStepLimit ⟦<PikeVMExecutor<'r, Ucs2Input<'t>> as MatchProducer>⟧ (tree_of re.now) (ucs2_text text.now)) }
     {
-        Ok(PikeVMExecutor::new_executor(ProgramAndInput::in_ucs2(re, text)))
+        Ok(PikeVMExecutor::new_executor(ProgramAndInput::pair_with_ucs2_text(re, text)))
     }
 }
 
@@ -281,13 +281,13 @@ type OfAscii = <OverAscii as Executor<'static, 'static>>::AsAscii;
 /// States that the `AsAscii` of the executor over UTF-8 takes each ASCII text, and reads each of
 /// its bytes as a character.
 pub fn ascii_is_read_in_bytes()
-    ensures takes { AcceptsAllAsciiTexts ⟦<OfUtf8 as Searcher<'static>>⟧.can_search }
-    ensures reads { ReadsBytesAsAscii ⟦<OfUtf8 as Searcher<'static>>⟧.text_of }
+    ensures takes { AcceptsAllAsciiTexts ⟦<OfUtf8 as ProducerFromProgramAndText<'static>>⟧.can_search }
+    ensures reads { ReadsBytesAsAscii ⟦<OfUtf8 as ProducerFromProgramAndText<'static>>⟧.text_of }
 {}
 
 /// States that the `AsAscii` of the executor over ASCII takes each ASCII text, and reads each of
 /// its bytes as a character.
 pub fn ascii_stays_in_bytes()
-    ensures takes { AcceptsAllAsciiTexts ⟦<OfAscii as Searcher<'static>>⟧.can_search }
-    ensures reads { ReadsBytesAsAscii ⟦<OfAscii as Searcher<'static>>⟧.text_of }
+    ensures takes { AcceptsAllAsciiTexts ⟦<OfAscii as ProducerFromProgramAndText<'static>>⟧.can_search }
+    ensures reads { ReadsBytesAsAscii ⟦<OfAscii as ProducerFromProgramAndText<'static>>⟧.text_of }
 {}

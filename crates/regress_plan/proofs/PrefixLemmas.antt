@@ -19,7 +19,7 @@ use Rattle.regex_meaning.proofs.Options.{some-same}
 use Rattle.regress_machine.specs.Machine.{test_of}
 use Rattle.regress_plan.specs.InsnsAsSpecInsns.{spec_insn_of}
 use Rattle.regress_simulation.specs.FailingInsnsAtOffset.{may_at}
-use Rattle.regress_simulation.specs.FirstSetTables.{is_character, first_unit_key}
+use Rattle.regress_simulation.specs.FirstSetTables.{is_character_in_encoding, first_unit_key}
 use Rattle.regress_simulation.specs.RequiredPrefixes.{Allowed, unit_is_allowed}
 use Rattle.regress_simulation.proofs.Prefixes.{prefix-none, prefix-less, prefix-on, prefix-either, AreUnits, Reads, prefix-reads, prefix-run}
 use Rattle.regress_plan.specs.declared.first_set.FirstSet.{FirstSet}
@@ -30,16 +30,16 @@ use Rattle.regress_plan.specs.declared.required_prefix_analysis.OpPrefixContribu
 use Rattle.regress_plan.specs.declared.ops.CharLoopBounds.{CharLoopBounds}
 use Rattle.regress_plan.specs.declared.ops.CountedLoop.{CountedLoop}
 use Rattle.regress_plan.specs.declared.ops.WordBoundaryKind as edge
-use Rattle.regress_plan.specs.declared.ops.Look as look
+use Rattle.regress_plan.specs.declared.ops.LookaroundAndNextOp as look
 use Rattle.regress_plan.specs.declared.ops.Op.{Op}
 use Rattle.regress_plan.specs.declared.ops.Op.TheVariants as op
 use Rattle.regress_plan.specs.declared.ops.CharLoop as run
 use Rattle.regress_plan.specs.declared.plan.Plan.{Plan}
-use Rattle.regress_plan.specs.TableKeysOfUnits.{key, has_16_bit_units, is_step_right, step_at, unit_table_of_set}
+use Rattle.regress_plan.specs.TableKeysOfUnits.{key, has_16_bit_units, is_read_length_right, read_length_at_key, unit_table_of_set}
 use Rattle.regress_plan.specs.Plans.{IsClass, reads_class_char, char_loop_of, IsOpOf}
-use Rattle.regress_plan.specs.PrefixesAndPrefilters.{units_allowed_by_prefix, PrefixAt, IsRequiredPrefixAt, ExcludesKeys}
-use Rattle.regress_plan.specs.RequiredPrefixAnalysis.{joined_mask, then_allowed, allows_only_key, allows_keys_of_set, falls_through, IsPrefixConcatenation, IsPrefixUnion, IsPrefixSoFar, AreOpsOfProgram, PrefixAfter}
-use Rattle.regress_plan.specs.RequiredPrefixAnalysis.{PrefixBeginsWith, IsOpPrefixContribution, IsOpPrefixContributionOf, IsOpPrefixContributionOfLoop}
+use Rattle.regress_plan.specs.PrefixesAndPrefilters.{units_allowed_by_prefix, PrefixAt, IsRequiredPrefixFromInsn, ExcludesKeys}
+use Rattle.regress_plan.specs.RequiredPrefixAnalysis.{low_bits_followed_by_shifted_mask, then_allowed, allows_only_key, allows_keys_of_set, falls_through, ExtendsPrefixByAllowedUnits, IsPrefixUnion, IsPrefixSoFar, AreOpsOfProgram, PrefixAfter}
+use Rattle.regress_plan.specs.RequiredPrefixAnalysis.{PrefixBeginsWith, PrefixFollowsFromSuccessorPrefixes, IsOpPrefixContributionOf, IsOpPrefixContributionOfLoop}
 use Rattle.regress_plan.proofs.KeyLemmas.{first-key-at, first-key-below, key_of_first}
 use Rattle.regress_plan.proofs.ClosingLemmas.{told-some}
 use Rattle.regress_plan.proofs.RowLemmas.{get-below, runs-of}
@@ -56,7 +56,7 @@ moved-bit mask count ahead less =
     sym (bit_at_cat_low (all / 2 ^ 16) 16 (all % 2 ^ 16) ahead less) ∙ ap (λ v. bit_at v ahead) parts ∙ ap (λ v. bit_at v ahead) (let z : all ≡ all + 0 = omega arith in z)
 
 -- the first bits are those of the first mask
-joined-first : (first count behind ahead : ℕ) → ahead < count → count < 16 → bit_at (joined_mask first count behind) ahead ≡ bit_at first ahead
+joined-first : (first count behind ahead : ℕ) → ahead < count → count < 16 → bit_at (low_bits_followed_by_shifted_mask first count behind) ahead ≡ bit_at first ahead
 joined-first first count behind ahead less few =
     let low : bit_at (bit_and first (2 ^ count - 1)) ahead ≡ min (bit_at first ahead) 1 =
     bit_at_and first (2 ^ count - 1) ahead ∙ ap (λ b. min (bit_at first ahead) b) (bit_at_ones count ahead less) in
@@ -67,7 +67,7 @@ joined-first first count behind ahead less few =
     ∙ (let z : max (bit_at (bit_and first (2 ^ count - 1)) ahead) (bit_at (behind * 2 ^ count % 2 ^ 16) ahead) ≡ bit_at first ahead = omega (arith, low, high, small) in z)
 
 -- and those behind them the bits of the other one
-joined-behind : (first count behind ahead : ℕ) → count ≤ ahead → ahead < 16 → bit_at (joined_mask first count behind) ahead ≡ bit_at behind (ahead - count)
+joined-behind : (first count behind ahead : ℕ) → count ≤ ahead → ahead < 16 → bit_at (low_bits_followed_by_shifted_mask first count behind) ahead ≡ bit_at behind (ahead - count)
 joined-behind first count behind ahead more few =
     let low : bit_at (bit_and first (2 ^ count - 1)) ahead ≡ min (bit_at first ahead) 0 =
     bit_at_and first (2 ^ count - 1) ahead ∙ ap (λ b. min (bit_at first ahead) b) (bit_at_ones_above count ahead more) in
@@ -97,11 +97,11 @@ both-set x y ahead set = (by-first (bit_at x ahead == 0) refl, by-second (bit_at
     by-second true is = is ∙ no (and-clear x y ahead (inr (eqb-true (bit_at y ahead) 0 is)))
 
 -- the bits that all masks from a key on have, with that of the next key
-pub barred-next : (prefix : Prefix) (from key positions_excluding_keys ahead : ℕ)
-    → ((ahead : ℕ) → (bit_at positions_excluding_keys ahead == 0) ≡ false → ExcludesKeys prefix from key ahead)
-    → (bit_at (bit_and positions_excluding_keys (slice_index prefix.masks key)) ahead == 0) ≡ false → ExcludesKeys prefix from (key + 1) ahead
-barred-next prefix from key positions_excluding_keys ahead before set k more less =
-    let both = both-set positions_excluding_keys (slice_index prefix.masks key) ahead set in
+pub barred-next : (prefix : Prefix) (from key mask_of_positions_excluding_keys ahead : ℕ)
+    → ((ahead : ℕ) → (bit_at mask_of_positions_excluding_keys ahead == 0) ≡ false → ExcludesKeys prefix from key ahead)
+    → (bit_at (bit_and mask_of_positions_excluding_keys (slice_index prefix.masks key)) ahead == 0) ≡ false → ExcludesKeys prefix from (key + 1) ahead
+barred-next prefix from key mask_of_positions_excluding_keys ahead before set k more less =
+    let both = both-set mask_of_positions_excluding_keys (slice_index prefix.masks key) ahead set in
     elim (cases_lt k key) [
       | inl early ↦ before ahead both.0 k more early
       | inr last ↦
@@ -110,7 +110,7 @@ barred-next prefix from key positions_excluding_keys ahead before set k more les
     ]
 
 -- so many bits from one on are those that were not moved in
-pub clear-between : (from count ahead : ℕ) → from + count < 16 → from ≤ ahead → ahead < from + count → bit_at (joined_mask 65535 from (65535 * 2 ^ count % 2 ^ 16)) ahead ≡ 0
+pub clear-between : (from count ahead : ℕ) → from + count < 16 → from ≤ ahead → ahead < from + count → bit_at (low_bits_followed_by_shifted_mask 65535 from (65535 * 2 ^ count % 2 ^ 16)) ahead ≡ 0
 clear-between from count ahead room more less =
     joined-behind 65535 from (65535 * 2 ^ count % 2 ^ 16) ahead more (omega (arith, room, less))
     ∙ moved-bit 65535 count (ahead - from) (omega (arith, room, less))
@@ -156,7 +156,7 @@ then-late count first after ahead k more = ap (λ (b : Bool). if b then first ah
 
 -- units, and those behind them
 pub then-of : (p q prefix : Prefix) → length prefix.masks ≡ 256 → prefix.len ≡ min (p.len + q.len) 15
-    → ((k : ℕ) → k < 256 → get_or prefix.masks k 0 ≡ joined_mask (get_or p.masks k 0) p.len (get_or q.masks k 0)) → IsPrefixConcatenation p q.len (units_allowed_by_prefix q) prefix
+    → ((k : ℕ) → k < 256 → get_or prefix.masks k 0 ≡ low_bits_followed_by_shifted_mask (get_or p.masks k 0) p.len (get_or q.masks k 0)) → ExtendsPrefixByAllowedUnits p q.len (units_allowed_by_prefix q) prefix
 then-of p q prefix sized len each = record { len = len; within = λ ahead k less h. by ahead k less h (cases_lt k 256) }
   where
     here : (ahead k : ℕ) → ahead < prefix.len → k < 256 → then_allowed p.len (units_allowed_by_prefix p) (units_allowed_by_prefix q) ahead k ≡ true → (ahead < p.len) ⊎ (p.len ≤ ahead)
@@ -178,7 +178,7 @@ then-of p q prefix sized len each = record { len = len; within = λ ahead k less
 -- units of which bits are cleared
 pub then-cleared : (p prefix : Prefix) (count : ℕ) (has : ℕ → Bool) → length prefix.masks ≡ 256 → prefix.len ≡ min (p.len + count) 15
     → ((k : ℕ) → k < 256 → (ahead : ℕ) → (bit_at (get_or p.masks k 0) ahead ≡ 0) ⊎ ((has k ≡ true) × (p.len ≤ ahead) × (ahead < prefix.len)) → bit_at (get_or prefix.masks k 0) ahead ≡ 0)
-    → IsPrefixConcatenation p count (λ ahead k. has k) prefix
+    → ExtendsPrefixByAllowedUnits p count (λ ahead k. has k) prefix
 then-cleared p prefix count has sized len each = record { len = len; within = λ ahead k less h. by ahead k less h (cases_lt k 256) }
   where
     here : (ahead k : ℕ) → ahead < prefix.len → k < 256 → then_allowed p.len (units_allowed_by_prefix p) (λ ahead k. has k) ahead k ≡ true → (ahead < p.len) ⊎ (p.len ≤ ahead)
@@ -197,7 +197,7 @@ then-cleared p prefix count has sized len each = record { len = len; within = λ
 -- those of a set
 pub units-cleared : (p prefix : Prefix) (count kept : ℕ) (has : ℕ → Bool) → length prefix.masks ≡ 256 → prefix.len ≡ min (p.len + count) 15
     → ((ahead : ℕ) → p.len ≤ ahead → ahead < prefix.len → bit_at kept ahead ≡ 0)
-    → ((k : ℕ) → k < 256 → get_or prefix.masks k 0 ≡ bit_and (get_or p.masks k 0) (if has k then kept else 65535)) → IsPrefixConcatenation p count (λ ahead k. has k) prefix
+    → ((k : ℕ) → k < 256 → get_or prefix.masks k 0 ≡ bit_and (get_or p.masks k 0) (if has k then kept else 65535)) → ExtendsPrefixByAllowedUnits p count (λ ahead k. has k) prefix
 units-cleared p prefix count kept has sized len clear each = then-cleared p prefix count has sized len
     (λ k below ahead w.
     ap (λ m. bit_at m ahead) (each k below) ∙ and-clear (get_or p.masks k 0) (if has k then kept else 65535) ahead (by k ahead w))
@@ -210,7 +210,7 @@ units-cleared p prefix count kept has sized len clear each = then-cleared p pref
 -- one alone
 pub unit-cleared : (p prefix : Prefix) (key at kept : ℕ) → at ≡ key → length p.masks ≡ 256 → at < 256 → p.len < 15 → prefix.len ≡ p.len + 1
     → ((ahead : ℕ) → p.len ≤ ahead → ahead < p.len + 1 → bit_at kept ahead ≡ 0)
-    → prefix.masks ≡ slice_set p.masks at (bit_and (get_or p.masks at 0) kept) → IsPrefixConcatenation p 1 (allows_only_key key) prefix
+    → prefix.masks ≡ slice_set p.masks at (bit_and (get_or p.masks at 0) kept) → ExtendsPrefixByAllowedUnits p 1 (allows_only_key key) prefix
 unit-cleared p prefix key at kept here sized low room len clear is = then-cleared p prefix 1 (λ k. k == key)
     (ap length is ∙ length-set p.masks at (bit_and (get_or p.masks at 0) kept) ∙ sized) (omega (arith, len, room))
     (λ k below ahead w. ap (λ (l : List ℕ). bit_at (get_or l k 0) ahead) is ∙ by k ahead w (k == key) refl)
@@ -234,7 +234,7 @@ unit-cleared p prefix key at kept here sized low room len clear is = then-cleare
 
 -- either
 pub either-of : (a b prefix : Prefix) → length prefix.masks ≡ 256 → prefix.len ≡ min a.len b.len
-    → ((k : ℕ) → k < 256 → get_or prefix.masks k 0 ≡ joined_mask (bit_and (get_or a.masks k 0) (get_or b.masks k 0)) prefix.len 65535) → IsPrefixUnion a b prefix
+    → ((k : ℕ) → k < 256 → get_or prefix.masks k 0 ≡ low_bits_followed_by_shifted_mask (bit_and (get_or a.masks k 0) (get_or b.masks k 0)) prefix.len 65535) → IsPrefixUnion a b prefix
 either-of a b prefix sized len each = record {
   first = omega (arith, len);
   second = omega (arith, len);
@@ -261,13 +261,13 @@ less-prefix : (wide : Bool) (program : Program) (ip len most : ℕ) (a b : Allow
     → ((ahead k : ℕ) → ahead < len → a ahead k ≡ true → b ahead k ≡ true) → PrefixAt wide program ip len b
 less-prefix wide program ip len most a b prefix le within = λ e same. prefix-less e (key wide) program ip len most a b (prefix e same) le within
 
-pub prefix-unknown : (wide : Bool) (program : Program) (ip : ℕ) (prefix : Prefix) → prefix.len ≡ 0 → IsRequiredPrefixAt wide program ip prefix
+pub prefix-unknown : (wide : Bool) (program : Program) (ip : ℕ) (prefix : Prefix) → prefix.len ≡ 0 → IsRequiredPrefixFromInsn wide program ip prefix
 prefix-unknown wide program ip prefix none =
     let P : ℕ → Type 0 = λ n. PrefixAt wide program ip n (units_allowed_by_prefix prefix) in
     subst P (sym none) (none-prefix wide program ip (units_allowed_by_prefix prefix))
 
-pub prefix-of-either : (wide : Bool) (program : Program) (ip x y : ℕ) (a b prefix : Prefix) → IsOpPrefixContribution wide program ip (ahead.UnionOf x y) → IsRequiredPrefixAt wide program x a → IsRequiredPrefixAt wide program y b
-    → IsPrefixUnion a b prefix → IsRequiredPrefixAt wide program ip prefix
+pub prefix-of-either : (wide : Bool) (program : Program) (ip x y : ℕ) (a b prefix : Prefix) → PrefixFollowsFromSuccessorPrefixes wide program ip (ahead.UnionOf x y) → IsRequiredPrefixFromInsn wide program x a → IsRequiredPrefixFromInsn wide program y b
+    → IsPrefixUnion a b prefix → IsRequiredPrefixFromInsn wide program ip prefix
 prefix-of-either wide program ip x y a b prefix leads first second either =
     leads prefix.len (units_allowed_by_prefix prefix)
     (less-prefix wide program x prefix.len a.len (units_allowed_by_prefix a) (units_allowed_by_prefix prefix) first either.first either.within_first)
@@ -286,12 +286,12 @@ path-start wide program ip prefix none = record {
 }
 
 -- an operation that leads on to another one
-pub path-at : (wide : Bool) (program : Program) (from ip to : ℕ) (prefix : Prefix) → IsPrefixSoFar wide program from prefix ip → IsOpPrefixContribution wide program ip (ahead.SameAs to) → IsPrefixSoFar wide program from prefix to
+pub path-at : (wide : Bool) (program : Program) (from ip to : ℕ) (prefix : Prefix) → IsPrefixSoFar wide program from prefix ip → PrefixFollowsFromSuccessorPrefixes wide program ip (ahead.SameAs to) → IsPrefixSoFar wide program from prefix to
 path-at wide program from ip to prefix path leads = record { so_far = path.so_far; on = λ room len allowed there. path.on room len allowed (leads len allowed there) }
 
 -- what stands at the operation stands behind the units
 pub path-then : (wide : Bool) (program : Program) (from ip len : ℕ) (prefix next : Prefix) (allowed : Allowed) → IsPrefixSoFar wide program from prefix ip → prefix.len < 15
-    → PrefixAt wide program ip len allowed → IsPrefixConcatenation prefix len allowed next → IsRequiredPrefixAt wide program from next
+    → PrefixAt wide program ip len allowed → ExtendsPrefixByAllowedUnits prefix len allowed next → IsRequiredPrefixFromInsn wide program from next
 path-then wide program from ip len prefix next allowed path room there is =
     less-prefix wide program from next.len (prefix.len + len) (then_allowed prefix.len (units_allowed_by_prefix prefix) allowed) (units_allowed_by_prefix next) (path.on room len allowed there)
     (let l = is.len in omega (arith, l)) (λ ahead k less h. is.within ahead k less h)
@@ -308,13 +308,13 @@ units-there wide program ip count units to leads =
     nothing (Some next) = none-prefix wide program next units
 
 pub path-last : (wide : Bool) (program : Program) (from ip count : ℕ) (units : Allowed) (to : Option ℕ) (prefix next : Prefix) → IsPrefixSoFar wide program from prefix ip → prefix.len < 15
-    → PrefixBeginsWith wide program ip units count to → IsPrefixConcatenation prefix count units next → IsRequiredPrefixAt wide program from next
+    → PrefixBeginsWith wide program ip units count to → ExtendsPrefixByAllowedUnits prefix count units next → IsRequiredPrefixFromInsn wide program from next
 path-last wide program from ip count units to prefix next path room leads is =
     path-then wide program from ip count prefix next units path room (units-there wide program ip count units to leads) is
 
 -- behind which it leads on
 pub path-units : (wide : Bool) (program : Program) (from ip count to : ℕ) (units : Allowed) (prefix next : Prefix) → IsPrefixSoFar wide program from prefix ip → prefix.len < 15
-    → PrefixBeginsWith wide program ip units count (Some to) → IsPrefixConcatenation prefix count units next → IsPrefixSoFar wide program from next to
+    → PrefixBeginsWith wide program ip units count (Some to) → ExtendsPrefixByAllowedUnits prefix count units next → IsPrefixSoFar wide program from next to
 path-units wide program from ip count to units prefix next path room leads is = record {
   so_far = path-last wide program from ip count units (Some to) prefix next path room leads is;
   on = λ more len allowed there.
@@ -350,8 +350,8 @@ path-units wide program from ip count to units prefix next path room leads is = 
 
 -- one of two operations
 pub path-either : (wide : Bool) (program : Program) (from ip x y : ℕ) (prefix a b either next : Prefix) → IsPrefixSoFar wide program from prefix ip → prefix.len < 15
-    → IsOpPrefixContribution wide program ip (ahead.UnionOf x y) → IsRequiredPrefixAt wide program x a → IsRequiredPrefixAt wide program y b → IsPrefixUnion a b either → IsPrefixConcatenation prefix either.len (units_allowed_by_prefix either) next
-    → IsRequiredPrefixAt wide program from next
+    → PrefixFollowsFromSuccessorPrefixes wide program ip (ahead.UnionOf x y) → IsRequiredPrefixFromInsn wide program x a → IsRequiredPrefixFromInsn wide program y b → IsPrefixUnion a b either → ExtendsPrefixByAllowedUnits prefix either.len (units_allowed_by_prefix either) next
+    → IsRequiredPrefixFromInsn wide program from next
 path-either wide program from ip x y prefix a b either next path room leads first second of is =
     path-then wide program from ip either.len prefix next (units_allowed_by_prefix either) path room (prefix-of-either wide program ip x y a b either leads first second of) is
 
@@ -382,7 +382,7 @@ said-of-run plan ip said o r is leads wide program ops there =
 
 -- an instruction that leads on to one other
 led-on : (wide : Bool) (program : Program) (ip to : ℕ) (insn form : Insn) → slice_get program.insns ip ≡ Some insn → insn ≡ form
-    → ((may : ℕ → Bool) → may to ≡ false → (text : Text) (at : ℕ) → may_at program text at may (Some form) ip ≡ false) → IsOpPrefixContribution wide program ip (ahead.SameAs to)
+    → ((may : ℕ → Bool) → may to ≡ false → (text : Text) (at : ℕ) → may_at program text at may (Some form) ip ≡ false) → PrefixFollowsFromSuccessorPrefixes wide program ip (ahead.SameAs to)
 led-on wide program ip to insn form there is leads len allowed prefix =
     λ e same. prefix-on e (key wide) program ip to len allowed (prefix e same)
     (λ may never text at.
@@ -418,7 +418,7 @@ said-edge plan ip e wide program ops there =
     let i = insn-of plan program ops (op.WordEdge e) ip there in by e.unicode_icase i.0 i.1 i.2
   where
     by : (icase : Bool) (insn : Insn) → slice_get program.insns ip ≡ Some insn → insn ≡ (if icase then WordBoundaryUnicodeICase e.invert else WordBoundary e.invert)
-        → IsOpPrefixContribution wide program ip (ahead.SameAs (ip + 1))
+        → PrefixFollowsFromSuccessorPrefixes wide program ip (ahead.SameAs (ip + 1))
     by true insn there is = led-on wide program ip (ip + 1) insn (WordBoundaryUnicodeICase e.invert) there is (λ may never text at. and-never _ (may (ip + 1)) never)
     by false insn there is = led-on wide program ip (ip + 1) insn (WordBoundary e.invert) there is (λ may never text at. and-never _ (may (ip + 1)) never)
 
@@ -436,7 +436,7 @@ said-go plan ip to wide program ops there =
     let i = insn-of plan program ops (op.Goto to) ip there in
     led-on wide program ip to i.0 (Jump to) i.1 i.2 (λ may never text at. never)
 
-pub said-look : (plan : Plan) (ip : ℕ) (l : look.Look) → IsOpPrefixContributionOf plan (op.Look l) ip (ahead.SameAs l.past)
+pub said-look : (plan : Plan) (ip : ℕ) (l : look.LookaroundAndNextOp) → IsOpPrefixContributionOf plan (op.Look l) ip (ahead.SameAs l.past)
 said-look plan ip l wide program ops there =
     let i = insn-of plan program ops (op.Look l) ip there in by l.forward i.0 i.1 i.2.start_group i.2.end_group i.2.insn_is
   where
@@ -445,7 +445,7 @@ said-look plan ip l wide program ops there =
     never-then false b h = refl
 
     by : (forward : Bool) (insn : Insn) → slice_get program.insns ip ≡ Some insn → (first last : ℕ)
-        → insn ≡ (if forward then Lookahead l.negate first last l.past else Lookbehind l.negate first last l.past) → IsOpPrefixContribution wide program ip (ahead.SameAs l.past)
+        → insn ≡ (if forward then Lookahead l.negate first last l.past else Lookbehind l.negate first last l.past) → PrefixFollowsFromSuccessorPrefixes wide program ip (ahead.SameAs l.past)
     by true insn there first last is =
         led-on wide program ip l.past insn (Lookahead l.negate first last l.past) there is (λ may never text at. never-then (may l.past) _ never)
     by false insn there first last is = led-on wide program ip l.past insn (Lookbehind l.negate first last l.past) there is (λ may never text at. never)
@@ -520,16 +520,16 @@ class-units wide program class set insn is single_unit same keys test t count al
   single = λ c character accepted.
       let step = slice_index_or class.steps (key_of_first wide c) 0 in
       let one : step ≡ 1 = let most = is.single_unit single_unit (key_of_first wide c) in least step (some c character accepted) most in
-      let h : is_step_right 1 true (length (spelled_in e c)) ≡ true = ap (λ s. is_step_right s true (length (spelled_in e c))) (sym one) ∙ ap (λ a. is_step_right step a (length (spelled_in e c))) (sym accepted) ∙ told c character in
+      let h : is_read_length_right 1 true (length (spelled_in e c)) ≡ true = ap (λ s. is_read_length_right s true (length (spelled_in e c))) (sym one) ∙ ap (λ a. is_read_length_right step a (length (spelled_in e c))) (sym accepted) ∙ told c character in
       sym (eqb-true 1 (length (spelled_in e c)) h);
 }
   where
-    told : (c : ℕ) → is_character e c ≡ true → is_step_right (slice_index_or class.steps (key_of_first wide c) 0) (test c) (length (spelled_in e c)) ≡ true
+    told : (c : ℕ) → is_character_in_encoding e c ≡ true → is_read_length_right (slice_index_or class.steps (key_of_first wide c) 0) (test c) (length (spelled_in e c)) ≡ true
     told c character =
-        ap (λ o. is_step_right (step_at class.steps o) (test c) (length (spelled_in e c))) (sym (first-key-at e wide units c character))
+        ap (λ o. is_read_length_right (read_length_at_key class.steps o) (test c) (length (spelled_in e c))) (sym (first-key-at e wide units c character))
         ∙ is.steps test (ap (λ i. test_of program (Some i)) (sym same) ∙ t) e units c character
 
-    some : (c : ℕ) → is_character e c ≡ true → test c ≡ true → slice_index_or class.steps (key_of_first wide c) 0 ≢ 0
+    some : (c : ℕ) → is_character_in_encoding e c ≡ true → test c ≡ true → slice_index_or class.steps (key_of_first wide c) 0 ≢ 0
     some c character accepted = told-some (slice_index_or class.steps (key_of_first wide c) 0) (length (spelled_in e c)) (test c) (told c character) accepted
 
     least : (n : ℕ) → n ≢ 0 → n ≤ 1 → n ≡ 1

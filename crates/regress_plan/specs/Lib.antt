@@ -8,9 +8,9 @@ pub mod FollowSetsAndStarts
 pub mod PrefixesAndPrefilters
 pub mod RequiredPrefixAnalysis
 pub mod LookbehindFilter
-pub mod LookbehindFilterFromOps
+pub mod PrecedingCharFilterFromOps
 pub mod AlternationDispatch
-pub mod KeysUnlikePrevious
+pub mod KeysDistinguishedFromPreviousKey
 pub mod OperandTableEntries
 pub mod LookaheadAndExitTables
 pub mod LookaheadAndExitChecks

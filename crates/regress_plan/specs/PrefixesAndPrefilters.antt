@@ -8,7 +8,7 @@ use Rattle.regress_simulation.specs.RequiredPrefixes.{Allowed, unit_is_allowed, 
 use Rattle.regress_plan.specs.declared.required_prefix.Prefix.{Prefix}
 use Rattle.regress_plan.specs.declared.prefilters.Prefilter.{Prefilter}
 use Rattle.regress_plan.specs.declared.prefilters.Prefilter.TheVariants as filter
-use Rattle.regress_plan.specs.declared.prefilters.UnitBitsProbe.{UnitBitsProbe}
+use Rattle.regress_plan.specs.declared.prefilters.MaskedUnitProbe.{MaskedUnitProbe}
 use Rattle.regress_plan.specs.declared.required_prefix.RequiredUnit.{RequiredUnit}
 use Rattle.regress_plan.specs.declared.required_prefix.Literal.{Literal}
 use Rattle.regress_plan.specs.declared.prefilters.LiteralPrefilter.{LiteralPrefilter}
@@ -23,29 +23,29 @@ abbrev pub PrefixAt : (wide : Bool) → Program → (ip len : ℕ) → Allowed �
 PrefixAt wide program ip len allowed = (e : Encoding) → has_16_bit_units e ≡ wide → IsPrefix e (key wide) program ip len allowed
 
 -- The prefix is a required prefix at `ip`.
-abbrev pub IsRequiredPrefixAt : (wide : Bool) → Program → (ip : ℕ) → Prefix → Type 0
-IsRequiredPrefixAt wide program ip prefix = PrefixAt wide program ip prefix.len (units_allowed_by_prefix prefix)
+abbrev pub IsRequiredPrefixFromInsn : (wide : Bool) → Program → (ip : ℕ) → Prefix → Type 0
+IsRequiredPrefixFromInsn wide program ip prefix = PrefixAt wide program ip prefix.len (units_allowed_by_prefix prefix)
 
 -- Whether the `len` units of a list from index `at` on are allowed.
-abbrev pub fits : Allowed → (units : List ℕ) → (at len : ℕ) → Bool
-fits allowed units at zero = true
-fits allowed units at (suc len) = fits allowed units at len && unit_is_allowed allowed len (slice_get units (at + len))
+abbrev pub prefix_allows_units_at : Allowed → (units : List ℕ) → (at len : ℕ) → Bool
+prefix_allows_units_at allowed units at zero = true
+prefix_allows_units_at allowed units at (suc len) = prefix_allows_units_at allowed units at len && unit_is_allowed allowed len (slice_get units (at + len))
 
 -- No unit with a key in `from..end` is allowed `ahead` units after the start.
 abbrev pub ExcludesKeys : Prefix → (from end ahead : ℕ) → Type 0
 ExcludesKeys prefix from end ahead = (k : ℕ) → from ≤ k → k < end → units_allowed_by_prefix prefix ahead k ≡ false
 
 -- This unit is the only one that is allowed at its position.
-pub record IsRequiredUnit (prefix : Prefix) (rare : RequiredUnit) : Type 0 where
+pub record IsOnlyUnitAllowedAtPosition (prefix : Prefix) (rare : RequiredUnit) : Type 0 where
   pub inside : rare.ahead < prefix.len
   pub stands : units_allowed_by_prefix prefix rare.ahead rare.unit ≡ true
   pub only : (k : ℕ) → k < 256 → units_allowed_by_prefix prefix rare.ahead k ≡ true → k ≡ rare.unit
 
 -- Each unit of the literal is the only one that is allowed at its position.
-pub record IsRequiredLiteral (prefix : Prefix) (literal : Literal) : Type 0 where
+pub record IsLiteralOfOnlyAllowedUnits (prefix : Prefix) (literal : Literal) : Type 0 where
   pub some : 0 < literal.len
   pub inside : literal.ahead + literal.len ≤ prefix.len
-  pub alone : (i : ℕ) → i < literal.len → IsRequiredUnit prefix (record { unit = slice_index literal.units i; ahead = literal.ahead + i })
+  pub alone : (i : ℕ) → i < literal.len → IsOnlyUnitAllowedAtPosition prefix (record { unit = slice_index literal.units i; ahead = literal.ahead + i })
 
 -- Only units below 128 are allowed `ahead` units after the start.
 abbrev pub AllowsOnlyAsciiAt : Prefix → (ahead : ℕ) → Type 0
@@ -58,27 +58,27 @@ AllowsOnlyAsciiFirst prefix = AllowsOnlyAsciiAt prefix 0
 -- ---- What is searched for first
 
 -- Whether a unit has the bits of a probe.
-abbrev pub unit_passes_probe : UnitBitsProbe → (unit : ℕ) → Bool
+abbrev pub unit_passes_probe : MaskedUnitProbe → (unit : ℕ) → Bool
 unit_passes_probe probe unit = bit_and (unit % 256) probe.mask == probe.bits
 
 -- Only units below 128 that pass the probe are allowed at its position.
-pub record IsUnitBitsProbe (prefix : Prefix) (probe : UnitBitsProbe) : Type 0 where
+pub record IsMaskedUnitProbe (prefix : Prefix) (probe : MaskedUnitProbe) : Type 0 where
   pub inside : probe.ahead < prefix.len
   pub low : AllowsOnlyAsciiAt prefix probe.ahead
   pub only : (k : ℕ) → k < 256 → units_allowed_by_prefix prefix probe.ahead k ≡ true → unit_passes_probe probe k ≡ true
 
 -- Each of the probes is right for the prefix.
-abbrev pub AreUnitBitsProbes : Prefix → List UnitBitsProbe → Type 0
-AreUnitBitsProbes prefix probes = (i : ℕ) (probe : UnitBitsProbe) → slice_get probes i ≡ Some probe → IsUnitBitsProbe prefix probe
+abbrev pub AreMaskedUnitProbes : Prefix → List MaskedUnitProbe → Type 0
+AreMaskedUnitProbes prefix probes = (i : ℕ) (probe : MaskedUnitProbe) → slice_get probes i ≡ Some probe → IsMaskedUnitProbe prefix probe
 
 -- The literal is right for the prefix, and so are the rare unit and the probes, if any.
 pub record IsLiteralPrefilter (prefix : Prefix) (known : LiteralPrefilter) : Type 0 where
-  pub literal : IsRequiredLiteral prefix known.literal
-  pub rare : IfSome known.rare (IsRequiredUnit prefix)
-  pub probes : IfSome known.probes (AreUnitBitsProbes prefix)
+  pub literal : IsLiteralOfOnlyAllowedUnits prefix known.literal
+  pub rare : IfSome known.rare (IsOnlyUnitAllowedAtPosition prefix)
+  pub probes : IfSome known.probes (AreMaskedUnitProbes prefix)
 
 -- The prefilter is right for the prefix. Without one, or with a literal, units are bytes.
 abbrev pub IsPrefilter : (wide : Bool) → Prefix → Prefilter → Type 0
 IsPrefilter wide prefix filter.Absent = wide ≡ false
 IsPrefilter wide prefix (filter.ByLiteral known) = (wide ≡ false) × IsLiteralPrefilter prefix known
-IsPrefilter wide prefix (filter.Probes probes) = AreUnitBitsProbes prefix probes
+IsPrefilter wide prefix (filter.Probes probes) = AreMaskedUnitProbes prefix probes

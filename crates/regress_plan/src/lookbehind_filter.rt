@@ -2,48 +2,50 @@
 
 ghost use Rattle.std.specs.Prelude.{◌≡◌, true, Some, slice_get, IfSome};
 ghost use Rattle.regex_meaning.specs.CompilationRelation.{Program};
-ghost use Rattle.regress_plan.specs.{LookbehindFilter.{IsLookbehindFilter}, LookbehindFilterFromOps.{FilterHasKeysOfSet, LookbehindReadsCharOfSet, reads_character as reads_one_character}, TableKeysOfUnits.{is_16_bit_width}};
+ghost use Rattle.regress_plan.specs.{LookbehindFilter.{IsLookbehindFilter}, PrecedingCharFilterFromOps.{FilterHasKeysOfSet, LookbehindReadsCharOfSet, reads_character as reads_one_character}, TableKeysOfUnits.{is_16_bit_width}};
 ghost use Rattle.regress_plan.specs.RequiredPrefixAnalysis.{AreOpsOfProgram};
 
 use crate::first_set::FirstSet;
 use crate::first_set_fixpoint::{FirstSets, first_set_from_successors};
-use crate::follow_sets_and_starts::{AllowedKeyKind, UpToThreeKeys, up_to_three_keys};
-use crate::ops::{Look, Op};
+use crate::follow_sets_and_starts::{
+    EitherAsciiOrLeadKeysAllowed, UpToThreeKeys, up_to_three_keys,
+};
+use crate::ops::{LookaroundAndNextOp, Op};
 use crate::plan::Plan;
 use crate::table_keys_of_units::UnitWidth;
 
 /// A filter of match starts by the preceding character, which begins with one of the first `len` of
 /// these keys. With `edge`, a match may also begin at the left end.
 #[derive(Clone, Copy)]
-pub struct LookbehindFilter {
+pub struct PrecedingCharFilter {
     pub keys: [u8; 3],
     pub len: usize,
     pub edge: bool,
 }
 
-impl LookbehindFilter {
+impl PrecedingCharFilter {
     // Returns the filter for characters that begin with keys of this set. `None` if it has more
     // than three keys, or one with which no character begins.
-    fn of(set: &FirstSet, edge: bool, units: UnitWidth) -> Option<LookbehindFilter>
+    fn of(set: &FirstSet, edge: bool, units: UnitWidth) -> Option<PrecedingCharFilter>
         ensures { IfSome result (FilterHasKeysOfSet (is_16_bit_width units) set.now edge) }
     {
         let UpToThreeKeys { units: keys, len } = up_to_three_keys(
             set,
-            AllowedKeyKind::Leads(units),
+            EitherAsciiOrLeadKeysAllowed::Leads(units),
         )?;
-        Some(LookbehindFilter { keys, len, edge })
+        Some(PrecedingCharFilter { keys, len, edge })
     }
 }
 
 impl Plan {
     /// Returns what must precede a match, if the first operation decides it.
-    pub(crate) fn before(&self, units: UnitWidth) -> Option<LookbehindFilter>
+    pub(crate) fn before(&self, units: UnitWidth) -> Option<PrecedingCharFilter>
         ensures { IfSome result (λ before. (program : Program)
             → AreOpsOfProgram (is_16_bit_width units) program self.now → IsLookbehindFilter (is_16_bit_width units) program before) }
     {
         match self.ops.get(0) {
             Some(Op::LineStart { multiline }) if *multiline => {
-                LookbehindFilter::of(&FirstSet::line_end_first_set(true, units), true, units)
+                PrecedingCharFilter::of(&FirstSet::line_end_first_set(true, units), true, units)
             }
             Some(Op::Look(look)) => self.before_look(*look, units),
             _ => None,
@@ -53,7 +55,11 @@ impl Plan {
     // Returns the filter of a plan that begins with this lookaround. Not inlined: this case is
     // rare, and the buffers of sets are cleared in the function that makes them.
     #[inline(never)]
-    fn before_look(&self, look: Look, units: UnitWidth) -> Option<LookbehindFilter>
+    fn before_look(
+        &self,
+        look: LookaroundAndNextOp,
+        units: UnitWidth,
+    ) -> Option<PrecedingCharFilter>
         requires { slice_get self.now.ops.items 0 ≡ Some (Op.Look look) }
         ensures { IfSome result (λ before. (program : Program)
             → AreOpsOfProgram (is_16_bit_width units) program self.now → IsLookbehindFilter (is_16_bit_width units) program before) }
@@ -61,16 +67,16 @@ impl Plan {
         if look.forward || look.negate {
             return None;
         }
-        let contents = self.contents(units)?;
-        LookbehindFilter::of(&contents, false, units)
+        let contents = self.first_set_of_second_op(units)?;
+        PrecedingCharFilter::of(&contents, false, units)
     }
 
     // Returns the first set of the second operation, if that reads one character.
-    fn contents(&self, units: UnitWidth) -> Option<FirstSet>
+    fn first_set_of_second_op(&self, units: UnitWidth) -> Option<FirstSet>
         ensures { IfSome result (LookbehindReadsCharOfSet (is_16_bit_width units) self.now) }
     {
         if self.ops.len() > 1 && reads_character(self.ops[1]) {
-            let sets = FirstSets::none(*self.ops.allocator());
+            let sets = FirstSets::new_empty_first_sets(*self.ops.allocator());
             Some(first_set_from_successors(self, units, &sets, 1))
         } else {
             None

@@ -1,24 +1,24 @@
 //! Prefilters: what is searched for before the units of a required prefix are checked.
 
 ghost use Rattle.std.specs.Prelude.{◌≡◌, ◌<◌, ◌≤◌, ℕ, true, IfSome};
-ghost use Rattle.regress_plan.specs.{PrefixesAndPrefilters.{units_allowed_by_prefix, unit_passes_probe as has_bits, IsRequiredUnit, IsRequiredLiteral, IsUnitBitsProbe, AreUnitBitsProbes, IsPrefilter}, TableKeysOfUnits.{is_16_bit_width}};
+ghost use Rattle.regress_plan.specs.{PrefixesAndPrefilters.{units_allowed_by_prefix, unit_passes_probe as has_bits, IsOnlyUnitAllowedAtPosition, IsLiteralOfOnlyAllowedUnits, IsMaskedUnitProbe, AreMaskedUnitProbes, IsPrefilter}, TableKeysOfUnits.{is_16_bit_width}};
 
-use crate::required_prefix::{Literal, MOST, Prefix, RequiredUnit, is_clear};
+use crate::required_prefix::{Literal, MOST, Prefix, RequiredUnit, is_mask_bit_clear};
 use crate::table_keys_of_units::{KEYS, UnitWidth};
 
 /// A test of the unit `ahead` units after the start: of the bits in `mask`, exactly those in `bits`
 /// are set in its low eight bits.
 #[derive(Clone, Copy)]
-pub struct UnitBitsProbe {
+pub struct MaskedUnitProbe {
     pub ahead: usize,
     pub mask: u8,
     pub bits: u8,
 }
 
-impl UnitBitsProbe {
+impl MaskedUnitProbe {
     /// Checks whether a unit passes the test.
     #[inline(always)]
-    pub fn passes(&self, unit: u32) -> bool
+    pub fn passes_bit_probe(&self, unit: u32) -> bool
         ensures { result ≡ has_bits self.now unit }
     {
         (unit % 256) as u8 & self.mask == self.bits
@@ -31,7 +31,7 @@ impl UnitBitsProbe {
 pub struct LiteralPrefilter {
     pub literal: Literal,
     pub rare: Option<RequiredUnit>,
-    pub probes: Option<[UnitBitsProbe; 4]>,
+    pub probes: Option<[MaskedUnitProbe; 4]>,
 }
 
 /// What is searched for before the units of a required prefix are checked.
@@ -42,7 +42,7 @@ pub enum Prefilter {
     /// A literal, in bytes.
     ByLiteral(LiteralPrefilter),
     /// Bits of some units.
-    Probes([UnitBitsProbe; 4]),
+    Probes([MaskedUnitProbe; 4]),
 }
 
 /// A unit at least as frequent as this, in a thousand, is not searched for alone.
@@ -122,8 +122,8 @@ impl CommonBitsOfUnits {
     }
 
     // Returns the probe for these bits, `ahead` units after the start.
-    fn probe(self, ahead: usize) -> UnitBitsProbe {
-        UnitBitsProbe {
+    fn probe(self, ahead: usize) -> MaskedUnitProbe {
+        MaskedUnitProbe {
             ahead,
             mask: !(self.all ^ self.some),
             bits: self.all,
@@ -136,7 +136,7 @@ impl Prefix {
     /// positions pass them. Not inlined, since most patterns have no prefilter, and its buffers
     /// would be cleared in the caller.
     #[inline(never)]
-    pub(crate) fn prefilter(&self, units: UnitWidth) -> Option<Prefilter>
+    pub(crate) fn choose_prefilter_of_prefix(&self, units: UnitWidth) -> Option<Prefilter>
         ensures { IfSome result (IsPrefilter (is_16_bit_width units) self.now) }
     {
         let commons = self.commons();
@@ -163,11 +163,11 @@ impl Prefix {
     // Returns, for each position, what the units that may occur there have in common; `NO_UNIT`
     // where some are not below 128.
     fn commons(&self) -> [CommonBitsOfUnits; 16] {
-        let others = !self.positions_excluding_keys(128, KEYS);
+        let others = !self.mask_of_positions_excluding_keys(128, KEYS);
         let mut commons = [NO_UNIT; 16];
         for block in 0..8 {
             let from = block * 16;
-            if self.positions_excluding_keys(from, from + 16) | others != u16::MAX {
+            if self.mask_of_positions_excluding_keys(from, from + 16) | others != u16::MAX {
                 self.add_keys(from, others, &mut commons);
             }
         }
@@ -188,7 +188,7 @@ impl Prefix {
 
     // Returns the longest literal, unless it is a single unit of a longer prefix.
     fn literal(&self, commons: &[CommonBitsOfUnits; 16]) -> Option<Literal>
-        ensures { IfSome result (IsRequiredLiteral self.now) }
+        ensures { IfSome result (IsLiteralOfOnlyAllowedUnits self.now) }
     {
         let literal = longest_literal(commons, self.len);
         if (literal.len > 1 || literal.len == self.len) && self.has_literal(&literal) {
@@ -200,7 +200,7 @@ impl Prefix {
 
     // Checks whether each unit of the literal is the only one that may occur at its position.
     fn has_literal(&self, literal: &Literal) -> bool
-        ensures { result ≡ true → IsRequiredLiteral self.now literal.now }
+        ensures { result ≡ true → IsLiteralOfOnlyAllowedUnits self.now literal.now }
     {
         let Literal { units, len, ahead } = *literal;
         if len == 0 || len > self.len || ahead > self.len - len {
@@ -220,7 +220,7 @@ impl Prefix {
 
     // Returns the rarest unit, if each position allows one unit alone and this one is rare.
     fn rare(&self, commons: &[CommonBitsOfUnits; 16]) -> Option<RequiredUnit>
-        ensures { IfSome result (λ rare. IsRequiredUnit self.now rare) }
+        ensures { IfSome result (λ rare. IsOnlyUnitAllowedAtPosition self.now rare) }
     {
         let mut rare = RequiredUnit { unit: 0, ahead: 0 };
         let mut least = OFTEN;
@@ -246,15 +246,15 @@ impl Prefix {
 
     // Checks whether this unit may occur at its position, and no other.
     fn has_alone(&self, rare: RequiredUnit) -> bool
-        ensures { result ≡ true → IsRequiredUnit self.now rare }
+        ensures { result ≡ true → IsOnlyUnitAllowedAtPosition self.now rare }
     {
         if rare.ahead >= self.len {
             return false;
         }
         let unit = usize::from(rare.unit);
         self.is_key_allowed(unit, rare.ahead)
-            && self.excludes_keys_at(0, unit, rare.ahead)
-            && self.excludes_keys_at(unit + 1, KEYS, rare.ahead)
+            && self.excludes_key_range_at(0, unit, rare.ahead)
+            && self.excludes_key_range_at(unit + 1, KEYS, rare.ahead)
     }
 
     // Returns the probes to search for, if they are rare.
@@ -262,8 +262,8 @@ impl Prefix {
         &self,
         commons: &[CommonBitsOfUnits; 16],
         limits: ProbeRarityLimits,
-    ) -> Option<[UnitBitsProbe; 4]>
-        ensures { IfSome result (λ probes. AreUnitBitsProbes self.now probes) }
+    ) -> Option<[MaskedUnitProbe; 4]>
+        ensures { IfSome result (λ probes. AreMaskedUnitProbes self.now probes) }
     {
         let [a, b, c, d] = seldom(commons, limits)?;
         if self.has_probe(a) && self.has_probe(b) && self.has_probe(c) && self.has_probe(d) {
@@ -274,22 +274,22 @@ impl Prefix {
     }
 
     // Checks whether only units below 128 that pass the probe may occur at its position.
-    fn has_probe(&self, probe: UnitBitsProbe) -> bool
-        ensures { result ≡ true → IsUnitBitsProbe self.now probe }
+    fn has_probe(&self, probe: MaskedUnitProbe) -> bool
+        ensures { result ≡ true → IsMaskedUnitProbe self.now probe }
     {
         probe.ahead < self.len && self.allows_only_ascii_at(probe.ahead) && self.ascii_passes(probe)
     }
 
     // Checks whether, of the units below 128, only those that pass the probe may occur at its
     // position.
-    fn ascii_passes(&self, probe: UnitBitsProbe) -> bool
+    fn ascii_passes(&self, probe: MaskedUnitProbe) -> bool
         requires { probe.ahead < 16 }
         ensures { result ≡ true → (k : ℕ) → k < 128
             → units_allowed_by_prefix self.now probe.ahead k ≡ true → has_bits probe k ≡ true }
     {
         let mut others = false;
         for key in 0..128 {
-            others |= self.is_key_allowed(key, probe.ahead) & !probe.passes(key as u32);
+            others |= self.is_key_allowed(key, probe.ahead) & !probe.passes_bit_probe(key as u32);
         }
         !others
     }
@@ -325,7 +325,7 @@ fn longest_literal(commons: &[CommonBitsOfUnits; 16], len: usize) -> Literal {
 fn add_key(commons: &mut [CommonBitsOfUnits; 16], len: usize, mask: u16, key: u8) {
     let often = frequency(key);
     for ahead in 0..len.min(16) {
-        if is_clear(mask, ahead) {
+        if is_mask_bit_clear(mask, ahead) {
             commons[ahead] = commons[ahead].with(key, often);
         }
     }
@@ -335,7 +335,7 @@ fn add_key(commons: &mut [CommonBitsOfUnits; 16], len: usize, mask: u16, key: u8
 fn seldom(
     commons: &[CommonBitsOfUnits; 16],
     limits: ProbeRarityLimits,
-) -> Option<[UnitBitsProbe; 4]> {
+) -> Option<[MaskedUnitProbe; 4]> {
     let mut often = [ALWAYS; 16];
     for ahead in 0..16 {
         often[ahead] = commons[ahead].frequency().min(ALWAYS);

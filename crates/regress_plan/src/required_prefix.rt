@@ -35,7 +35,7 @@ pub struct Literal {
 
 /// Checks whether a bit of a mask is clear.
 #[inline(always)]
-pub fn is_clear(mask: u16, bit: usize) -> bool
+pub fn is_mask_bit_clear(mask: u16, bit: usize) -> bool
     requires { bit < 16 }
     ensures { result ≡ (bit_at mask bit == 0) }
 {

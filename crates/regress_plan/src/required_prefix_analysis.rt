@@ -7,14 +7,14 @@
 ghost use Rattle.std.specs.Prelude.{Bool, ℕ, ◌≡◌, ◌==◌, ◌<◌, ◌≤◌, ◌+◌, ◌^◌, true, false, length};
 ghost use Rattle.std.specs.Int.{bit_at};
 ghost use Rattle.regex_meaning.specs.CompilationRelation.{Program};
-ghost use Rattle.regress_plan.specs.{declared.ops.Op.TheVariants.{UnitChar, One, Enter}, PrefixesAndPrefilters.{units_allowed_by_prefix, IsRequiredPrefixAt, AllowsOnlyAsciiAt, ExcludesKeys}};
-ghost use Rattle.regress_plan.specs.RequiredPrefixAnalysis.{allows_only_key, allows_keys_of_set, joined_mask, falls_through as leads_on_op, IsPrefixConcatenation, IsPrefixUnion, AreOpsOfProgram, IsOpPrefixContribution, IsOpPrefixContributionOf};
+ghost use Rattle.regress_plan.specs.{declared.ops.Op.TheVariants.{UnitChar, One, Enter}, PrefixesAndPrefilters.{units_allowed_by_prefix, IsRequiredPrefixFromInsn, AllowsOnlyAsciiAt, ExcludesKeys}};
+ghost use Rattle.regress_plan.specs.RequiredPrefixAnalysis.{allows_only_key, allows_keys_of_set, low_bits_followed_by_shifted_mask, falls_through as leads_on_op, ExtendsPrefixByAllowedUnits, IsPrefixUnion, AreOpsOfProgram, PrefixFollowsFromSuccessorPrefixes, IsOpPrefixContributionOf};
 ghost use Rattle.regress_plan.specs.RequiredPrefixAnalysis.{IsOpPrefixContributionOfLoop};
 
 use crate::first_set::FirstSet;
 use crate::ops::{CharLoop, Op};
 use crate::plan::Plan;
-use crate::required_prefix::{MOST, Prefix, is_clear};
+use crate::required_prefix::{MOST, Prefix, is_mask_bit_clear};
 use crate::table_keys_of_units::KEYS;
 
 /// The maximum number of operations that are examined.
@@ -56,7 +56,7 @@ impl Prefix {
     // Appends one unit.
     fn add_unit(&mut self, key: u8)
         requires { self.old.len < 15 }
-        ensures { IsPrefixConcatenation self.old 1 (allows_only_key key) self.new }
+        ensures { ExtendsPrefixByAllowedUnits self.old 1 (allows_only_key key) self.new }
     {
         self.masks[usize::from(key)] &= all_but(self.len, 1);
         self.len += 1;
@@ -64,7 +64,7 @@ impl Prefix {
 
     // Appends `count` units of a set, as far as there is room.
     fn add_units(&mut self, set: &FirstSet, count: usize)
-        ensures { IsPrefixConcatenation self.old count (allows_keys_of_set set.now) self.new }
+        ensures { ExtendsPrefixByAllowedUnits self.old count (allows_keys_of_set set.now) self.new }
     {
         let more = count.min(MOST - self.len);
         let kept = all_but(self.len, more);
@@ -76,7 +76,7 @@ impl Prefix {
 
     // Appends the units of another prefix, as far as there is room.
     fn add_prefix(&mut self, behind: &Prefix)
-        ensures { IsPrefixConcatenation self.old behind.now.len (units_allowed_by_prefix behind.now) self.new }
+        ensures { ExtendsPrefixByAllowedUnits self.old behind.now.len (units_allowed_by_prefix behind.now) self.new }
     {
         for key in 0..KEYS {
             self.masks[key] = join_masks(self.masks[key], self.len, behind.masks[key]);
@@ -102,7 +102,7 @@ impl Prefix {
         requires ahead { ahead < 16 }
         ensures { result ≡ units_allowed_by_prefix self.now ahead key }
     {
-        is_clear(self.masks[key], ahead)
+        is_mask_bit_clear(self.masks[key], ahead)
     }
 
     /// Checks whether only units below 128 may occur `ahead` units after the start.
@@ -110,30 +110,30 @@ impl Prefix {
         requires { ahead < 16 }
         ensures { result ≡ true → AllowsOnlyAsciiAt self.now ahead }
     {
-        self.excludes_keys_at(128, KEYS, ahead)
+        self.excludes_key_range_at(128, KEYS, ahead)
     }
 
     // Checks whether no unit with a key in `from..end` may occur `ahead` units after the start.
-    pub(crate) fn excludes_keys_at(&self, from: usize, end: usize, ahead: usize) -> bool
+    pub(crate) fn excludes_key_range_at(&self, from: usize, end: usize, ahead: usize) -> bool
         requires inside { end ≤ 256 }
         requires ahead { ahead < 16 }
         ensures { result ≡ true → ExcludesKeys self.now from end ahead }
     {
-        !is_clear(self.positions_excluding_keys(from, end), ahead)
+        !is_mask_bit_clear(self.mask_of_positions_excluding_keys(from, end), ahead)
     }
 
     /// Returns a mask: bit `j` is set if no unit with a key in `from..end` may occur `j` units
     /// after the start.
-    pub(crate) fn positions_excluding_keys(&self, from: usize, end: usize) -> u16
+    pub(crate) fn mask_of_positions_excluding_keys(&self, from: usize, end: usize) -> u16
         requires inside { end ≤ 256 }
         ensures { (ahead : ℕ) → (bit_at result ahead == 0) ≡ false → ExcludesKeys self.now from end ahead }
     {
         // Without an early exit, the loop can process many keys at a time.
-        let mut positions_excluding_keys = u16::MAX;
+        let mut mask_of_positions_excluding_keys = u16::MAX;
         for key in from..end {
-            positions_excluding_keys &= self.masks[key];
+            mask_of_positions_excluding_keys &= self.masks[key];
         }
-        positions_excluding_keys
+        mask_of_positions_excluding_keys
     }
 }
 
@@ -141,7 +141,7 @@ impl Prefix {
 #[inline(always)]
 fn join_masks(first: u16, count: usize, behind: u16) -> u16
     requires { count < 16 }
-    ensures { result ≡ joined_mask first count behind }
+    ensures { result ≡ low_bits_followed_by_shifted_mask first count behind }
 {
     first & ((1 << count) - 1) | behind << count
 }
@@ -158,7 +158,7 @@ fn all_but(from: usize, count: usize) -> u16
 /// Returns the required prefix of the program of this plan.
 pub(crate) fn required_prefix_of_plan(plan: &Plan) -> Prefix
     ensures { (wide : Bool) (program : Program)
-        → AreOpsOfProgram wide program plan.now → IsRequiredPrefixAt wide program 0 result }
+        → AreOpsOfProgram wide program plan.now → IsRequiredPrefixFromInsn wide program 0 result }
 {
     prefix_at(plan, 0, STEPS)
 }
@@ -167,7 +167,7 @@ pub(crate) fn required_prefix_of_plan(plan: &Plan) -> Prefix
 // alternation, each arm gets half of the remaining steps.
 fn prefix_at(plan: &Plan, from: usize, steps: usize) -> Prefix
     ensures { (wide : Bool) (program : Program)
-        → AreOpsOfProgram wide program plan.now → IsRequiredPrefixAt wide program from result }
+        → AreOpsOfProgram wide program plan.now → IsRequiredPrefixFromInsn wide program from result }
 {
     let mut prefix = Prefix::unrestricted_prefix();
     let mut ip = from;
@@ -207,7 +207,7 @@ fn prefix_at(plan: &Plan, from: usize, steps: usize) -> Prefix
 #[inline(always)]
 fn said_at(plan: &Plan, ip: usize) -> OpPrefixContribution
     ensures { (wide : Bool) (program : Program)
-        → AreOpsOfProgram wide program plan.now → IsOpPrefixContribution wide program ip result }
+        → AreOpsOfProgram wide program plan.now → PrefixFollowsFromSuccessorPrefixes wide program ip result }
 {
     match plan.ops.get(ip) {
         Some(op) => said_of_op(plan, *op, ip),
@@ -224,7 +224,7 @@ fn said_of_op(plan: &Plan, op: Op, ip: usize) -> OpPrefixContribution
     if falls_through_reading_nothing(op) {
         return OpPrefixContribution::SameAs(ip + 1);
     }
-    if let Some(run) = op.run() {
+    if let Some(run) = op.as_char_loop() {
         return said_of_run(plan, run, ip);
     }
     match op {

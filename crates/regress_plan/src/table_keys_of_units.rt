@@ -5,8 +5,8 @@
 
 ghost use Rattle.std.specs.Prelude.{◌≡◌, ◌<◌, ◌+◌, ◌/◌, ◌&&◌, ◌||◌, ℕ, min, true, false, is_some};
 ghost use Rattle.regex_meaning.specs.CodeUnits.{Encoding};
-ghost use Rattle.regress_simulation.specs.FirstSetTables.{is_character, first_unit_key as first_key_in};
-ghost use Rattle.regress_plan.specs.TableKeysOfUnits.{key as key_of, has_16_bit_units, is_utf8_lead_byte, is_16_bit_width, may_begin_surrogate_pair as is_high, HasKeyCharsInRange, HasKeysBetween, first_utf8_byte, first_utf16_unit};
+ghost use Rattle.regress_simulation.specs.FirstSetTables.{is_character_in_encoding, first_unit_key as first_key_in};
+ghost use Rattle.regress_plan.specs.TableKeysOfUnits.{key as key_of, has_16_bit_units, begins_utf8_character, is_16_bit_width, may_begin_surrogate_pair as is_high, KeyCharsLieInRangeOrPairs, HasKeysBetween, first_utf8_byte, first_utf16_unit};
 
 use regex_pattern_front::codepointset::Interval;
 
@@ -31,7 +31,7 @@ pub struct CharRangeOfKey {
 
 /// Returns the key of a 16-bit unit.
 #[inline(always)]
-pub fn key_of_u16(unit: u16) -> usize
+pub fn bucket_key_of_u16(unit: u16) -> usize
     ensures is { result ≡ key_of true unit }
     ensures inside { result < 256 }
 {
@@ -57,8 +57,8 @@ pub fn may_begin_surrogate_pair(key: u8, units: UnitWidth) -> bool
 /// character does.
 #[inline(always)]
 pub fn characters_of_key(key: u8, units: UnitWidth) -> Option<CharRangeOfKey>
-    ensures begun { HasKeyCharsInRange (is_16_bit_width units) key result }
-    ensures leads { is_some result ≡ (is_16_bit_width units || is_utf8_lead_byte key) }
+    ensures begun { KeyCharsLieInRangeOrPairs (is_16_bit_width units) key result }
+    ensures leads { is_some result ≡ (is_16_bit_width units || begins_utf8_character key) }
 {
     match units {
         UnitWidth::Bytes => spelled_from(key),
@@ -69,8 +69,8 @@ pub fn characters_of_key(key: u8, units: UnitWidth) -> Option<CharRangeOfKey>
 // Returns the characters whose UTF-8 encoding begins with this byte.
 #[inline(always)]
 fn spelled_from(byte: u8) -> Option<CharRangeOfKey>
-    ensures begun { HasKeyCharsInRange false byte result }
-    ensures leads { is_some result ≡ is_utf8_lead_byte byte }
+    ensures begun { KeyCharsLieInRangeOrPairs false byte result }
+    ensures leads { is_some result ≡ begins_utf8_character byte }
 {
     let b = u32::from(byte);
     let (first, last, width) = match byte {
@@ -95,7 +95,7 @@ fn spelled_from(byte: u8) -> Option<CharRangeOfKey>
 // Returns the characters that are one 16-bit unit with this key.
 #[inline(always)]
 fn single_units_of(key: u8) -> CharRangeOfKey
-    ensures { HasKeyCharsInRange true key (Some result) }
+    ensures { KeyCharsLieInRangeOrPairs true key (Some result) }
 {
     let k = u32::from(key);
     let range = if k < 128 {
@@ -111,7 +111,7 @@ fn single_units_of(key: u8) -> CharRangeOfKey
 
 /// Returns the key of the first unit of a character; for a number that is no character, some key.
 pub fn key_of_first_unit(c: u32, units: UnitWidth) -> usize
-    ensures is { (e : Encoding) → has_16_bit_units e ≡ is_16_bit_width units → is_character e c ≡ true
+    ensures is { (e : Encoding) → has_16_bit_units e ≡ is_16_bit_width units → is_character_in_encoding e c ≡ true
         → first_key_in e (key_of (is_16_bit_width units)) c ≡ Some result }
     ensures inside { result < 256 }
 {
@@ -127,7 +127,10 @@ pub fn key_of_first_unit(c: u32, units: UnitWidth) -> usize
 
 /// Returns the first and the last key with which characters of an interval begin, except those of
 /// ASCII and surrogate pairs.
-pub(crate) fn key_range_of_interval(interval: Interval, units: UnitWidth) -> (usize, usize)
+pub(crate) fn non_ascii_key_range_of_interval(
+    interval: Interval,
+    units: UnitWidth,
+) -> (usize, usize)
     ensures between { HasKeysBetween (is_16_bit_width units) interval result.0 result.1 }
     ensures inside { result.1 < 256 }
 {

@@ -8,15 +8,15 @@ use Rattle.std.proofs.lemmas.Bool.{ne_eqb, or_parts, eqb-true}
 use Rattle.regex_meaning.specs.Tree.{Node, byte_sequence, cat, alt, capture_group, loop, loop_1_char_body, Tree}
 use Rattle.regex_meaning.specs.WellFormedTrees.{IsWellFormed}
 use Rattle.regex_meaning.specs.StartPredicate.{AbstractStartPredicate, open_ended, arbitrary, sequence, one_of, first_decided, join, abstract_start_predicate, common_prefix_or_first_bytes}
-use Rattle.regex_meaning.specs.StartPredicate.{common_prefix, union, first_byte_as_set, is_anchored, StartPredicate, resolved_start_predicate, start_predicate}
-use Rattle.regex_meaning.specs.StartPredicate.{start_arbitrary, start_byte_set, start_anchored, IsSound}
+use Rattle.regex_meaning.specs.StartPredicate.{common_prefix, union_of_byte_sets, first_byte_as_set, is_anchored, StartPredicate, resolved_start_predicate, start_predicate}
+use Rattle.regex_meaning.specs.StartPredicate.{start_arbitrary, start_byte_set, start_anchored, IsSoundStartPredicateOf}
 use Rattle.regex_meaning.proofs.Clean.{predicate-sound}
 use Rattle.regress_program.proofs.LeafLemmas.{leaf-bare}
 use Rattle.regress_program.specs.declared.insn.start_predicates.StartPredicate as declared
-use Rattle.regress_program.specs.InsnMeanings.{start_predicate_of as predicate_of}
-use Rattle.regress_program.specs.NodeStarts.{set_bytes_from, join_starts, join_starts_ignoring_empty, join_starts_empty_as_anything}
-use Rattle.regress_program.specs.NodeListsAndLeaves.{is_leaf}
-use Rattle.regress_program.specs.StartPredicates.{reads_nothing_at_start, is_sequence, node_start_may_allocate, predicate_may_allocate}
+use Rattle.regress_program.specs.InsnMeanings.{spec_start_predicate_of as predicate_of}
+use Rattle.regress_program.specs.AbstractStartPredicateJoins.{set_bytes_from, join_starts, join_starts_ignoring_empty_node, join_starts_empty_as_anything}
+use Rattle.regress_program.specs.LeavesListsAndCharLoops.{is_leaf}
+use Rattle.regress_program.specs.StartPredicatesAndAllocation.{predicate_says_reads_nothing, predicate_is_byte_sequence, node_start_may_allocate, making_start_predicate_may_allocate}
 use Rattle.regress_program.proofs.ByteSetLemmas.{union-both, union-assoc, union-again, union-same}
 
 -- ---- Shared fronts
@@ -44,11 +44,11 @@ no_front (x ∷ front) bytes h = absurd (omega arith)
 
 -- nothing in common but that there is a first byte
 pub first_bytes_alone : (xs ys front one both : List ℕ) → front ≡ common_prefix xs ys → length front ≡ 0
-    → one ≡ union [] (first_byte_as_set xs) → both ≡ union one (first_byte_as_set ys)
-    → one_of both ≡ common_prefix_or_first_bytes (common_prefix xs ys) (union (first_byte_as_set xs) (first_byte_as_set ys))
+    → one ≡ union_of_byte_sets [] (first_byte_as_set xs) → both ≡ union_of_byte_sets one (first_byte_as_set ys)
+    → one_of both ≡ common_prefix_or_first_bytes (common_prefix xs ys) (union_of_byte_sets (first_byte_as_set xs) (first_byte_as_set ys))
 first_bytes_alone xs ys front one both e none f g =
     no_front (common_prefix xs ys) both (sym (ap length e) ∙ none)
-    ∙ ap (common_prefix_or_first_bytes (common_prefix xs ys)) (g ∙ ap (λ zs. union zs (first_byte_as_set ys)) f ∙ union-both (first_byte_as_set xs) (first_byte_as_set ys))
+    ∙ ap (common_prefix_or_first_bytes (common_prefix xs ys)) (g ∙ ap (λ zs. union_of_byte_sets zs (first_byte_as_set ys)) f ∙ union-both (first_byte_as_set xs) (first_byte_as_set ys))
 
 -- ---- Three in a row
 
@@ -94,8 +94,8 @@ join-open (sequence xs) = refl
 join-open (one_of xs) = refl
 
 join-sequences : (xs ys zs front behind : List ℕ) → front ≡ common_prefix xs ys → behind ≡ common_prefix ys zs
-    → join (common_prefix_or_first_bytes front (union (first_byte_as_set xs) (first_byte_as_set ys))) (sequence zs)
-    ≡ join (sequence xs) (common_prefix_or_first_bytes behind (union (first_byte_as_set ys) (first_byte_as_set zs)))
+    → join (common_prefix_or_first_bytes front (union_of_byte_sets (first_byte_as_set xs) (first_byte_as_set ys))) (sequence zs)
+    ≡ join (sequence xs) (common_prefix_or_first_bytes behind (union_of_byte_sets (first_byte_as_set ys) (first_byte_as_set zs)))
 join-sequences xs ys zs [] [] e f = ap one_of (union-assoc (first_byte_as_set xs) (first_byte_as_set ys) (first_byte_as_set zs))
 join-sequences xs ys zs [] (g ∷ gs) e f =
     let firsts = front-first ys zs g gs f in
@@ -112,14 +112,14 @@ join-sequences xs ys zs (b ∷ bs) (g ∷ gs) e f =
     rw (same, firsts.0, others.1) refl
 
 join-sequence-one : (xs ys zs front : List ℕ) → front ≡ common_prefix xs ys
-    → join (common_prefix_or_first_bytes front (union (first_byte_as_set xs) (first_byte_as_set ys))) (one_of zs) ≡ one_of (union (first_byte_as_set xs) (union (first_byte_as_set ys) zs))
+    → join (common_prefix_or_first_bytes front (union_of_byte_sets (first_byte_as_set xs) (first_byte_as_set ys))) (one_of zs) ≡ one_of (union_of_byte_sets (first_byte_as_set xs) (union_of_byte_sets (first_byte_as_set ys) zs))
 join-sequence-one xs ys zs [] e = ap one_of (union-assoc (first_byte_as_set xs) (first_byte_as_set ys) zs)
 join-sequence-one xs ys zs (b ∷ bs) e =
     let firsts = front-first xs ys b bs e in
     rw (firsts.0, firsts.1) (ap one_of (sym (union-again (b ∷ []) zs)))
 
 join-one-sequence : (xs ys zs behind : List ℕ) → behind ≡ common_prefix ys zs
-    → one_of (union (union xs (first_byte_as_set ys)) (first_byte_as_set zs)) ≡ join (one_of xs) (common_prefix_or_first_bytes behind (union (first_byte_as_set ys) (first_byte_as_set zs)))
+    → one_of (union_of_byte_sets (union_of_byte_sets xs (first_byte_as_set ys)) (first_byte_as_set zs)) ≡ join (one_of xs) (common_prefix_or_first_bytes behind (union_of_byte_sets (first_byte_as_set ys) (first_byte_as_set zs)))
 join-one-sequence xs ys zs [] e = ap one_of (union-assoc xs (first_byte_as_set ys) (first_byte_as_set zs))
 join-one-sequence xs ys zs (b ∷ bs) e =
     let firsts = front-first ys zs b bs e in
@@ -152,14 +152,14 @@ join-assoc (one_of xs) (one_of ys) (one_of zs) = ap one_of (union-assoc xs ys zs
 
 -- ---- What is shared so far
 
-join-reads : (a b : AbstractStartPredicate) → reads_nothing_at_start (join a b) ≡ false
+join-reads : (a b : AbstractStartPredicate) → predicate_says_reads_nothing (join a b) ≡ false
 join-reads open_ended b = refl
 join-reads arbitrary b = refl
 join-reads (sequence xs) open_ended = refl
 join-reads (sequence xs) arbitrary = refl
 join-reads (sequence xs) (sequence ys) = of_front (common_prefix xs ys)
   where
-    of_front : (front : List ℕ) → reads_nothing_at_start (common_prefix_or_first_bytes front (union (first_byte_as_set xs) (first_byte_as_set ys))) ≡ false
+    of_front : (front : List ℕ) → predicate_says_reads_nothing (common_prefix_or_first_bytes front (union_of_byte_sets (first_byte_as_set xs) (first_byte_as_set ys))) ≡ false
     of_front [] = refl
     of_front (x ∷ front) = refl
 join-reads (sequence xs) (one_of ys) = refl
@@ -168,7 +168,7 @@ join-reads (one_of xs) arbitrary = refl
 join-reads (one_of xs) (sequence ys) = refl
 join-reads (one_of xs) (one_of ys) = refl
 
-joined_to-reads : (shared more : AbstractStartPredicate) → reads_nothing_at_start shared ≡ false → join_starts shared more ≡ join shared more
+joined_to-reads : (shared more : AbstractStartPredicate) → predicate_says_reads_nothing shared ≡ false → join_starts shared more ≡ join shared more
 joined_to-reads open_ended more h = cc
 joined_to-reads arbitrary more h = refl
 joined_to-reads (sequence xs) more h = refl
@@ -180,19 +180,19 @@ joined_to-arbitrary arbitrary = refl
 joined_to-arbitrary (sequence xs) = refl
 joined_to-arbitrary (one_of xs) = refl
 
-joined_to-join : (shared a b : AbstractStartPredicate) → reads_nothing_at_start a ≡ false → join_starts shared (join a b) ≡ join_starts (join_starts shared a) b
+joined_to-join : (shared a b : AbstractStartPredicate) → predicate_says_reads_nothing a ≡ false → join_starts shared (join a b) ≡ join_starts (join_starts shared a) b
 joined_to-join open_ended a b h = sym (joined_to-reads a b h)
 joined_to-join arbitrary a b h = sym (join-assoc arbitrary a b)
 joined_to-join (sequence xs) a b h = sym (joined_to-reads (join (sequence xs) a) b (join-reads (sequence xs) a) ∙ join-assoc (sequence xs) a b)
 joined_to-join (one_of xs) a b h = sym (joined_to-reads (join (one_of xs) a) b (join-reads (one_of xs) a) ∙ join-assoc (one_of xs) a b)
 
-after_arm-reads : (shared more : AbstractStartPredicate) → reads_nothing_at_start more ≡ false → join_starts_empty_as_anything shared more ≡ join_starts shared more
+after_arm-reads : (shared more : AbstractStartPredicate) → predicate_says_reads_nothing more ≡ false → join_starts_empty_as_anything shared more ≡ join_starts shared more
 after_arm-reads shared open_ended h = cc
 after_arm-reads shared arbitrary h = refl
 after_arm-reads shared (sequence xs) h = refl
 after_arm-reads shared (one_of xs) h = refl
 
-after-reads : (shared more : AbstractStartPredicate) → reads_nothing_at_start more ≡ false → join_starts_ignoring_empty shared more ≡ join_starts shared more
+after-reads : (shared more : AbstractStartPredicate) → predicate_says_reads_nothing more ≡ false → join_starts_ignoring_empty_node shared more ≡ join_starts shared more
 after-reads shared open_ended h = cc
 after-reads shared arbitrary h = refl
 after-reads shared (sequence xs) h = refl
@@ -219,7 +219,7 @@ arms-joined shared (one_of xs) arbitrary = joined_to-join shared (one_of xs) arb
 arms-joined shared (one_of xs) (sequence ys) = joined_to-join shared (one_of xs) (sequence ys) refl
 arms-joined shared (one_of xs) (one_of ys) = joined_to-join shared (one_of xs) (one_of ys) refl
 
-pub arms-after : (shared : AbstractStartPredicate) (left right : Node) → join_starts_empty_as_anything (join_starts_empty_as_anything shared (abstract_start_predicate left)) (abstract_start_predicate right) ≡ join_starts_ignoring_empty shared (abstract_start_predicate (alt left right))
+pub arms-after : (shared : AbstractStartPredicate) (left right : Node) → join_starts_empty_as_anything (join_starts_empty_as_anything shared (abstract_start_predicate left)) (abstract_start_predicate right) ≡ join_starts_ignoring_empty_node shared (abstract_start_predicate (alt left right))
 unfolding abstract_start_predicate
 arms-after shared left right =
     let both = join (abstract_start_predicate left) (abstract_start_predicate right) in
@@ -233,7 +233,7 @@ unfolding abstract_start_predicate
 arms-next before one all left right e h =
     ap (λ s. join_starts_empty_as_anything s (abstract_start_predicate right)) e ∙ sym (arms-joined before (abstract_start_predicate left) (abstract_start_predicate right)) ∙ h
 
-pub after-nothing : (more : AbstractStartPredicate) → join_starts_ignoring_empty open_ended more ≡ more
+pub after-nothing : (more : AbstractStartPredicate) → join_starts_ignoring_empty_node open_ended more ≡ more
 after-nothing open_ended = refl
 after-nothing arbitrary = refl
 after-nothing (sequence xs) = refl
@@ -241,20 +241,20 @@ after-nothing (one_of xs) = refl
 
 -- ---- Leaves
 
-pub leaf-after : (n : Node) (shared after_it b : AbstractStartPredicate) → is_leaf n ≡ true → b ≡ abstract_start_predicate n → after_it ≡ join_starts shared b → after_it ≡ join_starts_ignoring_empty shared (abstract_start_predicate n)
+pub leaf-after : (n : Node) (shared after_it b : AbstractStartPredicate) → is_leaf n ≡ true → b ≡ abstract_start_predicate n → after_it ≡ join_starts shared b → after_it ≡ join_starts_ignoring_empty_node shared (abstract_start_predicate n)
 leaf-after n shared after_it b leaf e f = f ∙ ap (join_starts shared) e ∙ sym (after-reads shared (abstract_start_predicate n) (leaf-bare n leaf).reads)
 
 -- ---- Memory
 
-then-no_sequence : (a b : AbstractStartPredicate) (first rest : Bool) → (first || reads_nothing_at_start a && rest) ≡ false
-    → (first ≡ false → is_sequence a ≡ false) → (rest ≡ false → is_sequence b ≡ false) → is_sequence (first_decided a b) ≡ false
+then-no_sequence : (a b : AbstractStartPredicate) (first rest : Bool) → (first || predicate_says_reads_nothing a && rest) ≡ false
+    → (first ≡ false → predicate_is_byte_sequence a ≡ false) → (rest ≡ false → predicate_is_byte_sequence b ≡ false) → predicate_is_byte_sequence (first_decided a b) ≡ false
 then-no_sequence a b true rest e f g = cc
 then-no_sequence open_ended b false rest e f g = g e
 then-no_sequence arbitrary b false rest e f g = refl
 then-no_sequence (sequence xs) b false rest e f g = f refl
 then-no_sequence (one_of xs) b false rest e f g = refl
 
-join-no_sequence : (a b : AbstractStartPredicate) → is_sequence a ≡ false → is_sequence b ≡ false → is_sequence (join a b) ≡ false
+join-no_sequence : (a b : AbstractStartPredicate) → predicate_is_byte_sequence a ≡ false → predicate_is_byte_sequence b ≡ false → predicate_is_byte_sequence (join a b) ≡ false
 join-no_sequence open_ended b h k = refl
 join-no_sequence arbitrary b h k = refl
 join-no_sequence (sequence xs) b h k = cc
@@ -263,13 +263,13 @@ join-no_sequence (one_of xs) arbitrary h k = refl
 join-no_sequence (one_of xs) (sequence ys) h k = cc
 join-no_sequence (one_of xs) (one_of ys) h k = refl
 
-if-no_sequence : (test : Bool) (b : AbstractStartPredicate) (inside : Bool) → (test && inside) ≡ false → (inside ≡ false → is_sequence b ≡ false)
-    → is_sequence (if test then b else arbitrary) ≡ false
+if-no_sequence : (test : Bool) (b : AbstractStartPredicate) (inside : Bool) → (test && inside) ≡ false → (inside ≡ false → predicate_is_byte_sequence b ≡ false)
+    → predicate_is_byte_sequence (if test then b else arbitrary) ≡ false
 if-no_sequence false b inside e f = refl
 if-no_sequence true b inside e f = f e
 
 -- where no byte sequence is met, none comes out
-pub no_sequence : (n : Node) → node_start_may_allocate n ≡ false → is_sequence (abstract_start_predicate n) ≡ false
+pub no_sequence : (n : Node) → node_start_may_allocate n ≡ false → predicate_is_byte_sequence (abstract_start_predicate n) ≡ false
 unfolding node_start_may_allocate abstract_start_predicate
 no_sequence (byte_sequence bytes) h = cc
 no_sequence (cat first rest) h = then-no_sequence (abstract_start_predicate first) (abstract_start_predicate rest) (node_start_may_allocate first) (node_start_may_allocate rest) h (no_sequence first) (no_sequence rest)
@@ -289,20 +289,20 @@ quiet-arms left right h = (or_parts (node_start_may_allocate left) (node_start_m
 -- the first node of a row, and the rest where it is open
 pub quiet-first : (first rest : Node) → node_start_may_allocate (cat first rest) ≡ false → node_start_may_allocate first ≡ false
 unfolding node_start_may_allocate
-quiet-first first rest h = (or_parts (node_start_may_allocate first) (reads_nothing_at_start (abstract_start_predicate first) && node_start_may_allocate rest) h).0
+quiet-first first rest h = (or_parts (node_start_may_allocate first) (predicate_says_reads_nothing (abstract_start_predicate first) && node_start_may_allocate rest) h).0
 
 pub quiet-rest : (first rest : Node) → abstract_start_predicate first ≡ open_ended → node_start_may_allocate (cat first rest) ≡ false → node_start_may_allocate rest ≡ false
 unfolding node_start_may_allocate
 quiet-rest first rest e h =
-    let behind = (or_parts (node_start_may_allocate first) (reads_nothing_at_start (abstract_start_predicate first) && node_start_may_allocate rest) h).1 in
-    sym (ap (λ b. reads_nothing_at_start b && node_start_may_allocate rest) e) ∙ behind
+    let behind = (or_parts (node_start_may_allocate first) (predicate_says_reads_nothing (abstract_start_predicate first) && node_start_may_allocate rest) h).1 in
+    sym (ap (λ b. predicate_says_reads_nothing b && node_start_may_allocate rest) e) ∙ behind
 
 quiet-unless : (anchored grows : Bool) → anchored ≡ false → (not anchored && grows) ≡ false → grows ≡ false
 quiet-unless false grows e h = h
 quiet-unless true grows e h = cc
 
 -- the predicate that comes of a root for which no memory is taken
-pub quiet-root : (tree : Tree) → (not tree.flags.multiline && is_anchored tree.root) ≡ false → predicate_may_allocate tree ≡ false → node_start_may_allocate tree.root ≡ false
+pub quiet-root : (tree : Tree) → (not tree.flags.multiline && is_anchored tree.root) ≡ false → making_start_predicate_may_allocate tree ≡ false → node_start_may_allocate tree.root ≡ false
 quiet-root tree = quiet-unless (not tree.flags.multiline && is_anchored tree.root) (node_start_may_allocate tree.root)
 
 -- ---- Members of a set
@@ -337,7 +337,7 @@ pub predicate-elsewhere : (tree : Tree) → (not tree.flags.multiline && is_anch
 unfolding start_predicate
 predicate-elsewhere tree h = rw h
 
-pub sound-as : (tree : Tree) (p : StartPredicate) → p ≡ start_predicate tree → IsWellFormed tree.root → IsSound p tree.root
+pub sound-as : (tree : Tree) (p : StartPredicate) → p ≡ start_predicate tree → IsWellFormed tree.root → IsSoundStartPredicateOf p tree.root
 sound-as tree p e w = rw e (predicate-sound tree w)
 
 -- the predicate of what the root begins with
@@ -347,6 +347,6 @@ predicate-begun r b tree h e =
     IfOk-weaker r (λ p. predicate_of p ≡ resolved_start_predicate b) (λ p. predicate_of p ≡ start_predicate tree) (λ p f. f ∙ ap resolved_start_predicate e ∙ predicate-elsewhere tree h)
 
 pub all-sound : {E : Type 0} (r : Result declared.StartPredicate E) (tree : Tree) → IfOk r (λ p. predicate_of p ≡ start_predicate tree)
-    → IsWellFormed tree.root → IfOk r (λ p. IsSound (predicate_of p) tree.root)
+    → IsWellFormed tree.root → IfOk r (λ p. IsSoundStartPredicateOf (predicate_of p) tree.root)
 all-sound r tree h w =
-    IfOk-weaker r (λ p. predicate_of p ≡ start_predicate tree) (λ p. IsSound (predicate_of p) tree.root) (λ p e. sound-as tree (predicate_of p) e w) h
+    IfOk-weaker r (λ p. predicate_of p ≡ start_predicate tree) (λ p. IsSoundStartPredicateOf (predicate_of p) tree.root) (λ p e. sound-as tree (predicate_of p) e w) h

@@ -6,9 +6,9 @@ use Rattle.std.specs.List.{list_any}
 use Rattle.std.proofs.lemmas.List.{drop_all}
 use Rattle.regex_meaning.specs.NumberListHelpers.{contains, numbers_from}
 use Rattle.regex_meaning.specs.Tree.{Intervals}
-use Rattle.regex_meaning.specs.StartPredicate.{bytes_that_pass, chars_with_first_byte, intersects, union, first_byte_as_set}
+use Rattle.regex_meaning.specs.StartPredicate.{bytes_that_pass, chars_with_first_byte, intersects, union_of_byte_sets, first_byte_as_set}
 use Rattle.regex_pattern_front.proofs.ByteLemmas.{contains-bytes_where, bytes_where-same}
-use Rattle.regress_program.specs.NodeStarts.{set_bytes_from}
+use Rattle.regress_program.specs.AbstractStartPredicateJoins.{set_bytes_from}
 use Rattle.std.proofs.Math.Bool.{or-false, or_assoc}
 
 or-comm : (s t : Bool) → (s || t) ≡ (t || s)
@@ -19,43 +19,43 @@ or-comm false false = refl
 
 -- ---- Unions
 
-pub union-none : (p : ℕ → Bool) → union (bytes_that_pass p) [] ≡ bytes_that_pass p
+pub union-none : (p : ℕ → Bool) → union_of_byte_sets (bytes_that_pass p) [] ≡ bytes_that_pass p
 union-none p = bytes_where-same _ _ (λ b h. or-false (contains (bytes_that_pass p) b) ∙ contains-bytes_where p b h)
 
 pub union-more : (old new rest : List ℕ) (byte : ℕ) → new ≡ bytes_that_pass (λ b. b == byte || contains old b)
-    → union new rest ≡ union old (byte ∷ rest)
+    → union_of_byte_sets new rest ≡ union_of_byte_sets old (byte ∷ rest)
 union-more old new rest byte e = bytes_where-same _ _ (λ b h.
     ap (λ t. t || contains rest b) (ap (λ s. contains s b) e ∙ contains-bytes_where (λ c. c == byte || contains old c) b h ∙ or-comm (b == byte) (contains old b))
     ∙ or_assoc (contains old b) (b == byte) (contains rest b))
 
 -- a byte of a list, where the rest is to come
 pub union-next : (old new bytes : List ℕ) (i : ℕ) → i < length bytes → new ≡ bytes_that_pass (λ b. b == get_or bytes i 0 || contains old b)
-    → union new (drop (i + 1) bytes) ≡ union old (drop i bytes)
+    → union_of_byte_sets new (drop (i + 1) bytes) ≡ union_of_byte_sets old (drop i bytes)
 union-next old new bytes i h e =
     let next : suc i ≡ i + 1 = omega arith in
     union-more old new (drop (i + 1) bytes) (get_or bytes i 0) e
-    ∙ ap (union old) (sym (drop-cons bytes i 0 h ∙ ap (λ (k : ℕ). get_or bytes i 0 ∷ drop k bytes) next))
+    ∙ ap (union_of_byte_sets old) (sym (drop-cons bytes i 0 h ∙ ap (λ (k : ℕ). get_or bytes i 0 ∷ drop k bytes) next))
 
 -- the first byte of a list alone
-pub union-no_first : (p : ℕ → Bool) (bytes : List ℕ) → slice_get bytes 0 ≡ None → bytes_that_pass p ≡ union (bytes_that_pass p) (first_byte_as_set bytes)
+pub union-no_first : (p : ℕ → Bool) (bytes : List ℕ) → slice_get bytes 0 ≡ None → bytes_that_pass p ≡ union_of_byte_sets (bytes_that_pass p) (first_byte_as_set bytes)
 union-no_first p [] h = sym (union-none p)
 union-no_first p (x ∷ xs) h = cc
 
 pub union-first : (old new bytes : List ℕ) (byte : ℕ) → slice_get bytes 0 ≡ Some byte → new ≡ bytes_that_pass (λ b. b == byte || contains old b)
-    → new ≡ union old (first_byte_as_set bytes)
+    → new ≡ union_of_byte_sets old (first_byte_as_set bytes)
 union-first old new [] byte h e = cc
 union-first old new (x ∷ xs) byte h e =
     let is : byte ≡ x = cc in
     e ∙ bytes_where-same _ _ (λ b k. or-comm (b == byte) (contains old b) ∙ ap (λ t. contains old b || t) (ap (λ y. b == y) is ∙ sym (or-false (b == x))))
 
-pub union-comm : (xs ys : List ℕ) → union xs ys ≡ union ys xs
+pub union-comm : (xs ys : List ℕ) → union_of_byte_sets xs ys ≡ union_of_byte_sets ys xs
 union-comm xs ys = bytes_where-same _ _ (λ b h. or-comm (contains xs b) (contains ys b))
 
 -- one after the other, from the empty set on
-pub union-both : (xs ys : List ℕ) → union (union [] xs) ys ≡ union xs ys
+pub union-both : (xs ys : List ℕ) → union_of_byte_sets (union_of_byte_sets [] xs) ys ≡ union_of_byte_sets xs ys
 union-both xs ys = bytes_where-same _ _ (λ b h. ap (λ t. t || contains ys b) (contains-bytes_where (contains xs) b h))
 
-pub union-assoc : (xs ys zs : List ℕ) → union (union xs ys) zs ≡ union xs (union ys zs)
+pub union-assoc : (xs ys zs : List ℕ) → union_of_byte_sets (union_of_byte_sets xs ys) zs ≡ union_of_byte_sets xs (union_of_byte_sets ys zs)
 union-assoc xs ys zs = bytes_where-same _ _ (λ b h.
     ap (λ t. t || contains zs b) (contains-bytes_where (λ c. contains xs c || contains ys c) b h)
     ∙ or_assoc (contains xs b) (contains ys b) (contains zs b)
@@ -66,12 +66,12 @@ or-twice true t = refl
 or-twice false t = refl
 
 -- what is there already makes no difference
-pub union-again : (xs ys : List ℕ) → union xs (union xs ys) ≡ union xs ys
+pub union-again : (xs ys : List ℕ) → union_of_byte_sets xs (union_of_byte_sets xs ys) ≡ union_of_byte_sets xs ys
 union-again xs ys = bytes_where-same _ _ (λ b h.
     ap (λ t. contains xs b || t) (contains-bytes_where (λ c. contains xs c || contains ys c) b h) ∙ or-twice (contains xs b) (contains ys b))
 
-pub union-same : (xs ys : List ℕ) → union (union xs ys) ys ≡ union xs ys
-union-same xs ys = union-comm (union xs ys) ys ∙ ap (union ys) (union-comm xs ys) ∙ union-again ys xs ∙ union-comm ys xs
+pub union-same : (xs ys : List ℕ) → union_of_byte_sets (union_of_byte_sets xs ys) ys ≡ union_of_byte_sets xs ys
+union-same xs ys = union-comm (union_of_byte_sets xs ys) ys ∙ ap (union_of_byte_sets ys) (union-comm xs ys) ∙ union-again ys xs ∙ union-comm ys xs
 
 -- ---- First bytes
 

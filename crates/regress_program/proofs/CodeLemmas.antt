@@ -10,10 +10,10 @@ use Rattle.regex_meaning.specs.StartPredicate.{bytes_that_pass}
 use Rattle.regex_meaning.specs.WellFormedTrees.{IsWellFormed}
 use Rattle.regex_meaning.specs.CompilationRelation.{Insn, JustFail, Char, MatchAny, MatchAnyExceptLineTerminator, BackRef, Alt, Jump, EnterLoop, LoopAgain, Goal}
 use Rattle.regex_meaning.specs.CompilationRelation.{BeginCaptureGroup, EndCaptureGroup, Loop1CharBody, AsciiBracket, Bracket, ByteSeq, Counters, Program, HasInsnsBetween}
-use Rattle.regex_meaning.specs.CompilationRelation.{IsStringCode, AreStringsCode, IsCode, IsByteCodeOf, lookaround_insn, ordered, is_ascii_set, char_set_insn}
+use Rattle.regex_meaning.specs.CompilationRelation.{IsStringCode, AreStringsCode, IsCode, IsByteProgramOfTree, lookaround_insn, ordered, is_ascii_set, char_set_insn}
 use Rattle.regex_meaning.specs.CompilationRelation.{byte_set_insn, anchor_insn, word_boundary_insn, chunks}
 use Rattle.regex_meaning.proofs.Clean.{predicate-sound}
-use Rattle.regress_program.specs.CodeOfTrees.{node_insn_count, strings_size, loop_count, brackets_of, string_code, strings_code, group_reset_insns, code_of, compiled}
+use Rattle.regress_program.specs.CompilationOfTreesAsFunction.{node_insn_count, strings_size, loop_count, brackets_of, string_code, strings_code, group_reset_insns, code_of, compiled}
 use Rattle.regress_program.proofs.EmitLemmas.{length-code_of, length-string_code, length-resets}
 
 abbrev mark : (insn loop bracket : ℕ) → Counters
@@ -251,7 +251,7 @@ unfolding compiled
 compiled-length t = length-code_of t.flags.unicode false t.root 0 0 0
 
 -- the program of a tree is its code
-pub compiled-is_code : (t : Tree) → IsWellFormed t.root → IsByteCodeOf (compiled t) t
+pub compiled-is_code : (t : Tree) → IsWellFormed t.root → IsByteProgramOfTree (compiled t) t
 unfolding compiled
 compiled-is_code t w =
     let p = compiled t in

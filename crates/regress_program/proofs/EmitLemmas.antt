@@ -11,8 +11,8 @@ use Rattle.regex_meaning.specs.Outcomes.{max_iterations, in_intervals}
 use Rattle.regex_meaning.specs.StartPredicate.{bytes_that_pass}
 use Rattle.regex_meaning.specs.CompilationRelation.{Insn, AsciiBracket, Bracket, is_ascii_set, Alt, Jump, EnterLoop, LoopAgain, Loop1CharBody, Goal}
 use Rattle.regex_meaning.specs.CompilationRelation.{BeginCaptureGroup, lookaround_insn, EndCaptureGroup, ByteSeq, ResetCaptureGroup, ordered, chunks}
-use Rattle.regress_program.specs.CodeOfTrees.{node_insn_count, strings_size, loop_count, brackets_of, string_code, strings_code, group_reset_insns, code_of}
-use Rattle.regress_program.specs.EmitterModel.{EmitterState, HasIndexRoom, with_code, with_insn, with_insns, with_insn_at, with_loop, with_bracket}
+use Rattle.regress_program.specs.CompilationOfTreesAsFunction.{node_insn_count, strings_size, loop_count, brackets_of, string_code, strings_code, group_reset_insns, code_of}
+use Rattle.regress_program.specs.EmitterModel.{EmitterState, HasIndexRoom, with_code, with_insn_appended, with_insns_appended, with_insn_at, with_loop, with_bracket_table_entry}
 use Rattle.regex_meaning.proofs.Lists.{length-numbers_from}
 
 -- ---- States
@@ -154,7 +154,7 @@ alt_patched ca_at cb_at na nb base c1 c2 c3 c4 c5 x y la lb e1 e2 e3 e4 e5 =
     ∙ append_assoc base (i ∷ ca) (j ∷ cb)
 
 pub with_code-alt : (u d : Bool) (a b : Node) (s s1 s2 s3 s4 s5 s6 : EmitterState) (x y : Insn)
-    → s1 ≡ with_insn x s → s2 ≡ with_code u d a s1 → s3 ≡ with_insn y s2 → s4 ≡ with_insn_at (length s.insns) (Alt (length s3.insns)) s3
+    → s1 ≡ with_insn_appended x s → s2 ≡ with_code u d a s1 → s3 ≡ with_insn_appended y s2 → s4 ≡ with_insn_at (length s.insns) (Alt (length s3.insns)) s3
     → s5 ≡ with_code u d b s4 → s6 ≡ with_insn_at (length s2.insns) (Jump (length s5.insns)) s5
     → s6 ≡ with_code u d (alt a b) s
 unfolding code_of loop_count brackets_of
@@ -193,19 +193,19 @@ pub room-rest : (u d : Bool) (s t : EmitterState) (a b : Node) → HasIndexRoom 
 unfolding node_insn_count loop_count
 room-rest u d s t a b r e = record { insns = omega (arith, r.insns, ap (λ x. length x.insns) e, length-with_code u d a s); loops = omega (arith, r.loops, ap (λ x. x.loops) e) }
 
-length-with_insn : (x : Insn) (s : EmitterState) → length (with_insn x s).insns ≡ length s.insns + 1
+length-with_insn : (x : Insn) (s : EmitterState) → length (with_insn_appended x s).insns ≡ length s.insns + 1
 length-with_insn x s = length-append s.insns (x ∷ [])
 
 -- the length before the right arm
 pub length-left : (u d : Bool) (a : Node) (s s1 s2 s3 : EmitterState) (x y : Insn)
-    → s1 ≡ with_insn x s → s2 ≡ with_code u d a s1 → s3 ≡ with_insn y s2 → length s3.insns ≡ length s.insns + node_insn_count a + 2
+    → s1 ≡ with_insn_appended x s → s2 ≡ with_code u d a s1 → s3 ≡ with_insn_appended y s2 → length s3.insns ≡ length s.insns + node_insn_count a + 2
 length-left u d a s s1 s2 s3 x y e1 e2 e3 =
     omega (arith, ap (λ z. length z.insns) e1, length-with_insn x s, ap (λ z. length z.insns) e2, length-with_code u d a s1, ap (λ z. length z.insns) e3, length-with_insn y s2)
 
 -- ---- A part between a head and a tail
 
 -- the code of a node behind one instruction
-after_head : (u d : Bool) (n : Node) (s s1 s2 : EmitterState) (x : Insn) → s1 ≡ with_insn x s → s2 ≡ with_code u d n s1
+after_head : (u d : Bool) (n : Node) (s s1 s2 : EmitterState) (x : Insn) → s1 ≡ with_insn_appended x s → s2 ≡ with_code u d n s1
     → s2.insns ≡ s.insns ++ x ∷ code_of u d n (length s.insns + 1) s.loops (length s.brackets)
 after_head u d n s s1 s2 x e1 e2 =
     let at = length s.insns in
@@ -219,14 +219,14 @@ after_head u d n s s1 s2 x e1 e2 =
     ∙ append_assoc s.insns (x ∷ []) (code (at + 1) s.loops (length s.brackets))
 
 -- and one instruction behind it
-between : (u d : Bool) (n : Node) (s s1 s2 s3 : EmitterState) (x y : Insn) → s1 ≡ with_insn x s → s2 ≡ with_code u d n s1 → s3 ≡ with_insn y s2
+between : (u d : Bool) (n : Node) (s s1 s2 s3 : EmitterState) (x y : Insn) → s1 ≡ with_insn_appended x s → s2 ≡ with_code u d n s1 → s3 ≡ with_insn_appended y s2
     → s3.insns ≡ s.insns ++ x ∷ (code_of u d n (length s.insns + 1) s.loops (length s.brackets) ++ y ∷ [])
 between u d n s s1 s2 s3 x y e1 e2 e3 =
     ap (λ r. r.insns) e3 ∙ ap (λ is. is ++ y ∷ []) (after_head u d n s s1 s2 x e1 e2)
     ∙ append_assoc s.insns (x ∷ code_of u d n (length s.insns + 1) s.loops (length s.brackets)) (y ∷ [])
 
 pub with_code-capture_group : (u d : Bool) (id : ℕ) (name : List ℕ) (n : Node) (s s1 s2 s3 : EmitterState)
-    → s1 ≡ with_insn (BeginCaptureGroup id) s → s2 ≡ with_code u d n s1 → s3 ≡ with_insn (EndCaptureGroup id) s2 → s3 ≡ with_code u d (capture_group id name n) s
+    → s1 ≡ with_insn_appended (BeginCaptureGroup id) s → s2 ≡ with_code u d n s1 → s3 ≡ with_insn_appended (EndCaptureGroup id) s2 → s3 ≡ with_code u d (capture_group id name n) s
 unfolding code_of loop_count brackets_of
 with_code-capture_group u d id name n s s1 s2 s3 e1 e2 e3 =
     same_state s3 (with_code u d (capture_group id name n) s) (between u d n s s1 s2 s3 (BeginCaptureGroup id) (EndCaptureGroup id) e1 e2 e3)
@@ -234,20 +234,20 @@ with_code-capture_group u d id name n s s1 s2 s3 e1 e2 e3 =
     (ap (λ r. r.brackets) e3 ∙ ap (λ r. r.brackets) e2 ∙ ap (λ r. r.brackets ++ brackets_of n) e1)
 
 pub with_code-loop_1_char_body : (u d : Bool) (q : Quantifier) (n : Node) (s s1 s2 : EmitterState)
-    → s1 ≡ with_insn (Loop1CharBody q.min (max_iterations q) q.greedy) s → s2 ≡ with_code u d n s1 → s2 ≡ with_code u d (loop_1_char_body q n) s
+    → s1 ≡ with_insn_appended (Loop1CharBody q.min (max_iterations q) q.greedy) s → s2 ≡ with_code u d n s1 → s2 ≡ with_code u d (loop_1_char_body q n) s
 unfolding code_of loop_count brackets_of
 with_code-loop_1_char_body u d q n s s1 s2 e1 e2 =
     same_state s2 (with_code u d (loop_1_char_body q n) s) (after_head u d n s s1 s2 (Loop1CharBody q.min (max_iterations q) q.greedy) e1 e2)
     (omega (arith, ap (λ r. r.loops) e1, ap (λ r. r.loops) e2))
     (ap (λ r. r.brackets) e2 ∙ ap (λ r. r.brackets ++ brackets_of n) e1)
 
-pub length-between : (u d : Bool) (n : Node) (s s1 s2 s3 : EmitterState) (x y : Insn) → s1 ≡ with_insn x s → s2 ≡ with_code u d n s1 → s3 ≡ with_insn y s2
+pub length-between : (u d : Bool) (n : Node) (s s1 s2 s3 : EmitterState) (x y : Insn) → s1 ≡ with_insn_appended x s → s2 ≡ with_code u d n s1 → s3 ≡ with_insn_appended y s2
     → length s3.insns ≡ length s.insns + node_insn_count n + 2
 length-between u d n s s1 s2 s3 x y e1 e2 e3 = length-left u d n s s1 s2 s3 x y e1 e2 e3
 
 -- the head is written again once the length is known
 pub with_code-lookaround : (u d : Bool) (l : Lookaround) (n : Node) (s s1 s2 s3 s4 : EmitterState) (x : Insn)
-    → s1 ≡ with_insn x s → s2 ≡ with_code u l.backwards n s1 → s3 ≡ with_insn Goal s2 → s4 ≡ with_insn_at (length s.insns) (lookaround_insn l (length s3.insns)) s3
+    → s1 ≡ with_insn_appended x s → s2 ≡ with_code u l.backwards n s1 → s3 ≡ with_insn_appended Goal s2 → s4 ≡ with_insn_at (length s.insns) (lookaround_insn l (length s3.insns)) s3
     → s4 ≡ with_code u d (lookaround l n) s
 unfolding code_of loop_count brackets_of
 with_code-lookaround u d l n s s1 s2 s3 s4 x e1 e2 e3 e4 =
@@ -265,19 +265,19 @@ with_code-lookaround u d l n s s1 s2 s3 s4 x e1 e2 e3 e4 =
 -- ---- Loops
 
 -- the length behind the resets, and behind the whole loop
-length-resets_done : (g e : ℕ) (s s1 s2 s3 : EmitterState) (x : Insn) → s1 ≡ with_insn x s → s2 ≡ with_loop s1 → s3 ≡ with_insns (group_reset_insns g e) s2
+length-resets_done : (g e : ℕ) (s s1 s2 s3 : EmitterState) (x : Insn) → s1 ≡ with_insn_appended x s → s2 ≡ with_loop s1 → s3 ≡ with_insns_appended (group_reset_insns g e) s2
     → length s3.insns ≡ length s.insns + 1 + (e - g)
 length-resets_done g e s s1 s2 s3 x e1 e2 e3 =
     omega (arith, ap (λ r. length r.insns) e1, length-with_insn x s, ap (λ r. length r.insns) e2, ap (λ r. length r.insns) e3, length-append s2.insns (group_reset_insns g e), length-resets g e)
 
-pub length-loop : (u d : Bool) (n : Node) (g e : ℕ) (s s1 s2 s3 s4 s5 : EmitterState) (x y : Insn) → s1 ≡ with_insn x s → s2 ≡ with_loop s1 → s3 ≡ with_insns (group_reset_insns g e) s2
-    → s4 ≡ with_code u d n s3 → s5 ≡ with_insn y s4 → length s5.insns ≡ length s.insns + 1 + (e - g) + node_insn_count n + 1
+pub length-loop : (u d : Bool) (n : Node) (g e : ℕ) (s s1 s2 s3 s4 s5 : EmitterState) (x y : Insn) → s1 ≡ with_insn_appended x s → s2 ≡ with_loop s1 → s3 ≡ with_insns_appended (group_reset_insns g e) s2
+    → s4 ≡ with_code u d n s3 → s5 ≡ with_insn_appended y s4 → length s5.insns ≡ length s.insns + 1 + (e - g) + node_insn_count n + 1
 length-loop u d n g e s s1 s2 s3 s4 s5 x y e1 e2 e3 e4 e5 =
     omega (arith, length-resets_done g e s s1 s2 s3 x e1 e2 e3, ap (λ r. length r.insns) e4, length-with_code u d n s3, ap (λ r. length r.insns) e5, length-with_insn y s4)
 
 pub with_code-loop : (u d : Bool) (q : Quantifier) (g e : ℕ) (n : Node) (head : ℕ → Insn) (s s1 s2 s3 s4 s5 s6 : EmitterState) (x : Insn)
     → ((exit : ℕ) → head exit ≡ EnterLoop (record { loop_id = s.loops; min_iters = q.min; max_iters = max_iterations q; greedy = q.greedy; exit = exit }))
-    → s1 ≡ with_insn x s → s2 ≡ with_loop s1 → s3 ≡ with_insns (group_reset_insns g e) s2 → s4 ≡ with_code u d n s3 → s5 ≡ with_insn (LoopAgain (length s.insns)) s4
+    → s1 ≡ with_insn_appended x s → s2 ≡ with_loop s1 → s3 ≡ with_insns_appended (group_reset_insns g e) s2 → s4 ≡ with_code u d n s3 → s5 ≡ with_insn_appended (LoopAgain (length s.insns)) s4
     → s6 ≡ with_insn_at (length s.insns) (head (length s5.insns)) s5 → s6 ≡ with_code u d (loop q g e n) s
 unfolding code_of loop_count brackets_of
 with_code-loop u d q g e n head s s1 s2 s3 s4 s5 s6 x is_head e1 e2 e3 e4 e5 e6 =
@@ -312,7 +312,7 @@ with_code-loop u d q g e n head s s1 s2 s3 s4 s5 s6 x is_head e1 e2 e3 e4 e5 e6 
 
 -- ---- Room inside
 
-pub loop_fits : (q : Quantifier) (g h : ℕ) (n : Node) (s s1 : EmitterState) (x : Insn) → HasIndexRoom s (loop q g h n) → s1 ≡ with_insn x s → s1.loops + 1 < 2 ^ 16
+pub loop_fits : (q : Quantifier) (g h : ℕ) (n : Node) (s s1 : EmitterState) (x : Insn) → HasIndexRoom s (loop q g h n) → s1 ≡ with_insn_appended x s → s1.loops + 1 < 2 ^ 16
 unfolding loop_count
 loop_fits q g h n s s1 x r e = omega (arith, r.loops, ap (λ y. y.loops) e)
 
@@ -323,14 +323,14 @@ room-unnamed id name n s r = record { insns = r.insns; loops = r.loops }
 -- ---- Brackets
 
 pub with_code-ascii : (u d : Bool) (contents : BracketContents) (s : EmitterState) → is_ascii_set contents ≡ true
-    → with_code u d (bracket contents) s ≡ with_insn (AsciiBracket (bytes_that_pass (in_intervals contents.intervals))) s
+    → with_code u d (bracket contents) s ≡ with_insn_appended (AsciiBracket (bytes_that_pass (in_intervals contents.intervals))) s
 unfolding code_of loop_count brackets_of
 with_code-ascii u d contents s ascii =
-    same_state (with_code u d (bracket contents) s) (with_insn (AsciiBracket (bytes_that_pass (in_intervals contents.intervals))) s)
+    same_state (with_code u d (bracket contents) s) (with_insn_appended (AsciiBracket (bytes_that_pass (in_intervals contents.intervals))) s)
     (rw ascii) (omega arith) (rw ascii (append-nil s.brackets))
 
 pub with_code-bracket : (u d : Bool) (contents : BracketContents) (s s1 s2 : EmitterState) (index : ℕ) → is_ascii_set contents ≡ false
-    → index ≡ length s.brackets → s1 ≡ with_insn (Bracket index) s → s2 ≡ with_bracket contents s1 → s2 ≡ with_code u d (bracket contents) s
+    → index ≡ length s.brackets → s1 ≡ with_insn_appended (Bracket index) s → s2 ≡ with_bracket_table_entry contents s1 → s2 ≡ with_code u d (bracket contents) s
 unfolding code_of loop_count brackets_of
 with_code-bracket u d contents s s1 s2 index ascii i e1 e2 =
     same_state s2 (with_code u d (bracket contents) s)

@@ -8,16 +8,16 @@ use Rattle.std.proofs.lemmas.List.{length-map, length-set, length-replicate, get
 use Rattle.std.proofs.lemmas.List.{set_past}
 use Rattle.regex_meaning.specs.NumberListHelpers.{numbers_from}
 use Rattle.regex_meaning.specs.Tree.{Node, group_ids}
-use Rattle.regex_meaning.specs.Captures.{capturing_group_ids_and_names, group_name_of_id, group_names_by_id}
+use Rattle.regex_meaning.specs.GroupsByNumberAndName.{capturing_group_ids_and_names, group_name_of_id, group_names_by_id}
 use Rattle.regex_meaning.specs.WellFormedTrees.{each_id_stands_once}
 use Rattle.regex_meaning.proofs.Sound.{all-contains}
 use Rattle.regex_grammar.proofs.Parts.{contains-numbers_from}
 use Rattle.regex_grammar.proofs.Names.{ids_of, named_ids-ids, at-number}
 use Rattle.regex_pattern_front.specs.AstToSpecTree.{node_of}
 use Rattle.regex_pattern_front.specs.declared.ir.Node as ir
-use Rattle.regress_program.specs.NodeListsAndLeaves.{cat_of, is_leaf}
-use Rattle.regress_program.specs.InnerNodeCounts.{inner_node_count}
-use Rattle.regress_program.specs.GroupNames.{StoresSomeNames, with_names_stored_by_id, pending_names_stored, is_unnamed, node_measure, naming_measure, total_measure, node_list_measure, pending_names}
+use Rattle.regress_program.specs.LeavesListsAndCharLoops.{cat_of, is_leaf}
+use Rattle.regress_program.specs.InnerNodeCountMeasure.{inner_node_count}
+use Rattle.regress_program.specs.GroupNames.{StoresNamesOrPushesNodes, with_names_stored_by_id, pending_names_stored, has_no_named_groups, node_measure, naming_measure, total_measure, node_list_measure, pending_names}
 use Rattle.regress_program.specs.declared.emit.group_names.SubtreeWithPendingNames.{SubtreeWithPendingNames}
 use Rattle.regress_program.proofs.LeafLemmas.{leaf-bare}
 use Rattle.regress_program.proofs.IdLemmas.{false_is_true, count_by-first}
@@ -45,29 +45,29 @@ load-last [] next = omega arith
 load-last (x ∷ rest) next = omega (arith, load-last rest next)
 
 pub next-filed : (rest left more : List SubtreeWithPendingNames) (next : SubtreeWithPendingNames) (old new end : List (List ℕ)) → rest ≡ left ++ next ∷ [] → pending_names_stored rest old ≡ end
-    → StoresSomeNames (pending_names next) (naming_measure next) old new left more → pending_names_stored more new ≡ end
+    → StoresNamesOrPushesNodes (pending_names next) (naming_measure next) old new left more → pending_names_stored more new ≡ end
 next-filed rest left more next old new end is all h = h.names ∙ sym (filed-last left next old) ∙ ap (λ x. pending_names_stored x old) (sym is) ∙ all
 
 pub next-less : (rest left more : List SubtreeWithPendingNames) (next : SubtreeWithPendingNames) (old new : List (List ℕ)) → rest ≡ left ++ next ∷ []
-    → StoresSomeNames (pending_names next) (naming_measure next) old new left more → total_measure more < total_measure rest
+    → StoresNamesOrPushesNodes (pending_names next) (naming_measure next) old new left more → total_measure more < total_measure rest
 next-less rest left more next old new is h = omega (arith, h.less, ap total_measure is, load-last left next)
 
 pub files-none : (named : List (ℕ × List ℕ)) (cost : ℕ) (names : List (List ℕ)) (rest : List SubtreeWithPendingNames) → named ≡ [] → 1 ≤ cost
-    → StoresSomeNames named cost names names rest rest
+    → StoresNamesOrPushesNodes named cost names names rest rest
 files-none named cost names rest none some = record {
   names = ap (λ x. pending_names_stored rest (with_names_stored_by_id x names)) (sym none);
   less = omega (arith, some);
 }
 
 pub files-one : (named : List (ℕ × List ℕ)) (cost : ℕ) (old new : List (List ℕ)) (rest left : List SubtreeWithPendingNames) (a : SubtreeWithPendingNames) → left ≡ rest ++ a ∷ []
-    → with_names_stored_by_id (pending_names a) new ≡ with_names_stored_by_id named old → naming_measure a < cost → StoresSomeNames named cost old new rest left
+    → with_names_stored_by_id (pending_names a) new ≡ with_names_stored_by_id named old → naming_measure a < cost → StoresNamesOrPushesNodes named cost old new rest left
 files-one named cost old new rest left a is same light = record {
   names = ap (λ x. pending_names_stored x new) is ∙ filed-last rest a new ∙ ap (pending_names_stored rest) same;
   less = omega (arith, light, ap total_measure is, load-last rest a);
 }
 
 pub files-two : (named : List (ℕ × List ℕ)) (cost : ℕ) (names : List (List ℕ)) (rest mid left : List SubtreeWithPendingNames) (a b : SubtreeWithPendingNames) → mid ≡ rest ++ a ∷ [] → left ≡ mid ++ b ∷ []
-    → named ≡ pending_names b ++ pending_names a → naming_measure a + naming_measure b < cost → StoresSomeNames named cost names names rest left
+    → named ≡ pending_names b ++ pending_names a → naming_measure a + naming_measure b < cost → StoresNamesOrPushesNodes named cost names names rest left
 files-two named cost names rest mid left a b first second both light = record {
   names =
       ap (λ x. pending_names_stored x names) second ∙ filed-last mid b names ∙ ap (λ x. pending_names_stored x (with_names_stored_by_id (pending_names b) names)) first
@@ -79,13 +79,13 @@ files-two named cost names rest mid left a b first second both light = record {
 -- what stands inside a node without a name
 pub files-inside : (whole inner : Node) (names : List (List ℕ)) (rest left : List SubtreeWithPendingNames) (a : SubtreeWithPendingNames) → left ≡ rest ++ a ∷ []
     → pending_names a ≡ capturing_group_ids_and_names inner → naming_measure a ≡ node_measure inner → capturing_group_ids_and_names whole ≡ capturing_group_ids_and_names inner → inner_node_count whole ≡ inner_node_count inner + 1
-    → StoresSomeNames (capturing_group_ids_and_names whole) (node_measure whole) names names rest left
+    → StoresNamesOrPushesNodes (capturing_group_ids_and_names whole) (node_measure whole) names names rest left
 files-inside whole inner names rest left a is given light same more =
     files-one (capturing_group_ids_and_names whole) (node_measure whole) names names rest left a is (ap (λ x. with_names_stored_by_id x names) (given ∙ sym same)) (omega (arith, light, more))
 
 pub files-alternatives : (whole first others a b : Node) (names : List (List ℕ)) (before after : List SubtreeWithPendingNames) → a ≡ first → b ≡ others
     → capturing_group_ids_and_names whole ≡ capturing_group_ids_and_names first ++ capturing_group_ids_and_names others → inner_node_count whole ≡ inner_node_count first + inner_node_count others + 1
-    → StoresSomeNames (capturing_group_ids_and_names a ++ capturing_group_ids_and_names b) (node_measure a + node_measure b + 1) names names before after → StoresSomeNames (capturing_group_ids_and_names whole) (node_measure whole) names names before after
+    → StoresNamesOrPushesNodes (capturing_group_ids_and_names a ++ capturing_group_ids_and_names b) (node_measure a + node_measure b + 1) names names before after → StoresNamesOrPushesNodes (capturing_group_ids_and_names whole) (node_measure whole) names names before after
 files-alternatives whole first others a b names before after is_a is_b both more h = record {
   names =
       h.names
@@ -95,7 +95,7 @@ files-alternatives whole first others a b names before after is_a is_b both more
 
 pub files-group : (whole inner a : Node) (id : ℕ) (name : List ℕ) (old new : List (List ℕ)) (before after : List SubtreeWithPendingNames) → a ≡ inner
     → capturing_group_ids_and_names whole ≡ (id, name) ∷ capturing_group_ids_and_names inner → inner_node_count whole ≡ inner_node_count inner + 1
-    → StoresSomeNames ((id, name) ∷ capturing_group_ids_and_names a) (node_measure a + 1) old new before after → StoresSomeNames (capturing_group_ids_and_names whole) (node_measure whole) old new before after
+    → StoresNamesOrPushesNodes ((id, name) ∷ capturing_group_ids_and_names a) (node_measure a + 1) old new before after → StoresNamesOrPushesNodes (capturing_group_ids_and_names whole) (node_measure whole) old new before after
 files-group whole inner a id name old new before after is_a all more h = record {
   names = h.names ∙ ap (λ x. pending_names_stored before (with_names_stored_by_id x old)) (ap (λ n. (id, name) ∷ capturing_group_ids_and_names n) is_a ∙ sym all);
   less = omega (arith, h.less, more, ap inner_node_count is_a);
@@ -103,8 +103,8 @@ files-group whole inner a id name old new before after is_a all more h = record 
 
 -- ---- Rows
 
-pub files-cheap : (named : List (ℕ × List ℕ)) (low high : ℕ) (old new : List (List ℕ)) (before after : List SubtreeWithPendingNames) → StoresSomeNames named low old new before after → low ≤ high
-    → StoresSomeNames named high old new before after
+pub files-cheap : (named : List (ℕ × List ℕ)) (low high : ℕ) (old new : List (List ℕ)) (before after : List SubtreeWithPendingNames) → StoresNamesOrPushesNodes named low old new before after → low ≤ high
+    → StoresNamesOrPushesNodes named high old new before after
 files-cheap named low high old new before after h more = record { names = h.names; less = omega (arith, h.less, more) }
 
 pub row-none : (nodes : List ir.Node) → length nodes ≡ 0 → capturing_group_ids_and_names (cat_of nodes) ≡ []
@@ -196,7 +196,7 @@ there_once (n ∷ named) id h = by (n.0 == id) refl (not_there named id n.1) (th
 
 -- ---- The names of a tree
 
-pub names-filed : (root : Node) (n : ℕ) → IsTrue (each_id_stands_once root) → n ≡ length (group_ids root) → is_unnamed root ≡ false
+pub names-filed : (root : Node) (n : ℕ) → IsTrue (each_id_stands_once root) → n ≡ length (group_ids root) → has_no_named_groups root ≡ false
     → with_names_stored_by_id (capturing_group_ids_and_names root) (replicate n []) ≡ group_names_by_id root
 names-filed root n once count named =
     same ∙ sym (ap (λ t. if t then [] else map (group_name_of_id names) (numbers_from 0 (length names))) named)

@@ -10,15 +10,15 @@ use Rattle.std.proofs.lemmas.List.Sums.{sum_by-cons}
 use Rattle.regex_meaning.specs.NumberListHelpers.{contains, numbers_from}
 use Rattle.regex_meaning.specs.Tree.{Node, cat, alt, capture_group, lookaround, loop, loop_1_char_body, group_ids, every_node_passes}
 use Rattle.regex_meaning.specs.WellFormedTrees.{encloses, each_id_stands_once, IsWellFormed, goal_is_last, names_the_groups_inside, refers_to_a_group}
-use Rattle.regex_meaning.specs.WellFormedTrees.{has_order_in_quantifier, has_one_character_body, has_text_in_sequence, fits_instructions}
+use Rattle.regex_meaning.specs.WellFormedTrees.{has_order_in_quantifier, has_one_character_body, has_text_in_sequence, sets_and_strings_fit_instructions}
 use Rattle.regex_meaning.proofs.WellFormedLemmas.{clauses, by_clauses}
 use Rattle.regex_meaning.proofs.Sound.{all-contains}
 use Rattle.regex_pattern_front.proofs.Bits.{has_bit, with_bit, no-bits, bit-set}
 use Rattle.regex_pattern_front.proofs.ByteLemmas.{contains-numbers_from}
-use Rattle.regress_program.specs.NodeListsAndLeaves.{is_leaf}
+use Rattle.regress_program.specs.LeavesListsAndCharLoops.{is_leaf}
 use Rattle.regress_program.specs.GroupIdSpans.{as_number_span}
-use Rattle.regress_program.specs.declared.emit.group_id_checks.GroupIdSpan as spans
-use Rattle.regress_program.specs.GroupIds.{is_outside_bitmap, is_group_id_seen, are_distinct_unseen, least, id_end, GroupIdSpanNumbers, span_of_group_ids, joined, has_valid_group_ids, is_well_formed_node}
+use Rattle.regress_program.specs.declared.emit.group_id_and_range_checks.GroupIdSpan as spans
+use Rattle.regress_program.specs.GroupIds.{is_outside_bitmap, is_group_id_seen, are_distinct_unseen, least_group_id, id_end, GroupIdSpanNumbers, span_of_group_ids, joined, ids_are_distinct_and_node_ranges_exact, is_well_formed_node}
 use Rattle.regex_meaning.proofs.Booleans.{or-false-left, or-false-right, same-truth, and-left, and-right}
 use Rattle.std.proofs.Math.Bool.{or-false, or_assoc, and-true, and_assoc}
 use Rattle.regex_meaning.proofs.Lists.{list_all-members}
@@ -100,11 +100,11 @@ fresh-change (id ∷ ids) f g h u =
     rw (here, later)
 
 -- where there is a bit for each id, and none is set, none is seen
-pub none_stand : (n : Node) → has_valid_group_ids (is_group_id_seen (replicate 1024 0)) n ≡ has_valid_group_ids (λ k. false) n
+pub none_stand : (n : Node) → ids_are_distinct_and_node_ranges_exact (is_group_id_seen (replicate 1024 0)) n ≡ ids_are_distinct_and_node_ranges_exact (λ k. false) n
 none_stand n = ap (λ b. b && every_node_passes names_the_groups_inside n) (fresh-same (is_group_id_seen (replicate 1024 0)) (λ k. false) (group_ids n) (none-seen 1024))
 
 -- ids that are fresh at all are where none is seen
-pub unseen_stand : (n : Node) (f : ℕ → Bool) → true ≡ has_valid_group_ids f n → true ≡ has_valid_group_ids (λ k. false) n
+pub unseen_stand : (n : Node) (f : ℕ → Bool) → true ≡ ids_are_distinct_and_node_ranges_exact f n → true ≡ ids_are_distinct_and_node_ranges_exact (λ k. false) n
 unseen_stand n f h =
     let fresh = fresh-change (group_ids n) f (λ k. false) (and-left (are_distinct_unseen f (group_ids n)) (every_node_passes names_the_groups_inside n) (sym h)) (λ k c. refl) in
     sym (and_from (are_distinct_unseen (λ k. false) (group_ids n)) (every_node_passes names_the_groups_inside n) fresh (and-right (are_distinct_unseen f (group_ids n)) (every_node_passes names_the_groups_inside n) (sym h)))
@@ -225,13 +225,13 @@ unfolding seen_count
 none_are_seen zero = refl
 none_are_seen (suc n) = omega (arith, none_are_seen n)
 
-least-most : (ids : List ℕ) → least ids ≤ 2 ^ 16
-unfolding least
+least-most : (ids : List ℕ) → least_group_id ids ≤ 2 ^ 16
+unfolding least_group_id
 least-most [] = omega arith
 least-most (id ∷ ids) = omega (arith, least-most ids)
 
-least-append : (xs ys : List ℕ) → least (xs ++ ys) ≡ min (least xs) (least ys)
-unfolding least
+least-append : (xs ys : List ℕ) → least_group_id (xs ++ ys) ≡ min (least_group_id xs) (least_group_id ys)
+unfolding least_group_id
 least-append [] ys = omega (arith, least-most ys)
 least-append (x ∷ xs) ys = omega (arith, least-append xs ys)
 
@@ -240,8 +240,8 @@ unfolding id_end
 past-append [] ys = omega arith
 past-append (x ∷ xs) ys = omega (arith, past-append xs ys)
 
-least-le : (ids : List ℕ) (k : ℕ) → contains ids k ≡ true → least ids ≤ k
-unfolding least
+least-le : (ids : List ℕ) (k : ℕ) → contains ids k ≡ true → least_group_id ids ≤ k
+unfolding least_group_id
 least-le [] k c = cc
 least-le (id ∷ ids) k c =
     ⊎_elim (λ (e : nat_eq k id ≡ true). omega (arith, eqb-true k id e)) (λ (e : contains ids k ≡ true). omega (arith, least-le ids k e)) (or_cases (nat_eq k id) (contains ids k) c)
@@ -252,8 +252,8 @@ past-gt [] k c = cc
 past-gt (id ∷ ids) k c =
     ⊎_elim (λ (e : nat_eq k id ≡ true). omega (arith, eqb-true k id e)) (λ (e : contains ids k ≡ true). omega (arith, past-gt ids k e)) (or_cases (nat_eq k id) (contains ids k) c)
 
-le-least : (ids : List ℕ) (s : ℕ) → s ≤ 2 ^ 16 → ((k : ℕ) → contains ids k ≡ true → s ≤ k) → s ≤ least ids
-unfolding least
+le-least : (ids : List ℕ) (s : ℕ) → s ≤ 2 ^ 16 → ((k : ℕ) → contains ids k ≡ true → s ≤ k) → s ≤ least_group_id ids
+unfolding least_group_id
 le-least [] s b h = b
 le-least (id ∷ ids) s b h =
     omega (arith, h id (or_left (nat_eq id id) (contains ids id) (nat_eq-refl id)), le-least ids s b (λ k c. h k (or_right (nat_eq k id) (contains ids k) c)))
@@ -276,7 +276,7 @@ numbers-contain first (suc count) k c =
 -- ---- Distinct ids of a span
 
 -- where they are as many as the span is wide, each of it is there
-all_there : (ids : List ℕ) (f : ℕ → Bool) (s e q : ℕ) → are_distinct_unseen f ids ≡ true → s ≤ least ids → id_end ids ≤ e → e ≤ length ids + s → s ≤ q → q < e → contains ids q ≡ true
+all_there : (ids : List ℕ) (f : ℕ → Bool) (s e q : ℕ) → are_distinct_unseen f ids ≡ true → s ≤ least_group_id ids → id_end ids ≤ e → e ≤ length ids + s → s ≤ q → q < e → contains ids q ≡ true
 unfolding are_distinct_unseen id_end
 all_there ids f s e q fresh low high enough above below = by_test (contains ids q) refl
   where
@@ -297,19 +297,19 @@ as_many ids f s e fresh order low high =
     omega (arith, fresh-length ids seen e again high, count-below s e)
 
 pub encloses-fills : (contents : Node) (f : ℕ → Bool) (s e : ℕ) → s ≤ 2 ^ 16 → e ≤ 2 ^ 16 → are_distinct_unseen f (group_ids contents) ≡ true
-    → (nat_le s e && (min (length (group_ids contents)) (2 ^ 64 - 1) == (e - s)) && nat_le s (least (group_ids contents)) && nat_le (id_end (group_ids contents)) e) ≡ encloses s e contents
+    → (nat_le s e && (min (length (group_ids contents)) (2 ^ 64 - 1) == (e - s)) && nat_le s (least_group_id (group_ids contents)) && nat_le (id_end (group_ids contents)) e) ≡ encloses s e contents
 encloses-fills contents f s e bs be fresh =
     let ids = group_ids contents in
     let named = numbers_from s (e - s) in
     let count = min (length ids) (2 ^ 64 - 1) == (e - s) in
-    same-truth (nat_le s e && count && nat_le s (least ids) && nat_le (id_end ids) e) (encloses s e contents)
+    same-truth (nat_le s e && count && nat_le s (least_group_id ids) && nat_le (id_end ids) e) (encloses s e contents)
     (λ h.
-    let h3 = and-left (nat_le s e && count && nat_le s (least ids)) (nat_le (id_end ids) e) h in
-    let h2 = and-left (nat_le s e && count) (nat_le s (least ids)) h3 in
+    let h3 = and-left (nat_le s e && count && nat_le s (least_group_id ids)) (nat_le (id_end ids) e) h in
+    let h2 = and-left (nat_le s e && count) (nat_le s (least_group_id ids)) h3 in
     let order : s ≤ e = leb-true s e (and-left (nat_le s e) count h2) in
     let many : min (length ids) (2 ^ 64 - 1) ≡ e - s = eqb-true _ _ (and-right (nat_le s e) count h2) in
-    let low : s ≤ least ids = leb-true s (least ids) (and-right (nat_le s e && count) (nat_le s (least ids)) h3) in
-    let high : id_end ids ≤ e = leb-true (id_end ids) e (and-right (nat_le s e && count && nat_le s (least ids)) (nat_le (id_end ids) e) h) in
+    let low : s ≤ least_group_id ids = leb-true s (least_group_id ids) (and-right (nat_le s e && count) (nat_le s (least_group_id ids)) h3) in
+    let high : id_end ids ≤ e = leb-true (id_end ids) e (and-right (nat_le s e && count && nat_le s (least_group_id ids)) (nat_le (id_end ids) e) h) in
     and_from (nat_le s e && list_all (contains named) ids) (list_all (contains ids) named)
     (and_from (nat_le s e) (list_all (contains named) ids) (le-leb s e order)
     (list_all-members (contains named) ids (λ k c. contains-numbers_from k s (e - s) (omega (arith, least-le ids k c)) (omega (arith, past-gt ids k c)))))
@@ -319,7 +319,7 @@ encloses-fills contents f s e bs be fresh =
     let order : s ≤ e = leb-true s e (and-left (nat_le s e) (list_all (contains named) ids) h2) in
     let inside = λ (k : ℕ) (c : contains ids k ≡ true). numbers-contain s (e - s) k (all-contains (contains named) ids k (and-right (nat_le s e) (list_all (contains named) ids) h2) c) in
     let there = λ (q : ℕ) (c : contains named q ≡ true). all-contains (contains ids) named q (and-right (nat_le s e && list_all (contains named) ids) (list_all (contains ids) named) h) c in
-    let low : s ≤ least ids = le-least ids s bs (λ k c. (inside k c).0) in
+    let low : s ≤ least_group_id ids = le-least ids s bs (λ k c. (inside k c).0) in
     let high : id_end ids ≤ e = past-le ids e (λ k c. omega (arith, (inside k c).1)) in
     let most : length ids + s ≤ e = as_many ids f s e fresh order (λ k c. (inside k c).0) high in
     let seen = λ (k : ℕ). nat_lt k s in
@@ -327,8 +327,8 @@ encloses-fills contents f s e bs be fresh =
     covers ids seen e (λ q b. ⊎_elim (λ (g : q < s). or_left (nat_lt q s) (contains ids q) (lt-ltb q s g))
     (λ (g : s ≤ q). or_right (nat_lt q s) (contains ids q) (there q (contains-numbers_from q s (e - s) g (omega arith)))) (cases_lt q s)) in
     let many : min (length ids) (2 ^ 64 - 1) ≡ e - s = omega (arith, count-below s e) in
-    and_from (nat_le s e && count && nat_le s (least ids)) (nat_le (id_end ids) e)
-    (and_from (nat_le s e && count) (nat_le s (least ids)) (and_from (nat_le s e) count (le-leb s e order) (eq-eqb _ _ many)) (le-leb s (least ids) low))
+    and_from (nat_le s e && count && nat_le s (least_group_id ids)) (nat_le (id_end ids) e)
+    (and_from (nat_le s e && count) (nat_le s (least_group_id ids)) (and_from (nat_le s e) count (le-leb s e order) (eq-eqb _ _ many)) (le-leb s (least_group_id ids) low))
     (le-leb (id_end ids) e high))
 
 -- ---- Each id once
@@ -426,7 +426,7 @@ joined-assoc a b c = same_span (joined (joined a b) c) (joined a (joined b c)) (
 
 -- what the first fields say of a test of the span
 pub fills-encloses : (contents : Node) (f : ℕ → Bool) (s e count low high : ℕ) (t p : Bool) → s < 2 ^ 16 → e < 2 ^ 16
-    → true ≡ (are_distinct_unseen f (group_ids contents) && p) → count ≡ min (length (group_ids contents)) (2 ^ 64 - 1) → low ≡ least (group_ids contents) → high ≡ id_end (group_ids contents)
+    → true ≡ (are_distinct_unseen f (group_ids contents) && p) → count ≡ min (length (group_ids contents)) (2 ^ 64 - 1) → low ≡ least_group_id (group_ids contents) → high ≡ id_end (group_ids contents)
     → t ≡ (nat_le s e && (count == (e - s)) && nat_le s low && nat_le high e) → t ≡ (are_distinct_unseen f (group_ids contents) && (encloses s e contents && p))
 fills-encloses contents f s e count low high t p bs be found ec el eh et =
     let fresh = and-left (are_distinct_unseen f (group_ids contents)) p (sym found) in
@@ -434,7 +434,7 @@ fills-encloses contents f s e count low high t p bs be found ec el eh et =
     let filled = encloses-fills contents f s e (omega arith) (omega arith) fresh in
     et ∙ ap (λ n. nat_le s e && (n == (e - s)) && nat_le s low && nat_le high e) ec
     ∙ ap (λ n. nat_le s e && (min (length (group_ids contents)) (2 ^ 64 - 1) == (e - s)) && nat_le s n && nat_le high e) el
-    ∙ ap (λ n. nat_le s e && (min (length (group_ids contents)) (2 ^ 64 - 1) == (e - s)) && nat_le s (least (group_ids contents)) && nat_le n e) eh
+    ∙ ap (λ n. nat_le s e && (min (length (group_ids contents)) (2 ^ 64 - 1) == (e - s)) && nat_le s (least_group_id (group_ids contents)) && nat_le n e) eh
     ∙ filled ∙ sym (rw (fresh, named) (and-true (encloses s e contents)))
 
 -- ---- Tests of each node
@@ -449,10 +449,10 @@ every-and f g (loop_1_char_body q n) = rw (every-and f g n) (four (f (loop_1_cha
 every-and f g n = refl
 
 pub every-sound : (m : ℕ) (n : Node) → every_node_passes (is_well_formed_node m) n
-    ≡ (every_node_passes (refers_to_a_group m) n && every_node_passes has_order_in_quantifier n && every_node_passes has_one_character_body n && every_node_passes has_text_in_sequence n && every_node_passes fits_instructions n)
+    ≡ (every_node_passes (refers_to_a_group m) n && every_node_passes has_order_in_quantifier n && every_node_passes has_one_character_body n && every_node_passes has_text_in_sequence n && every_node_passes sets_and_strings_fit_instructions n)
 every-sound m n =
-    every-and (λ x. refers_to_a_group m x && has_order_in_quantifier x && has_one_character_body x && has_text_in_sequence x) fits_instructions n
-    ∙ ap (λ b. b && every_node_passes fits_instructions n)
+    every-and (λ x. refers_to_a_group m x && has_order_in_quantifier x && has_one_character_body x && has_text_in_sequence x) sets_and_strings_fit_instructions n
+    ∙ ap (λ b. b && every_node_passes sets_and_strings_fit_instructions n)
     (every-and (λ x. refers_to_a_group m x && has_order_in_quantifier x && has_one_character_body x) has_text_in_sequence n
     ∙ ap (λ b. b && every_node_passes has_text_in_sequence n)
     (every-and (λ x. refers_to_a_group m x && has_order_in_quantifier x) has_one_character_body n
@@ -469,7 +469,7 @@ sound_is_well_formed root f count last found many high sound =
     let o = every_node_passes has_order_in_quantifier root in
     let b = every_node_passes has_one_character_body root in
     let t = every_node_passes has_text_in_sequence root in
-    let s = every_node_passes fits_instructions root in
+    let s = every_node_passes sets_and_strings_fit_instructions root in
     let all : (r && o && b && t && s) ≡ true = sym (every-sound count root) ∙ sound in
     let all4 = and-left (r && o && b && t) s all in
     let all3 = and-left (r && o && b) t all4 in
@@ -492,7 +492,7 @@ well_formed_is_sound root count many well_formed =
     let o = every_node_passes has_order_in_quantifier root in
     let b = every_node_passes has_one_character_body root in
     let t = every_node_passes has_text_in_sequence root in
-    let s = every_node_passes fits_instructions root in
+    let s = every_node_passes sets_and_strings_fit_instructions root in
     let refers : r ≡ true = ap (λ n. every_node_passes (refers_to_a_group n) root) many ∙ w.references in
     every-sound count root ∙ and_from (r && o && b && t) s (and_from (r && o && b) t (and_from (r && o) b (and_from r o refers w.quantifiers) w.bodies) w.sequences) w.sets
 
@@ -513,7 +513,7 @@ pub joined-none : (ids : List ℕ) → joined (record { count = 0; low = 65536; 
 joined-none ids = same_span (joined (record { count = 0; low = 65536; high = 0 }) (span_of_group_ids ids)) (span_of_group_ids ids) (omega arith) (omega (arith, least-most ids)) (omega arith)
 
 pub joined-last : (s : GroupIdSpanNumbers) → s.count < 2 ^ 64 → s.low ≤ 65536 → joined s (span_of_group_ids []) ≡ s
-unfolding least id_end
+unfolding least_group_id id_end
 joined-last s c l = same_span (joined s (span_of_group_ids [])) s (omega arith) (omega arith) (omega arith)
 
 pub seen_next : (f g h : ℕ → Bool) (xs ys all : List ℕ) → ((k : ℕ) → g k ≡ (f k || contains xs k)) → ((k : ℕ) → (f k || contains (xs ++ ys) k) ≡ (h k || contains all k))
@@ -581,7 +581,7 @@ left-leaf at_first first all named f s n h l = let none = leaf-ids n h in rw (no
 
 -- what a walk from no id has seen is all
 pub all_ids : (s none t : spans.GroupIdSpan) (n : Node) → s ≡ t → as_number_span none ≡ span_of_group_ids [] → as_number_span t ≡ joined (as_number_span none) (span_of_group_ids (group_ids n)) → as_number_span s ≡ span_of_group_ids (group_ids n)
-unfolding least id_end
+unfolding least_group_id id_end
 all_ids s none t n e from_none h =
     ap as_number_span e ∙ h ∙ ap (λ x. joined x (span_of_group_ids (group_ids n))) from_none ∙ joined-none (group_ids n)
 

@@ -2,7 +2,7 @@
 use Rattle.std.proofs.Common.{◌≡◌, ℕ, List, ap, sym, ◌∙◌, subst}
 use Rattle.regex_meaning.specs.StartPredicate as predicate
 use Rattle.regex_pattern_front.specs.declared.ir.Regex.{Regex}
-use Rattle.regress_program.specs.StartPredicates.{IsCopyOfPredicate, IsStartOf}
+use Rattle.regress_program.specs.StartPredicatesAndAllocation.{IsCopyOfPredicate, IsStartOf}
 use Rattle.regress_program.specs.declared.insn.start_predicates.StartPredicate.{StartPredicate}
 use Rattle.regress_program.specs.declared.insn.start_predicates.StartPredicate.TheVariants.{Arbitrary, ByteSet1, ByteSet2, ByteSet3, ByteSeq, ByteBracket}
 use Rattle.regress_program.specs.declared.insn.start_predicates.StartPredicate.TheVariants.{StartAnchored}

@@ -5,12 +5,12 @@ use Rattle.std.proofs.lemmas.Bool.{and_parts}
 use Rattle.regex_meaning.specs.Tree.{Node, cat, alt, capture_group, lookaround, loop, loop_1_char_body, every_node_passes}
 use Rattle.regex_pattern_front.specs.OptimizedTrees.{reads_one_character, optimized}
 use Rattle.regex_pattern_front.proofs.OptimizedLemmas.{one_character-optimized, is_one-reads}
-use Rattle.regress_program.specs.CodeOfTrees.{node_insn_count, loop_count, brackets_of}
-use Rattle.regress_program.specs.NodeListsAndLeaves.{is_leaf, becomes_char_loop}
-use Rattle.regress_program.specs.EmitterModel.{with_char_loops}
+use Rattle.regress_program.specs.CompilationOfTreesAsFunction.{node_insn_count, loop_count, brackets_of}
+use Rattle.regress_program.specs.LeavesListsAndCharLoops.{is_leaf, becomes_char_loop}
+use Rattle.regress_program.specs.EmitterModel.{node_with_char_loops_if_enabled}
 
-pub shaped-leaf : (narrow : Bool) (n : Node) → is_leaf n ≡ true → with_char_loops narrow n ≡ n
-unfolding with_char_loops
+pub shaped-leaf : (narrow : Bool) (n : Node) → is_leaf n ≡ true → node_with_char_loops_if_enabled narrow n ≡ n
+unfolding node_with_char_loops_if_enabled
 shaped-leaf narrow (cat first rest) h = grind arith
 shaped-leaf narrow (alt left right) h = grind arith
 shaped-leaf narrow (capture_group id name contents) h = grind arith
@@ -20,8 +20,8 @@ shaped-leaf narrow (loop_1_char_body q loopee) h = grind arith
 shaped-leaf narrow _ h = refl
 
 -- where loops are left as they are, the node is
-pub shaped-plain : (n : Node) → with_char_loops false n ≡ n
-unfolding with_char_loops
+pub shaped-plain : (n : Node) → node_with_char_loops_if_enabled false n ≡ n
+unfolding node_with_char_loops_if_enabled
 shaped-plain (cat first rest) = rw (shaped-plain first, shaped-plain rest) refl
 shaped-plain (alt left right) = rw (shaped-plain left, shaped-plain right) refl
 shaped-plain (capture_group id name contents) = rw (shaped-plain contents) refl
@@ -31,8 +31,8 @@ shaped-plain (loop_1_char_body q loopee) = rw (shaped-plain loopee) refl
 shaped-plain _ = refl
 
 -- where they are narrow, it is the optimized one
-pub shaped-narrow : (n : Node) → with_char_loops true n ≡ optimized n
-unfolding with_char_loops optimized
+pub shaped-narrow : (n : Node) → node_with_char_loops_if_enabled true n ≡ optimized n
+unfolding node_with_char_loops_if_enabled optimized
 shaped-narrow (cat first rest) = rw (shaped-narrow first, shaped-narrow rest) refl
 shaped-narrow (alt left right) = rw (shaped-narrow left, shaped-narrow right) refl
 shaped-narrow (capture_group id name contents) = rw (shaped-narrow contents) refl
@@ -40,8 +40,8 @@ shaped-narrow (lookaround l contents) = rw (shaped-narrow contents) refl
 shaped-narrow (loop q s e loopee) =
     go (reads_one_character loopee) (λ one. shaped-narrow loopee ∙ one_character-optimized loopee (is_one-reads loopee one)) (shaped-narrow loopee)
   where
-    go : (r : Bool) → (r ≡ true → with_char_loops true loopee ≡ loopee) → with_char_loops true loopee ≡ optimized loopee
-        → (if r then loop_1_char_body q (with_char_loops true loopee) else loop q s e (with_char_loops true loopee)) ≡ (if r then loop_1_char_body q loopee else loop q s e (optimized loopee))
+    go : (r : Bool) → (r ≡ true → node_with_char_loops_if_enabled true loopee ≡ loopee) → node_with_char_loops_if_enabled true loopee ≡ optimized loopee
+        → (if r then loop_1_char_body q (node_with_char_loops_if_enabled true loopee) else loop q s e (node_with_char_loops_if_enabled true loopee)) ≡ (if r then loop_1_char_body q loopee else loop q s e (optimized loopee))
     go true one below = ap (loop_1_char_body q) (one refl)
     go false one below = ap (loop q s e) below
 shaped-narrow (loop_1_char_body q loopee) = rw (shaped-narrow loopee) refl
@@ -77,31 +77,31 @@ optimized-same _ h = refl
 
 -- ---- Narrow loops take no more room
 
-pub size-shaped : (narrow : Bool) (n : Node) → node_insn_count (with_char_loops narrow n) ≤ node_insn_count n
-unfolding with_char_loops node_insn_count
+pub size-shaped : (narrow : Bool) (n : Node) → node_insn_count (node_with_char_loops_if_enabled narrow n) ≤ node_insn_count n
+unfolding node_with_char_loops_if_enabled node_insn_count
 size-shaped narrow (cat first rest) = omega (arith, size-shaped narrow first, size-shaped narrow rest)
 size-shaped narrow (alt left right) = omega (arith, size-shaped narrow left, size-shaped narrow right)
 size-shaped narrow (capture_group id name contents) = omega (arith, size-shaped narrow contents)
 size-shaped narrow (lookaround l contents) = omega (arith, size-shaped narrow contents)
 size-shaped narrow (loop q s e loopee) = go (narrow && reads_one_character loopee) (size-shaped narrow loopee)
   where
-    go : (r : Bool) → node_insn_count (with_char_loops narrow loopee) ≤ node_insn_count loopee
-        → node_insn_count (if r then loop_1_char_body q (with_char_loops narrow loopee) else loop q s e (with_char_loops narrow loopee)) ≤ (e - s) + node_insn_count loopee + 2
+    go : (r : Bool) → node_insn_count (node_with_char_loops_if_enabled narrow loopee) ≤ node_insn_count loopee
+        → node_insn_count (if r then loop_1_char_body q (node_with_char_loops_if_enabled narrow loopee) else loop q s e (node_with_char_loops_if_enabled narrow loopee)) ≤ (e - s) + node_insn_count loopee + 2
     go true below = omega arith
     go false below = omega arith
 size-shaped narrow (loop_1_char_body q loopee) = omega (arith, size-shaped narrow loopee)
 size-shaped narrow _ = le_refl _
 
-pub loops-shaped : (narrow : Bool) (n : Node) → loop_count (with_char_loops narrow n) ≤ loop_count n
-unfolding with_char_loops loop_count
+pub loops-shaped : (narrow : Bool) (n : Node) → loop_count (node_with_char_loops_if_enabled narrow n) ≤ loop_count n
+unfolding node_with_char_loops_if_enabled loop_count
 loops-shaped narrow (cat first rest) = omega (arith, loops-shaped narrow first, loops-shaped narrow rest)
 loops-shaped narrow (alt left right) = omega (arith, loops-shaped narrow left, loops-shaped narrow right)
 loops-shaped narrow (capture_group id name contents) = loops-shaped narrow contents
 loops-shaped narrow (lookaround l contents) = loops-shaped narrow contents
 loops-shaped narrow (loop q s e loopee) = go (narrow && reads_one_character loopee) (loops-shaped narrow loopee)
   where
-    go : (r : Bool) → loop_count (with_char_loops narrow loopee) ≤ loop_count loopee
-        → loop_count (if r then loop_1_char_body q (with_char_loops narrow loopee) else loop q s e (with_char_loops narrow loopee)) ≤ loop_count loopee + 1
+    go : (r : Bool) → loop_count (node_with_char_loops_if_enabled narrow loopee) ≤ loop_count loopee
+        → loop_count (if r then loop_1_char_body q (node_with_char_loops_if_enabled narrow loopee) else loop q s e (node_with_char_loops_if_enabled narrow loopee)) ≤ loop_count loopee + 1
     go true below = omega arith
     go false below = omega arith
 loops-shaped narrow (loop_1_char_body q loopee) = loops-shaped narrow loopee

@@ -8,8 +8,8 @@ use Rattle.std.proofs.lemmas.List.{length-map, get_or-reverse, drop-map, drop_al
 use Rattle.std.proofs.lemmas.Option.{get_or_from_slice_get}
 use Rattle.regex_meaning.specs.CompilationRelation.{Insn, Alt, Jump, ByteSeq, ResetCaptureGroup, ordered, chunks, chunks_of}
 use Rattle.regex_meaning.specs.Tree.{byte_sequence, string_set}
-use Rattle.regress_program.specs.CodeOfTrees.{group_reset_insns, string_code, strings_code, strings_size, code_of, loop_count, brackets_of}
-use Rattle.regress_program.specs.EmitterModel.{EmitterState, with_code, with_insn, with_insns, strings_as_code_points}
+use Rattle.regress_program.specs.CompilationOfTreesAsFunction.{group_reset_insns, string_code, strings_code, strings_size, code_of, loop_count, brackets_of}
+use Rattle.regress_program.specs.EmitterModel.{EmitterState, with_code, with_insn_appended, with_insns_appended, strings_as_code_points}
 use Rattle.regress_program.proofs.EmitLemmas.{same_state, length-string_code, length-ordered}
 
 -- ---- Chunks
@@ -93,32 +93,32 @@ strings_code-next u icase d s (t ∷ more) at h = refl
 
 -- ---- States
 
-pub insns_step : (x : Insn) (xs : List Insn) (s t : EmitterState) → t ≡ with_insn x s → with_insns xs t ≡ with_insns (x ∷ xs) s
+pub insns_step : (x : Insn) (xs : List Insn) (s t : EmitterState) → t ≡ with_insn_appended x s → with_insns_appended xs t ≡ with_insns_appended (x ∷ xs) s
 insns_step x xs s t e =
-    same_state (with_insns xs t) (with_insns (x ∷ xs) s)
+    same_state (with_insns_appended xs t) (with_insns_appended (x ∷ xs) s)
     (ap (λ r. r.insns ++ xs) e ∙ append_assoc s.insns (x ∷ []) xs) (ap (λ r. r.loops) e) (ap (λ r. r.brackets) e)
 
 pub parts_step : {A : Type 0} (f : A → Insn) (ys : List A) (at : ℕ) (y : A) (s t whole : EmitterState) → drop at ys ≡ y ∷ drop (at + 1) ys
-    → t ≡ with_insn (f y) s → with_insns (map f (drop at ys)) s ≡ whole → with_insns (map f (drop (at + 1) ys)) t ≡ whole
+    → t ≡ with_insn_appended (f y) s → with_insns_appended (map f (drop at ys)) s ≡ whole → with_insns_appended (map f (drop (at + 1) ys)) t ≡ whole
 parts_step f ys at y s t whole next e inv =
-    insns_step (f y) (map f (drop (at + 1) ys)) s t e ∙ sym (ap (λ zs. with_insns (map f zs) s) next) ∙ inv
+    insns_step (f y) (map f (drop (at + 1) ys)) s t e ∙ sym (ap (λ zs. with_insns_appended (map f zs) s) next) ∙ inv
 
-pub with_insns-none : (s : EmitterState) → with_insns [] s ≡ s
-with_insns-none s = same_state (with_insns [] s) s (append-nil s.insns) refl refl
+pub with_insns-none : (s : EmitterState) → with_insns_appended [] s ≡ s
+with_insns-none s = same_state (with_insns_appended [] s) s (append-nil s.insns) refl refl
 
 -- the parts are all there
-pub parts_end : {A : Type 0} (f : A → Insn) (ys : List A) (at : ℕ) (s whole : EmitterState) → length ys ≤ at → with_insns (map f (drop at ys)) s ≡ whole → s ≡ whole
-parts_end f ys at s whole h inv = sym (with_insns-none s) ∙ sym (ap (λ zs. with_insns (map f zs) s) (drop_all at ys h)) ∙ inv
+pub parts_end : {A : Type 0} (f : A → Insn) (ys : List A) (at : ℕ) (s whole : EmitterState) → length ys ≤ at → with_insns_appended (map f (drop at ys)) s ≡ whole → s ≡ whole
+parts_end f ys at s whole h inv = sym (with_insns-none s) ∙ sym (ap (λ zs. with_insns_appended (map f zs) s) (drop_all at ys h)) ∙ inv
 
-pub with_code-byte_sequence : (u d : Bool) (bytes : List ℕ) (s : EmitterState) → with_code u d (byte_sequence bytes) s ≡ with_insns (map ByteSeq (ordered d (chunks bytes))) s
+pub with_code-byte_sequence : (u d : Bool) (bytes : List ℕ) (s : EmitterState) → with_code u d (byte_sequence bytes) s ≡ with_insns_appended (map ByteSeq (ordered d (chunks bytes))) s
 unfolding code_of loop_count brackets_of
 with_code-byte_sequence u d bytes s =
-    same_state (with_code u d (byte_sequence bytes) s) (with_insns (map ByteSeq (ordered d (chunks bytes))) s) refl (omega arith) (append-nil s.brackets)
+    same_state (with_code u d (byte_sequence bytes) s) (with_insns_appended (map ByteSeq (ordered d (chunks bytes))) s) refl (omega arith) (append-nil s.brackets)
 
-pub with_code-string_set : (u d icase : Bool) (strings : List (List ℕ)) (s : EmitterState) → with_code u d (string_set strings icase) s ≡ with_insns (strings_code u icase d strings (length s.insns)) s
+pub with_code-string_set : (u d icase : Bool) (strings : List (List ℕ)) (s : EmitterState) → with_code u d (string_set strings icase) s ≡ with_insns_appended (strings_code u icase d strings (length s.insns)) s
 unfolding code_of loop_count brackets_of
 with_code-string_set u d icase strings s =
-    same_state (with_code u d (string_set strings icase) s) (with_insns (strings_code u icase d strings (length s.insns)) s) refl (omega arith) (append-nil s.brackets)
+    same_state (with_code u d (string_set strings icase) s) (with_insns_appended (strings_code u icase d strings (length s.insns)) s) refl (omega arith) (append-nil s.brackets)
 
 -- ---- Vectors of code points
 
@@ -157,8 +157,8 @@ last_code {R = R} u icase d strings i at s h e =
 -- a branch, a string and a jump
 pub strings_step : (u icase d : Bool) (str : List ℕ) (rest : List (List ℕ)) (s s1 s2 s3 : EmitterState) (second target : ℕ) → 0 < length rest
     → second ≡ length s.insns + length str + 2 → target ≡ second + strings_size rest
-    → s1 ≡ with_insn (Alt second) s → s2 ≡ with_insns (string_code u icase d str) s1 → s3 ≡ with_insn (Jump target) s2
-    → with_insns (strings_code u icase d rest (length s3.insns)) s3 ≡ with_insns (strings_code u icase d (str ∷ rest) (length s.insns)) s
+    → s1 ≡ with_insn_appended (Alt second) s → s2 ≡ with_insns_appended (string_code u icase d str) s1 → s3 ≡ with_insn_appended (Jump target) s2
+    → with_insns_appended (strings_code u icase d rest (length s3.insns)) s3 ≡ with_insns_appended (strings_code u icase d (str ∷ rest) (length s.insns)) s
 strings_step u icase d str rest s s1 s2 s3 second target h es et e1 e2 e3 =
     let cs = string_code u icase d str in
     let at = length s.insns in
@@ -172,13 +172,13 @@ strings_step u icase d str rest s s1 s2 s3 second target h es et e1 e2 e3 =
     ap (λ n. s.insns ++ Alt second ∷ (cs ++ Jump n ∷ later)) et
     ∙ ap (λ n. s.insns ++ Alt n ∷ (cs ++ Jump (n + strings_size rest) ∷ strings_code u icase d rest n)) es
     ∙ sym (ap (λ is. s.insns ++ is) (strings_code-next u icase d str rest at h)) in
-    same_state (with_insns (strings_code u icase d rest (length s3.insns)) s3) (with_insns (strings_code u icase d (str ∷ rest) at) s)
+    same_state (with_insns_appended (strings_code u icase d rest (length s3.insns)) s3) (with_insns_appended (strings_code u icase d (str ∷ rest) at) s)
     (ap (λ n. s3.insns ++ strings_code u icase d rest n) len ∙ ap (λ is. is ++ later) flat ∙ assoc ∙ whole)
     (ap (λ r. r.loops) e3 ∙ ap (λ r. r.loops) e2 ∙ ap (λ r. r.loops) e1)
     (ap (λ r. r.brackets) e3 ∙ ap (λ r. r.brackets) e2 ∙ ap (λ r. r.brackets) e1)
 
 pub strings_target : (u icase d : Bool) (str : List ℕ) (s s1 s2 s3 : EmitterState) (second target : ℕ)
-    → second ≡ length s.insns + length str + 2 → s1 ≡ with_insn (Alt second) s → s2 ≡ with_insns (string_code u icase d str) s1 → s3 ≡ with_insn (Jump target) s2
+    → second ≡ length s.insns + length str + 2 → s1 ≡ with_insn_appended (Alt second) s → s2 ≡ with_insns_appended (string_code u icase d str) s1 → s3 ≡ with_insn_appended (Jump target) s2
     → length s3.insns ≡ second
 strings_target u icase d str s s1 s2 s3 second target es e1 e2 e3 =
     omega (

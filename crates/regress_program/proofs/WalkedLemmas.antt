@@ -3,7 +3,7 @@ use Rattle.std.proofs.Common.{◌≡◌, Bool, true, false, List, [], ◌∷◌,
 use Rattle.std.specs.Prelude.{is_some, IsTrue, not, ◌&&◌, ◌||◌}
 use Rattle.regex_meaning.specs.Tree.{Node, cat, end_of_cat, alt, capture_group, lookaround, loop, loop_1_char_body, fold_nodes, every_node_passes}
 use Rattle.regex_pattern_front.specs.declared.ir.Node as declared
-use Rattle.regress_program.specs.NodeListsAndLeaves.{cat_of}
+use Rattle.regress_program.specs.LeavesListsAndCharLoops.{cat_of}
 use Rattle.regress_program.specs.TreeWalk.{continued_by, in_sequence, try_fold_nodes, step_of_test}
 
 none-of : {S : Type 0} (o : Option S) → false ≡ is_some o → o ≡ None

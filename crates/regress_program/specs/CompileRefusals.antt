@@ -2,8 +2,8 @@
 use Rattle.std.specs.Prelude.{◌≡◌, Bool, ◌<◌, ◌≤◌, ◌^◌, false, length, IsTrue}
 use Rattle.regex_meaning.specs.Tree.{Tree, group_ids}
 use Rattle.regex_meaning.specs.WellFormedTrees.{IsWellFormed}
-use Rattle.regex_meaning.specs.CompilationRelation.{reads_bytes}
-use Rattle.regress_program.specs.CodeOfTrees.{node_insn_count, loop_count}
+use Rattle.regex_meaning.specs.CompilationRelation.{tree_contains_byte_nodes}
+use Rattle.regress_program.specs.CompilationOfTreesAsFunction.{node_insn_count, loop_count}
 use Rattle.regress_program.specs.declared.emit.EmitError.{EmitError}
 use Rattle.regress_program.specs.declared.emit.EmitError.TheVariants.{NotWellFormed, BytesInUnits, TooManyGroups, TooManyLoops, TooManyInstructions}
 use Rattle.regress_program.specs.declared.emit.EmitError.TheVariants.{Memory}
@@ -50,4 +50,4 @@ IsByteCompileErrorCause e tree = IsCompileErrorCause false e tree
 
 -- the cause of an error of compiling for 16-bit code units
 abbrev pub IsUnitCompileErrorCause : EmitError → Tree → Type 0
-IsUnitCompileErrorCause e tree = IsCompileErrorCause (reads_bytes tree.root) e tree
+IsUnitCompileErrorCause e tree = IsCompileErrorCause (tree_contains_byte_nodes tree.root) e tree

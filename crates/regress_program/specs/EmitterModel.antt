@@ -5,9 +5,9 @@ use Rattle.regex_meaning.specs.CompilationRelation.{Insn}
 use Rattle.regex_pattern_front.specs.OptimizedTrees.{reads_one_character}
 use Rattle.regex_pattern_front.specs.AstToSpecTree.{class_as_spec, node_of}
 use Rattle.regress_program.specs.InsnMeanings.{spec_insn_of}
-use Rattle.regress_program.specs.CodeOfTrees.{node_insn_count, loop_count, brackets_of, code_of}
+use Rattle.regress_program.specs.CompilationOfTreesAsFunction.{node_insn_count, loop_count, brackets_of, code_of}
 use Rattle.regress_program.specs.declared.emit.emitter.Emitter.{Emitter}
-use Rattle.regress_program.specs.declared.emit.emitter.EmitMode.{EmitMode}
+use Rattle.regress_program.specs.declared.emit.emitter.FoldingCharLoopLookbehindMode.{FoldingCharLoopLookbehindMode}
 use Rattle.regex_pattern_front.specs.declared.ir.Node as ir
 use Rattle.regress_program.specs.declared.emit.emitter.LookaroundFields as declared
 
@@ -26,20 +26,20 @@ abbrev pub empty_state : EmitterState
 empty_state = record { insns = []; loops = 0; brackets = [] }
 
 -- the state with an instruction appended
-abbrev pub with_insn : Insn → EmitterState → EmitterState
-with_insn x s = record { insns = s.insns ++ x ∷ []; loops = s.loops; brackets = s.brackets }
+abbrev pub with_insn_appended : Insn → EmitterState → EmitterState
+with_insn_appended x s = record { insns = s.insns ++ x ∷ []; loops = s.loops; brackets = s.brackets }
 
 -- the state with instructions appended
-abbrev pub with_insns : List Insn → EmitterState → EmitterState
-with_insns xs s = record { insns = s.insns ++ xs; loops = s.loops; brackets = s.brackets }
+abbrev pub with_insns_appended : List Insn → EmitterState → EmitterState
+with_insns_appended xs s = record { insns = s.insns ++ xs; loops = s.loops; brackets = s.brackets }
 
 -- the state with one more loop
 abbrev pub with_loop : EmitterState → EmitterState
 with_loop s = record { insns = s.insns; loops = s.loops + 1; brackets = s.brackets }
 
 -- the state with a bracket appended
-abbrev pub with_bracket : BracketContents → EmitterState → EmitterState
-with_bracket contents s = record { insns = s.insns; loops = s.loops; brackets = s.brackets ++ contents ∷ [] }
+abbrev pub with_bracket_table_entry : BracketContents → EmitterState → EmitterState
+with_bracket_table_entry contents s = record { insns = s.insns; loops = s.loops; brackets = s.brackets ++ contents ∷ [] }
 
 -- the state with the instruction at an index replaced
 abbrev pub with_insn_at : (place : ℕ) → Insn → EmitterState → EmitterState
@@ -54,7 +54,7 @@ with_code unicode behind node s = record {
 }
 
 -- the emitter `after` is `before` with the code of the node appended
-abbrev pub IsEmitted : EmitMode → Node → (before after : Emitter) → Type 0
+abbrev pub IsEmitted : FoldingCharLoopLookbehindMode → Node → (before after : Emitter) → Type 0
 IsEmitted mode node before after = emitter_state after ≡ with_code mode.unicode mode.behind node (emitter_state before)
 
 -- the strings of a set, each as a list of code points
@@ -62,30 +62,30 @@ abbrev pub strings_as_code_points : {R : Type 0} → List (Vec ℕ R) → List (
 strings_as_code_points strings = map (λ s. s.items) strings
 
 -- a declared lookaround as the tree's
-abbrev pub lookaround_of : declared.LookaroundFields → Lookaround
-lookaround_of l = record { negate = l.negate; backwards = l.backwards; start_group = l.start_group; end_group = l.end_group }
+abbrev pub lookaround_as_spec : declared.LookaroundFields → Lookaround
+lookaround_as_spec l = record { negate = l.negate; backwards = l.backwards; start_group = l.start_group; end_group = l.end_group }
 
 -- The node whose code is emitted. If `narrow` is set, each loop over a node that reads one
 -- character becomes a char loop, and otherwise the node is unchanged.
-unfoldable pub with_char_loops : (narrow : Bool) → Node → Node
-with_char_loops narrow (cat first rest) = cat (with_char_loops narrow first) (with_char_loops narrow rest)
-with_char_loops narrow (alt left right) = alt (with_char_loops narrow left) (with_char_loops narrow right)
-with_char_loops narrow (capture_group id name contents) = capture_group id name (with_char_loops narrow contents)
-with_char_loops narrow (lookaround l contents) = lookaround l (with_char_loops narrow contents)
-with_char_loops narrow (loop q start_group end_group loopee) =
+unfoldable pub node_with_char_loops_if_enabled : (narrow : Bool) → Node → Node
+node_with_char_loops_if_enabled narrow (cat first rest) = cat (node_with_char_loops_if_enabled narrow first) (node_with_char_loops_if_enabled narrow rest)
+node_with_char_loops_if_enabled narrow (alt left right) = alt (node_with_char_loops_if_enabled narrow left) (node_with_char_loops_if_enabled narrow right)
+node_with_char_loops_if_enabled narrow (capture_group id name contents) = capture_group id name (node_with_char_loops_if_enabled narrow contents)
+node_with_char_loops_if_enabled narrow (lookaround l contents) = lookaround l (node_with_char_loops_if_enabled narrow contents)
+node_with_char_loops_if_enabled narrow (loop q start_group end_group loopee) =
     if narrow && reads_one_character loopee
-    then loop_1_char_body q (with_char_loops narrow loopee)
-    else loop q start_group end_group (with_char_loops narrow loopee)
-with_char_loops narrow (loop_1_char_body q loopee) = loop_1_char_body q (with_char_loops narrow loopee)
-with_char_loops narrow node = node
+    then loop_1_char_body q (node_with_char_loops_if_enabled narrow loopee)
+    else loop q start_group end_group (node_with_char_loops_if_enabled narrow loopee)
+node_with_char_loops_if_enabled narrow (loop_1_char_body q loopee) = loop_1_char_body q (node_with_char_loops_if_enabled narrow loopee)
+node_with_char_loops_if_enabled narrow node = node
 
 -- the node whose code is emitted for a declared node, in a mode
-abbrev pub with_char_loops_in : EmitMode → ir.Node → Node
-with_char_loops_in mode node = with_char_loops mode.narrow (node_of node)
+abbrev pub node_with_char_loops_of_mode : FoldingCharLoopLookbehindMode → ir.Node → Node
+node_with_char_loops_of_mode mode node = node_with_char_loops_if_enabled mode.narrow (node_of node)
 
 -- the tree whose code is emitted
 abbrev pub tree_with_char_loops : (narrow : Bool) → Tree → Tree
-tree_with_char_loops narrow tree = record { root = with_char_loops narrow tree.root; flags = tree.flags }
+tree_with_char_loops narrow tree = record { root = node_with_char_loops_if_enabled narrow tree.root; flags = tree.flags }
 
 -- The indexes of the instructions and loops that the node adds are in range.
 pub record HasIndexRoom (s : EmitterState) (node : Node) : Type 0 where

@@ -2,7 +2,7 @@
 use Rattle.std.specs.Prelude.{◌≡◌, ℕ, List}
 use Rattle.regress_program.specs.GroupIds as ids
 use Rattle.regress_program.specs.GroupIds.{joined, span_of_group_ids}
-use Rattle.regress_program.specs.declared.emit.group_id_checks.GroupIdSpan.{GroupIdSpan}
+use Rattle.regress_program.specs.declared.emit.group_id_and_range_checks.GroupIdSpan.{GroupIdSpan}
 
 -- a declared span as numbers
 abbrev pub as_number_span : GroupIdSpan → ids.GroupIdSpanNumbers

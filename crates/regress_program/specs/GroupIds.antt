@@ -5,7 +5,7 @@ use Rattle.std.specs.Int.{bit_at}
 use Rattle.regex_meaning.specs.NumberListHelpers.{contains}
 use Rattle.regex_meaning.specs.Tree.{Node, group_ids, every_node_passes}
 use Rattle.regex_meaning.specs.WellFormedTrees.{names_the_groups_inside, encloses, refers_to_a_group, has_order_in_quantifier, has_one_character_body}
-use Rattle.regex_meaning.specs.WellFormedTrees.{has_text_in_sequence, fits_instructions}
+use Rattle.regex_meaning.specs.WellFormedTrees.{has_text_in_sequence, sets_and_strings_fit_instructions}
 
 -- the bitmap has no bit for the id; 1,024 words have a bit for each possible id
 abbrev pub is_outside_bitmap : (words : ℕ) → ℕ → Bool
@@ -25,9 +25,9 @@ are_distinct_unseen seen [] = true
 are_distinct_unseen seen (id ∷ ids) = not (seen id) && are_distinct_unseen (λ k. seen k || k == id) ids
 
 -- the least id, and 2^16 if there is none
-unfoldable pub least : List ℕ → ℕ
-least [] = 2 ^ 16
-least (id ∷ ids) = min id (least ids)
+unfoldable pub least_group_id : List ℕ → ℕ
+least_group_id [] = 2 ^ 16
+least_group_id (id ∷ ids) = min id (least_group_id ids)
 
 -- one past the greatest id, and 0 if there is none
 unfoldable pub id_end : List ℕ → ℕ
@@ -36,13 +36,13 @@ id_end (id ∷ ids) = max (id + 1) (id_end ids)
 
 -- no id inside the node is seen or occurs twice, and loops and lookarounds name the groups inside
 -- them
-abbrev pub has_valid_group_ids : (seen : ℕ → Bool) → Node → Bool
-has_valid_group_ids seen node = are_distinct_unseen seen (group_ids node) && every_node_passes names_the_groups_inside node
+abbrev pub ids_are_distinct_and_node_ranges_exact : (seen : ℕ → Bool) → Node → Bool
+ids_are_distinct_and_node_ranges_exact seen node = are_distinct_unseen seen (group_ids node) && every_node_passes names_the_groups_inside node
 
--- `has_valid_group_ids` for a node inside a loop or a lookaround that names the groups from `start` up to
+-- `ids_are_distinct_and_node_ranges_exact` for a node inside a loop or a lookaround that names the groups from `start` up to
 -- `end`
-abbrev pub has_valid_group_ids_within : (seen : ℕ → Bool) (start end : ℕ) → Node → Bool
-has_valid_group_ids_within seen start end node = are_distinct_unseen seen (group_ids node) && (encloses start end node && every_node_passes names_the_groups_inside node)
+abbrev pub has_distinct_ids_filling_range : (seen : ℕ → Bool) (start end : ℕ) → Node → Bool
+has_distinct_ids_filling_range seen start end node = are_distinct_unseen seen (group_ids node) && (encloses start end node && every_node_passes names_the_groups_inside node)
 
 -- the number of ids, the least of them, and one past the greatest
 pub record GroupIdSpanNumbers : Type 0 where
@@ -52,7 +52,7 @@ pub record GroupIdSpanNumbers : Type 0 where
 
 -- the number of ids, which saturates at 2^64 - 1, the least of them, and one past the greatest
 abbrev pub span_of_group_ids : List ℕ → GroupIdSpanNumbers
-span_of_group_ids ids = record { count = min (length ids) (2 ^ 64 - 1); low = least ids; high = id_end ids }
+span_of_group_ids ids = record { count = min (length ids) (2 ^ 64 - 1); low = least_group_id ids; high = id_end ids }
 
 -- the span of the ids of both spans
 abbrev pub joined : GroupIdSpanNumbers → GroupIdSpanNumbers → GroupIdSpanNumbers
@@ -61,4 +61,4 @@ joined a b = record { count = min (a.count + b.count) (2 ^ 64 - 1); low = min a.
 -- the conditions on a node by itself, in a tree with `groups` groups
 abbrev pub is_well_formed_node : (groups : ℕ) → Node → Bool
 is_well_formed_node groups node =
-    refers_to_a_group groups node && has_order_in_quantifier node && has_one_character_body node && has_text_in_sequence node && fits_instructions node
+    refers_to_a_group groups node && has_order_in_quantifier node && has_one_character_body node && has_text_in_sequence node && sets_and_strings_fit_instructions node

@@ -2,11 +2,11 @@
 use Rattle.std.specs.Prelude.{◌≡◌, ℕ, ◌+◌, ◌*◌, ◌<◌, Bool, List, [], ◌∷◌, ◌++◌, length, map, set, ◌==◌, String, string_bytes}
 use Rattle.std.specs.List.{list_all}
 use Rattle.regex_meaning.specs.Tree.{Node as TreeNode}
-use Rattle.regex_meaning.specs.Captures.{own_name, capturing_group_ids_and_names}
+use Rattle.regex_meaning.specs.GroupsByNumberAndName.{own_name, capturing_group_ids_and_names}
 use Rattle.regex_pattern_front.specs.AstToSpecTree.{node_of}
 use Rattle.regex_pattern_front.specs.declared.ir.Node as ir
-use Rattle.regress_program.specs.NodeListsAndLeaves.{cat_of}
-use Rattle.regress_program.specs.InnerNodeCounts.{inner_node_count}
+use Rattle.regress_program.specs.LeavesListsAndCharLoops.{cat_of}
+use Rattle.regress_program.specs.InnerNodeCountMeasure.{inner_node_count}
 use Rattle.regress_program.specs.declared.emit.group_names.SubtreeWithPendingNames.{SubtreeWithPendingNames}
 use Rattle.regress_program.specs.declared.emit.group_names.SubtreeWithPendingNames.TheVariants.{Node, Row}
 
@@ -15,8 +15,8 @@ abbrev pub is_nameless : TreeNode → Bool
 is_nameless node = list_all (λ p. length p.1 == 0) (own_name node)
 
 -- no group of the tree has a name
-abbrev pub is_unnamed : TreeNode → Bool
-is_unnamed root = list_all (λ p. length p.1 == 0) (capturing_group_ids_and_names root)
+abbrev pub has_no_named_groups : TreeNode → Bool
+has_no_named_groups root = list_all (λ p. length p.1 == 0) (capturing_group_ids_and_names root)
 
 -- the names after each given name was stored at the index of its id, one after another
 abbrev pub with_names_stored_by_id : List (ℕ × List ℕ) → (names : List (List ℕ)) → List (List ℕ)
@@ -24,8 +24,8 @@ with_names_stored_by_id [] names = names
 with_names_stored_by_id (named ∷ others) names = with_names_stored_by_id others (set names named.0 named.1)
 
 -- storing these names leads from the old strings to the new ones
-abbrev pub StoresNames : {R : Type 0} → List (ℕ × List ℕ) → (old new : List (String R)) → Type 0
-StoresNames named old new = map string_bytes new ≡ with_names_stored_by_id named (map string_bytes old)
+abbrev pub IsNameListAfterStoringNames : {R : Type 0} → List (ℕ × List ℕ) → (old new : List (String R)) → Type 0
+IsNameListAfterStoringNames named old new = map string_bytes new ≡ with_names_stored_by_id named (map string_bytes old)
 
 -- ---- Pending parts
 
@@ -59,20 +59,20 @@ total_measure (next ∷ rest) = naming_measure next + total_measure rest
 
 -- Some of these names were stored, and the parts with the others were put before the rest. The
 -- measure grew by less than `cost`.
-pub record StoresSomeNames (named : List (ℕ × List ℕ)) (cost : ℕ) (old new : List (List ℕ)) (before after : List SubtreeWithPendingNames) : Type 0 where
+pub record StoresNamesOrPushesNodes (named : List (ℕ × List ℕ)) (cost : ℕ) (old new : List (List ℕ)) (before after : List SubtreeWithPendingNames) : Type 0 where
   pub names : pending_names_stored after new ≡ pending_names_stored before (with_names_stored_by_id named old)
   pub less : total_measure after < total_measure before + cost
 
--- `StoresSomeNames` for strings
-abbrev pub StoresSomeStrings : {R : Type 0} → List (ℕ × List ℕ) → (cost : ℕ) → (old new : List (String R)) → (before after : List SubtreeWithPendingNames) → Type 0
-StoresSomeStrings named cost old new before after = StoresSomeNames named cost (map string_bytes old) (map string_bytes new) before after
+-- `StoresNamesOrPushesNodes` for strings
+abbrev pub StoresNameStringsOrPushesNodes : {R : Type 0} → List (ℕ × List ℕ) → (cost : ℕ) → (old new : List (String R)) → (before after : List SubtreeWithPendingNames) → Type 0
+StoresNameStringsOrPushesNodes named cost old new before after = StoresNamesOrPushesNodes named cost (map string_bytes old) (map string_bytes new) before after
 
 -- the nodes of a list were put before the rest, except for leading ones without names
-abbrev pub PushesNodesOfList : List ir.Node → (before after : List SubtreeWithPendingNames) → Type 0
-PushesNodesOfList nodes before after = (names : List (List ℕ)) → StoresSomeNames (capturing_group_ids_and_names (cat_of nodes)) (node_list_measure nodes) names names before after
+abbrev pub PushesNodesSkippingLeadingNameless : List ir.Node → (before after : List SubtreeWithPendingNames) → Type 0
+PushesNodesSkippingLeadingNameless nodes before after = (names : List (List ℕ)) → StoresNamesOrPushesNodes (capturing_group_ids_and_names (cat_of nodes)) (node_list_measure nodes) names names before after
 
 -- two nodes were put before the rest
 abbrev pub PushesTwoNodes : (first others : ir.Node) → (before after : List SubtreeWithPendingNames) → Type 0
 PushesTwoNodes first others before after =
     let cost = node_measure (node_of first) + node_measure (node_of others) + 1 in
-    (names : List (List ℕ)) → StoresSomeNames (capturing_group_ids_and_names (node_of first) ++ capturing_group_ids_and_names (node_of others)) cost names names before after
+    (names : List (List ℕ)) → StoresNamesOrPushesNodes (capturing_group_ids_and_names (node_of first) ++ capturing_group_ids_and_names (node_of others)) cost names names before after

@@ -7,11 +7,11 @@ use Rattle.regress_program.specs.declared.insn.start_predicates.StartPredicate.T
 use Rattle.regress_program.specs.declared.insn.start_predicates.StartPredicate.TheVariants.{StartAnchored}
 
 -- the start predicate that a value stands for
-abbrev pub start_predicate_of : StartPredicate → predicate.StartPredicate
-start_predicate_of Arbitrary = predicate.start_arbitrary
-start_predicate_of (ByteSet1 bytes) = predicate.start_byte_set bytes
-start_predicate_of (ByteSet2 bytes) = predicate.start_byte_set bytes
-start_predicate_of (ByteSet3 bytes) = predicate.start_byte_set bytes
-start_predicate_of (ByteSeq bytes) = predicate.start_byte_sequence bytes.items
-start_predicate_of (ByteBracket set) = predicate.start_byte_set (byte_bitmap_bytes set)
-start_predicate_of StartAnchored = predicate.start_anchored
+abbrev pub spec_start_predicate_of : StartPredicate → predicate.StartPredicate
+spec_start_predicate_of Arbitrary = predicate.start_arbitrary
+spec_start_predicate_of (ByteSet1 bytes) = predicate.start_byte_set bytes
+spec_start_predicate_of (ByteSet2 bytes) = predicate.start_byte_set bytes
+spec_start_predicate_of (ByteSet3 bytes) = predicate.start_byte_set bytes
+spec_start_predicate_of (ByteSeq bytes) = predicate.start_byte_sequence bytes.items
+spec_start_predicate_of (ByteBracket set) = predicate.start_byte_set (byte_bitmap_bytes set)
+spec_start_predicate_of StartAnchored = predicate.start_anchored

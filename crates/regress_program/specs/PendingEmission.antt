@@ -3,15 +3,15 @@ use Rattle.std.specs.Prelude.{◌≡◌, ℕ, ◌+◌, ◌*◌, ◌<◌, ◌^◌
 use Rattle.std.specs.List.{list_all}
 use Rattle.regex_meaning.specs.Tree.{Lookaround, Node as TreeNode, every_node_passes}
 use Rattle.regex_meaning.specs.CompilationRelation.{Alt, EnterLoop, EndCaptureGroup, Goal, Jump, LoopAgain, lookaround_insn}
-use Rattle.regex_meaning.specs.WellFormedTrees.{fits_instructions}
+use Rattle.regex_meaning.specs.WellFormedTrees.{sets_and_strings_fit_instructions}
 use Rattle.regex_pattern_front.specs.AstToSpecTree.{node_of}
 use Rattle.regex_pattern_front.specs.declared.ir.Node as ir
 use Rattle.regress_plan.specs.declared.insn.LoopFields.{LoopFields}
-use Rattle.regress_program.specs.NodeListsAndLeaves.{cat_of}
-use Rattle.regress_program.specs.InnerNodeCounts.{inner_node_count}
-use Rattle.regress_program.specs.EmitterModel.{EmitterState, emitter_state, with_code, with_insn, with_insn_at, with_char_loops, lookaround_of}
+use Rattle.regress_program.specs.LeavesListsAndCharLoops.{cat_of}
+use Rattle.regress_program.specs.InnerNodeCountMeasure.{inner_node_count}
+use Rattle.regress_program.specs.EmitterModel.{EmitterState, emitter_state, with_code, with_insn_appended, with_insn_at, node_with_char_loops_if_enabled, lookaround_as_spec}
 use Rattle.regress_program.specs.declared.emit.emitter.Emitter.{Emitter}
-use Rattle.regress_program.specs.declared.emit.emitter.EmitMode.{EmitMode}
+use Rattle.regress_program.specs.declared.emit.emitter.FoldingCharLoopLookbehindMode.{FoldingCharLoopLookbehindMode}
 use Rattle.regress_program.specs.declared.emit.nested_nodes.PendingCode.{PendingCode}
 use Rattle.regress_program.specs.declared.emit.nested_nodes.PendingCode.TheVariants.{Node, Row, Others, Jump as JumpLeft, GroupEnd, LookaroundEnd, LoopEnd}
 
@@ -24,33 +24,33 @@ with_jump place s = with_insn_at place (Jump (length s.insns)) s
 -- an alternative ends with a jump, and the branch before it gets the next alternative as its target
 abbrev pub with_arm_end : (branch : ℕ) → EmitterState → EmitterState
 with_arm_end branch s =
-    let t = with_insn (Jump 0) s in
+    let t = with_insn_appended (Jump 0) s in
     with_insn_at branch (Alt (length t.insns)) t
 
 -- the other alternatives are emitted, and the jump before them gets their end as its target
-abbrev pub with_remaining_alternatives : (unicode behind : Bool) → (branch : ℕ) → (others : TreeNode) → EmitterState → EmitterState
-with_remaining_alternatives unicode behind branch others s = with_jump (length s.insns) (with_code unicode behind others (with_arm_end branch s))
+abbrev pub with_remaining_alternatives_emitted : (unicode behind : Bool) → (branch : ℕ) → (others : TreeNode) → EmitterState → EmitterState
+with_remaining_alternatives_emitted unicode behind branch others s = with_jump (length s.insns) (with_code unicode behind others (with_arm_end branch s))
 
 -- a lookaround ends with `Goal`, and its first instruction gets the current end as its continuation
 abbrev pub with_lookaround_end : Lookaround → (head : ℕ) → EmitterState → EmitterState
 with_lookaround_end l head s =
-    let t = with_insn Goal s in
+    let t = with_insn_appended Goal s in
     with_insn_at head (lookaround_insn l (length t.insns)) t
 
 -- a loop ends with `LoopAgain`, and its first instruction gets the current end as its exit
 abbrev pub with_loop_end : LoopFields → (begin : ℕ) → EmitterState → EmitterState
 with_loop_end f begin s =
-    let t = with_insn (LoopAgain begin) s in
+    let t = with_insn_appended (LoopAgain begin) s in
     with_insn_at begin (EnterLoop (record { loop_id = f.loop_id; min_iters = f.min_iters; max_iters = f.max_iters; greedy = f.greedy; exit = length t.insns })) t
 
 -- the state after a pending part was emitted
 unfoldable pub with_pending : PendingCode → EmitterState → EmitterState
-with_pending (Node mode node) s = with_code mode.unicode mode.behind (with_char_loops mode.narrow (node_of node.now)) s
-with_pending (Row mode nodes) s = with_code mode.unicode mode.behind (with_char_loops mode.narrow (cat_of nodes.now)) s
-with_pending (Others mode branch others) s = with_remaining_alternatives mode.unicode mode.behind branch (with_char_loops mode.narrow (node_of others.now)) s
+with_pending (Node mode node) s = with_code mode.unicode mode.behind (node_with_char_loops_if_enabled mode.narrow (node_of node.now)) s
+with_pending (Row mode nodes) s = with_code mode.unicode mode.behind (node_with_char_loops_if_enabled mode.narrow (cat_of nodes.now)) s
+with_pending (Others mode branch others) s = with_remaining_alternatives_emitted mode.unicode mode.behind branch (node_with_char_loops_if_enabled mode.narrow (node_of others.now)) s
 with_pending (JumpLeft place) s = with_jump place s
-with_pending (GroupEnd id) s = with_insn (EndCaptureGroup id) s
-with_pending (LookaroundEnd look head) s = with_lookaround_end (lookaround_of look) head s
+with_pending (GroupEnd id) s = with_insn_appended (EndCaptureGroup id) s
+with_pending (LookaroundEnd look head) s = with_lookaround_end (lookaround_as_spec look) head s
 with_pending (LoopEnd fields begin) s = with_loop_end fields begin s
 
 -- the state after all pending parts were emitted, the last one first
@@ -62,9 +62,9 @@ with_all_pending (r ∷ rest) s = with_pending r (with_all_pending rest s)
 
 -- The sets of the part's nodes fit instructions, and its indexes are less than `end`.
 unfoldable pub is_emittable : (end : ℕ) → PendingCode → Bool
-is_emittable end (Node mode node) = every_node_passes fits_instructions (node_of node.now)
-is_emittable end (Row mode nodes) = every_node_passes fits_instructions (cat_of nodes.now)
-is_emittable end (Others mode branch others) = nat_lt branch end && every_node_passes fits_instructions (node_of others.now)
+is_emittable end (Node mode node) = every_node_passes sets_and_strings_fit_instructions (node_of node.now)
+is_emittable end (Row mode nodes) = every_node_passes sets_and_strings_fit_instructions (cat_of nodes.now)
+is_emittable end (Others mode branch others) = nat_lt branch end && every_node_passes sets_and_strings_fit_instructions (node_of others.now)
 is_emittable end (JumpLeft place) = nat_lt place end
 is_emittable end (GroupEnd id) = true
 is_emittable end (LookaroundEnd look head) = nat_lt head end
@@ -92,9 +92,9 @@ node_measure node = 5 * inner_node_count node + 2
 
 -- the measure of a pending part
 unfoldable pub pending_measure : PendingCode → ℕ
-pending_measure (Node mode node) = node_measure (with_char_loops mode.narrow (node_of node.now))
-pending_measure (Row mode nodes) = 5 * inner_node_count (with_char_loops mode.narrow (cat_of nodes.now)) + 1
-pending_measure (Others mode branch others) = node_measure (with_char_loops mode.narrow (node_of others.now)) + 2
+pending_measure (Node mode node) = node_measure (node_with_char_loops_if_enabled mode.narrow (node_of node.now))
+pending_measure (Row mode nodes) = 5 * inner_node_count (node_with_char_loops_if_enabled mode.narrow (cat_of nodes.now)) + 1
+pending_measure (Others mode branch others) = node_measure (node_with_char_loops_if_enabled mode.narrow (node_of others.now)) + 2
 pending_measure _ = 1
 
 -- the sum of the measures of the pending parts
@@ -117,22 +117,22 @@ pub record ExpandsPending (effect : EmitterState → EmitterState) (cost : ℕ) 
   pub less : total_measure after.rest < total_measure before.rest + cost
 
 -- a pending part was emitted or begun
-abbrev pub EmitsPending : PendingCode → (before after : EmitWork) → Type 0
-EmitsPending r before after = ExpandsPending (with_pending r) (pending_measure r) before after
+abbrev pub EmitsOrBeginsPendingPart : PendingCode → (before after : EmitWork) → Type 0
+EmitsOrBeginsPendingPart r before after = ExpandsPending (with_pending r) (pending_measure r) before after
 
 -- the code of a node was begun
-abbrev pub BeginsNode : EmitMode → TreeNode → (before after : EmitWork) → Type 0
-BeginsNode mode node before after = ExpandsPending (with_code mode.unicode mode.behind node) (node_measure node) before after
+abbrev pub BeginsEmittingNode : FoldingCharLoopLookbehindMode → TreeNode → (before after : EmitWork) → Type 0
+BeginsEmittingNode mode node before after = ExpandsPending (with_code mode.unicode mode.behind node) (node_measure node) before after
 
 -- the alternatives after the first were begun
-abbrev pub BeginsRemainingAlternatives : EmitMode → (branch : ℕ) → TreeNode → (before after : EmitWork) → Type 0
-BeginsRemainingAlternatives mode branch others before after =
-    ExpandsPending (with_remaining_alternatives mode.unicode mode.behind branch others) (node_measure others + 2) before after
+abbrev pub BeginsEmittingRemainingAlternatives : FoldingCharLoopLookbehindMode → (branch : ℕ) → TreeNode → (before after : EmitWork) → Type 0
+BeginsEmittingRemainingAlternatives mode branch others before after =
+    ExpandsPending (with_remaining_alternatives_emitted mode.unicode mode.behind branch others) (node_measure others + 2) before after
 
 -- the nodes of a list were begun
-abbrev pub BeginsNodeList : EmitMode → List ir.Node → (before after : EmitWork) → Type 0
-BeginsNodeList mode nodes before after =
-    let row = with_char_loops mode.narrow (cat_of nodes) in
+abbrev pub BeginsEmittingNodeList : FoldingCharLoopLookbehindMode → List ir.Node → (before after : EmitWork) → Type 0
+BeginsEmittingNodeList mode nodes before after =
+    let row = node_with_char_loops_if_enabled mode.narrow (cat_of nodes) in
     ExpandsPending (with_code mode.unicode mode.behind row) (5 * inner_node_count row + 1) before after
 
 -- the state of an emitter, and its pending parts

@@ -2,15 +2,15 @@
 
 ghost use Rattle.std.specs.Prelude.{◌≡◌, ◌<◌, ◌^◌, true, false, length, IfOk, OnOk, IfErr};
 ghost use Rattle.std.specs.Arc.{arc_value};
-ghost use Rattle.regex_meaning.specs.{Tree.{group_ids}, CompilationRelation.{IsByteCodeOf, IsUnitCodeOf}};
+ghost use Rattle.regex_meaning.specs.{Tree.{group_ids}, CompilationRelation.{IsByteProgramOfTree, Is16BitProgramOfTree}};
 ghost use Rattle.regex_pattern_front.specs.{AstToSpecTree.{tree_of}, declared.ir.Regex.{Regex}};
-ghost use Rattle.regress_program.specs.{CodeOfTrees.{compiled, node_insn_count}, EmitterModel.{tree_with_char_loops}, ProgramFields.{IsCodeOfTree, IsUnitPlanOf}, TreeToRun.{tree_to_run}};
+ghost use Rattle.regress_program.specs.{CompilationOfTreesAsFunction.{compiled, node_insn_count}, EmitterModel.{tree_with_char_loops}, ProgramFieldsMatchTree.{IsCodeOfTree, Is16BitPlanAndCodeOf}, OptimizedTreeUnlessNoOpt.{optimized_tree_unless_no_opt}};
 ghost use Rattle.regress_program.specs.CompileRefusals.{IsByteCompileErrorCause, IsUnitCompileErrorCause, IsCompileErrorCause, FitsLimits};
 
 mod brackets;
-mod byte_node_checks;
+mod byte_node_and_char_loop_detectors;
 mod emitter;
-mod group_id_checks;
+mod group_id_and_range_checks;
 mod group_names;
 mod leaf_insns;
 mod literals;
@@ -19,18 +19,22 @@ mod program_size;
 mod tree_walk;
 mod well_formedness_check;
 
-use crate::emit::byte_node_checks::{has_no_one_char_loop, reads_bytes};
-use crate::emit::emitter::{EmitMode, Emitter};
+use crate::emit::byte_node_and_char_loop_detectors::{
+    has_no_one_char_loop, tree_contains_byte_nodes,
+};
+use crate::emit::emitter::{Emitter, FoldingCharLoopLookbehindMode};
 use crate::emit::group_names::names_by_id;
 use crate::emit::program_size::ProgramSize;
 pub use crate::emit::well_formedness_check::is_well_formed;
 use crate::ghost_source_tree::GhostSourceTree;
-use crate::insn::{CodeUnitPlan, CompiledRegex, CompiledUnits, EmittedCode, GroupNames, Program};
+use crate::insn::{
+    CompiledRegex, CompiledUnits, EmittedCode, GroupNames, PlanAndCodeFor16BitUnits, Program,
+};
 use crate::startpredicate::predicate_for_re;
 use regex_pattern_front::ir;
 use regex_pattern_front::optimizer::optimize;
 use regex_pattern_front::types::{LoopID, MAX_CAPTURE_GROUPS};
-use regress_plan::plan::{Plan, PlanInput};
+use regress_plan::plan::{Plan, ProgramPartsForPlan};
 use regress_plan::table_keys_of_units::UnitWidth;
 use std::alloc::{AllocError, Global};
 use std::sync::Arc;
@@ -79,7 +83,7 @@ impl From<AllocError> for EmitError {
 /// tree that passes all the other checks.
 pub fn emit(alloc: Global, re: &ir::Regex) -> Result<CompiledRegex, EmitError>
     ensures tree { IfOk result (λ p. p ≡ re.now) }
-    ensures code { OnOk result (IsByteCodeOf (compiled (tree_of re.now)) (tree_of re.now)) }
+    ensures code { OnOk result (IsByteProgramOfTree (compiled (tree_of re.now)) (tree_of re.now)) }
     ensures fits { OnOk result (FitsLimits (tree_of re.now)) }
     ensures refused { IfErr result (λ e. IsByteCompileErrorCause e (tree_of re.now)) }
 {
@@ -97,11 +101,11 @@ pub fn emit(alloc: Global, re: &ir::Regex) -> Result<CompiledRegex, EmitError>
 /// returned only for a tree that passes all the other checks.
 pub fn emit_units(alloc: Global, re: &ir::Regex) -> Result<CompiledUnits, EmitError>
     ensures tree { IfOk result (λ p. p ≡ re.now) }
-    ensures code { OnOk result (IsUnitCodeOf (compiled (tree_of re.now)) (tree_of re.now)) }
+    ensures code { OnOk result (Is16BitProgramOfTree (compiled (tree_of re.now)) (tree_of re.now)) }
     ensures fits { OnOk result (FitsLimits (tree_of re.now)) }
     ensures refused { IfErr result (λ e. IsUnitCompileErrorCause e (tree_of re.now)) }
 {
-    let program = compile_common_part(alloc, re, reads_bytes(&re.node))?;
+    let program = compile_common_part(alloc, re, tree_contains_byte_nodes(&re.node))?;
     let code = code_to_run(alloc, re, &program)?;
     let run = unit_plan_of(alloc, code, program.groups())?;
     Ok(CompiledUnits { program, run })
@@ -116,16 +120,16 @@ pub fn emit_units(alloc: Global, re: &ir::Regex) -> Result<CompiledUnits, EmitEr
 /// Returns the errors of `emit_units`.
 pub fn emit_both(alloc: Global, re: ir::Regex) -> Result<(CompiledRegex, CompiledUnits), EmitError>
     ensures units { IfOk result (λ both. both.1 ≡ re) }
-    ensures bytes { IfOk result (λ both. tree_of both.0 ≡ tree_to_run (tree_of re)) }
-    ensures unit_code { OnOk result (IsUnitCodeOf (compiled (tree_of re)) (tree_of re)) }
-    ensures byte_code { OnOk result (let run = tree_to_run (tree_of re) in IsByteCodeOf (compiled run) run) }
+    ensures bytes { IfOk result (λ both. tree_of both.0 ≡ optimized_tree_unless_no_opt (tree_of re)) }
+    ensures unit_code { OnOk result (Is16BitProgramOfTree (compiled (tree_of re)) (tree_of re)) }
+    ensures byte_code { OnOk result (let run = optimized_tree_unless_no_opt (tree_of re) in IsByteProgramOfTree (compiled run) run) }
     ensures refused { IfErr result (λ e. IsUnitCompileErrorCause e (tree_of re)) }
 {
-    let program = compile_common_part(alloc, &re, reads_bytes(&re.node))?;
+    let program = compile_common_part(alloc, &re, tree_contains_byte_nodes(&re.node))?;
     let code = code_to_run(alloc, &re, &program)?;
     let run = unit_plan_of(alloc, code.clone()?, program.groups())?;
     let tree = to_run(re);
-    let optimized = program.with_code(code, &tree)?;
+    let optimized = program.with_code_of_tree_to_run(code, &tree)?;
     let cr = byte_program_of(alloc, &tree, optimized)?;
     Ok((cr, CompiledUnits { program, run }))
 }
@@ -141,7 +145,7 @@ fn byte_program_of(
     ensures { IfOk result (λ p. p ≡ re.now) }
 {
     let start_pred = predicate_for_re(alloc, re)?;
-    let plan = program.planned(UnitWidth::Bytes)?;
+    let plan = program.plan_of_own_code(UnitWidth::Bytes)?;
     Ok(CompiledRegex {
         program,
         start_pred,
@@ -151,7 +155,7 @@ fn byte_program_of(
 
 // Returns the tree to run: the optimized tree, or the tree itself if the flag `no_opt` is set.
 fn to_run(mut tree: ir::Regex) -> ir::Regex
-    ensures { tree_of result ≡ tree_to_run (tree_of tree) }
+    ensures { tree_of result ≡ optimized_tree_unless_no_opt (tree_of tree) }
 {
     if tree.flags.no_opt {
         return tree;
@@ -169,7 +173,7 @@ fn code_to_run(
 ) -> Result<Arc<EmittedCode, Global>, AllocError>
     requires fits { FitsLimits (tree_of re.now) }
     requires same { program.now ≡ re.now }
-    ensures { IfOk result (λ code. IsCodeOfTree (tree_to_run (tree_of re.now)) (arc_value code)) }
+    ensures { IfOk result (λ code. IsCodeOfTree (optimized_tree_unless_no_opt (tree_of re.now)) (arc_value code)) }
 {
     if is_run_itself(re) {
         return program.code();
@@ -179,7 +183,7 @@ fn code_to_run(
 
 // Checks whether the tree to run is the tree itself, because optimizing changes nothing or is off.
 fn is_run_itself(re: &ir::Regex) -> bool
-    ensures itself { result ≡ true → tree_to_run (tree_of re.now) ≡ tree_of re.now }
+    ensures itself { result ≡ true → optimized_tree_unless_no_opt (tree_of re.now) ≡ tree_of re.now }
     ensures optimized { result ≡ false → re.now.flags.no_opt ≡ false }
 {
     if re.flags.no_opt {
@@ -194,18 +198,18 @@ fn unit_plan_of(
     alloc: Global,
     code: Arc<EmittedCode, Global>,
     groups: u32,
-) -> Result<CodeUnitPlan, AllocError>
+) -> Result<PlanAndCodeFor16BitUnits, AllocError>
     requires { length (arc_value code).insns.items < 2 ^ 32 }
-    ensures { IfOk result (λ run. (re : Regex) → IsCodeOfTree (tree_to_run (tree_of re)) (arc_value code)
-        → groups ≡ (compiled (tree_of re)).groups → IsUnitPlanOf re run) }
+    ensures { IfOk result (λ run. (re : Regex) → IsCodeOfTree (optimized_tree_unless_no_opt (tree_of re)) (arc_value code)
+        → groups ≡ (compiled (tree_of re)).groups → Is16BitPlanAndCodeOf re run) }
 {
-    let parts = PlanInput {
+    let parts = ProgramPartsForPlan {
         insns: &code.insns,
         brackets: &code.brackets,
         groups,
     };
     let plan = Plan::new(alloc, parts, UnitWidth::Wide)?;
-    Ok(CodeUnitPlan { plan, code })
+    Ok(PlanAndCodeFor16BitUnits { plan, code })
 }
 
 // Emits the code of a tree. `narrow` says whether each loop over a node that reads one character
@@ -220,13 +224,13 @@ fn emit_code(
     ensures { IfOk result (λ code. IsCodeOfTree (tree_with_char_loops narrow (tree_of re.now)) (arc_value code)) }
 {
     let mut emitter = Emitter::new(alloc, room)?;
-    let mode = EmitMode {
+    let mode = FoldingCharLoopLookbehindMode {
         unicode: re.flags.unicode,
         narrow,
         behind: false,
     };
     emitter.emit(mode, &re.node)?;
-    let code = emitter.end();
+    let code = emitter.into_emitted_code();
     Ok(Arc::new(alloc, code)?)
 }
 
@@ -247,7 +251,7 @@ fn compile_common_part(
         insns: room,
     } = check_limits(re, bytes_in_units)?;
     let code = emit_code(alloc, re, false, room)?;
-    let group_names = GroupNames::shared(names_by_id(alloc, &re.node, groups)?)?;
+    let group_names = GroupNames::from_names_to_share(names_by_id(alloc, &re.node, groups)?)?;
     Ok(Program {
         code,
         groups,
@@ -278,7 +282,7 @@ fn check_limits(re: &ir::Regex, bytes_in_units: bool) -> Result<GroupAndInsnCoun
         return Err(EmitError::BytesInUnits);
     }
     let mut tally = ProgramSize::new();
-    tally.add(&re.node);
+    tally.count_node_and_descendants(&re.node);
     let ProgramSize {
         groups,
         loops,

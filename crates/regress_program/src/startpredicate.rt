@@ -1,18 +1,18 @@
 //! Computes the start predicate of a tree.
-#![tactic(auto, unfolding(regex_pattern_front::specs::AstToSpecTree::node_of, crate::specs::InnerNodeCounts::inner_node_count))]
+#![tactic(auto, unfolding(regex_pattern_front::specs::AstToSpecTree::node_of, crate::specs::InnerNodeCountMeasure::inner_node_count))]
 
 ghost use Rattle.std.specs.Prelude.{◌≡◌, ◌&&◌, not, false, IfOk, IsOk};
-ghost use Rattle.regex_meaning.specs.StartPredicate.{IsSound, is_anchored, start_predicate, resolved_start_predicate as predicate_of, sequence, one_of};
+ghost use Rattle.regex_meaning.specs.StartPredicate.{IsSoundStartPredicateOf, is_anchored, start_predicate, resolved_start_predicate as predicate_of, sequence, one_of};
 ghost use Rattle.regex_meaning.specs.WellFormedTrees.{IsWellFormed};
 ghost use Rattle.regex_pattern_front.specs.{ByteSetMembers.{byte_bitmap_bytes}, AstToSpecTree.{node_of, tree_of}};
-ghost use Rattle.regress_program.specs.{NodeStarts.{as_abstract_start_predicate}, InsnMeanings.{start_predicate_of}, StartPredicates.{IsCompactPredicate, is_sequence, predicate_may_allocate}};
+ghost use Rattle.regress_program.specs.{AbstractStartPredicateJoins.{as_abstract_start_predicate}, InsnMeanings.{spec_start_predicate_of}, StartPredicatesAndAllocation.{IsCompactPredicate, predicate_is_byte_sequence, making_start_predicate_may_allocate}};
 
 mod abstract_start;
 mod first_bytes;
 
 use crate::insn::StartPredicate;
 use crate::startpredicate::abstract_start::{AbstractStartPredicate, abstract_start_of};
-use crate::startpredicate::first_bytes::next_member;
+use crate::startpredicate::first_bytes::least_byte_in_set_from;
 use regex_pattern_front::bytesearch::ByteBitmap;
 use regex_pattern_front::ir;
 use regex_pattern_front::ir::{AnchorType, Node};
@@ -33,11 +33,11 @@ use std::alloc::{AllocError, Global};
 /// for an inverted class. None is allocated if the tree is anchored, or if neither a byte sequence
 /// nor an inverted class is reached before the predicate is decided.
 pub fn predicate_for_re(alloc: Global, re: &ir::Regex) -> Result<StartPredicate, AllocError>
-    ensures predicate { IfOk result (λ p. start_predicate_of p ≡ start_predicate (tree_of re.now)) }
+    ensures predicate { IfOk result (λ p. spec_start_predicate_of p ≡ start_predicate (tree_of re.now)) }
     ensures sound { IsWellFormed (tree_of re.now).root
-        → IfOk result (λ p. IsSound (start_predicate_of p) (tree_of re.now).root) }
+        → IfOk result (λ p. IsSoundStartPredicateOf (spec_start_predicate_of p) (tree_of re.now).root) }
     ensures short { IfOk result IsCompactPredicate }
-    ensures no_memory { predicate_may_allocate (tree_of re.now) ≡ false → IsOk result }
+    ensures no_memory { making_start_predicate_may_allocate (tree_of re.now) ≡ false → IsOk result }
 {
     if matches_at_left_end(re) {
         return Ok(StartPredicate::StartAnchored);
@@ -50,9 +50,9 @@ fn beginning_predicate(
     alloc: Global,
     beginning: AbstractStartPredicate<'_>,
 ) -> Result<StartPredicate, AllocError>
-    ensures predicate { IfOk result (λ p. start_predicate_of p ≡ predicate_of (as_abstract_start_predicate beginning.entry)) }
+    ensures predicate { IfOk result (λ p. spec_start_predicate_of p ≡ predicate_of (as_abstract_start_predicate beginning.entry)) }
     ensures short { IfOk result IsCompactPredicate }
-    ensures no_memory { is_sequence (as_abstract_start_predicate beginning.entry) ≡ false → IsOk result }
+    ensures no_memory { predicate_is_byte_sequence (as_abstract_start_predicate beginning.entry) ≡ false → IsOk result }
 {
     match beginning {
         AbstractStartPredicate::Open | AbstractStartPredicate::Anything => Ok(
@@ -65,7 +65,7 @@ fn beginning_predicate(
 
 // Returns the predicate that a text starts with these bytes.
 fn bytes_predicate(alloc: Global, bytes: &[u8]) -> Result<StartPredicate, AllocError>
-    ensures predicate { IfOk result (λ p. start_predicate_of p ≡ predicate_of (sequence bytes.now)) }
+    ensures predicate { IfOk result (λ p. spec_start_predicate_of p ≡ predicate_of (sequence bytes.now)) }
     ensures short { IfOk result IsCompactPredicate }
 {
     match bytes {
@@ -77,19 +77,19 @@ fn bytes_predicate(alloc: Global, bytes: &[u8]) -> Result<StartPredicate, AllocE
 
 // Returns the predicate that a text starts with a byte of the set.
 fn set_predicate(set: ByteBitmap) -> StartPredicate
-    ensures predicate { start_predicate_of result ≡ predicate_of (one_of (byte_bitmap_bytes set)) }
+    ensures predicate { spec_start_predicate_of result ≡ predicate_of (one_of (byte_bitmap_bytes set)) }
     ensures short { IsCompactPredicate result }
 {
-    let Some(a) = next_member(&set, 0) else {
+    let Some(a) = least_byte_in_set_from(&set, 0) else {
         return StartPredicate::Arbitrary;
     };
-    let Some(b) = next_member(&set, usize::from(a) + 1) else {
+    let Some(b) = least_byte_in_set_from(&set, usize::from(a) + 1) else {
         return StartPredicate::ByteSet1([a]);
     };
-    let Some(c) = next_member(&set, usize::from(b) + 1) else {
+    let Some(c) = least_byte_in_set_from(&set, usize::from(b) + 1) else {
         return StartPredicate::ByteSet2([a, b]);
     };
-    match next_member(&set, usize::from(c) + 1) {
+    match least_byte_in_set_from(&set, usize::from(c) + 1) {
         None => StartPredicate::ByteSet3([a, b, c]),
         Some(_) => StartPredicate::ByteBracket(set),
     }

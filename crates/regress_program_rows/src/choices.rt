@@ -1,7 +1,7 @@
 //! Which arms of alternations may match by what stands next, in words.
 
 use regex_pattern_front::ir::Regex;
-use regress_plan::alternation_dispatch::{ArmDispatchTable, ArmDispatchTables};
+use regress_plan::alternation_dispatch::{ArmDispatchTables, FirstViableArmTable};
 use regress_plan::table_keys_of_units::KEYS;
 use regress_program::emit::{emit, emit_units};
 use std::alloc::{AllocError, Global};
@@ -52,7 +52,7 @@ fn write_each(text: &mut String, choices: &ArmDispatchTables) -> Result<(), Allo
 fn write_rows(
     text: &mut String,
     choices: &ArmDispatchTables,
-    choice: &ArmDispatchTable,
+    choice: &FirstViableArmTable,
 ) -> Result<(), AllocError> {
     let mut before = None;
     for (seen, first) in choice.first.iter().enumerate() {

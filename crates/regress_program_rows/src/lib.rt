@@ -8,9 +8,9 @@ mod classes;
 #[cfg(test)]
 mod deep;
 #[cfg(test)]
-mod ledgers;
-#[cfg(test)]
 mod listing;
+#[cfg(test)]
+mod memo_analyses;
 #[cfg(test)]
 mod memos;
 #[cfg(test)]

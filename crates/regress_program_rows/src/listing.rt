@@ -122,7 +122,7 @@ fn write_test(text: &mut String, insn: &Insn) -> Result<(), AllocError> {
         Insn::ByteSet3(set) => write_bytes(text, "ByteSet3", &set.0),
         Insn::ByteSet4(set) => write_bytes(text, "ByteSet4", &set.0),
         Insn::JustFail => text.push_str("JustFail"),
-        literal => write_literal(text, literal.literal().unwrap_or(&[])),
+        literal => write_literal(text, literal.bytes_of_literal_insn().unwrap_or(&[])),
     }
 }
 

@@ -1,10 +1,10 @@
 //! Memories of three places: how many keys there are, each of which is noted by itself.
 
 ghost use Rattle.std.specs.Prelude.{IfOk, IfSome};
-ghost use Rattle.regress_memo_analysis.specs.CheckedAnalysis.{HasKeyCodes};
+ghost use Rattle.regress_memo_analysis.specs.CheckedAnalysis.{AreCodesCountedAndDisjoint};
 
 use regex_pattern_front::ir::Regex;
-use regress_memo::memo::{MemoKey, MemoTable};
+use regress_memo::memo::{MemoTable, ThreadMemoKey};
 use regress_memo_analysis::analysis::MemoAnalysis;
 use regress_program::emit::emit;
 use std::alloc::{AllocError, Global};
@@ -14,17 +14,17 @@ const PLACES: usize = 3;
 
 const CODES: usize = 7;
 
-// How many keys the program of a tree for texts in bytes has, if it has a ledger; and whether there may be a memory of all
+// How many keys the program of a tree for texts in bytes has, if it has a memo analysis; and whether there may be a memory of all
 // places that can be counted.
 pub(crate) fn write_memo(alloc: Global, text: &mut String, tree: &Regex) -> Result<(), AllocError> {
-    let Some(memo_analysis) = ledger_of(alloc, tree)? else {
+    let Some(memo_analysis) = memo_analysis_of(alloc, tree)? else {
         return text.push_str("none");
     };
     match MemoTable::new(alloc, memo_analysis, PLACES, true)? {
         Some(mut memo) => write_keys(text, &mut memo)?,
         None => text.push_str("too many")?,
     }
-    let Some(memo_analysis) = ledger_of(alloc, tree)? else {
+    let Some(memo_analysis) = memo_analysis_of(alloc, tree)? else {
         return text.push_str("none");
     };
     match MemoTable::new(alloc, memo_analysis, usize::MAX, false) {
@@ -34,14 +34,14 @@ pub(crate) fn write_memo(alloc: Global, text: &mut String, tree: &Regex) -> Resu
     }
 }
 
-// The ledger of a program, if it has one.
-fn ledger_of(alloc: Global, tree: &Regex) -> Result<Option<MemoAnalysis>, AllocError>
-    ensures { IfOk result (λ found. IfSome found HasKeyCodes) }
+// The memo analysis of a program, if it has one.
+fn memo_analysis_of(alloc: Global, tree: &Regex) -> Result<Option<MemoAnalysis>, AllocError>
+    ensures { IfOk result (λ found. IfSome found AreCodesCountedAndDisjoint) }
 {
     let Ok(program) = emit(alloc, tree) else {
         return Ok(None);
     };
-    let loops = program.program().loops() as usize;
+    let loops = program.program_common_to_both_unit_kinds().loops() as usize;
     MemoAnalysis::new(alloc, program.insns(), loops)
 }
 
@@ -52,7 +52,7 @@ fn write_keys(text: &mut String, memo: &mut MemoTable) -> Result<(), AllocError>
     for ip in 0..memo.memo_analysis().lines.len() {
         for at in 0..PLACES + 1 {
             for code in 0..CODES {
-                if fails_alone(memo, MemoKey { ip, at, code }) {
+                if fails_alone(memo, ThreadMemoKey { ip, at, code }) {
                     noted = noted.wrapping_add(1);
                 }
             }
@@ -63,7 +63,7 @@ fn write_keys(text: &mut String, memo: &mut MemoTable) -> Result<(), AllocError>
     for ip in 0..memo.memo_analysis().lines.len() {
         for at in 0..PLACES + 1 {
             for code in 0..CODES {
-                if reaches_alone(memo, MemoKey { ip, at, code }) {
+                if reaches_alone(memo, ThreadMemoKey { ip, at, code }) {
                     noted = noted.wrapping_add(1);
                 }
             }
@@ -73,7 +73,7 @@ fn write_keys(text: &mut String, memo: &mut MemoTable) -> Result<(), AllocError>
 }
 
 // Whether a key was not known to fail and is now, and no other one besides.
-fn fails_alone(memo: &mut MemoTable, key: MemoKey) -> bool {
+fn fails_alone(memo: &mut MemoTable, key: ThreadMemoKey) -> bool {
     if !memo.has(key) || memo.fails(key) {
         return false;
     }
@@ -84,14 +84,14 @@ fn fails_alone(memo: &mut MemoTable, key: MemoKey) -> bool {
 }
 
 // The same of ends.
-fn reaches_alone(memo: &mut MemoTable, key: MemoKey) -> bool {
-    if !memo.has(key) || memo.reaches(key) || !memo.records_successes() {
+fn reaches_alone(memo: &mut MemoTable, key: ThreadMemoKey) -> bool {
+    if !memo.has(key) || memo.is_known_to_reach_end(key) || !memo.records_successes() {
         return false;
     }
     let before = known(memo);
     memo.record_success(key);
     let after = known(memo);
-    memo.reaches(key) && after.1 == before.1.wrapping_add(1) && after.0 == before.0
+    memo.is_known_to_reach_end(key) && after.1 == before.1.wrapping_add(1) && after.0 == before.0
 }
 
 // How many keys are known to fail, and how many to find an end.
@@ -100,11 +100,11 @@ fn known(memo: &MemoTable) -> (usize, usize) {
     for ip in 0..memo.memo_analysis().lines.len() {
         for at in 0..PLACES + 1 {
             for code in 0..CODES {
-                let key = MemoKey { ip, at, code };
+                let key = ThreadMemoKey { ip, at, code };
                 if memo.has(key) && memo.fails(key) {
                     failures = failures.wrapping_add(1);
                 }
-                if memo.has(key) && memo.reaches(key) {
+                if memo.has(key) && memo.is_known_to_reach_end(key) {
                     ends = ends.wrapping_add(1);
                 }
             }

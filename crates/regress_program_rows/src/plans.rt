@@ -5,10 +5,10 @@ ghost use Rattle.std.specs.Prelude.{◌<◌};
 use regex_pattern_front::codepointset::Interval;
 use regex_pattern_front::ir::Regex;
 use regress_plan::first_set::FirstSet;
-use regress_plan::lookbehind_filter::LookbehindFilter;
+use regress_plan::lookbehind_filter::PrecedingCharFilter;
 use regress_plan::ops::Op;
 use regress_plan::plan::{ANYTHING, CandidateStarts, Plan};
-use regress_plan::prefilters::{LiteralPrefilter, Prefilter, UnitBitsProbe};
+use regress_plan::prefilters::{LiteralPrefilter, MaskedUnitProbe, Prefilter};
 use regress_plan::required_prefix::{Literal, Prefix};
 use regress_plan::table_keys_of_units::KEYS;
 use regress_program::emit::{emit, emit_units};
@@ -66,8 +66,8 @@ fn write_rows(text: &mut String, plan: &Plan) -> Result<(), AllocError> {
 }
 
 // The keys of which one must begin the character before, and whether the left end serves too.
-fn write_before(text: &mut String, before: LookbehindFilter) -> Result<(), AllocError> {
-    let LookbehindFilter { keys, len, edge } = before;
+fn write_before(text: &mut String, before: PrecedingCharFilter) -> Result<(), AllocError> {
+    let PrecedingCharFilter { keys, len, edge } = before;
     write!(text, "behind {len} {keys:?}")?;
     if edge { text.push_str(" edge") } else { Ok(()) }
 }
@@ -106,9 +106,9 @@ fn write_known(text: &mut String, known: &LiteralPrefilter) -> Result<(), AllocE
 }
 
 // The masks that are looked through, with the bits that stay, and how many units on.
-fn write_probes(text: &mut String, probes: &[UnitBitsProbe]) -> Result<(), AllocError> {
+fn write_probes(text: &mut String, probes: &[MaskedUnitProbe]) -> Result<(), AllocError> {
     for probe in probes {
-        let UnitBitsProbe { ahead, mask, bits } = *probe;
+        let MaskedUnitProbe { ahead, mask, bits } = *probe;
         write!(text, " bits {bits} of {mask} at {ahead}")?;
     }
     Ok(())

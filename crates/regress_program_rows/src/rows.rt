@@ -2,8 +2,8 @@
 
 use crate::choices::{write_choices, write_unit_choices};
 use crate::classes::{write_classes, write_unit_classes};
-use crate::ledgers::{write_codes, write_ledger};
 use crate::listing::{write_program, write_units};
+use crate::memo_analyses::{write_codes, write_memo_analysis};
 use crate::memos::write_memo;
 use crate::parts::{write_parts, write_shown_names, write_unit_parts};
 use crate::plans::{write_plan, write_unit_plan};
@@ -48,7 +48,7 @@ fn write_answer(
         "unit_rounds" => write_unit_rounds(alloc, text, tree),
         "classes" => write_classes(alloc, text, tree),
         "unit_classes" => write_unit_classes(alloc, text, tree),
-        "memo_analysis" => write_ledger(alloc, text, tree),
+        "memo_analysis" => write_memo_analysis(alloc, text, tree),
         "codes" => write_codes(alloc, text, tree),
         "memo" => write_memo(alloc, text, tree),
         _ => text.push_str("no question"),

@@ -11,7 +11,7 @@
 // a lookahead lets a thread go on; rounds, behind the operation at which a loop's body ends, the keys of units over which it goes. Classes have behind
 // the first of each row of keys the step of them all: how many units the character has, 0 where none is accepted, and 5 where the
 // character decides; and the bytes at which a run ends. Programs for 16-bit units are those of the tree as it is, and so are
-// those for bytes, of which `optimized` asks for that of the optimized tree. Ledgers have each instruction that records with how many codes it has, and what a
+// those for bytes, of which `optimized` asks for that of the optimized tree. Memo analyses have each instruction that records with how many codes it has, and what a
 // place pays for all of them; codes are those behind none to four iterations of each loop, the last of which has read a
 // character, or has not, with a mark where that is not sound at the end of a text of one unit. Memories of three places have as many keys as codes in all those places, which are noted one by one; one of all places that
 // can be counted has more than can be counted, or no room, if it has keys at all.

@@ -6,24 +6,24 @@ use Rattle.std.proofs.lemmas.Bool.{cases_lt}
 use mathlib.Core.Logic.{◌⊎◌, inl, inr}
 use Rattle.regex_meaning.specs.NumberListHelpers.{contains}
 use Rattle.regex_meaning.specs.Text.{Text, Direction, rightwards, leftwards, last_place}
-use Rattle.regex_meaning.specs.CodeUnitOffsets.{IsText, IsBoundary, offset, units, read, read_at, place_at}
+use Rattle.regex_meaning.specs.CodeUnitOffsets.{HasRisingPlaceOffsets, IsBoundary, offset, units, read, read_at, place_at}
 use Rattle.regex_meaning.specs.Outcomes.{is_some_and}
 use Rattle.regex_meaning.proofs.TextLemmas.{place-less}
 use Rattle.regress_input.specs.ReadsFromOffset.{past}
 use Rattle.regress_input.proofs.Places.{place_of_boundary, left_then_right, right_then_left, before_ahead, before_boundary, past_ahead, past_boundary}
-use Rattle.regress_simulation.specs.FirstSetTables.{FirstSetTable, HasUnitsForTables, table_allows, unit_key_at}
-use Rattle.regress_plan.specs.declared.lookbehind_filter.LookbehindFilter.{LookbehindFilter}
+use Rattle.regress_simulation.specs.FirstSetTables.{AllowedNextKeys, HasUnitsForTables, table_allows, unit_key_at}
+use Rattle.regress_plan.specs.declared.lookbehind_filter.PrecedingCharFilter.{PrecedingCharFilter}
 use Rattle.regress_plan.specs.LookbehindFilter.{allows_start, has_key}
 use Rattle.regress_plan.specs.TableKeysOfUnits.{key, has_16_bit_units}
 use Rattle.regress_plan.proofs.RowLemmas.{get-below}
-use Rattle.regress_scan.specs.SearchInputs.{SearchInput}
-use Rattle.regress_scan.specs.StartSearch.{allows_at, AllowsNone, IsFirstBoundaryWhere, IsPastFirstAllowedChar, NoneWhere, few_units_table}
+use Rattle.regress_scan.specs.TreePlanAndText.{SearchInput}
+use Rattle.regress_scan.specs.StartSearch.{allows_at, AllowsNone, IsFirstBoundaryWhere, IsPastFirstAllowedChar, NoneWhere, table_of_listed_units}
 use Rattle.regress_scan.proofs.Allowing.{no-key}
 use Rattle.regress_scan.proofs.Starting.{none-between}
 
 -- ---- There and back
 
-module _ (text : Text) (is : IsText text) where
+module _ (text : Text) (is : HasRisingPlaceOffsets text) where
   turned : (d e : Direction) (at to : ℕ) → ((c : ℕ) → read text d at ≡ Some (c, to) → read text e to ≡ Some (c, at)) → past text d at ≡ Some to → past text e to ≡ Some at
   turned d e at to back led = by (read text d at) refl led
     where
@@ -59,19 +59,19 @@ module _ (text : Text) (is : IsText text) where
           cc
 
 -- where one of a few units is allowed, a unit stands
-pub unit-inside : (w : SearchInput) → HasUnitsForTables w.encoding w.text → (keys : List ℕ) (len at : ℕ) → allows_at w (few_units_table keys len) at ≡ true → at < units w.text
+pub unit-inside : (w : SearchInput) → HasUnitsForTables w.encoding w.text → (keys : List ℕ) (len at : ℕ) → allows_at w (table_of_listed_units keys len) at ≡ true → at < units w.text
 unit-inside w has keys len at allowed = elim (cases_lt at (units w.text)) [
   | inl inside ↦ inside
   | inr past_it ↦
-      let never : true ≡ false = sym allowed ∙ ap (table_allows (few_units_table keys len)) (no-key w.encoding w.text has at past_it) in
+      let never : true ≡ false = sym allowed ∙ ap (table_allows (table_of_listed_units keys len)) (no-key w.encoding w.text has at past_it) in
       cc
 ]
 
 -- ---- From where on the character before is looked for
 
-module _ (w : SearchInput) (has : HasUnitsForTables w.encoding w.text) (before : LookbehindFilter) where
-  abbrev keys : FirstSetTable
-  keys = few_units_table before.keys before.len
+module _ (w : SearchInput) (has : HasUnitsForTables w.encoding w.text) (before : PrecedingCharFilter) where
+  abbrev keys : AllowedNextKeys
+  keys = table_of_listed_units before.keys before.len
 
   abbrev lets : (at : ℕ) → Bool
   lets at = allows_start w.encoding before w.text at

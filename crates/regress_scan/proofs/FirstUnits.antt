@@ -16,7 +16,7 @@ use Rattle.regress_simulation.proofs.Ends.{slice_get-behind}
 use Rattle.regress_plan.specs.declared.required_prefix.Prefix.{Prefix}
 use Rattle.regress_plan.specs.declared.required_prefix.Literal.{Literal}
 use Rattle.regress_plan.specs.declared.required_prefix.RequiredUnit.{RequiredUnit}
-use Rattle.regress_plan.specs.PrefixesAndPrefilters.{units_allowed_by_prefix, fits, IsRequiredUnit, IsRequiredLiteral}
+use Rattle.regress_plan.specs.PrefixesAndPrefilters.{units_allowed_by_prefix, prefix_allows_units_at, IsOnlyUnitAllowedAtPosition, IsLiteralOfOnlyAllowedUnits}
 use Rattle.regress_plan.specs.TableKeysOfUnits.{key}
 
 and-last : (a b : Bool) → b ≡ false → (a && b) ≡ false
@@ -42,32 +42,32 @@ module _ (allowed : Allowed) (us : List ℕ) (at : ℕ) where
   stands ahead = unit_is_allowed allowed ahead (slice_get us (at + ahead))
 
   -- one that may not
-  pub fits-fails : (len ahead : ℕ) → ahead < len → stands ahead ≡ false → fits allowed us at len ≡ false
+  pub fits-fails : (len ahead : ℕ) → ahead < len → stands ahead ≡ false → prefix_allows_units_at allowed us at len ≡ false
   fits-fails zero ahead less none = absurd (omega (arith, less))
   fits-fails (suc len) ahead less none = elim (cases_lt ahead len) [
-    | inl before ↦ and-first (fits allowed us at len) (stands len) (fits-fails len ahead before none)
+    | inl before ↦ and-first (prefix_allows_units_at allowed us at len) (stands len) (fits-fails len ahead before none)
     | inr last ↦
         let same : ahead ≡ len = omega (arith, less, last) in
-        and-last (fits allowed us at len) (stands len) (ap stands (sym same) ∙ none)
+        and-last (prefix_allows_units_at allowed us at len) (stands len) (ap stands (sym same) ∙ none)
   ]
 
   -- each may
-  pub fits-each : (len ahead : ℕ) → ahead < len → fits allowed us at len ≡ true → stands ahead ≡ true
+  pub fits-each : (len ahead : ℕ) → ahead < len → prefix_allows_units_at allowed us at len ≡ true → stands ahead ≡ true
   fits-each zero ahead less all = absurd (omega (arith, less))
   fits-each (suc len) ahead less all = elim (cases_lt ahead len) [
-    | inl before ↦ fits-each len ahead before (and-left (fits allowed us at len) (stands len) all)
+    | inl before ↦ fits-each len ahead before (and-left (prefix_allows_units_at allowed us at len) (stands len) all)
     | inr last ↦
         let same : ahead ≡ len = omega (arith, less, last) in
-        ap stands same ∙ and-right (fits allowed us at len) (stands len) all
+        ap stands same ∙ and-right (prefix_allows_units_at allowed us at len) (stands len) all
   ]
 
-  pub fits-all : (len : ℕ) → ((ahead : ℕ) → ahead < len → stands ahead ≡ true) → fits allowed us at len ≡ true
+  pub fits-all : (len : ℕ) → ((ahead : ℕ) → ahead < len → stands ahead ≡ true) → prefix_allows_units_at allowed us at len ≡ true
   fits-all zero each = refl
   fits-all (suc len) each =
-      and_from (fits allowed us at len) (stands len) (fits-all len (λ ahead less. each ahead (omega (arith, less)))) (each len (omega arith))
+      and_from (prefix_allows_units_at allowed us at len) (stands len) (fits-all len (λ ahead less. each ahead (omega (arith, less)))) (each len (omega arith))
 
   -- where they do not fit, this one may not stand
-  pub fits-not : (len : ℕ) → fits allowed us at len ≡ false → (ahead : ℕ) × (ahead < len) × (stands ahead ≡ false)
+  pub fits-not : (len : ℕ) → prefix_allows_units_at allowed us at len ≡ false → (ahead : ℕ) × (ahead < len) × (stands ahead ≡ false)
   fits-not zero none = cc
   fits-not (suc len) none = by (fits-not len) (stands len) refl
     where
@@ -75,16 +75,16 @@ module _ (allowed : Allowed) (us : List ℕ) (at : ℕ) where
       left true b h k = cc
       left false b h k = refl
 
-      by : (fits allowed us at len ≡ false → (ahead : ℕ) × (ahead < len) × (stands ahead ≡ false)) → (b : Bool) → stands len ≡ b
+      by : (prefix_allows_units_at allowed us at len ≡ false → (ahead : ℕ) × (ahead < len) × (stands ahead ≡ false)) → (b : Bool) → stands len ≡ b
           → (ahead : ℕ) × (ahead < suc len) × (stands ahead ≡ false)
       by before false here = (len, omega arith, here)
       by before true here =
-          let one = before (left (fits allowed us at len) (stands len) here none) in
+          let one = before (left (prefix_allows_units_at allowed us at len) (stands len) here none) in
           let less = one.1 in
           (one.0, omega (arith, less), one.2)
 
   -- so many more behind those before
-  pub fits-row : (from more : ℕ) → fits allowed us at from ≡ true → ((i : ℕ) → i < more → stands (from + i) ≡ true) → fits allowed us at (from + more) ≡ true
+  pub fits-row : (from more : ℕ) → prefix_allows_units_at allowed us at from ≡ true → ((i : ℕ) → i < more → stands (from + i) ≡ true) → prefix_allows_units_at allowed us at (from + more) ≡ true
   fits-row from more before each = fits-all (from + more) (λ ahead less. elim (cases_lt ahead from) [
     | inl early ↦ fits-each from ahead early before
     | inr late ↦
@@ -93,22 +93,22 @@ module _ (allowed : Allowed) (us : List ℕ) (at : ℕ) where
   ])
 
   -- where those before one do not fit, those before a later one do not
-  pub fits-still : (from to : ℕ) → from ≤ to → fits allowed us at from ≡ false → fits allowed us at to ≡ false
+  pub fits-still : (from to : ℕ) → from ≤ to → prefix_allows_units_at allowed us at from ≡ false → prefix_allows_units_at allowed us at to ≡ false
   fits-still from to le none =
       let one = fits-not from none in
       let less = one.1 in
       fits-fails to one.0 (omega (arith, less, le)) one.2
 
   -- one more
-  pub fits-more : (len : ℕ) → fits allowed us at len ≡ true → stands len ≡ true → fits allowed us at (suc len) ≡ true
-  fits-more len all here = and_from (fits allowed us at len) (stands len) all here
+  pub fits-more : (len : ℕ) → prefix_allows_units_at allowed us at len ≡ true → stands len ≡ true → prefix_allows_units_at allowed us at (suc len) ≡ true
+  fits-more len all here = and_from (prefix_allows_units_at allowed us at len) (stands len) all here
 
   -- at the end there is no unit
-  pub fits-past : (len ahead : ℕ) → ahead < len → length us ≤ at + ahead → fits allowed us at len ≡ false
+  pub fits-past : (len ahead : ℕ) → ahead < len → length us ≤ at + ahead → prefix_allows_units_at allowed us at len ≡ false
   fits-past len ahead less past = fits-fails len ahead less (ap (unit_is_allowed allowed ahead) (slice_get_past us (at + ahead) past))
 
   -- they are within
-  pub fits-within : (len : ℕ) → 0 < len → fits allowed us at len ≡ true → at + len ≤ length us
+  pub fits-within : (len : ℕ) → 0 < len → prefix_allows_units_at allowed us at len ≡ true → at + len ≤ length us
   fits-within len some all = elim (cases_lt (length us) (at + len)) [
     | inl short ↦
         let none = fits-past len (len - 1) (omega (arith, some)) (omega (arith, short, some)) in
@@ -123,23 +123,23 @@ module _ (allowed : Allowed) (us : List ℕ) (at : ℕ) where
   unit-there ahead inside = ap (unit_is_allowed allowed ahead) (slice_get-get_or us (at + ahead) 0 inside)
 
   -- one more
-  pub fits-next : (len : ℕ) → at + len < length us → fits allowed us at len ≡ true → allowed len (slice_index us (at + len)) ≡ true → fits allowed us at (len + 1) ≡ true
+  pub fits-next : (len : ℕ) → at + len < length us → prefix_allows_units_at allowed us at len ≡ true → allowed len (slice_index us (at + len)) ≡ true → prefix_allows_units_at allowed us at (len + 1) ≡ true
   fits-next len inside all here =
-      ap (fits allowed us at) (let z : len + 1 ≡ suc len = omega arith in z) ∙ and_from (fits allowed us at len) (stands len) all (unit-there len inside ∙ here)
+      ap (prefix_allows_units_at allowed us at) (let z : len + 1 ≡ suc len = omega arith in z) ∙ and_from (prefix_allows_units_at allowed us at len) (stands len) all (unit-there len inside ∙ here)
 
-  pub fits-unless : (len ahead : ℕ) → ahead < len → at + ahead < length us → allowed ahead (slice_index us (at + ahead)) ≡ false → fits allowed us at len ≡ false
+  pub fits-unless : (len ahead : ℕ) → ahead < len → at + ahead < length us → allowed ahead (slice_index us (at + ahead)) ≡ false → prefix_allows_units_at allowed us at len ≡ false
   fits-unless len ahead less inside here = fits-fails len ahead less (unit-there ahead inside ∙ here)
 
   -- too few are left
-  pub fits-short : (len : ℕ) → at ≤ length us → length us - at < len → fits allowed us at len ≡ false
+  pub fits-short : (len : ℕ) → at ≤ length us → length us - at < len → prefix_allows_units_at allowed us at len ≡ false
   fits-short len inside few = fits-past len (length us - at) few (omega (arith, inside))
 
 -- the same behind so many units
-pub fits-behind : (allowed : Allowed) (us : List ℕ) (from i len : ℕ) → fits allowed (drop from us) i len ≡ fits allowed us (from + i) len
+pub fits-behind : (allowed : Allowed) (us : List ℕ) (from i len : ℕ) → prefix_allows_units_at allowed (drop from us) i len ≡ prefix_allows_units_at allowed us (from + i) len
 fits-behind allowed us from i zero = refl
 fits-behind allowed us from i (suc len) =
     ap (λ b. b && unit_is_allowed allowed len (slice_get (drop from us) (i + len))) (fits-behind allowed us from i len)
-    ∙ ap (λ o. fits allowed us (from + i) len && unit_is_allowed allowed len o)
+    ∙ ap (λ o. prefix_allows_units_at allowed us (from + i) len && unit_is_allowed allowed len o)
     (slice_get-behind from (i + len) us ∙ ap (slice_get us) (let z : from + (i + len) ≡ from + i + len = omega arith in z))
 
 -- ---- By bits
@@ -149,7 +149,7 @@ module _ (prefix : Prefix) (us : List ℕ) (at : ℕ) where
   abbrev pub Clear : (ahead unit : ℕ) → Type 0
   Clear ahead unit = bit_at (slice_index prefix.masks unit) ahead ≡ 0
 
-  pub fits-window : fits (units_allowed_by_prefix prefix) us at prefix.len ≡ true → Window (λ t b. Clear t b) (slice_index us) prefix.len at
+  pub fits-window : prefix_allows_units_at (units_allowed_by_prefix prefix) us at prefix.len ≡ true → Window (λ t b. Clear t b) (slice_index us) prefix.len at
   fits-window all t less = by (cases_lt (at + t) (length us))
     where
       by : (at + t < length us) ⊎ (length us ≤ at + t) → Clear t (slice_index us (at + t))
@@ -160,7 +160,7 @@ module _ (prefix : Prefix) (us : List ℕ) (at : ℕ) where
           let never : true ≡ false = sym all ∙ fits-past (units_allowed_by_prefix prefix) us at prefix.len t less past in
           cc
 
-  pub window-fits : at + prefix.len ≤ length us → Window (λ t b. Clear t b) (slice_index us) prefix.len at → fits (units_allowed_by_prefix prefix) us at prefix.len ≡ true
+  pub window-fits : at + prefix.len ≤ length us → Window (λ t b. Clear t b) (slice_index us) prefix.len at → prefix_allows_units_at (units_allowed_by_prefix prefix) us at prefix.len ≡ true
   window-fits inside window =
       fits-all (units_allowed_by_prefix prefix) us at prefix.len (λ t less.
       ap (unit_is_allowed (units_allowed_by_prefix prefix) t) (slice_get-get_or us (at + t) 0 (omega (arith, inside, less)))
@@ -168,12 +168,12 @@ module _ (prefix : Prefix) (us : List ℕ) (at : ℕ) where
 
 -- ---- By the rare one
 
-module _ (prefix : Prefix) (rare : RequiredUnit) (is : IsRequiredUnit prefix rare) (us : List ℕ) (bytes : (i : ℕ) → slice_index us i < 256) where
+module _ (prefix : Prefix) (rare : RequiredUnit) (is : IsOnlyUnitAllowedAtPosition prefix rare) (us : List ℕ) (bytes : (i : ℕ) → slice_index us i < 256) where
   -- they do not fit where another byte stands at its place
-  pub rare-fails : (at : ℕ) → (at + rare.ahead < length us → slice_index us (at + rare.ahead) ≡ rare.unit → ⊥) → fits (units_allowed_by_prefix prefix) us at prefix.len ≡ false
+  pub rare-fails : (at : ℕ) → (at + rare.ahead < length us → slice_index us (at + rare.ahead) ≡ rare.unit → ⊥) → prefix_allows_units_at (units_allowed_by_prefix prefix) us at prefix.len ≡ false
   rare-fails at other = by (cases_lt (at + rare.ahead) (length us))
     where
-      by : (at + rare.ahead < length us) ⊎ (length us ≤ at + rare.ahead) → fits (units_allowed_by_prefix prefix) us at prefix.len ≡ false
+      by : (at + rare.ahead < length us) ⊎ (length us ≤ at + rare.ahead) → prefix_allows_units_at (units_allowed_by_prefix prefix) us at prefix.len ≡ false
       by (inl inside) =
           fits-fails (units_allowed_by_prefix prefix) us at prefix.len rare.ahead is.inside
           (ap (unit_is_allowed (units_allowed_by_prefix prefix) rare.ahead) (slice_get-get_or us (at + rare.ahead) 0 inside)
@@ -182,8 +182,8 @@ module _ (prefix : Prefix) (rare : RequiredUnit) (is : IsRequiredUnit prefix rar
       by (inr past) = fits-past (units_allowed_by_prefix prefix) us at prefix.len rare.ahead is.inside past
 
   -- too few are left for it
-  pub rare-past : (at : ℕ) → length us ≤ at + rare.ahead → ((k : ℕ) → k < at → fits (units_allowed_by_prefix prefix) us k prefix.len ≡ false)
-      → (k : ℕ) → fits (units_allowed_by_prefix prefix) us k prefix.len ≡ false
+  pub rare-past : (at : ℕ) → length us ≤ at + rare.ahead → ((k : ℕ) → k < at → prefix_allows_units_at (units_allowed_by_prefix prefix) us k prefix.len ≡ false)
+      → (k : ℕ) → prefix_allows_units_at (units_allowed_by_prefix prefix) us k prefix.len ≡ false
   rare-past at past before k = elim (cases_lt k at) [
     | inl early ↦ before k early
     | inr late ↦ rare-fails k (λ inside same. absurd (omega (arith, past, inside, late)))
@@ -191,8 +191,8 @@ module _ (prefix : Prefix) (rare : RequiredUnit) (is : IsRequiredUnit prefix rar
 
 -- ---- By units in a row
 
-module _ (prefix : Prefix) (literal : Literal) (is : IsRequiredLiteral prefix literal) (us : List ℕ) (bytes : (i : ℕ) → slice_index us i < 256) (at : ℕ)
-    (fit : fits (units_allowed_by_prefix prefix) us at prefix.len ≡ true) where
+module _ (prefix : Prefix) (literal : Literal) (is : IsLiteralOfOnlyAllowedUnits prefix literal) (us : List ℕ) (bytes : (i : ℕ) → slice_index us i < 256) (at : ℕ)
+    (fit : prefix_allows_units_at (units_allowed_by_prefix prefix) us at prefix.len ≡ true) where
   -- where all fit, each of these stands
   pub literal-reads : (i : ℕ) → i < literal.len → slice_index us (at + (literal.ahead + i)) ≡ slice_index literal.units i
   literal-reads i less = by (cases_lt (at + (literal.ahead + i)) (length us))
@@ -210,9 +210,9 @@ module _ (prefix : Prefix) (literal : Literal) (is : IsRequiredLiteral prefix li
           cc
 
 -- where those in a row stand, those before it fit with them
-pub literal-fits : (prefix : Prefix) (literal : Literal) → IsRequiredLiteral prefix literal → (us : List ℕ) (at : ℕ) → length (take literal.len literal.units) ≡ literal.len
-    → OccursAt us (take literal.len literal.units) (at + literal.ahead) → fits (units_allowed_by_prefix prefix) us at literal.ahead ≡ true
-    → fits (units_allowed_by_prefix prefix) us at (literal.ahead + literal.len) ≡ true
+pub literal-fits : (prefix : Prefix) (literal : Literal) → IsLiteralOfOnlyAllowedUnits prefix literal → (us : List ℕ) (at : ℕ) → length (take literal.len literal.units) ≡ literal.len
+    → OccursAt us (take literal.len literal.units) (at + literal.ahead) → prefix_allows_units_at (units_allowed_by_prefix prefix) us at literal.ahead ≡ true
+    → prefix_allows_units_at (units_allowed_by_prefix prefix) us at (literal.ahead + literal.len) ≡ true
 literal-fits prefix literal is us at full there before =
     fits-row (units_allowed_by_prefix prefix) us at literal.ahead literal.len before (λ i less.
     let fewer : i < length (take literal.len literal.units) = omega (arith, less, full) in
@@ -226,7 +226,7 @@ literal-fits prefix literal is us at full there before =
 
 module _ (prefix : Prefix) (us : List ℕ) (at : ℕ) where
   abbrev Fits : ℕ → Bool
-  Fits k = fits (units_allowed_by_prefix prefix) us k prefix.len
+  Fits k = prefix_allows_units_at (units_allowed_by_prefix prefix) us k prefix.len
 
   -- one unit more, of which the state says whether all fit that end there
   pub none-more : 0 < prefix.len → ((k : ℕ) → k + prefix.len ≤ at → Fits k ≡ false)
@@ -284,11 +284,11 @@ tells-more prefix us at state key clear some old is test =
 pub needle-short : (literal : Literal) → length (take literal.len literal.units) ≤ literal.len
 needle-short literal = let n = length-take literal.len literal.units in omega (arith, n)
 
-module _ (prefix : Prefix) (literal : Literal) (is : IsRequiredLiteral prefix literal) (some : 0 < prefix.len) (us : List ℕ) (bytes : (i : ℕ) → slice_index us i < 256)
+module _ (prefix : Prefix) (literal : Literal) (is : IsLiteralOfOnlyAllowedUnits prefix literal) (some : 0 < prefix.len) (us : List ℕ) (bytes : (i : ℕ) → slice_index us i < 256)
     (at : ℕ) (rest needle : List ℕ) (cut : rest ≡ drop (at + literal.ahead) us) (taken : needle ≡ take literal.len literal.units)
-    (short : length needle ≤ literal.len) (before : (k : ℕ) → k < at → fits (units_allowed_by_prefix prefix) us k prefix.len ≡ false) where
+    (short : length needle ≤ literal.len) (before : (k : ℕ) → k < at → prefix_allows_units_at (units_allowed_by_prefix prefix) us k prefix.len ≡ false) where
   abbrev FitAll : ℕ → Bool
-  FitAll k = fits (units_allowed_by_prefix prefix) us k prefix.len
+  FitAll k = prefix_allows_units_at (units_allowed_by_prefix prefix) us k prefix.len
 
   length-left : length rest ≡ length us - (at + literal.ahead)
   length-left = ap (λ (l : List ℕ). length l) cut ∙ length-drop (at + literal.ahead) us
@@ -347,10 +347,10 @@ module _ (prefix : Prefix) (literal : Literal) (is : IsRequiredLiteral prefix li
       | inr here ↦ let same : at + more ≡ k = omega (arith, less, here) in ap FitAll (sym same) ∙ none
     ]
 
-module _ (prefix : Prefix) (rare : RequiredUnit) (is : IsRequiredUnit prefix rare) (us : List ℕ) (bytes : (i : ℕ) → slice_index us i < 256) (at : ℕ) (rest : List ℕ)
+module _ (prefix : Prefix) (rare : RequiredUnit) (is : IsOnlyUnitAllowedAtPosition prefix rare) (us : List ℕ) (bytes : (i : ℕ) → slice_index us i < 256) (at : ℕ) (rest : List ℕ)
     (cut : rest ≡ drop (at + rare.ahead) us) where
   abbrev FitsAt : ℕ → Bool
-  FitsAt k = fits (units_allowed_by_prefix prefix) us k prefix.len
+  FitsAt k = prefix_allows_units_at (units_allowed_by_prefix prefix) us k prefix.len
 
   length-rest : length rest ≡ length us - (at + rare.ahead)
   length-rest = ap (λ (l : List ℕ). length l) cut ∙ length-drop (at + rare.ahead) us

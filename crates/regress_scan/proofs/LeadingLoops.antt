@@ -31,7 +31,7 @@ use Rattle.regress_machine.proofs.Run.{in_turns, numbers_between, outcome_at, ru
 use Rattle.regress_machine.proofs.OneCharacter.{body_is_one, each_nearest}
 use Rattle.regress_machine.proofs.OneTests.{reads_one}
 use Rattle.regress_machine.proofs.Ready.{Ready, root_ready}
-use Rattle.regress_machine.specs.SearchResults.{ProgramCanSearchText}
+use Rattle.regress_machine.specs.SearchResults.{TreeProgramCanSearchText}
 
 -- ---- Lists
 
@@ -294,7 +294,7 @@ none-first p (o ∷ os) h = absurd h.0
 
 -- Where the code begins with a run that has as many characters as there are, and no match begins at a place, none begins at
 -- the places of the run from there on.
-pub none-along : (program : Program) (tree : Tree) (text : Text) → ProgramCanSearchText program tree text → (test : ℕ → Bool) (least most : ℕ) (greedy : Bool) → last_place text ≤ most
+pub none-along : (program : Program) (tree : Tree) (text : Text) → TreeProgramCanSearchText program tree text → (test : ℕ → Bool) (least most : ℕ) (greedy : Bool) → last_place text ≤ most
     → slice_get program.insns 0 ≡ Some (Loop1CharBody least most greedy) → test_of program (slice_get program.insns 1) ≡ Some test
     → (p j : ℕ) → p ≤ last_place text → j ≤ prefix_len test (nearest_first text rightwards p) → match_at tree.root text p ≡ None → match_at tree.root text (p + j) ≡ None
 none-along program tree text can test least most greedy wide here tests p j inside le none =

@@ -11,13 +11,13 @@ use Rattle.regex_meaning.specs.CompilationRelation.{Insn, Loop1CharBody}
 use Rattle.regex_meaning.specs.OutcomesWithStepTicks.{nearest_first}
 use Rattle.regex_meaning.proofs.TextLemmas.{IsBoundary-place, offset-place_at, place-le, place-less}
 use Rattle.regress_input.specs.ReadsFromOffset.{place}
-use Rattle.regress_machine.specs.SearchResults.{ProgramCanSearchText, state_before_first_insn, turns_at}
+use Rattle.regress_machine.specs.SearchResults.{TreeProgramCanSearchText, state_before_first_insn, turns_at}
 use Rattle.regress_machine.specs.Machine.{State, stuck, with_some, scan, test_of, act, act_on}
-use Rattle.regress_machine.specs.InsnEffects.{is_byte_literal_insn}
+use Rattle.regress_machine.specs.InsnEffects.{is_byte_sequence_insn}
 use Rattle.regress_machine.proofs.Search.{never_stuck}
 use Rattle.regress_machine.proofs.Whole.{searches-find}
 use Rattle.regress_simulation.specs.FirstSetTables.{HasUnitsForTables}
-use Rattle.regress_program.specs.SearchableTexts.{IsByteText}
+use Rattle.regress_program.specs.TextsSearchableByBytePrograms.{IsByteText}
 use Rattle.regress_plan.specs.InsnsAsSpecInsns.{spec_insn_of}
 use Rattle.regress_plan.specs.TableKeysOfUnits.{has_16_bit_units}
 use Rattle.regress_plan.specs.Plans.{IsPlanOf, IsClass, char_loop_of, IsCharLoopOf}
@@ -26,9 +26,9 @@ use Rattle.regress_plan.specs.declared.ops.CharLoopBounds.{CharLoopBounds}
 use Rattle.regress_plan.specs.declared.ops.Op.{Op}
 use Rattle.regress_plan.specs.declared.ops.CharLoop.{CharLoop}
 use Rattle.regress_plan.proofs.RowLemmas.{runs-of}
-use Rattle.regress_scan.specs.DeadThreads.{NoMatchBetween}
+use Rattle.regress_scan.specs.DeadThreads.{MatchFailureExtendsUntil}
 use Rattle.regress_scan.specs.CharLoopExits.{ClassFitsText, IsClassTest, HasAdvancedTo, in_a_row}
-use Rattle.regress_scan.specs.SearchInputs.{SearchInput, program_of, insn_at}
+use Rattle.regress_scan.specs.TreePlanAndText.{SearchInput, program_of, insn_at}
 use Rattle.regress_scan.proofs.LeadingLoops.{none-along}
 use Rattle.regress_scan.proofs.Reach.{some-of}
 use Rattle.regress_scan.proofs.Scanning.{advanced-boundary}
@@ -54,7 +54,7 @@ module _ (w : SearchInput) (has : HasUnitsForTables w.encoding w.text) (plan : I
       by None at is = cc
       by (Some op) at is = runs-of (program_of w) w.plan op r 0 insn is (plan.each 0 op insn at here)
 
-  leads : ProgramCanSearchText (program_of w) w.tree w.text → (from : ℕ) → IsBoundary w.text from → Leads
+  leads : TreeProgramCanSearchText (program_of w) w.tree w.text → (from : ℕ) → IsBoundary w.text from → Leads
   leads can from on = by-first (insn_at w 0) refl
     where
       p : (p : ℕ) × (place_at w.text from ≡ Some p) × (offset w.text p ≡ from) × (p ≤ last_place w.text)
@@ -93,7 +93,7 @@ module _ (w : SearchInput) (has : HasUnitsForTables w.encoding w.text) (plan : I
       by-first (Some insn) here = let of = runs insn here in by-test insn of.0 of.1 here (insn_at w 1) refl (test_of (program_of w) (insn_at w 1)) refl
 
   -- where a search can be made, from a boundary on
-  module _ (can : ProgramCanSearchText (program_of w) w.tree w.text) (from : ℕ) (on : IsBoundary w.text from) where
+  module _ (can : TreeProgramCanSearchText (program_of w) w.tree w.text) (from : ℕ) (on : IsBoundary w.text from) where
     l : Leads
     l = leads can from on
 
@@ -114,7 +114,7 @@ module _ (w : SearchInput) (has : HasUnitsForTables w.encoding w.text) (plan : I
       body-is = l.body ∙ ap (λ (k : Class). Some (spec_insn_of k.insn)) same-class
 
       pub leads-readable : {are_bytes : Bool} → IsClass (has_16_bit_units w.encoding) (program_of w) class
-          → ((ip : ℕ) (insn : Insn) → insn_at w ip ≡ Some insn → IsTrue (is_byte_literal_insn insn) → IsByteText w.text are_bytes) → ClassFitsText w class
+          → ((ip : ℕ) (insn : Insn) → insn_at w ip ≡ Some insn → IsTrue (is_byte_sequence_insn insn) → IsByteText w.text are_bytes) → ClassFitsText w class
       leads-readable is_class literals = record {
         is_class = is_class;
         tests = tests-one;
@@ -135,7 +135,7 @@ module _ (w : SearchInput) (has : HasUnitsForTables w.encoding w.text) (plan : I
             advanced-boundary w.text has.is_text tested.0 rightwards (units w.text) (place w.text from) count far (advanced tested.0 tested.1)
 
         -- so no match begins within it, if none begins where it does
-        pub leads-vain : NoMatchBetween w from far
+        pub leads-vain : MatchFailureExtendsUntil w from far
         leads-vain none at here le less q q_is =
             subst (λ q. match_at w.tree.root w.text q ≡ None) (let z : p.0 + (q - p.0) ≡ q = omega (arith, after) in z)
             (none-along (program_of w) w.tree w.text can tested.0 l.bounds.min l.bounds.max l.greedy (omega (arith, all, wide, same_max)) l.run

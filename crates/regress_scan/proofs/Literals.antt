@@ -9,42 +9,42 @@ use Rattle.regex_meaning.specs.Text.{expand_code_point}
 use Rattle.regex_meaning.specs.Outcomes.{in_intervals}
 use Rattle.regex_meaning.specs.StartPredicate.{bytes_that_pass}
 use Rattle.regex_meaning.specs.CompilationRelation.{Insn, Jump, ResetCaptureGroup, EndCaptureGroup, LoopAgain, Goal, AsciiBracket, Bracket, Lookahead, Lookbehind}
-use Rattle.regex_meaning.specs.CompilationRelation.{char_set_insn, case_variants_insn, anchor_insn, word_boundary_insn, ordered, is_ascii_set, reads_bytes}
-use Rattle.regress_program.specs.CodeOfTrees.{node_insn_count, strings_size, loop_count, brackets_of, string_code, strings_code, code_of, compiled}
-use Rattle.regress_machine.specs.InsnEffects.{is_byte_literal_insn}
+use Rattle.regex_meaning.specs.CompilationRelation.{char_set_insn, case_variants_insn, anchor_insn, word_boundary_insn, ordered, is_ascii_set, tree_contains_byte_nodes}
+use Rattle.regress_program.specs.CompilationOfTreesAsFunction.{node_insn_count, strings_size, loop_count, brackets_of, string_code, strings_code, code_of, compiled}
+use Rattle.regress_machine.specs.InsnEffects.{is_byte_sequence_insn}
 use Rattle.regex_meaning.proofs.Booleans.{or-false-left, or-false-right}
 
 -- instructions of which none has literal bytes
 abbrev plain : List Insn → Type 0
 plain [] = Unit {0}
-plain (x ∷ xs) = (is_byte_literal_insn x ≡ false) × plain xs
+plain (x ∷ xs) = (is_byte_sequence_insn x ≡ false) × plain xs
 
 plain-append : (xs ys : List Insn) → plain xs → plain ys → plain (xs ++ ys)
 plain-append [] ys h k = k
 plain-append (x ∷ xs) ys h k = (h.0, plain-append xs ys h.1 k)
 
-plain-map : {X : Type 0} (f : X → Insn) → ((x : X) → is_byte_literal_insn (f x) ≡ false) → (xs : List X) → plain (map f xs)
+plain-map : {X : Type 0} (f : X → Insn) → ((x : X) → is_byte_sequence_insn (f x) ≡ false) → (xs : List X) → plain (map f xs)
 plain-map f h [] = tt
 plain-map f h (x ∷ xs) = (h x, plain-map f h xs)
 
-plain-if : (b : Bool) (x y : Insn) → is_byte_literal_insn x ≡ false → is_byte_literal_insn y ≡ false → is_byte_literal_insn (if b then x else y) ≡ false
+plain-if : (b : Bool) (x y : Insn) → is_byte_sequence_insn x ≡ false → is_byte_sequence_insn y ≡ false → is_byte_sequence_insn (if b then x else y) ≡ false
 plain-if true x y h k = h
 plain-if false x y h k = k
 
-plain-char_set : (members : List ℕ) → is_byte_literal_insn (char_set_insn members) ≡ false
+plain-char_set : (members : List ℕ) → is_byte_sequence_insn (char_set_insn members) ≡ false
 plain-char_set [] = refl
 plain-char_set (first ∷ rest) = refl
 
-plain-spelling : (spellings : List ℕ) → is_byte_literal_insn (case_variants_insn spellings) ≡ false
+plain-spelling : (spellings : List ℕ) → is_byte_sequence_insn (case_variants_insn spellings) ≡ false
 plain-spelling [] = refl
 plain-spelling (c ∷ []) = refl
 plain-spelling (c ∷ d ∷ more) = refl
 
-plain-anchor : (type : AnchorType) (multiline : Bool) → is_byte_literal_insn (anchor_insn type multiline) ≡ false
+plain-anchor : (type : AnchorType) (multiline : Bool) → is_byte_sequence_insn (anchor_insn type multiline) ≡ false
 plain-anchor start_of_line multiline = refl
 plain-anchor end_of_line multiline = refl
 
-plain-word_boundary : (invert unicode_icase : Bool) → is_byte_literal_insn (word_boundary_insn invert unicode_icase) ≡ false
+plain-word_boundary : (invert unicode_icase : Bool) → is_byte_sequence_insn (word_boundary_insn invert unicode_icase) ≡ false
 plain-word_boundary invert true = refl
 plain-word_boundary invert false = refl
 
@@ -62,7 +62,7 @@ module _ (unicode : Bool) where
             (plain-string icase behind s) (refl, plain-strings icase behind (t ∷ more) second),
       )
 
-  code-plain : (behind : Bool) (node : Node) (at loops brackets : ℕ) → reads_bytes node ≡ false → plain (code_of unicode behind node at loops brackets)
+  code-plain : (behind : Bool) (node : Node) (at loops brackets : ℕ) → tree_contains_byte_nodes node ≡ false → plain (code_of unicode behind node at loops brackets)
   unfolding code_of
   code-plain behind empty at loops brackets h = tt
   code-plain behind goal at loops brackets h = (refl, tt)
@@ -74,15 +74,15 @@ module _ (unicode : Bool) where
   code-plain behind (cat first rest) at loops brackets h =
       plain-append (code_of unicode behind first at loops brackets)
       (code_of unicode behind rest (at + node_insn_count first) (loops + loop_count first) (brackets + length (brackets_of first)))
-      (code-plain behind first at loops brackets (or-false-left (reads_bytes first) (reads_bytes rest) h))
-      (code-plain behind rest (at + node_insn_count first) (loops + loop_count first) (brackets + length (brackets_of first)) (or-false-right (reads_bytes first) (reads_bytes rest) h))
+      (code-plain behind first at loops brackets (or-false-left (tree_contains_byte_nodes first) (tree_contains_byte_nodes rest) h))
+      (code-plain behind rest (at + node_insn_count first) (loops + loop_count first) (brackets + length (brackets_of first)) (or-false-right (tree_contains_byte_nodes first) (tree_contains_byte_nodes rest) h))
   code-plain behind (alt left right) at loops brackets h =
       let second = at + node_insn_count left + 2 in (
         refl,
         plain-append (code_of unicode behind left (at + 1) loops brackets)
             (Jump (second + node_insn_count right) ∷ code_of unicode behind right second (loops + loop_count left) (brackets + length (brackets_of left)))
-            (code-plain behind left (at + 1) loops brackets (or-false-left (reads_bytes left) (reads_bytes right) h))
-            (refl, code-plain behind right second (loops + loop_count left) (brackets + length (brackets_of left)) (or-false-right (reads_bytes left) (reads_bytes right) h)),
+            (code-plain behind left (at + 1) loops brackets (or-false-left (tree_contains_byte_nodes left) (tree_contains_byte_nodes right) h))
+            (refl, code-plain behind right second (loops + loop_count left) (brackets + length (brackets_of left)) (or-false-right (tree_contains_byte_nodes left) (tree_contains_byte_nodes right) h)),
       )
   code-plain behind (bracket contents) at loops brackets h =
       (plain-if (is_ascii_set contents) (AsciiBracket (bytes_that_pass (in_intervals contents.intervals))) (Bracket brackets) refl refl, tt)
@@ -108,18 +108,18 @@ module _ (unicode : Bool) where
       )
   code-plain behind (loop_1_char_body q loopee) at loops brackets h = (refl, code-plain behind loopee (at + 1) loops brackets h)
 
-plain-at : (xs : List Insn) (i : ℕ) (x : Insn) → plain xs → slice_get xs i ≡ Some x → is_byte_literal_insn x ≡ false
+plain-at : (xs : List Insn) (i : ℕ) (x : Insn) → plain xs → slice_get xs i ≡ Some x → is_byte_sequence_insn x ≡ false
 plain-at [] i x h e = cc
-plain-at (y ∷ xs) zero x h e = let same : y ≡ x = cc in subst (λ z. is_byte_literal_insn z ≡ false) same h.0
+plain-at (y ∷ xs) zero x h e = let same : y ≡ x = cc in subst (λ z. is_byte_sequence_insn z ≡ false) same h.0
 plain-at (y ∷ xs) (suc i) x h e = plain-at xs i x h.1 e
 
 -- where an instruction has literal bytes, the tree reads bytes
-pub literal-reads : (tree : Tree) (i : ℕ) (insn : Insn) → slice_get (compiled tree).insns i ≡ Some insn → IsTrue (is_byte_literal_insn insn) → IsTrue (reads_bytes tree.root)
+pub literal-reads : (tree : Tree) (i : ℕ) (insn : Insn) → slice_get (compiled tree).insns i ≡ Some insn → IsTrue (is_byte_sequence_insn insn) → IsTrue (tree_contains_byte_nodes tree.root)
 unfolding compiled
-literal-reads tree i insn e literal = by (reads_bytes tree.root) refl
+literal-reads tree i insn e literal = by (tree_contains_byte_nodes tree.root) refl
   where
-    by : (b : Bool) → reads_bytes tree.root ≡ b → IsTrue b
+    by : (b : Bool) → tree_contains_byte_nodes tree.root ≡ b → IsTrue b
     by true q = refl
     by false q =
-        let none : is_byte_literal_insn insn ≡ false = plain-at (code_of tree.flags.unicode false tree.root 0 0 0) i insn (code-plain tree.flags.unicode false tree.root 0 0 0 q) e in
+        let none : is_byte_sequence_insn insn ≡ false = plain-at (code_of tree.flags.unicode false tree.root 0 0 0) i insn (code-plain tree.flags.unicode false tree.root 0 0 0 q) e in
         cc

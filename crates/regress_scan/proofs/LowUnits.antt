@@ -8,7 +8,7 @@ use Rattle.std.proofs.lemmas.List.{length-append}
 use mathlib.Core.Logic.{◌⊎◌, inl, inr}
 use Rattle.regex_meaning.specs.Text.{Text}
 use Rattle.regex_meaning.specs.CodeUnitOffsets.{IsBoundary}
-use Rattle.regex_meaning.specs.CodeUnits.{Encoding, utf8, utf16, ucs2, spelled_in, units_in, surrogate_pair}
+use Rattle.regex_meaning.specs.CodeUnits.{Encoding, utf8, utf16, ucs2, spelled_in, text_units_in_encoding, surrogate_pair}
 use Rattle.regex_meaning.proofs.Options.{some-same}
 use Rattle.regex_meaning.proofs.TextLemmas.{offset-IsBoundary}
 use Rattle.regress_input.proofs.Boundaries.{boundary-byte, offset-units}
@@ -18,7 +18,7 @@ use Rattle.regress_simulation.specs.RequiredPrefixes.{unit_is_allowed}
 use Rattle.regress_plan.specs.declared.required_prefix.Prefix.{Prefix}
 use Rattle.regress_plan.specs.PrefixesAndPrefilters.{units_allowed_by_prefix, AllowsOnlyAsciiAt, AllowsOnlyAsciiFirst}
 use Rattle.regress_plan.specs.TableKeysOfUnits.{key, has_16_bit_units}
-use Rattle.regress_scan.specs.SearchInputs.{SearchInput}
+use Rattle.regress_scan.specs.TreePlanAndText.{SearchInput}
 use Rattle.regress_scan.specs.StartSearch.{keys_in, prefix_fits_at}
 use Rattle.regress_scan.proofs.FirstUnits.{fits-each}
 use Rattle.regress_scan.proofs.NextUnits.{unit-fits}
@@ -51,12 +51,12 @@ module _ (e : Encoding) (later : (c i u : ℕ) → slice_get (spelled_in e c) (s
           let both = length-append (spelled_in e c) (spell (take rest.0 cs)) in
           (suc rest.0, omega (arith, inside), omega (arith, both, same, back))
 
-  located-boundary : (text : Text) → HasUnitsForTables e text → (at u : ℕ) → slice_get (units_in e text) at ≡ Some u → u < 128 → IsBoundary text at
+  located-boundary : (text : Text) → HasUnitsForTables e text → (at u : ℕ) → slice_get (text_units_in_encoding e text) at ≡ Some u → u < 128 → IsBoundary text at
   located-boundary text has at u there low =
       let p = located text.characters at u there low in
       subst (IsBoundary text) (offset-units e text has.spelled p.0 p.1 ∙ p.2) (offset-IsBoundary text p.0 has.is_text p.1)
 
-pub low-boundary : (e : Encoding) (text : Text) → HasUnitsForTables e text → (at u : ℕ) → slice_get (units_in e text) at ≡ Some u → u < 128 → IsBoundary text at
+pub low-boundary : (e : Encoding) (text : Text) → HasUnitsForTables e text → (at u : ℕ) → slice_get (text_units_in_encoding e text) at ≡ Some u → u < 128 → IsBoundary text at
 low-boundary utf8 text has at u there low = boundary-byte text has.spelled at u there ∙ ap (λ (b : Bool). not (b && nat_le u 0xBF)) (lt-leb 0x80 u low)
 low-boundary utf16 text has at u there low = located-boundary utf16 later text has at u there low
   where
@@ -94,14 +94,14 @@ key-own true u low = elim (cases_lt u 128) [
 module _ (w : SearchInput) (has : HasUnitsForTables w.encoding w.text) (prefix : Prefix) (at : ℕ) (fit : prefix_fits_at w prefix at ≡ true) where
   -- where the first units may stand, and only those below 128 so many units on, there is one
   pub fit-unit : (ahead : ℕ) → ahead < prefix.len → AllowsOnlyAsciiAt prefix ahead
-      → (u : ℕ) × (slice_get (units_in w.encoding w.text) (at + ahead) ≡ Some u) × (u < 128) × (units_allowed_by_prefix prefix ahead u ≡ true)
+      → (u : ℕ) × (slice_get (text_units_in_encoding w.encoding w.text) (at + ahead) ≡ Some u) × (u < 128) × (units_allowed_by_prefix prefix ahead u ≡ true)
   fit-unit ahead less ascii =
-      by (slice_get (units_in w.encoding w.text) (at + ahead)) refl
-      (sym (ap (unit_is_allowed (units_allowed_by_prefix prefix) ahead) (slice_get-map (key (has_16_bit_units w.encoding)) (units_in w.encoding w.text) (at + ahead)))
+      by (slice_get (text_units_in_encoding w.encoding w.text) (at + ahead)) refl
+      (sym (ap (unit_is_allowed (units_allowed_by_prefix prefix) ahead) (slice_get-map (key (has_16_bit_units w.encoding)) (text_units_in_encoding w.encoding w.text) (at + ahead)))
       ∙ fits-each (units_allowed_by_prefix prefix) (keys_in w) at prefix.len ahead less fit)
     where
-      by : (o : Option ℕ) → slice_get (units_in w.encoding w.text) (at + ahead) ≡ o → unit_is_allowed (units_allowed_by_prefix prefix) ahead (option_map (key (has_16_bit_units w.encoding)) o) ≡ true
-          → (u : ℕ) × (slice_get (units_in w.encoding w.text) (at + ahead) ≡ Some u) × (u < 128) × (units_allowed_by_prefix prefix ahead u ≡ true)
+      by : (o : Option ℕ) → slice_get (text_units_in_encoding w.encoding w.text) (at + ahead) ≡ o → unit_is_allowed (units_allowed_by_prefix prefix) ahead (option_map (key (has_16_bit_units w.encoding)) o) ≡ true
+          → (u : ℕ) × (slice_get (text_units_in_encoding w.encoding w.text) (at + ahead) ≡ Some u) × (u < 128) × (units_allowed_by_prefix prefix ahead u ≡ true)
       by None there may = cc
       by (Some u) there may =
           let low = ascii (key (has_16_bit_units w.encoding) u) (key-small (has_16_bit_units w.encoding) u (unit-fits w.encoding w.text has (at + ahead) u there)) may in
@@ -112,4 +112,4 @@ module _ (w : SearchInput) (has : HasUnitsForTables w.encoding w.text) (prefix :
   pub fit-boundary : 0 < prefix.len → AllowsOnlyAsciiFirst prefix → IsBoundary w.text at
   fit-boundary some ascii =
       let one = fit-unit 0 some ascii in
-      low-boundary w.encoding w.text has at one.0 (ap (slice_get (units_in w.encoding w.text)) (let z : at ≡ at + 0 = omega arith in z) ∙ one.1) one.2
+      low-boundary w.encoding w.text has at one.0 (ap (slice_get (text_units_in_encoding w.encoding w.text)) (let z : at ≡ at + 0 = omega arith in z) ∙ one.1) one.2

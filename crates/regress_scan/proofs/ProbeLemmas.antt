@@ -6,18 +6,18 @@ use Rattle.std.proofs.lemmas.Option.{slice_get-map, slice_get_within, slice_get-
 use Rattle.std.proofs.lemmas.List.{length-map, length-take, get_or-take}
 use mathlib.Core.Logic.{inl, inr}
 use Rattle.regex_meaning.specs.CodeUnitOffsets.{units}
-use Rattle.regex_meaning.specs.CodeUnits.{units_in}
+use Rattle.regex_meaning.specs.CodeUnits.{text_units_in_encoding}
 use Rattle.regex_meaning.proofs.Options.{some-same}
 use Rattle.regress_input.proofs.Boundaries.{units-length}
 use Rattle.regress_simulation.specs.FirstSetTables.{HasUnitsForTables, unit_key_at}
 use Rattle.regress_simulation.specs.RequiredPrefixes.{unit_is_allowed}
 use Rattle.regress_plan.specs.declared.required_prefix.Prefix.{Prefix}
-use Rattle.regress_plan.specs.declared.prefilters.UnitBitsProbe.{UnitBitsProbe}
-use Rattle.regress_plan.specs.PrefixesAndPrefilters.{units_allowed_by_prefix, fits, unit_passes_probe, IsUnitBitsProbe, AllowsOnlyAsciiFirst}
+use Rattle.regress_plan.specs.declared.prefilters.MaskedUnitProbe.{MaskedUnitProbe}
+use Rattle.regress_plan.specs.PrefixesAndPrefilters.{units_allowed_by_prefix, prefix_allows_units_at, unit_passes_probe, IsMaskedUnitProbe, AllowsOnlyAsciiFirst}
 use Rattle.regress_plan.specs.TableKeysOfUnits.{key, has_16_bit_units}
-use Rattle.regress_scan.specs.SearchInputs.{SearchInput}
+use Rattle.regress_scan.specs.TreePlanAndText.{SearchInput}
 use Rattle.regress_scan.specs.StartSearch.{keys_in, prefix_fits_at, IsFirstBoundaryWhere}
-use Rattle.regress_scan.specs.BitProbes.{NoPrefixFitsBetween, IsFirstPrefixFit}
+use Rattle.regress_scan.specs.PrefixCandidatesInRange.{NoPrefixFitsBetween, IsFirstPrefixFit}
 use Rattle.regress_scan.proofs.FirstUnits.{fits-fails, fits-past, fits-more}
 use Rattle.regress_scan.proofs.LowUnits.{fit-unit, fit-boundary}
 
@@ -25,13 +25,13 @@ use Rattle.regress_scan.proofs.LowUnits.{fit-unit, fit-boundary}
 
 module _ (w : SearchInput) where
   pub key-got : (at k : ℕ) → unit_key_at w.encoding (key (has_16_bit_units w.encoding)) w.text at ≡ Some k → slice_get (keys_in w) at ≡ Some k
-  key-got at k there = slice_get-map (key (has_16_bit_units w.encoding)) (units_in w.encoding w.text) at ∙ there
+  key-got at k there = slice_get-map (key (has_16_bit_units w.encoding)) (text_units_in_encoding w.encoding w.text) at ∙ there
 
   -- one unit more, which may stand there
   pub fits-goes : (prefix : Prefix) (at ahead k : ℕ) (may : Bool) → unit_key_at w.encoding (key (has_16_bit_units w.encoding)) w.text (at + ahead) ≡ Some k
-      → may ≡ units_allowed_by_prefix prefix ahead k → may ≡ true → fits (units_allowed_by_prefix prefix) (keys_in w) at ahead ≡ true → fits (units_allowed_by_prefix prefix) (keys_in w) at (ahead + 1) ≡ true
+      → may ≡ units_allowed_by_prefix prefix ahead k → may ≡ true → prefix_allows_units_at (units_allowed_by_prefix prefix) (keys_in w) at ahead ≡ true → prefix_allows_units_at (units_allowed_by_prefix prefix) (keys_in w) at (ahead + 1) ≡ true
   fits-goes prefix at ahead k may there asked holds all =
-      ap (fits (units_allowed_by_prefix prefix) (keys_in w) at) (let z : ahead + 1 ≡ suc ahead = omega arith in z)
+      ap (prefix_allows_units_at (units_allowed_by_prefix prefix) (keys_in w) at) (let z : ahead + 1 ≡ suc ahead = omega arith in z)
       ∙ fits-more (units_allowed_by_prefix prefix) (keys_in w) at ahead all (ap (unit_is_allowed (units_allowed_by_prefix prefix) ahead) (key-got (at + ahead) k there) ∙ sym asked ∙ holds)
 
   -- one that may not
@@ -44,8 +44,8 @@ module _ (w : SearchInput) where
 -- ---- Bits
 
 -- where the first units may stand a probe passes
-pub probe-passes : (w : SearchInput) → HasUnitsForTables w.encoding w.text → (prefix : Prefix) (at : ℕ) → prefix_fits_at w prefix at ≡ true → (probe : UnitBitsProbe) → IsUnitBitsProbe prefix probe
-    → (u : ℕ) → slice_get (units_in w.encoding w.text) (at + probe.ahead) ≡ Some u → unit_passes_probe probe u ≡ true
+pub probe-passes : (w : SearchInput) → HasUnitsForTables w.encoding w.text → (prefix : Prefix) (at : ℕ) → prefix_fits_at w prefix at ≡ true → (probe : MaskedUnitProbe) → IsMaskedUnitProbe prefix probe
+    → (u : ℕ) → slice_get (text_units_in_encoding w.encoding w.text) (at + probe.ahead) ≡ Some u → unit_passes_probe probe u ≡ true
 probe-passes w has prefix at fit probe is u there =
     let one = fit-unit w has prefix at fit probe.ahead is.inside is.low in
     let small = one.2 in
@@ -99,7 +99,7 @@ module _ (w : SearchInput) (prefix : Prefix) where
   first-where has some ascii from to None all first = λ at on le less. elim (cases_lt at to) [
     | inl before ↦ first at le before
     | inr after ↦
-        let count : length (keys_in w) ≡ units w.text = length-map (units_in w.encoding w.text) (key (has_16_bit_units w.encoding)) ∙ sym (units-length w.encoding w.text has.spelled) in
+        let count : length (keys_in w) ≡ units w.text = length-map (text_units_in_encoding w.encoding w.text) (key (has_16_bit_units w.encoding)) ∙ sym (units-length w.encoding w.text has.spelled) in
         fits-past (units_allowed_by_prefix prefix) (keys_in w) at prefix.len (prefix.len - 1) (omega (arith, some)) (omega (arith, after, all, some, count))
   ]
   first-where has some ascii from to (Some at) all first = found-where has some ascii from to at first

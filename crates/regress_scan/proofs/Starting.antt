@@ -9,31 +9,31 @@ use Rattle.std.proofs.Math.Bool.{and-false}
 use mathlib.Core.Logic.{inl, inr}
 use Rattle.regex_meaning.specs.NumberListHelpers.{contains}
 use Rattle.regex_meaning.specs.Text.{Text, rightwards}
-use Rattle.regex_meaning.specs.CodeUnitOffsets.{IsText, IsBoundary, units, read}
-use Rattle.regex_meaning.specs.CodeUnits.{Encoding, utf8, utf16, ucs2, units_in, IsSpelledIn}
+use Rattle.regex_meaning.specs.CodeUnitOffsets.{HasRisingPlaceOffsets, IsBoundary, units, read}
+use Rattle.regex_meaning.specs.CodeUnits.{Encoding, utf8, utf16, ucs2, text_units_in_encoding, IsSpelledIn}
 use Rattle.regex_meaning.proofs.Booleans.{and-left}
 use Rattle.regex_meaning.proofs.TextLemmas.{place-less}
-use Rattle.regex_pattern_front.specs.FirstPassingIndex.{FindsFirstPassingIndex, member_byte_at_index}
+use Rattle.regex_pattern_front.specs.FirstPassingIndex.{FindsFirstPassingIndex, is_member_byte_at_index}
 use Rattle.memchr.specs.Find.{IsFirstByte, is_byte3}
 use Rattle.regress_input.specs.ReadsFromOffset.{past, bytes_of, bytes_if, has_byte_units, IsFoundFrom}
 use Rattle.regress_input.specs.Utf8.{is_continuation_byte}
 use Rattle.regress_input.proofs.Boundaries.{boundary-byte, units-length}
 use Rattle.regress_input.proofs.Places.{end_boundary, past_ahead, past_boundary, boundary_inside, place_of_boundary, step_right}
 use Rattle.regress_input.proofs.UnitsIn.{utf8-units}
-use Rattle.regress_simulation.specs.FirstSetTables.{FirstSetTable, HasUnitsForTables, table_allows, unit_key_at}
-use Rattle.regress_plan.specs.TableKeysOfUnits.{key, has_16_bit_units, is_utf8_lead_byte}
-use Rattle.regress_scan.specs.SearchInputs.{SearchInput}
+use Rattle.regress_simulation.specs.FirstSetTables.{AllowedNextKeys, HasUnitsForTables, table_allows, unit_key_at}
+use Rattle.regress_plan.specs.TableKeysOfUnits.{key, has_16_bit_units, begins_utf8_character}
+use Rattle.regress_scan.specs.TreePlanAndText.{SearchInput}
 use Rattle.regress_scan.proofs.Allowing.{no-key}
 use Rattle.regress_scan.proofs.NextUnits.{unit-fits}
 use Rattle.regress_scan.proofs.FirstUnits.{own-key, fits-past, fits-behind}
 use Rattle.regress_plan.specs.declared.required_prefix.Prefix.{Prefix}
-use Rattle.regress_plan.specs.PrefixesAndPrefilters.{units_allowed_by_prefix, fits, AllowsOnlyAsciiFirst}
+use Rattle.regress_plan.specs.PrefixesAndPrefilters.{units_allowed_by_prefix, prefix_allows_units_at, AllowsOnlyAsciiFirst}
 use Rattle.regress_scan.proofs.LowUnits.{fit-boundary}
-use Rattle.regress_scan.specs.StartSearch.{allows_at, AllowsNone, IsFirstAllowedBoundaryOrEnd, IsFirstBoundaryWhere, AllowsOnlyLeadBytes, SkipsNoBoundary, IsFoundInBytes, few_units_table, prefix_fits_at}
+use Rattle.regress_scan.specs.StartSearch.{allows_at, AllowsNone, IsFirstAllowedBoundary, IsFirstBoundaryWhere, AllowsOnlyLeadBytes, SkipsNoBoundary, IsFoundInBytes, table_of_listed_units, prefix_fits_at}
 
 -- ---- Past a unit
 
-pub none-between : (text : Text) → IsText text → (at to : ℕ) → past text rightwards at ≡ Some to → (x : ℕ) → IsBoundary text x → at < x → x < to → ⊥
+pub none-between : (text : Text) → HasRisingPlaceOffsets text → (at to : ℕ) → past text rightwards at ≡ Some to → (x : ℕ) → IsBoundary text x → at < x → x < to → ⊥
 none-between text is at to led x on more less = by (read text rightwards at) refl led
   where
     by : (o : Option (ℕ × ℕ)) → read text rightwards at ≡ o → option_map {T = ℕ × ℕ} (λ r. r.1) o ≡ Some to → ⊥
@@ -48,7 +48,7 @@ none-between text is at to led x on more less = by (read text rightwards at) ref
         let before = place-less text q.0 (suc step.place) is q.1.within upto.within (omega (arith, upto.offset_is, q.1.offset_is, less, same)) in
         omega (arith, after, before)
 
-pub past-character : (text : Text) → IsText text → (are_bytes : Bool) (at to : ℕ) → past text rightwards at ≡ Some to → SkipsNoBoundary text are_bytes at to
+pub past-character : (text : Text) → HasRisingPlaceOffsets text → (are_bytes : Bool) (at to : ℕ) → past text rightwards at ≡ Some to → SkipsNoBoundary text are_bytes at to
 past-character text is are_bytes at to led = record {
   ahead = past_ahead text is at to led;
   inside = boundary_inside text is to (past_boundary text is at to led);
@@ -70,7 +70,7 @@ or-after : (a b : Bool) → a ≡ false → (a || b) ≡ true → b ≡ true
 or-after true b e h = cc
 or-after false b e h = h
 
-lead-begins : (k : ℕ) → is_utf8_lead_byte k ≡ true → is_continuation_byte k ≡ false
+lead-begins : (k : ℕ) → begins_utf8_character k ≡ true → is_continuation_byte k ≡ false
 lead-begins k is = elim (cases_lt k 0x80) [
   | inl low ↦ ap (λ (b : Bool). b && nat_le k 0xBF) (lt-leb 0x80 k low)
   | inr high ↦
@@ -78,16 +78,16 @@ lead-begins k is = elim (cases_lt k 0x80) [
       ap (λ (b : Bool). nat_le 0x80 k && b) (lt-leb k 0xBF (omega (arith, more))) ∙ and-false (nat_le 0x80 k)
 ]
 
-boundary-lead : (e : Encoding) (text : Text) → HasUnitsForTables e text → (table : FirstSetTable) → AllowsOnlyLeadBytes (has_16_bit_units e) table → (at k : ℕ)
+boundary-lead : (e : Encoding) (text : Text) → HasUnitsForTables e text → (table : AllowedNextKeys) → AllowsOnlyLeadBytes (has_16_bit_units e) table → (at k : ℕ)
     → unit_key_at e (key (has_16_bit_units e)) text at ≡ Some k → k < 256 → table.keys k ≡ true → (has_byte_units e ≡ false → IsBoundary text at) → IsBoundary text at
 boundary-lead utf8 text has table leads at k there small allowed wide =
-    boundary-byte text has.spelled at k (sym (own-key (slice_get (units_in utf8 text) at)) ∙ there) ∙ ap not (lead-begins k (leads refl k small allowed))
+    boundary-byte text has.spelled at k (sym (own-key (slice_get (text_units_in_encoding utf8 text) at)) ∙ there) ∙ ap not (lead-begins k (leads refl k small allowed))
 boundary-lead utf16 text has table leads at k there small allowed wide = wide refl
 boundary-lead ucs2 text has table leads at k there small allowed wide = wide refl
 
 -- ---- Unit by unit
 
-module _ (w : SearchInput) (table : FirstSetTable) (from : ℕ) where
+module _ (w : SearchInput) (table : AllowedNextKeys) (from : ℕ) where
   -- up to this offset the table allows nothing; where units are no bytes that is a boundary
   pub record Scans (at : ℕ) : Type 0 where
     pub passed : from ≤ at
@@ -95,7 +95,7 @@ module _ (w : SearchInput) (table : FirstSetTable) (from : ℕ) where
     pub boundary : has_byte_units w.encoding ≡ false → IsBoundary w.text at
     pub none : AllowsNone w table from at
 
-  pub scan-begins : IsText w.text → IsBoundary w.text from → Scans from
+  pub scan-begins : HasRisingPlaceOffsets w.text → IsBoundary w.text from → Scans from
   scan-begins is on = record {
     passed = le_refl from;
     inside = boundary_inside w.text is from on;
@@ -123,7 +123,7 @@ module _ (w : SearchInput) (table : FirstSetTable) (from : ℕ) where
 
   module _ (has : HasUnitsForTables w.encoding w.text) where
     pub scan-finds : (at k : ℕ) (is : Bool) → AllowsOnlyLeadBytes (has_16_bit_units w.encoding) table → Scans at → unit_key_at w.encoding (key (has_16_bit_units w.encoding)) w.text at ≡ Some k
-        → k < 256 → is ≡ table.keys k → is ≡ true → IsFirstAllowedBoundaryOrEnd w table from (Some at)
+        → k < 256 → is ≡ table.keys k → is ≡ true → IsFirstAllowedBoundary w table from (Some at)
     scan-finds at k is leads s there small asked holds = (
       boundary-lead w.encoding w.text has table leads at k there small (sym asked ∙ holds) s.boundary,
       s.passed,
@@ -134,7 +134,7 @@ module _ (w : SearchInput) (table : FirstSetTable) (from : ℕ) where
     at-end : (at : ℕ) → Scans at → units w.text ≤ at → at ≡ units w.text
     at-end at s end = let most = s.inside in omega (arith, most, end)
 
-    pub scan-ends : (at : ℕ) (is : Bool) → Scans at → units w.text ≤ at → is ≡ table.end → is ≡ true → IsFirstAllowedBoundaryOrEnd w table from (Some at)
+    pub scan-ends : (at : ℕ) (is : Bool) → Scans at → units w.text ≤ at → is ≡ table.end → is ≡ true → IsFirstAllowedBoundary w table from (Some at)
     scan-ends at is s end asked holds = (
       end_boundary w.text has.is_text at (at-end at s end),
       s.passed,
@@ -142,7 +142,7 @@ module _ (w : SearchInput) (table : FirstSetTable) (from : ℕ) where
       s.none,
     )
 
-    pub scan-fails : (at : ℕ) (is : Bool) → Scans at → units w.text ≤ at → is ≡ table.end → is ≡ false → IsFirstAllowedBoundaryOrEnd w table from None
+    pub scan-fails : (at : ℕ) (is : Bool) → Scans at → units w.text ≤ at → is ≡ table.end → is ≡ false → IsFirstAllowedBoundary w table from None
     scan-fails at is s end asked fails = λ x on le less. elim (cases_lt x at) [
       | inl before ↦ s.none x on le before
       | inr after ↦ ap (table_allows table) (no-key w.encoding w.text has x (omega (arith, after, end))) ∙ sym asked ∙ fails
@@ -156,7 +156,7 @@ not-true false h = refl
 
 -- three bytes that are looked for
 pub found-three : (us bytes : List ℕ) (found : Option ℕ) → length us ≡ 3 → IsFirstByte (is_byte3 (get_or us 0 0) (get_or us 1 0) (get_or us 2 0)) bytes found
-    → FindsFirstPassingIndex (member_byte_at_index us bytes) (length bytes) found
+    → FindsFirstPassingIndex (is_member_byte_at_index us bytes) (length bytes) found
 found-three us bytes found sized f = by found f
   where
     or-last : (a b c : Bool) → (a || (b || (c || false))) ≡ (a || b || c)
@@ -172,7 +172,7 @@ found-three us bytes found sized f = by found f
     same (a ∷ b ∷ c ∷ []) e x = or-last (nat_eq x a) (nat_eq x b) (nat_eq x c)
     same (a ∷ b ∷ c ∷ d ∷ us) e x = absurd (omega (arith, e))
 
-    by : (found : Option ℕ) → IsFirstByte (is_byte3 (get_or us 0 0) (get_or us 1 0) (get_or us 2 0)) bytes found → FindsFirstPassingIndex (member_byte_at_index us bytes) (length bytes) found
+    by : (found : Option ℕ) → IsFirstByte (is_byte3 (get_or us 0 0) (get_or us 1 0) (get_or us 2 0)) bytes found → FindsFirstPassingIndex (is_member_byte_at_index us bytes) (length bytes) found
     by None none = λ k less. same us sized (slice_index bytes k) ∙ not-true (is_byte3 (get_or us 0 0) (get_or us 1 0) (get_or us 2 0) (slice_index bytes k)) (none k (omega arith) less)
     by (Some i) first = record {
       within = first.0.high;
@@ -192,23 +192,23 @@ few-pass p (x ∷ us) (suc len) u each h = by (nat_eq u x) refl (λ rest. few-pa
     by true e rest h = ap p (eqb-true u x e) ∙ each 0 (omega arith)
     by false e rest h = rest h
 
-pub few-leads : (us : List ℕ) (len : ℕ) (wide : Bool) → ((k : ℕ) → k < len → is_utf8_lead_byte (get_or us k 0) ≡ true) → AllowsOnlyLeadBytes wide (few_units_table us len)
-few-leads us len wide each single_unit k small allowed = few-pass is_utf8_lead_byte us len k each allowed
+pub few-leads : (us : List ℕ) (len : ℕ) (wide : Bool) → ((k : ℕ) → k < len → begins_utf8_character (get_or us k 0) ≡ true) → AllowsOnlyLeadBytes wide (table_of_listed_units us len)
+few-leads us len wide each single_unit k small allowed = few-pass begins_utf8_character us len k each allowed
 
 -- units below 128 are bytes that begin characters
-low-lead : (k : ℕ) → k < 128 → is_utf8_lead_byte k ≡ true
+low-lead : (k : ℕ) → k < 128 → begins_utf8_character k ≡ true
 low-lead k low = ap (λ (b : Bool). b || (nat_le 0xC2 k && nat_le k 0xF4)) (lt-ltb k 0x80 low)
 
-pub low-leads : (us : List ℕ) (len : ℕ) (wide : Bool) → ((k : ℕ) → k < len → get_or us k 0 < 128) → AllowsOnlyLeadBytes wide (few_units_table us len)
+pub low-leads : (us : List ℕ) (len : ℕ) (wide : Bool) → ((k : ℕ) → k < len → get_or us k 0 < 128) → AllowsOnlyLeadBytes wide (table_of_listed_units us len)
 low-leads us len wide low = few-leads us len wide (λ k less. low-lead (get_or us k 0) (low k less))
 
 byte-key : (e : Encoding) (text : Text) → has_byte_units e ≡ true → (at : ℕ) → unit_key_at e (key (has_16_bit_units e)) text at ≡ slice_get (bytes_of text) at
-byte-key utf8 text bytes at = own-key (slice_get (units_in utf8 text) at) ∙ ap (λ (us : List ℕ). slice_get us at) (utf8-units text.characters)
+byte-key utf8 text bytes at = own-key (slice_get (text_units_in_encoding utf8 text) at) ∙ ap (λ (us : List ℕ). slice_get us at) (utf8-units text.characters)
 byte-key utf16 text bytes at = cc
 byte-key ucs2 text bytes at = cc
 
 byte-small : (e : Encoding) (text : Text) → HasUnitsForTables e text → has_byte_units e ≡ true → (at k : ℕ) → unit_key_at e (key (has_16_bit_units e)) text at ≡ Some k → k < 256
-byte-small utf8 text has bytes at k there = unit-fits utf8 text has at k (sym (own-key (slice_get (units_in utf8 text) at)) ∙ there)
+byte-small utf8 text has bytes at k there = unit-fits utf8 text has at k (sym (own-key (slice_get (text_units_in_encoding utf8 text) at)) ∙ there)
 byte-small utf16 text has bytes at k there = cc
 byte-small ucs2 text has bytes at k there = cc
 
@@ -237,16 +237,16 @@ found-in {are_bytes = are_bytes} {text = text} {pos = pos} w stands_at from ther
     (subst (λ o. IsFoundFrom are_bytes stands_at (bytes_of text) pos o) same found)))
 
 -- the first of a few units, found in bytes
-pub few-found : (w : SearchInput) → HasUnitsForTables w.encoding w.text → (us : List ℕ) (len from : ℕ) → has_byte_units w.encoding ≡ true → AllowsOnlyLeadBytes (has_16_bit_units w.encoding) (few_units_table us len)
-    → from ≤ units w.text → (found : Option ℕ) → IsFoundFrom true (λ bytes. member_byte_at_index (take len us) bytes) (bytes_of w.text) from found
-    → IsFirstAllowedBoundaryOrEnd w (few_units_table us len) from found
+pub few-found : (w : SearchInput) → HasUnitsForTables w.encoding w.text → (us : List ℕ) (len from : ℕ) → has_byte_units w.encoding ≡ true → AllowsOnlyLeadBytes (has_16_bit_units w.encoding) (table_of_listed_units us len)
+    → from ≤ units w.text → (found : Option ℕ) → IsFoundFrom true (λ bytes. is_member_byte_at_index (take len us) bytes) (bytes_of w.text) from found
+    → IsFirstAllowedBoundary w (table_of_listed_units us len) from found
 few-found w has us len from bytes leads inside found f = by f.0 f.1 found f.2
   where
     all : List ℕ
     all = bytes_of w.text
 
-    table : FirstSetTable
-    table = few_units_table us len
+    table : AllowedNextKeys
+    table = table_of_listed_units us len
 
     length-rest : length (drop from all) ≡ length all - from
     length-rest = length-drop from all
@@ -255,7 +255,7 @@ few-found w has us len from bytes leads inside found f = by f.0 f.1 found f.2
     count = byte-count w.encoding w.text bytes has.spelled
 
     test : ℕ → Bool
-    test i = member_byte_at_index (take len us) (drop from all) i
+    test i = is_member_byte_at_index (take len us) (drop from all) i
 
     -- what the test says of an offset
     tested : (i : ℕ) → test i ≡ contains (take len us) (get_or all (from + i) 0)
@@ -270,7 +270,7 @@ few-found w has us len from bytes leads inside found f = by f.0 f.1 found f.2
         allowed at less ∙ ap (λ at. contains (take len us) (get_or all at 0)) back ∙ sym (tested (at - from)) ∙ none
 
     by : (index : Option ℕ) → FindsFirstPassingIndex test (length (drop from all)) index → (found : Option ℕ) → found ≡ option_map (λ i. from + i) index
-        → IsFirstAllowedBoundaryOrEnd w table from found
+        → IsFirstAllowedBoundary w table from found
     by None none None e = λ x on le less. elim (cases_lt x (units w.text)) [
       | inl before ↦ excluded x le (omega (arith, before, count)) (none (x - from) (omega (arith, le, before, count, length-rest)))
       | inr after ↦ ap (table_allows table) (no-key w.encoding w.text has x after)
@@ -295,33 +295,33 @@ few-found w has us len from bytes leads inside found f = by f.0 f.1 found f.2
 
 -- the first place at which they fit, found in bytes
 pub fitting-found : (w : SearchInput) → HasUnitsForTables w.encoding w.text → (prefix : Prefix) → has_16_bit_units w.encoding ≡ false → 0 < prefix.len → AllowsOnlyAsciiFirst prefix → (from : ℕ)
-    → (found : Option ℕ) → IsFoundInBytes w (λ bytes index. fits (units_allowed_by_prefix prefix) bytes index prefix.len) from found
+    → (found : Option ℕ) → IsFoundInBytes w (λ bytes index. prefix_allows_units_at (units_allowed_by_prefix prefix) bytes index prefix.len) from found
     → IsFirstBoundaryWhere w (prefix_fits_at w prefix) from found
 fitting-found w has prefix single_unit some ascii from found f = by in_bytes.0 in_bytes.1 found in_bytes.2
   where
-    in_bytes : IsFoundFrom true (λ bytes index. fits (units_allowed_by_prefix prefix) bytes index prefix.len) (bytes_of w.text) from found
+    in_bytes : IsFoundFrom true (λ bytes index. prefix_allows_units_at (units_allowed_by_prefix prefix) bytes index prefix.len) (bytes_of w.text) from found
     in_bytes =
-        subst (λ b. IsFoundFrom b (λ bytes index. fits (units_allowed_by_prefix prefix) bytes index prefix.len) (bytes_of w.text) from found)
+        subst (λ b. IsFoundFrom b (λ bytes index. prefix_allows_units_at (units_allowed_by_prefix prefix) bytes index prefix.len) (bytes_of w.text) from found)
         (single_unit-bytes w.encoding single_unit) f
 
     all : List ℕ
     all = bytes_of w.text
 
     test : (at : ℕ) → Bool
-    test at = fits (units_allowed_by_prefix prefix) all at prefix.len
+    test at = prefix_allows_units_at (units_allowed_by_prefix prefix) all at prefix.len
 
-    same-units : (e : Encoding) → has_16_bit_units e ≡ false → map (key (has_16_bit_units e)) (units_in e w.text) ≡ all
-    same-units utf8 n = map-id (units_in utf8 w.text) ∙ utf8-units w.text.characters
+    same-units : (e : Encoding) → has_16_bit_units e ≡ false → map (key (has_16_bit_units e)) (text_units_in_encoding e w.text) ≡ all
+    same-units utf8 n = map-id (text_units_in_encoding utf8 w.text) ∙ utf8-units w.text.characters
     same-units utf16 n = cc
     same-units ucs2 n = cc
 
     same : (at : ℕ) → prefix_fits_at w prefix at ≡ test at
-    same at = ap (λ (us : List ℕ). fits (units_allowed_by_prefix prefix) us at prefix.len) (same-units w.encoding single_unit)
+    same at = ap (λ (us : List ℕ). prefix_allows_units_at (units_allowed_by_prefix prefix) us at prefix.len) (same-units w.encoding single_unit)
 
     length-rest : length (drop from all) ≡ length all - from
     length-rest = length-drop from all
 
-    excluded : (at : ℕ) → from ≤ at → fits (units_allowed_by_prefix prefix) (drop from all) (at - from) prefix.len ≡ false → prefix_fits_at w prefix at ≡ false
+    excluded : (at : ℕ) → from ≤ at → prefix_allows_units_at (units_allowed_by_prefix prefix) (drop from all) (at - from) prefix.len ≡ false → prefix_fits_at w prefix at ≡ false
     excluded at le none =
         let back : at ≡ from + (at - from) = omega (arith, le) in
         same at ∙ ap test back ∙ sym (fits-behind (units_allowed_by_prefix prefix) all from (at - from) prefix.len) ∙ none
@@ -329,7 +329,7 @@ fitting-found w has prefix single_unit some ascii from found f = by in_bytes.0 i
     past : (at : ℕ) → length all ≤ at → prefix_fits_at w prefix at ≡ false
     past at end = same at ∙ fits-past (units_allowed_by_prefix prefix) all at prefix.len 0 some (omega (arith, end))
 
-    by : (index : Option ℕ) → FindsFirstPassingIndex (λ i. fits (units_allowed_by_prefix prefix) (drop from all) i prefix.len) (length (drop from all)) index → (found : Option ℕ)
+    by : (index : Option ℕ) → FindsFirstPassingIndex (λ i. prefix_allows_units_at (units_allowed_by_prefix prefix) (drop from all) i prefix.len) (length (drop from all)) index → (found : Option ℕ)
         → found ≡ option_map (λ i. from + i) index → IsFirstBoundaryWhere w (prefix_fits_at w prefix) from found
     by None none None e = λ x on le less. elim (cases_lt x (length all)) [
       | inl before ↦ excluded x le (none (x - from) (omega (arith, le, before, length-rest)))

@@ -1,13 +1,13 @@
 pub mod InsnMatchers
-pub mod SearchInputs
-pub mod OffsetRanges
-pub mod BitProbes
+pub mod TreePlanAndText
+pub mod OffsetRangesAndPassingChars
+pub mod PrefixCandidatesInRange
 pub mod ReadsAtOffset
 pub mod StartSearch
 pub mod CharLoopExits
 pub mod DeadThreads
 pub mod AlternationArmTables
-pub mod LookaheadTables
+pub mod LookaheadAndExitVerdicts
 pub mod LazyCharLoopExits
 pub mod PrefixSearch
 pub mod UnitsWithoutLoopExit

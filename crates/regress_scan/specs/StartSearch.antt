@@ -3,20 +3,20 @@ use Rattle.std.specs.Prelude.{◌≡◌, ◌⊎◌, ◌≤◌, ◌<◌, ℕ, ◌
 use Rattle.regex_meaning.specs.NumberListHelpers.{contains}
 use Rattle.regex_meaning.specs.Text.{Text, rightwards}
 use Rattle.regex_meaning.specs.CodeUnitOffsets.{IsBoundary, units}
-use Rattle.regex_meaning.specs.CodeUnits.{units_in}
+use Rattle.regex_meaning.specs.CodeUnits.{text_units_in_encoding}
 use Rattle.regress_input.specs.ReadsFromOffset.{past, bytes_of, has_byte_units, IsFoundFrom}
 use Rattle.regress_plan.specs.LookbehindFilter.{allows_start}
 use Rattle.regress_plan.specs.declared.required_prefix.Prefix.{Prefix}
 use Rattle.regress_plan.specs.declared.plan.CandidateStarts.{CandidateStarts}
 use Rattle.regress_plan.specs.declared.plan.CandidateStarts.TheVariants as variant
-use Rattle.regress_plan.specs.PrefixesAndPrefilters.{units_allowed_by_prefix, fits}
-use Rattle.regress_plan.specs.TableKeysOfUnits.{key, has_16_bit_units, is_utf8_lead_byte}
+use Rattle.regress_plan.specs.PrefixesAndPrefilters.{units_allowed_by_prefix, prefix_allows_units_at}
+use Rattle.regress_plan.specs.TableKeysOfUnits.{key, has_16_bit_units, begins_utf8_character}
 use Rattle.regress_plan.specs.Plans.{unit_table_at_candidate_starts}
-use Rattle.regress_simulation.specs.FirstSetTables.{FirstSetTable, table_allows, unit_key_at}
-use Rattle.regress_scan.specs.SearchInputs.{SearchInput}
+use Rattle.regress_simulation.specs.FirstSetTables.{AllowedNextKeys, table_allows, unit_key_at}
+use Rattle.regress_scan.specs.TreePlanAndText.{SearchInput}
 
 -- The table allows the code unit at an offset, or the end of the text.
-abbrev pub allows_at : SearchInput → FirstSetTable → (at : ℕ) → Bool
+abbrev pub allows_at : SearchInput → AllowedNextKeys → (at : ℕ) → Bool
 allows_at w table at = table_allows table (unit_key_at w.encoding (key (has_16_bit_units w.encoding)) w.text at)
 
 -- The test passes at no boundary from `from` on and before `to`.
@@ -29,12 +29,12 @@ IsFirstBoundaryWhere w test from None = NoneWhere w test from (units w.text + 1)
 IsFirstBoundaryWhere w test from (Some to) = IsBoundary w.text to × (from ≤ to) × (test to ≡ true) × NoneWhere w test from to
 
 -- The table allows nothing at any boundary from `from` on and before `to`.
-abbrev pub AllowsNone : SearchInput → FirstSetTable → (from to : ℕ) → Type 0
+abbrev pub AllowsNone : SearchInput → AllowedNextKeys → (from to : ℕ) → Type 0
 AllowsNone w table from to = NoneWhere w (λ at. allows_at w table at) from to
 
 -- The first boundary from `from` on where the table allows the code unit, or the end of the text.
-abbrev pub IsFirstAllowedBoundaryOrEnd : SearchInput → FirstSetTable → (from : ℕ) → Option ℕ → Type 0
-IsFirstAllowedBoundaryOrEnd w table from next = IsFirstBoundaryWhere w (λ at. allows_at w table at) from next
+abbrev pub IsFirstAllowedBoundary : SearchInput → AllowedNextKeys → (from : ℕ) → Option ℕ → Type 0
+IsFirstAllowedBoundary w table from next = IsFirstBoundaryWhere w (λ at. allows_at w table at) from next
 
 -- The first offset from `from` on where the searcher matches in bytes; `None` if units are not
 -- bytes.
@@ -43,16 +43,16 @@ IsFoundInBytes w stands_at from found = IsFoundFrom (has_byte_units w.encoding) 
 
 -- The first boundary from `from` on where the table allows the code unit, or else the end of the
 -- text.
-abbrev pub IsFirstOrEnd : SearchInput → FirstSetTable → (from at : ℕ) → Type 0
-IsFirstOrEnd w table from at = IsFirstAllowedBoundaryOrEnd w table from (Some at) ⊎ (IsFirstAllowedBoundaryOrEnd w table from None × (at ≡ units w.text))
+abbrev pub IsFirstAllowedBoundaryOrEnd : SearchInput → AllowedNextKeys → (from at : ℕ) → Type 0
+IsFirstAllowedBoundaryOrEnd w table from at = IsFirstAllowedBoundary w table from (Some at) ⊎ (IsFirstAllowedBoundary w table from None × (at ≡ units w.text))
 
 -- Among bytes, the table allows only those that begin characters.
-abbrev pub AllowsOnlyLeadBytes : (wide : Bool) → FirstSetTable → Type 0
-AllowsOnlyLeadBytes wide table = wide ≡ false → (k : ℕ) → k < 256 → table.keys k ≡ true → is_utf8_lead_byte k ≡ true
+abbrev pub AllowsOnlyLeadBytes : (wide : Bool) → AllowedNextKeys → Type 0
+AllowsOnlyLeadBytes wide table = wide ≡ false → (k : ℕ) → k < 256 → table.keys k ≡ true → begins_utf8_character k ≡ true
 
 -- The table of the first `len` of these code units.
-abbrev pub few_units_table : (units : List ℕ) → (len : ℕ) → FirstSetTable
-few_units_table units len = record { keys = contains (take len units); end = false }
+abbrev pub table_of_listed_units : (units : List ℕ) → (len : ℕ) → AllowedNextKeys
+table_of_listed_units units len = record { keys = contains (take len units); end = false }
 
 -- A later offset with no boundary in between; it is a boundary itself if units are not bytes.
 pub record SkipsNoBoundary (text : Text) (are_bytes : Bool) (at to : ℕ) : Type 0 where
@@ -63,20 +63,20 @@ pub record SkipsNoBoundary (text : Text) (are_bytes : Bool) (at to : ℕ) : Type
 
 -- The keys of the text's code units.
 abbrev pub keys_in : SearchInput → List ℕ
-keys_in w = map (key (has_16_bit_units w.encoding)) (units_in w.encoding w.text)
+keys_in w = map (key (has_16_bit_units w.encoding)) (text_units_in_encoding w.encoding w.text)
 
 -- Each unit of the prefix may occur at an offset.
 abbrev pub prefix_fits_at : SearchInput → Prefix → (at : ℕ) → Bool
-prefix_fits_at w prefix at = fits (units_allowed_by_prefix prefix) (keys_in w) at prefix.len
+prefix_fits_at w prefix at = prefix_allows_units_at (units_allowed_by_prefix prefix) (keys_in w) at prefix.len
 
 -- The first boundary from `from` on where the prefix may occur.
 abbrev pub IsFirstPrefixMatch : SearchInput → Prefix → (from : ℕ) → Option ℕ → Type 0
 IsFirstPrefixMatch w prefix from next = IsFirstBoundaryWhere w (prefix_fits_at w prefix) from next
 
 -- The offset past the first character that the table allows.
-abbrev pub IsPastFirstAllowedChar : SearchInput → FirstSetTable → (from : ℕ) → Option ℕ → Type 0
-IsPastFirstAllowedChar w table from None = IsFirstAllowedBoundaryOrEnd w table from None
-IsPastFirstAllowedChar w table from (Some to) = (hit : ℕ) × IsFirstAllowedBoundaryOrEnd w table from (Some hit) × (past w.text rightwards hit ≡ Some to)
+abbrev pub IsPastFirstAllowedChar : SearchInput → AllowedNextKeys → (from : ℕ) → Option ℕ → Type 0
+IsPastFirstAllowedChar w table from None = IsFirstAllowedBoundary w table from None
+IsPastFirstAllowedChar w table from (Some to) = (hit : ℕ) × IsFirstAllowedBoundary w table from (Some hit) × (past w.text rightwards hit ≡ Some to)
 
 -- The offset is a candidate start, by this start condition.
 abbrev pub may_start_at : SearchInput → CandidateStarts → (at : ℕ) → Bool

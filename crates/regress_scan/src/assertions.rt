@@ -6,7 +6,7 @@ ghost use Rattle.regress_input.specs.ReadsFromOffset.{place};
 ghost use Rattle.regress_scan.specs.InsnMatchers.{anchor_matches_at};
 
 use crate::insn_matchers::{at_line_end, at_line_start, at_word_boundary};
-use crate::search_context::position;
+use crate::search_context::position_of_offset;
 use regress_input::indexing::InputIndexer;
 use regress_plan::ops::WordBoundaryKind;
 
@@ -16,7 +16,7 @@ pub fn is_line_start<Input: InputIndexer>(input: &Input, multiline: bool, at: us
     requires { IsBoundary (Input.text input.now) at }
     ensures { result ≡ anchor_matches_at (Input.text input.now) start_of_line multiline at }
 {
-    at_line_start(input, multiline, position(input, at))
+    at_line_start(input, multiline, position_of_offset(input, at))
 }
 
 /// Checks whether a line ends at `at`. Without `multiline`, only the end of the text counts.
@@ -25,7 +25,7 @@ pub fn is_line_end<Input: InputIndexer>(input: &Input, multiline: bool, at: usiz
     requires { IsBoundary (Input.text input.now) at }
     ensures { result ≡ anchor_matches_at (Input.text input.now) end_of_line multiline at }
 {
-    at_line_end(input, multiline, position(input, at))
+    at_line_end(input, multiline, position_of_offset(input, at))
 }
 
 /// Checks whether a word boundary is at `at`, or with `edge.invert`, that none is.
@@ -39,5 +39,10 @@ pub fn is_word_boundary<Input: InputIndexer>(
     ensures { let text = Input.text input.now in
         result ≡ exclusive_or edge.invert (is_at_word_boundary text edge.unicode_icase (place text at)) }
 {
-    at_word_boundary(input, edge.invert, edge.unicode_icase, position(input, at))
+    at_word_boundary(
+        input,
+        edge.invert,
+        edge.unicode_icase,
+        position_of_offset(input, at),
+    )
 }

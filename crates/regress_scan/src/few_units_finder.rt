@@ -2,7 +2,7 @@
 
 ghost use Rattle.std.specs.Prelude.{◌≡◌, take, length};
 ghost use Rattle.regex_meaning.specs.NumberListHelpers.{contains};
-ghost use Rattle.regex_pattern_front.specs.FirstPassingIndex.{FindsFirstPassingIndex, member_byte_at_index};
+ghost use Rattle.regex_pattern_front.specs.FirstPassingIndex.{FindsFirstPassingIndex, is_member_byte_at_index};
 
 use memchr::{memchr, memchr2, memchr3};
 use regress_input::front::ByteSearcher;
@@ -32,9 +32,9 @@ impl FewUnitsFinder {
 
 impl ByteSearcher for FewUnitsFinder {
     ghost use Rattle.std.specs.Prelude.{take};
-    ghost use Rattle.regex_pattern_front.specs.FirstPassingIndex.{member_byte_at_index};
+    ghost use Rattle.regex_pattern_front.specs.FirstPassingIndex.{is_member_byte_at_index};
 
-    ghost stands_at = { λ few bytes. member_byte_at_index (take few.len few.units) bytes };
+    ghost stands_at = { λ few bytes. is_member_byte_at_index (take few.len few.units) bytes };
 
     #[inline(always)]
     fn find_in(&self, bytes: &[u8]) -> Option<usize> {
@@ -51,7 +51,7 @@ impl ByteSearcher for FewUnitsFinder {
 // Returns the index of the first of three bytes.
 #[inline(always)]
 fn first_of_three(units: [u8; 3], bytes: &[u8]) -> Option<usize>
-    ensures { FindsFirstPassingIndex (member_byte_at_index units bytes.now) (length bytes.now) result }
+    ensures { FindsFirstPassingIndex (is_member_byte_at_index units bytes.now) (length bytes.now) result }
 {
     memchr3(units[0], units[1], units[2], bytes)
 }

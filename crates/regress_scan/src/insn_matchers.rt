@@ -6,26 +6,26 @@ ghost use Rattle.regex_meaning.specs.{Text.{is_scalar, is_word_char}, Tree.{star
 ghost use Rattle.regex_meaning.specs.{Outcomes.{is_at_word_boundary, is_line_boundary, is_some_and, exclusive_or}, CodeUnitOffsets.{IsBoundary}, CompilationRelation.{ByteSeq, Bracket}};
 ghost use Rattle.regex_pattern_front.specs.AstToSpecTree.{tree_of};
 ghost use Rattle.regress_input.specs.ReadsFromOffset.{end_if_matched, place};
-ghost use Rattle.regress_program.specs.{CodeOfTrees.{compiled}, InsnMeanings.{spec_insn_of}};
-ghost use Rattle.regress_machine.specs.{Machine.{test_of}, InsnEffects.{is_byte_literal_insn}};
+ghost use Rattle.regress_program.specs.{CompilationOfTreesAsFunction.{compiled}, InsnMeanings.{spec_insn_of}};
+ghost use Rattle.regress_machine.specs.{Machine.{test_of}, InsnEffects.{is_byte_sequence_insn}};
 ghost use Rattle.regress_scan.specs.InsnMatchers.{anchor_matches_at, past_backref, char_test_of};
 
 use regress_input::cursor::Direction;
 use regress_input::front::ByteSet;
 use regress_input::indexing::{CharProperties, ElementType, InputIndexer};
 use regress_input::matchers;
-use regress_input::scm::contains_char;
+use regress_input::scm::is_one_of_four_chars;
 use regress_program::insn::{Insn, Program};
 
 // ---- One character
 
 /// Returns the bytes of an instruction that has some.
 #[inline(always)]
-pub fn literal(insn: &Insn) -> &[u8]
-    requires { IsTrue (is_byte_literal_insn (spec_insn_of insn.now)) }
+pub fn bytes_of_literal_insn(insn: &Insn) -> &[u8]
+    requires { IsTrue (is_byte_sequence_insn (spec_insn_of insn.now)) }
     ensures { spec_insn_of insn.now ≡ ByteSeq result.now }
 {
-    match insn.literal() {
+    match insn.bytes_of_literal_insn() {
         Some(bytes) => bytes,
         None => unreachable!(),
     }
@@ -58,7 +58,7 @@ fn bracket_has<Input: InputIndexer>(program: &Program, index: usize, c: Input::E
 #[inline(always)]
 pub fn accepts<Input: InputIndexer>(insn: Insn, program: &Program, c: Input::Element) -> bool
     requires test { IsSome (char_test_of program.now insn) }
-    requires scalar { IsTrue (is_byte_literal_insn (spec_insn_of insn)) → IsTrue (is_scalar (Input.Element.number c)) }
+    requires scalar { IsTrue (is_byte_sequence_insn (spec_insn_of insn)) → IsTrue (is_scalar (Input.Element.number c)) }
     ensures { Some result
         ≡ option_map (λ test. test (Input.Element.number c)) (char_test_of program.now insn) }
 {
@@ -66,15 +66,15 @@ pub fn accepts<Input: InputIndexer>(insn: Insn, program: &Program, c: Input::Ele
     match insn {
         Insn::JustFail => false,
         Insn::Char(wanted) => code == wanted,
-        Insn::CharSet(members) => contains_char(&members, code),
-        Insn::ByteSet2(set) => set.has_char(code),
-        Insn::ByteSet3(set) => set.has_char(code),
-        Insn::ByteSet4(set) => set.has_char(code),
-        Insn::AsciiBracket(set) => set.has_char(code),
+        Insn::CharSet(members) => is_one_of_four_chars(&members, code),
+        Insn::ByteSet2(set) => set.byte_set_has_char(code),
+        Insn::ByteSet3(set) => set.byte_set_has_char(code),
+        Insn::ByteSet4(set) => set.byte_set_has_char(code),
+        Insn::AsciiBracket(set) => set.byte_set_has_char(code),
         Insn::Bracket(index) => bracket_has::<Input>(program, index, c),
         Insn::MatchAny => true,
         Insn::MatchAnyExceptLineTerminator => !Input::CharProps::is_line_terminator(c),
-        _ => spells(code, literal(&insn)),
+        _ => spells(code, bytes_of_literal_insn(&insn)),
     }
 }
 

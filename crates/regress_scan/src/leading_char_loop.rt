@@ -2,9 +2,9 @@
 
 ghost use Rattle.std.specs.Prelude.{◌≡◌, true, Some, option_and_then, slice_get};
 ghost use Rattle.regex_meaning.specs.CodeUnitOffsets.{IsBoundary, units};
-ghost use Rattle.regress_machine.specs.SearchResults.{ProgramCanSearchText};
+ghost use Rattle.regress_machine.specs.SearchResults.{TreeProgramCanSearchText};
 ghost use Rattle.regress_plan.specs.Plans.{char_loop_of};
-ghost use Rattle.regress_scan.specs.{DeadThreads.{NoMatchBetween}, CharLoopExits.{HasAdvancedTo, ClassFitsText}, SearchInputs.{program_of}};
+ghost use Rattle.regress_scan.specs.{DeadThreads.{MatchFailureExtendsUntil}, CharLoopExits.{HasAdvancedTo, ClassFitsText}, TreePlanAndText.{program_of}};
 
 use crate::class_scan::{scan_class_end, scan_single_unit_chars};
 use crate::search_context::{SearchContext, text_end};
@@ -23,7 +23,7 @@ pub fn leading_loop_max_char_units(plan: &Plan) -> usize {
     if plan.ops.len() == 0 {
         return 0;
     }
-    match plan.ops[0].run() {
+    match plan.ops[0].as_char_loop() {
         Some(run) if is_unlimited(plan, run) => max_char_units_of(plan, run),
         _ => 0,
     }
@@ -59,14 +59,14 @@ fn max_char_units_of(plan: &Plan, run: CharLoop) -> usize {
 #[inline(always)]
 pub fn skip_leading_char_loop<W: SearchContext>(planned: &W, from: usize) -> usize
     requires at { IsBoundary (W.searching planned.now).text from }
-    requires can { let w = W.searching planned.now in ProgramCanSearchText (program_of w) w.tree w.text }
+    requires can { let w = W.searching planned.now in TreeProgramCanSearchText (program_of w) w.tree w.text }
     ensures at { IsBoundary (W.searching planned.now).text result }
-    ensures vain { NoMatchBetween (W.searching planned.now) from result }
+    ensures vain { MatchFailureExtendsUntil (W.searching planned.now) from result }
 {
     let Some(op) = planned.op_at(0) else {
         return from;
     };
-    match op.run() {
+    match op.as_char_loop() {
         Some(run) => past_run(planned, run, from),
         None => from,
     }
@@ -78,17 +78,17 @@ fn past_run<W: SearchContext>(planned: &W, run: CharLoop, from: usize) -> usize
     requires run { let ops = (W.searching planned.now).plan.ops.items in
         option_and_then char_loop_of (slice_get ops 0) ≡ Some run }
     requires at { IsBoundary (W.searching planned.now).text from }
-    requires can { let w = W.searching planned.now in ProgramCanSearchText (program_of w) w.tree w.text }
+    requires can { let w = W.searching planned.now in TreeProgramCanSearchText (program_of w) w.tree w.text }
     ensures at { IsBoundary (W.searching planned.now).text result }
-    ensures vain { NoMatchBetween (W.searching planned.now) from result }
+    ensures vain { MatchFailureExtendsUntil (W.searching planned.now) from result }
 {
-    planned.plan_fits_program();
-    let most = planned.bounds(run.bounds).max;
+    planned.lemma_plan_fits_program();
+    let most = planned.char_loop_bounds_with_number(run.bounds).max;
     let end = text_end(planned);
     if most < end {
         return from;
     }
-    let class = planned.class(run.class);
+    let class = planned.class_with_number(run.class);
     far_end(planned, class, from)
 }
 

@@ -2,9 +2,9 @@
 
 ghost use Rattle.std.specs.Prelude.{◌≡◌, ℕ, Some};
 ghost use Rattle.regex_meaning.specs.CodeUnitOffsets.{IsBoundary};
-ghost use Rattle.regress_input.specs.ReadsFromOffset.{past, reading_direction};
+ghost use Rattle.regress_input.specs.ReadsFromOffset.{past, direction_of_forward_flag};
 
-use crate::search_context::{SearchContext, offset_in, position_in};
+use crate::search_context::{SearchContext, offset_in, position_of_offset_in};
 use regress_input::indexing::InputIndexer;
 
 /// The nearest and the furthest exit of a char loop, after the fewest and the most characters.
@@ -16,7 +16,7 @@ pub struct NearestAndFurthestExit {
 
 /// A range of offsets, the preferred one first.
 #[derive(Clone, Copy)]
-pub struct OffsetRange {
+pub struct OffsetRangeInPreferenceOrder {
     pub first: usize,
     pub last: usize,
     /// Whether `last` is to the right of `first`, if they differ.
@@ -25,12 +25,12 @@ pub struct OffsetRange {
 
 /// Returns the offset one character further in the direction, or `at` if there is no character.
 #[inline(always)]
-pub fn step_one_char<W: SearchContext>(planned: &W, forward: bool, at: usize) -> usize
+pub fn offset_one_char_further<W: SearchContext>(planned: &W, forward: bool, at: usize) -> usize
     requires { IsBoundary (W.searching planned.now).text at }
-    ensures { (to : ℕ) → past (W.searching planned.now).text (reading_direction forward) at ≡ Some to → result ≡ to }
+    ensures { (to : ℕ) → past (W.searching planned.now).text (direction_of_forward_flag forward) at ≡ Some to → result ≡ to }
 {
     let input = planned.input();
-    let pos = position_in(planned, at);
+    let pos = position_of_offset_in(planned, at);
     let next = if forward {
         input.next_right_pos(pos)
     } else {

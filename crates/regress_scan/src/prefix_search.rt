@@ -3,27 +3,27 @@
 ghost use Rattle.std.specs.Prelude.{◌≡◌, ◌≤◌, ◌<◌, ◌+◌, true, length, take, IfSome};
 ghost use Rattle.std.proofs.Props.{props};
 ghost use Rattle.memchr.specs.Find.{OccursAt};
-ghost use Rattle.regress_plan.specs.PrefixesAndPrefilters.{units_allowed_by_prefix, fits, IsRequiredUnit, IsRequiredLiteral};
+ghost use Rattle.regress_plan.specs.PrefixesAndPrefilters.{units_allowed_by_prefix, prefix_allows_units_at, IsOnlyUnitAllowedAtPosition, IsLiteralOfOnlyAllowedUnits};
 ghost use Rattle.regress_scan.specs.PrefixSearch.{FindsPrefix};
 
 use crate::literal_finder::LiteralFinder;
 use memchr::memchr;
 use regress_input::front::ByteSearcher;
-use regress_plan::required_prefix::{Literal, Prefix, RequiredUnit, is_clear};
+use regress_plan::required_prefix::{Literal, Prefix, RequiredUnit, is_mask_bit_clear};
 
 /// A prefix of matches, and a unit of it that may be required.
 #[derive(Clone, Copy)]
-pub(crate) struct PrefixAndRequiredUnit<'p> {
+pub(crate) struct PrefixAndItsRequiredUnit<'p> {
     pub(crate) prefix: &'p Prefix,
     pub(crate) rare: Option<RequiredUnit>,
     ghost some: { 0 < prefix.now.len },
-    ghost is_rare: { IfSome rare (λ r. IsRequiredUnit prefix.now r) } by { Prim.hlevel props },
+    ghost is_rare: { IfSome rare (λ r. IsOnlyUnitAllowedAtPosition prefix.now r) } by { Prim.hlevel props },
 }
 
-impl ByteSearcher for PrefixAndRequiredUnit<'_> {
-    ghost use Rattle.regress_plan.specs.PrefixesAndPrefilters.{units_allowed_by_prefix, fits};
+impl ByteSearcher for PrefixAndItsRequiredUnit<'_> {
+    ghost use Rattle.regress_plan.specs.PrefixesAndPrefilters.{units_allowed_by_prefix, prefix_allows_units_at};
 
-    ghost stands_at = { λ f bytes index. fits (units_allowed_by_prefix f.prefix.now) bytes index f.prefix.now.len };
+    ghost stands_at = { λ f bytes index. prefix_allows_units_at (units_allowed_by_prefix f.prefix.now) bytes index f.prefix.now.len };
 
     #[inline(always)]
     fn find_in(&self, bytes: &[u8]) -> Option<usize> {
@@ -41,13 +41,13 @@ pub(crate) struct PrefixAndLiteralFinder<'k, 'p> {
     pub(crate) prefix: &'p Prefix,
     pub(crate) literal: &'p Literal,
     ghost some: { 0 < prefix.now.len },
-    ghost is_literal: { IsRequiredLiteral prefix.now literal.now } by { Prim.hlevel props },
+    ghost is_literal: { IsLiteralOfOnlyAllowedUnits prefix.now literal.now } by { Prim.hlevel props },
 }
 
 impl ByteSearcher for PrefixAndLiteralFinder<'_, '_> {
-    ghost use Rattle.regress_plan.specs.PrefixesAndPrefilters.{units_allowed_by_prefix, fits};
+    ghost use Rattle.regress_plan.specs.PrefixesAndPrefilters.{units_allowed_by_prefix, prefix_allows_units_at};
 
-    ghost stands_at = { λ f bytes index. fits (units_allowed_by_prefix f.prefix.now) bytes index f.prefix.now.len };
+    ghost stands_at = { λ f bytes index. prefix_allows_units_at (units_allowed_by_prefix f.prefix.now) bytes index f.prefix.now.len };
 
     #[inline(always)]
     fn find_in(&self, bytes: &[u8]) -> Option<usize> {
@@ -69,7 +69,7 @@ fn find_fitting(prefix: &Prefix, bytes: &[u8]) -> Option<usize>
         state |= prefix.masks[usize::from(bytes[at])];
         state <<= 1;
         at += 1;
-        if is_clear(state, len) {
+        if is_mask_bit_clear(state, len) {
             return Some(at - len);
         }
     }
@@ -79,7 +79,7 @@ fn find_fitting(prefix: &Prefix, bytes: &[u8]) -> Option<usize>
 // Returns that index, searching for the required unit.
 #[inline(always)]
 fn find_rare(prefix: &Prefix, rare: RequiredUnit, bytes: &[u8]) -> Option<usize>
-    requires { IsRequiredUnit prefix.now rare }
+    requires { IsOnlyUnitAllowedAtPosition prefix.now rare }
     ensures { FindsPrefix prefix.now bytes.now result }
 {
     let mut at = 0;
@@ -105,7 +105,7 @@ fn find_literal(
     bytes: &[u8],
 ) -> Option<usize>
     requires some { 0 < prefix.now.len }
-    requires literal { IsRequiredLiteral prefix.now literal.now }
+    requires literal { IsLiteralOfOnlyAllowedUnits prefix.now literal.now }
     ensures { FindsPrefix prefix.now bytes.now result }
 {
     let needle = &literal.units[..literal.len];
@@ -127,9 +127,9 @@ fn find_literal(
 // literal are not tested again.
 #[inline(always)]
 fn fits_beside(prefix: &Prefix, literal: &Literal, bytes: &[u8], at: usize) -> bool
-    requires literal { IsRequiredLiteral prefix.now literal.now }
+    requires literal { IsLiteralOfOnlyAllowedUnits prefix.now literal.now }
     requires row { OccursAt bytes.now (take literal.now.len literal.now.units) (at + literal.now.ahead) }
-    ensures { result ≡ fits (units_allowed_by_prefix prefix.now) bytes.now at prefix.now.len }
+    ensures { result ≡ prefix_allows_units_at (units_allowed_by_prefix prefix.now) bytes.now at prefix.now.len }
 {
     if !fits_between(prefix, bytes, at, 0, literal.ahead) {
         return false;
@@ -144,8 +144,8 @@ fn fits_between(prefix: &Prefix, bytes: &[u8], at: usize, from: usize, to: usize
     requires at { at ≤ length bytes.now }
     requires order { from ≤ to }
     requires inside { to ≤ prefix.now.len }
-    requires before { fits (units_allowed_by_prefix prefix.now) bytes.now at from ≡ true }
-    ensures { result ≡ fits (units_allowed_by_prefix prefix.now) bytes.now at to }
+    requires before { prefix_allows_units_at (units_allowed_by_prefix prefix.now) bytes.now at from ≡ true }
+    ensures { result ≡ prefix_allows_units_at (units_allowed_by_prefix prefix.now) bytes.now at to }
 {
     let left = bytes.len() - at;
     if left < to {

@@ -3,28 +3,28 @@
 ghost use Rattle.std.specs.Prelude.{◌≡◌, ◌<◌, false, IfSome};
 ghost use Rattle.regex_meaning.specs.CodeUnitOffsets.{IsBoundary, units};
 ghost use Rattle.regress_input.specs.ReadsFromOffset.{has_byte_units};
-ghost use Rattle.regress_plan.specs.{LookbehindFilter.{HasOnlyLeadByteKeys}, PrefixesAndPrefilters.{AllowsOnlyAsciiFirst, IsRequiredLiteral, IsRequiredUnit, IsLiteralPrefilter, IsPrefilter}, TableKeysOfUnits.{has_16_bit_units}};
+ghost use Rattle.regress_plan.specs.{LookbehindFilter.{HasOnlyLeadByteKeys}, PrefixesAndPrefilters.{AllowsOnlyAsciiFirst, IsLiteralOfOnlyAllowedUnits, IsOnlyUnitAllowedAtPosition, IsLiteralPrefilter, IsPrefilter}, TableKeysOfUnits.{has_16_bit_units}};
 ghost use Rattle.regress_plan.specs.Plans.{unit_table_of_set_number};
-ghost use Rattle.regress_simulation.specs.FirstSetTables.{FirstSetTable};
-ghost use Rattle.regress_scan.specs.StartSearch.{IsFirstAllowedBoundaryOrEnd, IsFirstBoundaryWhere, IsFirstPrefixMatch, IsFirstCandidate, IsFoundInBytes, AllowsOnlyLeadBytes, SkipsNoBoundary, IsPastFirstAllowedChar, few_units_table, may_start_at};
+ghost use Rattle.regress_simulation.specs.FirstSetTables.{AllowedNextKeys};
+ghost use Rattle.regress_scan.specs.StartSearch.{IsFirstAllowedBoundary, IsFirstBoundaryWhere, IsFirstPrefixMatch, IsFirstCandidate, IsFoundInBytes, AllowsOnlyLeadBytes, SkipsNoBoundary, IsPastFirstAllowedChar, table_of_listed_units, may_start_at};
 
-use crate::bit_probes::{BitProbes, next_by_bit_probes};
+use crate::class_char_and_table_lookups::unit_key_at_offset;
 use crate::few_units_finder::FewUnitsFinder;
 use crate::literal_finder::LONG;
-use crate::next_char_and_unit_tables::unit_key_at_offset;
-use crate::prefix_search::{PrefixAndLiteralFinder, PrefixAndRequiredUnit};
-use crate::search_context::{SearchContext, offset_in, position_in, text_end};
+use crate::prefix_search::{PrefixAndItsRequiredUnit, PrefixAndLiteralFinder};
+use crate::search_context::{SearchContext, offset_in, position_of_offset_in, text_end};
+use crate::start_search_by_bit_probes::{PrefixAndBitProbes, next_by_bit_probes};
 use regress_input::front::ByteSearcher;
-use regress_input::indexing::{CodeUnits, HasUnits, InputIndexer};
+use regress_input::indexing::{CodeUnitKind, HasUnitType, InputIndexer};
 use regress_plan::first_set::FirstSet;
-use regress_plan::lookbehind_filter::LookbehindFilter;
+use regress_plan::lookbehind_filter::PrecedingCharFilter;
 use regress_plan::plan::CandidateStarts;
 use regress_plan::prefilters::{LiteralPrefilter, Prefilter};
 use regress_plan::required_prefix::{Literal, Prefix, RequiredUnit};
 
 /// A set of code units with which a match may start. Contracts see its table.
 pub(crate) trait StartSet {
-    ghost table: { Self → FirstSetTable };
+    ghost table: { Self → AllowedNextKeys };
 
     /// Checks whether a code unit with this key is in the set.
     fn has_key(&self, key: usize) -> bool
@@ -53,9 +53,9 @@ impl StartSet for FirstSet {
 }
 
 impl StartSet for FewUnitsFinder {
-    ghost use Rattle.regress_scan.specs.StartSearch.{few_units_table};
+    ghost use Rattle.regress_scan.specs.StartSearch.{table_of_listed_units};
 
-    ghost table = { λ few. few_units_table few.units few.len };
+    ghost table = { λ few. table_of_listed_units few.units few.len };
 
     #[inline(always)]
     fn has_key(&self, key: usize) -> bool {
@@ -77,10 +77,10 @@ fn past_unit<W: SearchContext>(planned: &W, at: usize) -> usize
     ensures { let w = W.searching planned.now in SkipsNoBoundary w.text (has_byte_units w.encoding) at result }
 {
     let input = planned.input();
-    if <<W::Input as HasUnits>::Units as CodeUnits>::ARE_BYTES {
+    if <<W::Input as HasUnitType>::Units as CodeUnitKind>::ARE_BYTES {
         at + 1
     } else {
-        offset_in(planned, input.past(position_in(planned, at)))
+        offset_in(planned, input.past(position_of_offset_in(planned, at)))
     }
 }
 
@@ -93,7 +93,7 @@ fn first_place<W: SearchContext, Set: StartSet>(
 ) -> Option<usize>
     requires at { IsBoundary (W.searching planned.now).text from }
     requires leads { AllowsOnlyLeadBytes (has_16_bit_units (W.searching planned.now).encoding) (Set.table set.now) }
-    ensures { IsFirstAllowedBoundaryOrEnd (W.searching planned.now) (Set.table set.now) from result }
+    ensures { IsFirstAllowedBoundary (W.searching planned.now) (Set.table set.now) from result }
 {
     let end = text_end(planned);
     let mut at = from;
@@ -110,10 +110,10 @@ fn first_place<W: SearchContext, Set: StartSet>(
 #[inline(always)]
 fn next_among<W: SearchContext>(planned: &W, number: u32, from: usize) -> Option<usize>
     requires { IsBoundary (W.searching planned.now).text from }
-    ensures { let w = W.searching planned.now in IsFirstAllowedBoundaryOrEnd w (unit_table_of_set_number w.plan number) from result }
+    ensures { let w = W.searching planned.now in IsFirstAllowedBoundary w (unit_table_of_set_number w.plan number) from result }
 {
-    planned.plan_fits_program();
-    match planned.set(number) {
+    planned.lemma_plan_fits_program();
+    match planned.first_set_with_number(number) {
         Some(set) => first_place(planned, set, from),
         None => Some(from),
     }
@@ -129,7 +129,7 @@ fn find<W: SearchContext, Search: ByteSearcher>(
     requires { IsBoundary (W.searching planned.now).text from }
     ensures { IsFoundInBytes (W.searching planned.now) (Search.stands_at search.now) from result }
 {
-    let pos = position_in(planned, from);
+    let pos = position_of_offset_in(planned, from);
     match planned.input().find_bytes(pos, search) {
         Some(pos) => Some(offset_in(planned, pos)),
         None => None,
@@ -145,8 +145,8 @@ pub(crate) fn next_of_few_units<W: SearchContext>(
 ) -> Option<usize>
     requires at { IsBoundary (W.searching planned.now).text from }
     requires leads { let wide = has_16_bit_units (W.searching planned.now).encoding in
-        AllowsOnlyLeadBytes wide (few_units_table few.units few.len) }
-    ensures { IsFirstAllowedBoundaryOrEnd (W.searching planned.now) (few_units_table few.units few.len) from result }
+        AllowsOnlyLeadBytes wide (table_of_listed_units few.units few.len) }
+    ensures { IsFirstAllowedBoundary (W.searching planned.now) (table_of_listed_units few.units few.len) from result }
 {
     match planned.input().as_bytes() {
         Some(_) => find(planned, &few, from),
@@ -168,10 +168,10 @@ fn next_prefix_match<W: SearchContext>(
     requires at { IsBoundary (W.searching planned.now).text from }
     requires bytes { has_16_bit_units (W.searching planned.now).encoding ≡ false }
     requires prefix { (0 < prefix.now.len) × AllowsOnlyAsciiFirst prefix.now }
-    requires rare { IfSome rare (λ r. IsRequiredUnit prefix.now r) }
+    requires rare { IfSome rare (λ r. IsOnlyUnitAllowedAtPosition prefix.now r) }
     ensures { IsFirstPrefixMatch (W.searching planned.now) prefix.now from result }
 {
-    let fitting = PrefixAndRequiredUnit { prefix, rare };
+    let fitting = PrefixAndItsRequiredUnit { prefix, rare };
     find(planned, &fitting, from)
 }
 
@@ -186,11 +186,11 @@ fn next_literal<W: SearchContext>(
     requires at { IsBoundary (W.searching planned.now).text from }
     requires bytes { has_16_bit_units (W.searching planned.now).encoding ≡ false }
     requires prefix { (0 < prefix.now.len) × AllowsOnlyAsciiFirst prefix.now }
-    requires literal { IsRequiredLiteral prefix.now literal.now }
+    requires literal { IsLiteralOfOnlyAllowedUnits prefix.now literal.now }
     ensures { IsFirstPrefixMatch (W.searching planned.now) prefix.now from result }
 {
     let in_row = PrefixAndLiteralFinder {
-        kept: planned.kept(),
+        kept: planned.cached_literal_finder(),
         prefix,
         literal,
     };
@@ -235,7 +235,7 @@ fn next_in_short_text<W: SearchContext>(
 {
     if known.rare.is_none() {
         if let Some(probes) = &known.probes {
-            return next_by_bit_probes(planned, BitProbes { prefix, probes }, from);
+            return next_by_bit_probes(planned, PrefixAndBitProbes { prefix, probes }, from);
         }
     }
     next_prefix_match(planned, prefix, known.rare, from)
@@ -258,7 +258,7 @@ fn first_filtered<W: SearchContext>(
     match prefilter {
         Prefilter::Probes(probes) => next_by_bit_probes(
             planned,
-            BitProbes { prefix, probes },
+            PrefixAndBitProbes { prefix, probes },
             from,
         ),
         Prefilter::ByLiteral(known) => next_known(planned, prefix, known, from),
@@ -274,18 +274,21 @@ fn first_filtered<W: SearchContext>(
 fn next_past<W: SearchContext>(planned: &W, few: FewUnitsFinder, from: usize) -> Option<usize>
     requires at { IsBoundary (W.searching planned.now).text from }
     requires leads { let wide = has_16_bit_units (W.searching planned.now).encoding in
-        AllowsOnlyLeadBytes wide (few_units_table few.units few.len) }
-    ensures { IsPastFirstAllowedChar (W.searching planned.now) (few_units_table few.units few.len) from result }
+        AllowsOnlyLeadBytes wide (table_of_listed_units few.units few.len) }
+    ensures { IsPastFirstAllowedChar (W.searching planned.now) (table_of_listed_units few.units few.len) from result }
 {
     let hit = next_of_few_units(planned, few, from)?;
-    Some(offset_in(planned, planned.input().past(position_in(planned, hit))))
+    Some(offset_in(
+        planned,
+        planned.input().past(position_of_offset_in(planned, hit)),
+    ))
 }
 
 // Returns the first offset from `from` on where the character before lets a match begin.
 #[inline(never)]
 fn next_by_lookbehind<W: SearchContext>(
     planned: &W,
-    before: LookbehindFilter,
+    before: PrecedingCharFilter,
     from: usize,
 ) -> Option<usize>
     requires at { IsBoundary (W.searching planned.now).text from }
@@ -293,9 +296,12 @@ fn next_by_lookbehind<W: SearchContext>(
     ensures { let w = W.searching planned.now in
         IsFirstBoundaryWhere w (may_start_at w (CandidateStarts.Behind before)) from result }
 {
-    let LookbehindFilter { keys, len, edge } = before;
+    let PrecedingCharFilter { keys, len, edge } = before;
     let few = FewUnitsFinder { units: keys, len };
-    match planned.input().next_left_pos(position_in(planned, from)) {
+    match planned
+        .input()
+        .next_left_pos(position_of_offset_in(planned, from))
+    {
         Some(start) => next_past(planned, few, offset_in(planned, start)),
         None => {
             if edge {
@@ -315,8 +321,8 @@ pub fn first_candidate<W: SearchContext>(planned: &W, from: usize) -> Option<usi
     requires { IsBoundary (W.searching planned.now).text from }
     ensures { IsFirstCandidate (W.searching planned.now) from result }
 {
-    planned.plan_fits_program();
-    match planned.start() {
+    planned.lemma_plan_fits_program();
+    match planned.candidate_start_filter_of_plan() {
         CandidateStarts::Anywhere => Some(from),
         CandidateStarts::InSet { set } => next_among(planned, *set, from),
         CandidateStarts::FewUnits { units, len } => {

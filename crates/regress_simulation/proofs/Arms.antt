@@ -9,8 +9,8 @@ use Rattle.regex_meaning.specs.CodeUnitOffsets.{place_at}
 use Rattle.regex_meaning.specs.OutcomesWithStepTicks.{nearest_first}
 use Rattle.regex_meaning.specs.CompilationRelation.{Program, LoopFields, JustFail, Jump, Alt, EnterLoop, LoopAgain, ResetCaptureGroup, Loop1CharBody}
 use Rattle.regex_meaning.specs.CompilationRelation.{BeginCaptureGroup, EndCaptureGroup}
-use Rattle.regress_machine.specs.Machine.{LoopData, State, Thread, running, waiting, goes, scans, at_ip, next_ip, go_if, with_some, only_if, first_runs_others_wait}
-use Rattle.regress_machine.specs.Machine.{iteration_started, iteration_ended, loop_repeated, test_of, scan, act_on, act, range_between_offsets, go}
+use Rattle.regress_machine.specs.Machine.{LoopData, State, Thread, running, waiting, goes, scans, state_at_ip, state_at_next_ip, go_if, with_some, only_if, first_runs_others_wait}
+use Rattle.regress_machine.specs.Machine.{iterate_or_leave_loop, next_iteration_unless_empty, loop_repeated, test_of, scan, act_on, act, range_swapped_if_leftwards, go}
 use Rattle.regress_simulation.specs.ThreadSimulation.{Simulates, FindsNothing}
 use Rattle.regress_simulation.specs.CharLoopExitStates.{most_first, fewest_first}
 use Rattle.regress_simulation.proofs.Rows.{both-ways, first-way, second-way, no-way, only-way, only-way-excluded, dead-end}
@@ -29,27 +29,27 @@ module _ (program : Program) (text : Text) (d : Direction) (s : State) where
   arm-fail exact here = dead-end program text d exact s (ap (λ i. act_on program text d i s) here)
 
   pub arm-jump : (exact : Bool) (target : ℕ) → slice_get program.insns s.ip ≡ Some (Jump target)
-      → Simulates program text exact d 1 (running (at_ip target s) ∷ []) (running s ∷ [])
-  arm-jump exact target here = only-way program text d s (at_ip target s) (ap (λ i. act_on program text d i s) here) exact
+      → Simulates program text exact d 1 (running (state_at_ip target s) ∷ []) (running s ∷ [])
+  arm-jump exact target here = only-way program text d s (state_at_ip target s) (ap (λ i. act_on program text d i s) here) exact
 
   -- ---- Alternatives
 
   module _ (secondary : ℕ) (here : slice_get program.insns s.ip ≡ Some (Alt secondary)) where
-    alt-turn : act program text d s ≡ goes (first_runs_others_wait (next_ip s ∷ at_ip secondary s ∷ []))
+    alt-turn : act program text d s ≡ goes (first_runs_others_wait (state_at_next_ip s ∷ state_at_ip secondary s ∷ []))
     alt-turn = ap (λ i. act_on program text d i s) here
 
-    pub alt-both : (exact : Bool) → Simulates program text exact d 1 (running (next_ip s) ∷ waiting (at_ip secondary s) ∷ []) (running s ∷ [])
-    alt-both exact = both-ways program text d s (next_ip s) (at_ip secondary s) alt-turn exact
+    pub alt-both : (exact : Bool) → Simulates program text exact d 1 (running (state_at_next_ip s) ∷ waiting (state_at_ip secondary s) ∷ []) (running s ∷ [])
+    alt-both exact = both-ways program text d s (state_at_next_ip s) (state_at_ip secondary s) alt-turn exact
 
-    pub alt-here : FindsNothing program text d (running (at_ip secondary s)) → Simulates program text false d 1 (running (next_ip s) ∷ []) (running s ∷ [])
-    alt-here none = first-way program text d s (next_ip s) (at_ip secondary s) alt-turn none
+    pub alt-here : FindsNothing program text d (running (state_at_ip secondary s)) → Simulates program text false d 1 (running (state_at_next_ip s) ∷ []) (running s ∷ [])
+    alt-here none = first-way program text d s (state_at_next_ip s) (state_at_ip secondary s) alt-turn none
 
-    pub alt-there : FindsNothing program text d (running (next_ip s)) → Simulates program text false d 1 (running (at_ip secondary s) ∷ []) (running s ∷ [])
-    alt-there none = second-way program text d s (next_ip s) (at_ip secondary s) alt-turn none
+    pub alt-there : FindsNothing program text d (running (state_at_next_ip s)) → Simulates program text false d 1 (running (state_at_ip secondary s) ∷ []) (running s ∷ [])
+    alt-there none = second-way program text d s (state_at_next_ip s) (state_at_ip secondary s) alt-turn none
 
-    pub alt-none : FindsNothing program text d (running (next_ip s)) → FindsNothing program text d (running (at_ip secondary s))
+    pub alt-none : FindsNothing program text d (running (state_at_next_ip s)) → FindsNothing program text d (running (state_at_ip secondary s))
         → Simulates program text false d 1 [] (running s ∷ [])
-    alt-none here_none there_none = no-way program text d s (next_ip s) (at_ip secondary s) alt-turn here_none there_none
+    alt-none here_none there_none = no-way program text d s (state_at_next_ip s) (state_at_ip secondary s) alt-turn here_none there_none
 
   -- ---- Groups
 
@@ -68,18 +68,18 @@ module _ (program : Program) (text : Text) (d : Direction) (s : State) where
       (λ inside is. only-way program text d s u is exact)
 
   pub arm-close : (exact : Bool) (id start : ℕ) → slice_get program.insns s.ip ≡ Some (EndCaptureGroup id) → slice_get s.starts id ≡ Some start
-      → Simulates program text exact d 1 (running (record s { ip = s.ip + 1; groups = slice_set s.groups id (Some (range_between_offsets d start s.pos)) }) ∷ []) (running s ∷ [])
+      → Simulates program text exact d 1 (running (record s { ip = s.ip + 1; groups = slice_set s.groups id (Some (range_swapped_if_leftwards d start s.pos)) }) ∷ []) (running s ∷ [])
   arm-close exact id start here known =
-      let u = record s { ip = s.ip + 1; groups = slice_set s.groups id (Some (range_between_offsets d start s.pos)) } in
+      let u = record s { ip = s.ip + 1; groups = slice_set s.groups id (Some (range_swapped_if_leftwards d start s.pos)) } in
       only-simulates program text d exact 1 (running u ∷ []) s (nat_lt id (length s.groups)) (go u)
       (ap (λ i. act_on program text d i s) here
-      ∙ ap (λ o. only_if (nat_lt id (length s.groups)) (with_some o (λ start. go (record s { ip = s.ip + 1; groups = slice_set s.groups id (Some (range_between_offsets d start s.pos)) })))) known)
+      ∙ ap (λ o. only_if (nat_lt id (length s.groups)) (with_some o (λ start. go (record s { ip = s.ip + 1; groups = slice_set s.groups id (Some (range_swapped_if_leftwards d start s.pos)) })))) known)
       (λ inside is. only-way program text d s u is exact)
 
   -- ---- The head of a loop
 
   -- where it begins iteration k
-  module _ (f : LoopFields) (begin k : ℕ) (is : act program text d s ≡ iteration_started f begin k s) where
+  module _ (f : LoopFields) (begin k : ℕ) (is : act program text d s ≡ iterate_or_leave_loop f begin k s) where
     abbrev on : State
     on = again f begin k s
 
@@ -134,7 +134,7 @@ module _ (program : Program) (text : Text) (d : Direction) (s : State) where
   pub arm-again : (exact : Bool) (n : ℕ) (us : List Thread) (begin : ℕ) (f : LoopFields) → slice_get program.insns s.ip ≡ Some (LoopAgain begin) → slice_get program.insns begin ≡ Some (EnterLoop f)
       → ((e : LoopData) → slice_get s.loops f.loop_id ≡ Some e → e.iters < f.max_iters → Simulates program text exact d n us (running s ∷ [])) → Simulates program text exact d n us (running s ∷ [])
   arm-again exact n us begin f here there h =
-      some-simulates program text d exact n us s (slice_get s.loops f.loop_id) (λ e. iteration_ended f begin e s)
+      some-simulates program text d exact n us s (slice_get s.loops f.loop_id) (λ e. next_iteration_unless_empty f begin e s)
       (ap (λ i. act_on program text d i s) here ∙ ap (λ i. loop_repeated i begin s) there)
       (λ e known is. only-simulates program text d exact n us s (nat_lt e.iters f.max_iters) _ is (λ before there. h e known (ltb-true e.iters f.max_iters before)))
 

@@ -5,8 +5,8 @@ use Rattle.std.specs.Prelude.{if◌then◌else◌, nat_lt, nat_le}
 use Rattle.regex_meaning.specs.Text.{Text, Direction}
 use Rattle.regex_meaning.specs.CompilationRelation.{Program, LoopFields}
 use Rattle.regex_meaning.proofs.Each.{Each, Each-append, Each-when}
-use Rattle.regress_machine.specs.Machine.{State, Thread, running, waiting, Next, goes, scans, ends, asks, stuck, Found, result_without_threads, at_ip, with_some}
-use Rattle.regress_machine.specs.Machine.{only_if, go, go_if, first_runs_others_wait, preferring, iteration_started, act, after_lookaround, search}
+use Rattle.regress_machine.specs.Machine.{State, Thread, running, waiting, Next, goes, scans, ends, asks, stuck, Found, result_without_threads, state_at_ip, with_some}
+use Rattle.regress_machine.specs.Machine.{only_if, go, go_if, first_runs_others_wait, preferring, iterate_or_leave_loop, act, after_lookaround, search}
 use Rattle.regress_machine.proofs.Search.{Later, never_stuck, waits-later, goes-later, scans-later, asked-inner}
 use Rattle.regress_simulation.specs.ThreadSimulation.{Within, FindsNothing}
 
@@ -122,10 +122,10 @@ module _ (program : Program) (text : Text) (n : ℕ) (d : Direction) where
 
   pub nothing-loop : (f : LoopFields) (begin k : ℕ) (s : State)
       → (nat_lt k f.max_iters ≡ true → Drops (running (record s { ip = begin + 1; loops = slice_set s.loops f.loop_id (record { iters = k; entry = s.pos }) })))
-      → (nat_le f.min_iters k ≡ true → Drops (running (at_ip f.exit s))) → NothingNext (iteration_started f begin k s)
+      → (nat_le f.min_iters k ≡ true → Drops (running (state_at_ip f.exit s))) → NothingNext (iterate_or_leave_loop f begin k s)
   nothing-loop f begin k s again leave =
       let more = record s { ip = begin + 1; loops = slice_set s.loops f.loop_id (record { iters = k; entry = s.pos }) } in
-      let out = at_ip f.exit s in
+      let out = state_at_ip f.exit s in
       let mores = if nat_lt k f.max_iters then more ∷ [] else [] in
       let outs = if nat_le f.min_iters k then out ∷ [] else [] in
       nothing-only (nat_lt f.loop_id (length s.loops)) (goes (first_runs_others_wait (preferring f.greedy mores outs)))

@@ -6,16 +6,16 @@ use Rattle.std.specs.List.{prefix_len}
 use Rattle.std.proofs.lemmas.Bool.{ltb-false, leb-true, eq-eqb}
 use Rattle.regex_meaning.specs.NumberListHelpers.{numbers_from}
 use Rattle.regex_meaning.specs.Text.{Text, rightwards, next_character, moved}
-use Rattle.regex_meaning.specs.CodeUnitOffsets.{IsText, offset, place_at}
+use Rattle.regex_meaning.specs.CodeUnitOffsets.{HasRisingPlaceOffsets, offset, place_at}
 use Rattle.regex_meaning.specs.Outcomes.{is_some_and}
 use Rattle.regex_meaning.specs.OutcomesWithStepTicks.{nearest_first}
 use Rattle.regex_meaning.specs.CompilationRelation.{Program, Insn, Goal, JustFail, Char, CharSet, ByteSet, ByteSeq, AsciiBracket, Bracket, MatchAny}
 use Rattle.regex_meaning.specs.CompilationRelation.{MatchAnyExceptLineTerminator, Alt, Jump, EnterLoop, LoopAgain, ResetCaptureGroup, Loop1CharBody}
 use Rattle.regex_meaning.specs.CompilationRelation.{BeginCaptureGroup, EndCaptureGroup, BackRef, Lookahead, Lookbehind}
 use Rattle.regex_meaning.proofs.TextLemmas.{offset-place_at}
-use Rattle.regress_machine.specs.Machine.{LoopData, State, running, waiting, Next, goes, asks, at_ip, next_ip, with_some, go, go_if, iteration_started}
-use Rattle.regress_machine.specs.Machine.{iteration_ended, loop_repeated, test_of, has_bytes, on_to, read_one, read_bytes, stay_if, run_states, scan, act_on}
-use Rattle.regress_machine.specs.Machine.{act, after_lookaround, range_between_offsets}
+use Rattle.regress_machine.specs.Machine.{LoopData, State, running, waiting, Next, goes, asks, state_at_ip, state_at_next_ip, with_some, go, go_if, iterate_or_leave_loop}
+use Rattle.regress_machine.specs.Machine.{next_iteration_unless_empty, loop_repeated, test_of, has_bytes, on_to, read_one, read_bytes, stay_if, run_states, scan, act_on}
+use Rattle.regress_machine.specs.Machine.{act, after_lookaround, range_swapped_if_leftwards}
 use Rattle.regress_machine.proofs.Beside.{Beside, nothing_left, one_more, beside, moved-zero}
 use Rattle.regress_simulation.specs.ThreadSimulation.{FindsNothing}
 use Rattle.regress_simulation.specs.FailingInsnsAtOffset.{holds_there, accepted_there, may_repeat, may_at, IsClosed}
@@ -41,7 +41,7 @@ fails false b e = first refl
 
 -- ---- The instructions
 
-module _ (program : Program) (text : Text) (is : IsText text) (may : ℕ → Bool) (n : ℕ) where
+module _ (program : Program) (text : Text) (is : HasRisingPlaceOffsets text) (may : ℕ → Bool) (n : ℕ) where
   abbrev Nothing : State → Type 0
   Nothing s = Drops program text n rightwards (running s)
 
@@ -84,16 +84,16 @@ module _ (program : Program) (text : Text) (is : IsText text) (may : ℕ → Boo
 
     nothing-again : (i : Option Insn) (begin : ℕ) → may_repeat program text s.pos may i begin ≡ false → NoNext (loop_repeated i begin s)
     nothing-again (Some (EnterLoop f)) begin bar =
-        nothing-some program text n rightwards (slice_get s.loops f.loop_id) (λ d. iteration_ended f begin d s)
+        nothing-some program text n rightwards (slice_get s.loops f.loop_id) (λ d. next_iteration_unless_empty f begin d s)
         (λ d e. nothing-only program text n rightwards (nat_lt d.iters f.max_iters) _ (by d (d.entry == s.pos && nat_lt f.min_iters (d.iters + 1))))
       where
-        by : (d : LoopData) (b : Bool) → NoNext (if b then goes [] else iteration_started f begin (d.iters + 1) s)
+        by : (d : LoopData) (b : Bool) → NoNext (if b then goes [] else iterate_or_leave_loop f begin (d.iters + 1) s)
         by d true = nothing-goes program text n rightwards
         by d false =
             let more = record s { ip = begin + 1; loops = slice_set s.loops f.loop_id (record { iters = d.iters + 1; entry = s.pos }) } in
             nothing-loop program text n rightwards f begin (d.iters + 1) s
             (λ h. known more refl (or-false-left (may (begin + 1)) (may f.exit) bar))
-            (λ h. known (at_ip f.exit s) refl (or-false-right (may (begin + 1)) (may f.exit) bar))
+            (λ h. known (state_at_ip f.exit s) refl (or-false-right (may (begin + 1)) (may f.exit) bar))
     nothing-again _ begin bar = tt
 
     -- ---- Lookarounds
@@ -110,15 +110,15 @@ module _ (program : Program) (text : Text) (is : IsText text) (may : ℕ → Boo
         (subst (λ b. DropAll program text n rightwards (after_lookaround b w None)) (sym bar) (nothing-here program text n rightwards))
 
     nothing-ahead : (negate : Bool) (continuation : ℕ) → (may continuation && (negate || may (s.ip + 1))) ≡ false
-        → NoNext (asks rightwards negate (next_ip s) (at_ip continuation s))
+        → NoNext (asks rightwards negate (state_at_next_ip s) (state_at_ip continuation s))
     nothing-ahead negate continuation bar = by (fails (may continuation) (negate || may (s.ip + 1)) bar)
       where
-        by : Fails (may continuation) (negate || may (s.ip + 1)) → NoNext (asks rightwards negate (next_ip s) (at_ip continuation s))
-        by (first out) = λ k g e few. nothing-resumed negate (at_ip continuation s) g.end refl out
+        by : Fails (may continuation) (negate || may (s.ip + 1)) → NoNext (asks rightwards negate (state_at_next_ip s) (state_at_ip continuation s))
+        by (first out) = λ k g e few. nothing-resumed negate (state_at_ip continuation s) g.end refl out
         by (second out inside) = λ k g e few.
-            nothing-failed negate (at_ip continuation s) g.end (or-false-left negate (may (s.ip + 1)) inside)
-            (nothing-ends program text n rightwards k (running (next_ip s)) g
-            (known (next_ip s) refl (or-false-right negate (may (s.ip + 1)) inside)) e few)
+            nothing-failed negate (state_at_ip continuation s) g.end (or-false-left negate (may (s.ip + 1)) inside)
+            (nothing-ends program text n rightwards k (running (state_at_next_ip s)) g
+            (known (state_at_next_ip s) refl (or-false-right negate (may (s.ip + 1)) inside)) e few)
 
     -- ---- A loop over one character
 
@@ -201,16 +201,16 @@ module _ (program : Program) (text : Text) (is : IsText text) (may : ℕ → Boo
     nothing-insn (Some MatchAny) bar = nothing-read (test_of program (Some MatchAny)) bar
     nothing-insn (Some MatchAnyExceptLineTerminator) bar = nothing-read (test_of program (Some MatchAnyExceptLineTerminator)) bar
     nothing-insn (Some (Alt secondary)) bar =
-        nothing-more program text n rightwards (running (next_ip s)) (waiting (at_ip secondary s) ∷ [])
-        (known (next_ip s) refl (or-false-left (may (s.ip + 1)) (may secondary) bar))
-        (nothing-one program text n rightwards (waiting (at_ip secondary s)) (nothing-waits program text n rightwards (at_ip secondary s)
-        (known (at_ip secondary s) refl (or-false-right (may (s.ip + 1)) (may secondary) bar))))
-    nothing-insn (Some (Jump target)) bar = nothing-go program text n rightwards (at_ip target s) (known (at_ip target s) refl bar)
+        nothing-more program text n rightwards (running (state_at_next_ip s)) (waiting (state_at_ip secondary s) ∷ [])
+        (known (state_at_next_ip s) refl (or-false-left (may (s.ip + 1)) (may secondary) bar))
+        (nothing-one program text n rightwards (waiting (state_at_ip secondary s)) (nothing-waits program text n rightwards (state_at_ip secondary s)
+        (known (state_at_ip secondary s) refl (or-false-right (may (s.ip + 1)) (may secondary) bar))))
+    nothing-insn (Some (Jump target)) bar = nothing-go program text n rightwards (state_at_ip target s) (known (state_at_ip target s) refl bar)
     nothing-insn (Some (EnterLoop f)) bar =
         nothing-loop program text n rightwards f s.ip 0 s
         (λ h. known (record s { ip = s.ip + 1; loops = slice_set s.loops f.loop_id (record { iters = 0; entry = s.pos }) }) refl
         (or-false-left (may (s.ip + 1)) (f.min_iters == 0 && may f.exit) bar))
-        (λ h. known (at_ip f.exit s) refl
+        (λ h. known (state_at_ip f.exit s) refl
         (and-false-then (f.min_iters == 0) (may f.exit) (or-false-right (may (s.ip + 1)) (f.min_iters == 0 && may f.exit) bar)
         (let le = leb-true f.min_iters 0 h in eq-eqb f.min_iters 0 (omega (arith, le)))))
     nothing-insn (Some (LoopAgain begin)) bar = nothing-again (slice_get program.insns begin) begin bar
@@ -226,14 +226,14 @@ module _ (program : Program) (text : Text) (is : IsText text) (may : ℕ → Boo
     nothing-insn (Some (EndCaptureGroup id)) bar =
         nothing-only program text n rightwards (nat_lt id (length s.groups)) _
         (nothing-some program text n rightwards (slice_get s.starts id)
-        (λ start. go (record s { ip = s.ip + 1; groups = slice_set s.groups id (Some (range_between_offsets rightwards start s.pos)) }))
+        (λ start. go (record s { ip = s.ip + 1; groups = slice_set s.groups id (Some (range_swapped_if_leftwards rightwards start s.pos)) }))
         (λ start e.
-        let u = record s { ip = s.ip + 1; groups = slice_set s.groups id (Some (range_between_offsets rightwards start s.pos)) } in
+        let u = record s { ip = s.ip + 1; groups = slice_set s.groups id (Some (range_swapped_if_leftwards rightwards start s.pos)) } in
         nothing-go program text n rightwards u (known u refl bar)))
     nothing-insn (Some (BackRef group icase)) bar = cc
     nothing-insn (Some (Lookahead negate start_group end_group continuation)) bar = nothing-ahead negate continuation bar
     nothing-insn (Some (Lookbehind negate start_group end_group continuation)) bar =
-        λ k g e few. nothing-resumed negate (at_ip continuation s) g.end refl bar
+        λ k g e few. nothing-resumed negate (state_at_ip continuation s) g.end refl bar
     nothing-insn (Some _) bar = nothing-stay _ bar
 
     pub insn-nothing : may_at program text s.pos may (slice_get program.insns s.ip) s.ip ≡ false → NothingBelow program text (suc n) rightwards 1 (running s ∷ [])
@@ -242,14 +242,14 @@ module _ (program : Program) (text : Text) (is : IsText text) (may : ℕ → Boo
 
 -- ---- Every number of steps
 
-module _ (program : Program) (text : Text) (is : IsText text) (may : ℕ → Bool) (at : ℕ) (all : IsClosed program text at may) where
+module _ (program : Program) (text : Text) (is : HasRisingPlaceOffsets text) (may : ℕ → Bool) (at : ℕ) (all : IsClosed program text at may) where
   closed-below : (n : ℕ) (s : State) → at ≡ s.pos → may s.ip ≡ false → NothingBelow program text n rightwards 1 (running s ∷ [])
   closed-below zero s here bar = nothing-below-none program text rightwards s
   closed-below (suc n) s here bar =
       insn-nothing program text is may n s (λ u there excluded. closed-below n u (here ∙ sym there) excluded)
       (subst (λ at. may_at program text at may (slice_get program.insns s.ip) s.ip ≡ false) here (all.closed s.ip bar))
 
-pub closed-nothing : (program : Program) (text : Text) → IsText text → (may : ℕ → Bool) (s : State)
+pub closed-nothing : (program : Program) (text : Text) → HasRisingPlaceOffsets text → (may : ℕ → Bool) (s : State)
     → IsClosed program text s.pos may → may s.ip ≡ false → FindsNothing program text rightwards (running s)
 closed-nothing program text is may s all bar =
     finds-nothing program text rightwards (running s) (λ n. closed-below program text is may s.pos all n s refl bar)

@@ -17,7 +17,7 @@ use Rattle.regress_machine.specs.Machine.{State, running, Next, with_some, go_if
 use Rattle.regress_machine.specs.SearchResults.{state_before_first_insn}
 use Rattle.regress_simulation.specs.ThreadSimulation.{FindsNothing}
 use Rattle.regress_simulation.specs.FailingInsnsAtOffset.{may_at}
-use Rattle.regress_simulation.specs.FirstSetTables.{is_character, HasUnitsForTables, first_unit_key, unit_key_at}
+use Rattle.regress_simulation.specs.FirstSetTables.{is_character_in_encoding, HasUnitsForTables, first_unit_key, unit_key_at}
 use Rattle.regress_simulation.specs.CharLoopExitStates.{behind, NothingAfterChars}
 use Rattle.regress_simulation.specs.RequiredPrefixes.{Allowed, unit_is_allowed, IsPrefix, RequiredPrefixesExclude}
 use Rattle.regress_simulation.proofs.Below.{NothingBelow, NothingNext, EachNothing, turn-nothing, nothing-go, nothing-goes, nothing-in_turn}
@@ -126,13 +126,13 @@ module _ (e : Encoding) (key : ℕ → ℕ) (program : Program) where
 
 -- a test accepts characters of one unit alone, and this allows the keys of these at the first so many units
 pub record AreUnits (e : Encoding) (key : ℕ → ℕ) (test : ℕ → Bool) (count : ℕ) (allowed : Allowed) : Type 0 where
-  pub keys : (c : ℕ) → is_character e c ≡ true → test c ≡ true → (ahead : ℕ) → ahead < count → unit_is_allowed allowed ahead (first_unit_key e key c) ≡ true
-  pub single : (c : ℕ) → is_character e c ≡ true → test c ≡ true → length (spelled_in e c) ≡ 1
+  pub keys : (c : ℕ) → is_character_in_encoding e c ≡ true → test c ≡ true → (ahead : ℕ) → ahead < count → unit_is_allowed allowed ahead (first_unit_key e key c) ≡ true
+  pub single : (c : ℕ) → is_character_in_encoding e c ≡ true → test c ≡ true → length (spelled_in e c) ≡ 1
 
 module _ (e : Encoding) (key : ℕ → ℕ) (text : Text) (units : HasUnitsForTables e text) (test : ℕ → Bool) (count : ℕ) (allowed : Allowed) (are : AreUnits e key test count allowed)
     (p c : ℕ) (there : slice_get text.characters p ≡ Some c) (accepted : test c ≡ true) where
-  character : is_character e c ≡ true
-  character = passes-one (is_character e) text.characters p c units.characters there
+  character : is_character_in_encoding e c ≡ true
+  character = passes-one (is_character_in_encoding e) text.characters p c units.characters there
 
   -- the next place is one unit on
   next-unit : offset text (p + 1) ≡ offset text p + 1

@@ -7,11 +7,11 @@ use Rattle.regex_meaning.specs.CodeUnitOffsets.{offset}
 use Rattle.regex_meaning.specs.FirstAndAllMatches.{Found as Match, match_at}
 use Rattle.regex_meaning.specs.CompilationRelation.{Program}
 use Rattle.regress_machine.specs.Machine.{running}
-use Rattle.regress_machine.specs.SearchResults.{ProgramCanSearchText, state_before_first_insn, end_of, turns_at, match_in_offsets}
+use Rattle.regress_machine.specs.SearchResults.{TreeProgramCanSearchText, state_before_first_insn, end_of, turns_at, match_in_offsets}
 use Rattle.regress_machine.proofs.Whole.{searches-find}
 use Rattle.regress_machine.proofs.Follows.{finds-match}
 use Rattle.regress_simulation.specs.ThreadSimulation.{FindsNothing}
-use Rattle.regress_simulation.specs.ExcludedMatchStarts.{CoveredStartsExclude}
+use Rattle.regress_simulation.specs.ExcludedMatchStarts.{FirstSetExcludesMatchStarts}
 use Rattle.regress_simulation.proofs.Simulates.{nothing-ends}
 use Rattle.regress_simulation.proofs.Tables.{covered-nothing}
 
@@ -20,7 +20,7 @@ no-match text None e = refl
 no-match text (Some m) e = cc
 
 -- where the first thread finds nothing no match begins
-pub nothing-no-match : (program : Program) (tree : Tree) (text : Text) → ProgramCanSearchText program tree text → (place : ℕ) → place ≤ last_place text
+pub nothing-no-match : (program : Program) (tree : Tree) (text : Text) → TreeProgramCanSearchText program tree text → (place : ℕ) → place ≤ last_place text
     → FindsNothing program text rightwards (running (state_before_first_insn program (offset text place))) → match_at tree.root text place ≡ None
 nothing-no-match program tree text can place inside nothing =
     let s = state_before_first_insn program (offset text place) in
@@ -29,7 +29,7 @@ nothing-no-match program tree text can place inside nothing =
     no-match text (match_at tree.root text place)
     (ap (option_map end_of) none ∙ finds-match program tree text can place inside (turns_at tree text place) first.found first.searches)
 
-pub starts-bar : CoveredStartsExclude
+pub starts-bar : FirstSetExcludesMatchStarts
 starts-bar e key program tree text tables can units all place inside bar =
     nothing-no-match program tree text can place inside
     (covered-nothing e key program text tables units all (state_before_first_insn program (offset text place)) bar)

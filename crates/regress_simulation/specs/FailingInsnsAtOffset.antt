@@ -2,7 +2,7 @@
 use Rattle.std.specs.Prelude.{◌≡◌, ℕ, ◌+◌, Bool, true, false, ◌&&◌, ◌||◌, ◌==◌, Option, Some, None, nat_lt, slice_get, encode_utf8_all}
 use Rattle.regex_meaning.specs.Tree.{start_of_line, end_of_line}
 use Rattle.regex_meaning.specs.Text.{Text, rightwards, next_character}
-use Rattle.regex_meaning.specs.CodeUnitOffsets.{IsText, place_at}
+use Rattle.regex_meaning.specs.CodeUnitOffsets.{HasRisingPlaceOffsets, place_at}
 use Rattle.regex_meaning.specs.Outcomes.{is_some_and, exclusive_or, anchor_holds, is_at_word_boundary}
 use Rattle.regex_meaning.specs.CompilationRelation.{Program, Insn, Goal, Char, CharSet, ByteSet, ByteSeq, AsciiBracket, Bracket, MatchAny}
 use Rattle.regex_meaning.specs.CompilationRelation.{MatchAnyExceptLineTerminator, StartOfLine, EndOfLine, WordBoundary, WordBoundaryUnicodeICase, Alt, Jump}
@@ -65,6 +65,6 @@ pub record IsClosed (program : Program) (text : Text) (at : ℕ) (may : ℕ → 
   pub closed : (ip : ℕ) → may ip ≡ false → may_at program text at may (slice_get program.insns ip) ip ≡ false
 
 -- A state whose instruction is excluded at its offset finds nothing, whatever its groups and loops.
-abbrev pub ClosedSetsExclude : Type 0
-ClosedSetsExclude = (program : Program) (text : Text) → IsText text → (may : ℕ → Bool) (s : State)
+abbrev pub InsnsExcludedAtOffsetFindNothing : Type 0
+InsnsExcludedAtOffsetFindNothing = (program : Program) (text : Text) → HasRisingPlaceOffsets text → (may : ℕ → Bool) (s : State)
     → IsClosed program text s.pos may → may s.ip ≡ false → FindsNothing program text rightwards (running s)

@@ -1,11 +1,11 @@
 pub mod ThreadSimulation
-pub mod RemainingSearchSteps
+pub mod StepsOfRemainingAndFinishedSearches
 pub mod FailingInsnsAtOffset
 pub mod FirstSetTables
 pub mod ExcludedMatchStarts
 pub mod RequiredPrefixes
 pub mod CharLoopExitStates
 pub mod LiveAlternationArms
-pub mod OneUnitLoopIterations
+pub mod ForcedOneUnitLoopIterations
 pub mod LoopsReadingNothing
 pub mod EffectFreeLookarounds

@@ -7,7 +7,7 @@ use Rattle.regex_meaning.specs.FirstAndAllMatches.{match_at}
 use Rattle.regex_meaning.specs.CodeUnits.{Encoding}
 use Rattle.regex_meaning.specs.CompilationRelation.{Program}
 use Rattle.regress_machine.specs.Machine.{State, running}
-use Rattle.regress_machine.specs.SearchResults.{ProgramCanSearchText}
+use Rattle.regress_machine.specs.SearchResults.{TreeProgramCanSearchText}
 use Rattle.regress_simulation.specs.ThreadSimulation.{FindsNothing}
 use Rattle.regress_simulation.specs.FirstSetTables.{HasUnitsForTables, unit_key_at}
 
@@ -28,6 +28,6 @@ pub record IsPrefix (e : Encoding) (key : ℕ → ℕ) (program : Program) (ip l
 -- No match begins at a place if one of the next `len` units is not allowed.
 abbrev pub RequiredPrefixesExclude : Type 0
 RequiredPrefixesExclude = (e : Encoding) (key : ℕ → ℕ) (program : Program) (tree : Tree) (text : Text) (len : ℕ) (allowed : Allowed)
-    → ProgramCanSearchText program tree text → HasUnitsForTables e text → IsPrefix e key program 0 len allowed
+    → TreeProgramCanSearchText program tree text → HasUnitsForTables e text → IsPrefix e key program 0 len allowed
     → (place : ℕ) → place ≤ last_place text → (ahead : ℕ) → ahead < len
     → unit_is_allowed allowed ahead (unit_key_at e key text (offset text place + ahead)) ≡ false → match_at tree.root text place ≡ None

@@ -6,8 +6,8 @@
 //! those of the machine.
 #![tactic(auto)]
 
-ghost use Rattle.regress_simulation.specs.{FailingInsnsAtOffset.{ClosedSetsExclude}, LoopsReadingNothing.{LastIterationSuffices}, RequiredPrefixes.{RequiredPrefixesExclude}};
-ghost use Rattle.regress_simulation.specs.{ThreadSimulation.{DroppingDeadThreadsKeepsEnd, SimulatingEndsAlike}, ExcludedMatchStarts.{CoveredStartsExclude}};
+ghost use Rattle.regress_simulation.specs.{FailingInsnsAtOffset.{InsnsExcludedAtOffsetFindNothing}, LoopsReadingNothing.{LastRequiredIterationReplacesOthers}, RequiredPrefixes.{RequiredPrefixesExclude}};
+ghost use Rattle.regress_simulation.specs.{ThreadSimulation.{DroppingDeadThreadsKeepsEnd, SimulatingEndsAlike}, ExcludedMatchStarts.{FirstSetExcludesMatchStarts}};
 ghost use Rattle.regress_simulation.specs.FirstSetTables.{CoveredTablesExclude};
 
 /// Threads that simulate those of a search find the same end, in no more steps. If steps are
@@ -24,7 +24,7 @@ pub fn dropping_dead_threads_keeps_end()
 /// A thread finds nothing if its instruction is outside a closed set of instructions that may find
 /// something.
 pub fn closed_sets_exclude()
-    ensures { ClosedSetsExclude }
+    ensures { InsnsExcludedAtOffsetFindNothing }
 {}
 
 /// A thread finds nothing if the table of its instruction excludes the code unit at its offset, or
@@ -35,12 +35,12 @@ pub fn covered_tables_exclude()
 
 /// No match begins where the table of the first instruction excludes the code unit or the end.
 pub fn covered_starts_exclude()
-    ensures { CoveredStartsExclude }
+    ensures { FirstSetExcludesMatchStarts }
 {}
 
 /// If the body of a loop reads nothing, the last required iteration may replace any required one.
 pub fn last_iteration_suffices()
-    ensures { LastIterationSuffices }
+    ensures { LastRequiredIterationReplacesOthers }
 {}
 
 /// No match begins where one of the next code units is not allowed by the required prefix.

@@ -3,7 +3,7 @@
 use crate::fault::ParseFault;
 use crate::lists::{are_same, are_same_places};
 use regress_match::{BoundedRegex, Match, Regex, WorkError};
-use regress_pikevm::exec::{BoundedProducer, WorkMatches};
+use regress_pikevm::exec::{WorkLimitedProducer, WorkMatches};
 use std::alloc::{AllocError, Global};
 
 /// So much work for each unit of a text, and one.
@@ -45,7 +45,7 @@ impl Worked {
 }
 
 // All that is to come. No call gives back work that was done.
-fn all<P: BoundedProducer + Drop>(
+fn all<P: WorkLimitedProducer + Drop>(
     alloc: Global,
     mut matches: WorkMatches<P>,
 ) -> Result<Worked, ParseFault> {

@@ -9,7 +9,7 @@ use crate::lists::{all, are_same, are_same_places, is_start};
 use regress_input::indexing::Utf8Input;
 use regress_match::backends::{DefaultExecutor, PikeVMExecutor, find, find_ascii};
 use regress_match::{Flags, Match, Regex, SearchError};
-use regress_pikevm::exec::{Matches, Searcher};
+use regress_pikevm::exec::{Matches, ProducerFromProgramAndText};
 use regress_program::insn::CompiledRegex;
 use std::alloc::Global;
 

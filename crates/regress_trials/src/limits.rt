@@ -1,7 +1,7 @@
 //! Searches whose steps are limited, by the steps that they say are left.
 
 ghost use Rattle.std.specs.Prelude.{◌<◌, ◌⊎◌, IsCharBoundary, length};
-ghost use Rattle.regress_match.specs.RegexPrograms.{IsValidStart};
+ghost use Rattle.regress_match.specs.ProgramTreesAndAnswers.{IsBoundaryOrPastEnd};
 
 use crate::checks::Case;
 use crate::fault::ParseFault;
@@ -25,7 +25,7 @@ pub fn program_of(alloc: Global, pattern: &str, flags: Flags) -> Result<Compiled
 
 // Has an executor look for the first match from a start on.
 fn ask<P: MatchProducer>(executor: &mut P, start: usize) -> Result<(), SearchError>
-    requires { IsValidStart (P.text executor.old) start }
+    requires { IsBoundaryOrPastEnd (P.text executor.old) start }
 {
     let Some(pos) = executor.initial_position(start) else {
         return Ok(());

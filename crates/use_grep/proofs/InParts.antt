@@ -17,9 +17,9 @@ use Rattle.regex_meaning.specs.Tree.{Quantifier, Node, empty, goal, char, char_s
 use Rattle.regex_meaning.specs.Tree.{string_set, match_any, match_any_except_line_terminator, anchor, word_boundary, capture_group, back_ref}
 use Rattle.regex_meaning.specs.Tree.{lookaround, loop, loop_1_char_body}
 use Rattle.regex_meaning.specs.Text.{Text, character_after, character_before, is_word_char, rightwards, utf8_text}
-use Rattle.regex_meaning.specs.CodeUnitOffsets.{IsText, place_at}
+use Rattle.regex_meaning.specs.CodeUnitOffsets.{HasRisingPlaceOffsets, place_at}
 use Rattle.regex_meaning.specs.FirstAndAllMatches.{Found, no_groups, first_outcome, match_at, first_match, first_match_among}
-use Rattle.regex_meaning.specs.Captures.{Answer, answer, answers_from}
+use Rattle.regex_meaning.specs.GroupsByNumberAndName.{Answer, answer, answers_from}
 use Rattle.regex_meaning.specs.SearchAnswers.{first_answer, next_start, answer_then_list}
 use Rattle.regex_meaning.proofs.AnswerLemmas.{answers-go_on}
 use Rattle.regex_meaning.proofs.TextLemmas.{place_at-offset, utf8_text-IsText}
@@ -341,11 +341,11 @@ module _ (root : Node) (text : Text) where
   head-some None next = refl
   head-some (Some m) next = refl
 
-  at-left_end : IsText text → place_at text 0 ≡ Some 0
+  at-left_end : HasRisingPlaceOffsets text → place_at text 0 ≡ Some 0
   at-left_end is = ap (place_at text) (sym is.from_zero) ∙ place_at-offset text 0 is (omega arith)
 
   -- there is an answer where there is a match
-  pub some-answer : IsText text → is_some (slice_get (answers_from root text 0) 0) ≡ is_some (first_match root text 0)
+  pub some-answer : HasRisingPlaceOffsets text → is_some (slice_get (answers_from root text 0) 0) ≡ is_some (first_match root text 0)
   some-answer is =
       ap (λ (all : List Answer). is_some (slice_get all 0)) (answers-go_on root text is 0)
       ∙ head-some (first_answer root text 0) (next_start root text 0)
@@ -370,7 +370,7 @@ module _ (root : Node) (local : is_local root ≡ true) (shift : ℕ) (s t : Tex
       none-at place (none-from root t (length t.characters + 1 - 0) 0 h (shift + place) (omega arith) (omega arith)))
 
   -- a part of a text with no match has none
-  pub none-in_part : IsText s → IsText t → is_some (slice_get (answers_from root t 0) 0) ≡ false → is_some (slice_get (answers_from root s 0) 0) ≡ false
+  pub none-in_part : HasRisingPlaceOffsets s → HasRisingPlaceOffsets t → is_some (slice_get (answers_from root t 0) 0) ≡ false → is_some (slice_get (answers_from root s 0) 0) ≡ false
   none-in_part is_s is_t h =
       some-answer root s is_s ∙ ap is_some (none-first (is-none (first_match root t 0) (sym (some-answer root t is_t) ∙ h)))
 

@@ -1,7 +1,7 @@
 -- The parts that matches have of a line, and the line with them in red, so far and with those to come.
 use Rattle.std.proofs.Common.{◌≡◌, ℕ, List, [], ◌∷◌, ◌++◌, ap, drop, sym, ◌∙◌, append_assoc}
 use Rattle.std.specs.Prelude.{slice_range}
-use Rattle.regex_meaning.specs.Captures.{Answer}
+use Rattle.regex_meaning.specs.GroupsByNumberAndName.{Answer}
 use Rattle.regex_meaning.specs.Replace.{replaced}
 use Rattle.use_grep.specs.Selecting.{colored_from, matched_parts, red_part}
 

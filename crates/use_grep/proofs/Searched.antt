@@ -3,7 +3,7 @@ use Rattle.std.proofs.Common.{◌≡◌, ℕ, List, [], ◌∷◌, Bool, true, f
 use Rattle.std.specs.Prelude.{◌||◌, chars, is_some, slice_get, if◌then◌else◌}
 use Rattle.regex_meaning.specs.Tree.{Flags, Tree}
 use Rattle.regex_grammar.specs.Grammar.{Parses}
-use Rattle.regress_match.specs.RegexPrograms.{IsCompiledWith, unit_tree}
+use Rattle.regress_match.specs.ProgramTreesAndAnswers.{IsCompiledWith, unit_tree}
 use Rattle.regress_match.specs.declared.api.regex.Regex.{Regex}
 use Rattle.regress_match.proofs.PatternLemmas.{searches-follow}
 use Rattle.regex_meaning.proofs.Each.{Each, Each-map}

@@ -5,10 +5,10 @@ use Rattle.std.specs.List.{slice_split}
 use Rattle.regex_meaning.specs.Tree.{Tree, Flags}
 use Rattle.regex_meaning.specs.Text.{utf8_text}
 use Rattle.regex_meaning.specs.FlagLettersAndEscaping.{flags_from_letters}
-use Rattle.regex_meaning.specs.Captures.{Answer, answers_from}
+use Rattle.regex_meaning.specs.GroupsByNumberAndName.{Answer, answers_from}
 use Rattle.regex_meaning.specs.Replace.{replaced}
 use Rattle.regex_grammar.specs.Grammar.{Parses}
-use Rattle.regress_match.specs.RegexPrograms.{utf8_answers}
+use Rattle.regress_match.specs.ProgramTreesAndAnswers.{utf8_answers}
 use Rattle.regress_match.specs.declared.api.regex.Regex.{Regex}
 use Rattle.use_grep.specs.Local.{is_local}
 use Rattle.use_grep.specs.declared.select.Line.{Line}

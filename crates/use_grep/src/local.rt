@@ -3,12 +3,12 @@
 //!
 //! Such a pattern has no match in a line where it has none in a text with this line, so that texts are searched first. At
 //! the ends of a line a word ends in the text, too, since a line break is no word's character.
-#![tactic(auto, unfolding(regex_pattern_front::specs::AstToSpecTree::node_of, regress_program::specs::InnerNodeCounts::inner_node_count))]
+#![tactic(auto, unfolding(regex_pattern_front::specs::AstToSpecTree::node_of, regress_program::specs::InnerNodeCountMeasure::inner_node_count))]
 
 ghost use Rattle.std.specs.Prelude.{◌≡◌, IfOk, IsTrue, chars};
 ghost use Rattle.regex_pattern_front.specs.AstToSpecTree.{node_of};
-ghost use Rattle.regress_match.specs.Flags.{flags_of};
-ghost use Rattle.regress_program.specs.NodeListsAndLeaves.{cat_of};
+ghost use Rattle.regress_match.specs.PublicFlagsAsSpecFlags.{spec_flags_of};
+ghost use Rattle.regress_program.specs.LeavesListsAndCharLoops.{cat_of};
 ghost use Rattle.use_grep.specs.{Local.{is_local as is_local_tree}, Selecting.{IsLocal}};
 
 use regex_pattern_front::ir::Node;
@@ -22,7 +22,7 @@ use std::alloc::{AllocError, Global};
 ///
 /// Where there is no memory for its characters.
 pub fn is_local(alloc: Global, pattern: &str, flags: Flags) -> Result<bool, AllocError>
-    ensures { IfOk result (λ b. IsTrue b → IsLocal (flags_of flags) pattern.now) }
+    ensures { IfOk result (λ b. IsTrue b → IsLocal (spec_flags_of flags) pattern.now) }
 {
     let characters = characters(alloc, pattern)?;
     match try_parse(alloc, &characters, flags.for_front()) {

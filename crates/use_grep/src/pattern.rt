@@ -3,7 +3,7 @@
 ghost use Rattle.std.specs.Prelude.{◌≡◌, ◌++◌, IfOk, IsTrue, chars, codes, if◌then◌else◌, string_bytes};
 ghost use Rattle.regex_meaning.specs.Tree.{Tree};
 ghost use Rattle.regex_grammar.specs.Grammar.{Parses};
-ghost use Rattle.regress_match.specs.Flags.{flags_of};
+ghost use Rattle.regress_match.specs.PublicFlagsAsSpecFlags.{spec_flags_of};
 ghost use Rattle.use_grep.specs.Selecting.{HasNoneInLines, IsSearchOf, framed, searched, tree_flags};
 
 use crate::local::is_local;
@@ -14,7 +14,7 @@ use std::io;
 
 // The flags that the pattern is read with.
 fn flags(options: &Options<'_>) -> Flags
-    ensures { flags_of result ≡ tree_flags options.now.ignore_case }
+    ensures { spec_flags_of result ≡ tree_flags options.now.ignore_case }
 {
     if options.ignore_case {
         Flags::from("i")

@@ -7,9 +7,9 @@ use Rattle.std.proofs.lemmas.List.{map-append}
 use Rattle.std.proofs.lemmas.List.Elements.{filter-append}
 use Rattle.std.proofs.lemmas.List.Folds.{drop_split}
 use Rattle.regex_meaning.specs.Laws.{Each}
-use Rattle.regex_meaning.specs.Captures.{Answer}
+use Rattle.regex_meaning.specs.GroupsByNumberAndName.{Answer}
 use Rattle.regex_meaning.proofs.Each.{Each-append}
-use Rattle.regress_match.specs.Replacements.{IsCharBoundaryRange}
+use Rattle.regress_match.specs.ExpansionsAndMatchRanges.{IsCharBoundaryRange}
 use Rattle.use_highlighter.specs.Tokens.{token_of}
 use Rattle.use_highlighter.specs.Pieces.{range_of, part_of, IsSliceOf, StandInRow, marked, marks_of, IsCutAt}
 use Rattle.use_highlighter.specs.declared.pieces.Piece.{Piece}

@@ -1,7 +1,7 @@
 //! A text in pieces: its tokens, and what stands between them.
 
 ghost use Rattle.std.specs.Prelude.{◌≡◌, ◌++◌, ◌∷◌, [], IfErr, IfOk};
-ghost use Rattle.regress_match.specs.{RegexPrograms.{utf8_answers}, CompileErrors.{IsOutOfMemory}};
+ghost use Rattle.regress_match.specs.{ProgramTreesAndAnswers.{utf8_answers}, CompileErrors.{IsOutOfMemory}};
 ghost use Rattle.use_highlighter.specs.{Pieces.{IsCutAt}, Tokens.{names_of}};
 
 use crate::tokens::{Token, token_of};

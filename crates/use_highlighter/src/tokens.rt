@@ -1,9 +1,9 @@
 //! The tokens that are looked for.
 
 ghost use Rattle.std.specs.Prelude.{◌≡◌, ◌++◌, [], All, IfOk, chars, is_some, string_bytes};
-ghost use Rattle.regex_meaning.specs.{FlagLettersAndEscaping.{flags_from_letters}, Captures.{named_group}};
+ghost use Rattle.regex_meaning.specs.{FlagLettersAndEscaping.{flags_from_letters}, GroupsByNumberAndName.{named_group}};
 ghost use Rattle.regress_exec.specs.MatchAnswers.{answer_of};
-ghost use Rattle.regress_match.specs.{Flags.{flags_of}, RegexPrograms.{IsCompiledWith}};
+ghost use Rattle.regress_match.specs.{PublicFlagsAsSpecFlags.{spec_flags_of}, ProgramTreesAndAnswers.{IsCompiledWith}};
 ghost use Rattle.use_highlighter.specs.Tokens.{IsPattern, any_of, arm_of, names_of, token_of};
 
 use anyhow::{Result, bail};
@@ -50,7 +50,7 @@ pub fn compile(alloc: Global, tokens: &[Token<'_>]) -> Result<Regex>
         Ok(re) => return Ok(re),
         Err(why) => why,
     };
-    match Regex::diagnose(alloc, any.as_str(), flags())? {
+    match why.diagnosis() {
         Some(told) => bail!("all tokens: {told}\n{}", told.below_text(any.as_str())),
         None => bail!("{why}"),
     }
@@ -58,7 +58,7 @@ pub fn compile(alloc: Global, tokens: &[Token<'_>]) -> Result<Regex>
 
 // The flags that patterns are read with: none.
 fn flags() -> Flags
-    ensures { flags_of result ≡ flags_from_letters [] }
+    ensures { spec_flags_of result ≡ flags_from_letters [] }
 {
     Flags::default()
 }

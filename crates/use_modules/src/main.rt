@@ -2,6 +2,9 @@
 //! a text.
 #![tactic(auto)]
 
+mod laws;
+
+use crate::laws::{compile_literal, find_first, replace_by_itself};
 use anyhow::{Result, bail};
 use regress_match::backends::{emit, try_parse};
 use regress_match::emit::EmitError;
@@ -60,5 +63,10 @@ fn main(rt: HostRuntime) -> Result<()> {
     if let Some((first, last)) = both_ends("naïveté") {
         println!(rt; "{first} {last}")?;
     }
+    let dots = compile_literal(rt.alloc(), "..")?;
+    if let Some(found) = find_first(&dots, "a.b..c")? {
+        println!(rt; "{}..{}", found.start(), found.end())?;
+    }
+    println!(rt; "{}", replace_by_itself(&dots, "a.b..c")?)?;
     Ok(())
 }

@@ -4,8 +4,8 @@ use Rattle.std.specs.Prelude.{Option, Some, None, Result, IfOk, IfSome, option_m
 use Rattle.std.proofs.lemmas.Bool.{and_parts, cases_Bool}
 use Rattle.regex_meaning.specs.SearchAnswers.{answer_at, first_answer}
 use Rattle.regex_meaning.specs.Laws.{IsRange, is_within_pair}
-use Rattle.regex_meaning.specs.Captures.{Answer}
-use Rattle.regex_meaning.specs.CodeUnitOffsets.{IsBoundary, IsText, units}
+use Rattle.regex_meaning.specs.GroupsByNumberAndName.{Answer}
+use Rattle.regex_meaning.specs.CodeUnitOffsets.{IsBoundary, HasRisingPlaceOffsets, units}
 use Rattle.regex_meaning.specs.Text.{Text, is_unit_boundary, ucs2_text, utf16_text}
 use Rattle.regex_meaning.proofs.AnswerLemmas.{first_answer-stands}
 use Rattle.regex_meaning.proofs.TextLemmas.{ucs2_text-IsText, utf16_text-IsText}
@@ -13,8 +13,8 @@ use Rattle.regex_meaning.proofs.UnitLemmas.{AreUnits, unit_boundary-between, uni
 use Rattle.regex_meaning.proofs.UnitLengths.{ucs2_text-units}
 use Rattle.regress_exec.specs.MatchAnswers.{answer_of}
 use Rattle.regress_exec.specs.declared.exec.Match.{Match}
-use Rattle.regress_match.specs.RegexPrograms.{as_ucs2, as_utf16, ucs2_answer_at, ucs2_answers, unit_tree, utf16_answer_at, utf16_answers}
-use Rattle.regress_match.specs.Replacements.{MatchFitsCodeUnits}
+use Rattle.regress_match.specs.ProgramTreesAndAnswers.{as_ucs2, as_utf16, ucs2_answer_at, ucs2_answers, unit_tree, utf16_answer_at, utf16_answers}
+use Rattle.regress_match.specs.ExpansionsAndMatchRanges.{MatchFitsCodeUnits}
 use Rattle.regress_match.specs.declared.api.regex.Regex.{Regex}
 use Rattle.regress_match.proofs.FlagLemmas.{IfOk-map}
 use Rattle.regress_match.proofs.FoundLemmas.{at-first, first-fits_units, head-first}
@@ -40,7 +40,7 @@ module _ (re : Regex) (us : List ℕ) (small : AreUnits us) where
       (sym (unit_boundary-between us end small) ∙ unit_boundary-place_at us unicode end ∙ at)).1)
 
   -- the first answer from a start on, in a text of these units
-  first-in : (u : Bool) (text : Text) → IsText text → units text ≡ length us → ((end : ℕ) → IsBoundary text end → IsTrue u → is_within_pair us end ≡ false)
+  first-in : (u : Bool) (text : Text) → HasRisingPlaceOffsets text → units text ≡ length us → ((end : ℕ) → IsBoundary text end → IsTrue u → is_within_pair us end ≡ false)
       → (start : ℕ) (m : Answer) → first_answer (unit_tree re).root text start ≡ Some m → Stands us u start m
   first-in u text is size whole start m e =
       let stands = first_answer-stands (unit_tree re).root text is start m e in

@@ -5,7 +5,7 @@ use Rattle.std.specs.Bool.{MatchBool}
 use Rattle.std.specs.Prelude.{Option, Some, None, IfSome, option_map, if◌then◌else◌}
 use Rattle.std.proofs.lemmas.List.{length-map}
 use Rattle.std.proofs.lemmas.Bool.{cases_lt, eqb-false}
-use Rattle.regex_meaning.specs.Captures.{Answer}
+use Rattle.regex_meaning.specs.GroupsByNumberAndName.{Answer}
 use Rattle.regex_meaning.specs.Outcomes.{Groups}
 use Rattle.regex_meaning.proofs.UnitLemmas.{AreUnits}
 use Rattle.regress_exec.specs.MatchAnswers.{answer_of}

@@ -5,9 +5,9 @@ use Rattle.std.specs.Prelude.{Option, Some, None, IfSome, if◌then◌else◌, o
 use Rattle.std.specs.List.{list_all}
 use Rattle.std.specs.Option.{option_or}
 use Rattle.regex_meaning.specs.Laws.{Each}
-use Rattle.regex_meaning.specs.Captures.{Answer, first_range, group, ids_named, named_group}
+use Rattle.regex_meaning.specs.GroupsByNumberAndName.{Answer, first_range, group, ids_named, named_group}
 use Rattle.regex_meaning.specs.Outcomes.{group_range}
-use Rattle.regress_match.specs.Replacements.{MatchFitsCodeUnits, IsRangeWithinUnits}
+use Rattle.regress_match.specs.ExpansionsAndMatchRanges.{MatchFitsCodeUnits, IsRangeWithinUnits}
 use Rattle.regex_meaning.specs.Replace.{text_of}
 use Rattle.use_regexp.specs.Template.{IsWritten, Said, is_ascii, is_group, named_text, numbered, said, said_in, say, two_digits}
 

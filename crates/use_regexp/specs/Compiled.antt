@@ -1,6 +1,6 @@
 -- The pattern that is compiled from a source text and letters of flags.
 use Rattle.std.specs.Prelude.{◌≡◌, ℕ, List, Some}
-use Rattle.regress_match.specs.RegexPrograms.{IsCompiledWith}
+use Rattle.regress_match.specs.ProgramTreesAndAnswers.{IsCompiledWith}
 use Rattle.use_regexp.specs.Flags.{flags_of, tree_flags}
 use Rattle.use_regexp.specs.Units.{characters_of}
 use Rattle.use_regexp.specs.declared.pattern.Pattern.{Pattern}

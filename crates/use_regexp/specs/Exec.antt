@@ -2,9 +2,9 @@
 use Rattle.std.specs.Prelude.{◌≡◌, ◌≤◌, ℕ, Bool, false, List, Option, IsTrue, if◌then◌else◌, slice_get}
 use Rattle.std.specs.Option.{option_map_or}
 use Rattle.regex_meaning.specs.Laws.{is_within_pair}
-use Rattle.regex_meaning.specs.Captures.{Answer}
-use Rattle.regress_match.specs.RegexPrograms.{ucs2_answer_at, ucs2_answers, utf16_answer_at, utf16_answers}
-use Rattle.regress_match.specs.Replacements.{MatchFitsCodeUnits}
+use Rattle.regex_meaning.specs.GroupsByNumberAndName.{Answer}
+use Rattle.regress_match.specs.ProgramTreesAndAnswers.{ucs2_answer_at, ucs2_answers, utf16_answer_at, utf16_answers}
+use Rattle.regress_match.specs.ExpansionsAndMatchRanges.{MatchFitsCodeUnits}
 use Rattle.use_regexp.specs.Flags.{keeps_index}
 use Rattle.use_regexp.specs.Units.{character_start}
 use Rattle.use_regexp.specs.declared.pattern.Pattern.{Pattern}

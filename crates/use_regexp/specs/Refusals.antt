@@ -1,8 +1,8 @@
 -- Why the constructor of a regular expression fails.
 use Rattle.std.specs.Prelude.{◌≡◌, ℕ, List, Some, false}
 use Rattle.regress_match.specs.CompileErrors.{IsPatternRefusedWith}
-use Rattle.regress_match.specs.declared.api.error.Error.{Error}
-use Rattle.regress_match.specs.declared.api.error.Error.TheVariants as error
+use Rattle.regress_match.specs.declared.api.compile_and_replace_errors.Error.{Error}
+use Rattle.regress_match.specs.declared.api.compile_and_replace_errors.Error.TheVariants as error
 use Rattle.use_regexp.specs.Flags.{flags_of, tree_flags}
 use Rattle.use_regexp.specs.Letters.{are_flags}
 use Rattle.use_regexp.specs.Units.{characters_of}

@@ -1,15 +1,15 @@
 -- Replacement of matches (21.2.5.9, RegExp.prototype[@@replace]).
 use Rattle.std.specs.Prelude.{◌≡◌, ◌≤◌, ℕ, List, [], ◌∷◌, Result, Vec, length, map}
 use Rattle.std.specs.Borrow.{Bor}
-use Rattle.regex_meaning.specs.Captures.{Answer}
+use Rattle.regex_meaning.specs.GroupsByNumberAndName.{Answer}
 use Rattle.regex_meaning.specs.Replace.{replaced}
 use Rattle.regress_exec.specs.declared.exec.Match.{Match}
 use Rattle.regress_match.specs.ClosureReplacements as answered
 use Rattle.regress_match.specs.ReplacementClosures.{ClosureCanBeCalled}
 use Rattle.regress_match.specs.CompileErrors.{IsOutOfMemory}
-use Rattle.regress_match.specs.Replacements.{MatchFitsCodeUnits}
-use Rattle.regress_match.specs.declared.api.error.ReplaceError.{ReplaceError}
-use Rattle.regress_match.specs.declared.api.error.ReplaceError.TheVariants.{Search, Closure}
+use Rattle.regress_match.specs.ExpansionsAndMatchRanges.{MatchFitsCodeUnits}
+use Rattle.regress_match.specs.declared.api.compile_and_replace_errors.ReplaceError.{ReplaceError}
+use Rattle.regress_match.specs.declared.api.compile_and_replace_errors.ReplaceError.TheVariants.{Search, Closure}
 use Rattle.use_regexp.specs.Loops.{AreTaken}
 use Rattle.use_regexp.specs.Template.{substitution}
 use Rattle.use_regexp.specs.declared.pattern.Pattern.{Pattern}

@@ -4,9 +4,9 @@ use Rattle.std.specs.Prelude.{option_and_then, if◌then◌else◌, nat_lt, ◌=
 use Rattle.std.specs.Bool.{MatchBool}
 use Rattle.std.specs.Option.{option_map_or}
 use Rattle.regex_meaning.specs.Laws.{is_within_pair}
-use Rattle.regex_meaning.specs.Captures.{Answer}
+use Rattle.regex_meaning.specs.GroupsByNumberAndName.{Answer}
 use Rattle.regex_meaning.specs.Outcomes.{Groups}
-use Rattle.regress_match.specs.Replacements.{MatchFitsCodeUnits}
+use Rattle.regress_match.specs.ExpansionsAndMatchRanges.{MatchFitsCodeUnits}
 use Rattle.use_regexp.specs.Exec.{first_match, match_here}
 use Rattle.use_regexp.specs.Units.{advanced}
 use Rattle.use_regexp.specs.declared.pattern.Pattern.{Pattern}

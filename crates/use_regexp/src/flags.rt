@@ -32,7 +32,7 @@ pub struct Flags {
 
 impl Flags {
     ghost use Rattle.use_regexp.specs.Flags.{flags_of, keeps_index as keeps, letters_of, tree_flags};
-    ghost use Rattle.regress_match.specs.Flags.{flags_of as engine_flags};
+    ghost use Rattle.regress_match.specs.PublicFlagsAsSpecFlags.{spec_flags_of as engine_flags};
 
     /// Returns the flags with these letters, in any order, or `None` if a letter is not that of a flag or occurs twice
     /// (21.2.3.2.2).

@@ -4,7 +4,7 @@ ghost use Rattle.std.specs.Prelude.{◌≡◌, ◌++◌, ◌≤◌, IfErr, IfOk,
 ghost use Rattle.std.specs.Result.{IsOkAnd};
 ghost use Rattle.regex_meaning.specs.Replace.{replaced};
 ghost use Rattle.regress_exec.specs.MatchAnswers.{answer_of};
-ghost use Rattle.regress_match.specs.{ClosureReplacements.{IsErrorOfClosureResult}, ReplacementClosures.{ClosureCanBeCalled}, CompileErrors.{IsOutOfMemory}, Replacements.{MatchFitsCodeUnits}};
+ghost use Rattle.regress_match.specs.{ClosureReplacements.{IsClosureErrorOrOutOfMemory}, ReplacementClosures.{ClosureCanBeCalled}, CompileErrors.{IsOutOfMemory}, ExpansionsAndMatchRanges.{MatchFitsCodeUnits}};
 ghost use Rattle.use_regexp.specs.Loops.{LeavesTaken};
 ghost use Rattle.use_regexp.specs.Replace.{CanBeTaken, CanRefuseAt, CanRefuseWith, IsReplaced, IsReplacedBy, IsReplacedWith, StandInUnits, substituted};
 
@@ -112,7 +112,7 @@ fn write_template(
 // Appends the result of the closure for a match.
 fn write_answer<E>(made: &mut Vec<u16>, answer: Result<Vec<u16>, E>) -> Result<(), ReplaceError<E>>
     ensures made { IfOk result (λ _. IsOkAnd answer (λ piece. made.new.items ≡ made.old.items ++ piece.items)) }
-    ensures refused { IfErr result (IsErrorOfClosureResult answer) }
+    ensures refused { IfErr result (IsClosureErrorOrOutOfMemory answer) }
 {
     let piece = answer.map_err(ReplaceError::Closure)?;
     made.extend_from_slice(&piece)?;

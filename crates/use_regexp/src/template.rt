@@ -3,9 +3,9 @@
 ghost use Rattle.std.specs.Prelude.{◌≡◌, ◌++◌, ◌<◌, IfOk, IfSome, IsTrue, None, Some, if◌then◌else◌, length, option_map, position, string_bytes};
 ghost use Rattle.std.specs.Char.{is_ascii_digit};
 ghost use Rattle.std.specs.List.{list_all};
-ghost use Rattle.regex_meaning.specs.{Captures.{Answer}, Replace.{text_of}};
+ghost use Rattle.regex_meaning.specs.{GroupsByNumberAndName.{Answer}, Replace.{text_of}};
 ghost use Rattle.regress_exec.specs.MatchAnswers.{answer_of, range_of};
-ghost use Rattle.regress_match.specs.Replacements.{MatchFitsCodeUnits, IsRangeWithinUnits};
+ghost use Rattle.regress_match.specs.ExpansionsAndMatchRanges.{MatchFitsCodeUnits, IsRangeWithinUnits};
 ghost use Rattle.use_regexp.specs.Template.{IsWritten, behind_dollar, is_ascii, is_greater, is_group as is_group_of, name_end as name_end_of, named};
 ghost use Rattle.use_regexp.specs.Template.{named_text, numbered, plain, said, substitution, two_digits as two_digits_of};
 

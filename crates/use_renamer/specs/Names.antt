@@ -4,10 +4,10 @@ use Rattle.std.specs.Prelude.{Contains, map, flat_map, filter, find, is_none, co
 use Rattle.std.specs.Prelude.{string_bytes}
 use Rattle.std.specs.List.{list_any}
 use Rattle.std.specs.Option.{option_map_or}
-use Rattle.regex_meaning.specs.Captures.{Answer, named_groups}
+use Rattle.regex_meaning.specs.GroupsByNumberAndName.{Answer, named_groups}
 use Rattle.regex_meaning.specs.Replace.{replaced}
-use Rattle.regress_match.specs.RegexPrograms.{utf8_answers}
-use Rattle.regress_match.specs.Replacements.{expansion_of_each_match}
+use Rattle.regress_match.specs.ProgramTreesAndAnswers.{utf8_answers}
+use Rattle.regress_match.specs.ExpansionsAndMatchRanges.{matches_with_expansions}
 use Rattle.regress_match.specs.declared.api.regex.Regex.{Regex}
 use Rattle.use_renamer.specs.declared.plan.Refusal.{Refusal}
 use Rattle.use_renamer.specs.declared.plan.Refusal.TheVariants.{Memory}
@@ -20,7 +20,7 @@ is_file_name name = not (bytes_eq name []) && not (bytes_eq name (codes ".")) &&
 
 -- a name with the template's expansion in place of each match
 abbrev pub new_name : Regex → (template name : List ℕ) → List ℕ
-new_name re template name = replaced name 0 (expansion_of_each_match name template (utf8_answers re name 0))
+new_name re template name = replaced name 0 (matches_with_expansions name template (utf8_answers re name 0))
 
 -- the pairs of names that differ
 abbrev pub changing : List (List ℕ × List ℕ) → List (List ℕ × List ℕ)

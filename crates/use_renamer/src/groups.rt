@@ -2,7 +2,7 @@
 
 ghost use Rattle.std.specs.Prelude.{◌≡◌, ◌++◌, IfErr, IfOk, IfSome, option_map, string_bytes};
 ghost use Rattle.regress_exec.specs.MatchAnswers.{answer_of, range_of};
-ghost use Rattle.regress_match.specs.{CompileErrors.{IsOutOfMemory}, Replacements.{MatchFitsText, IsCharBoundaryRange}};
+ghost use Rattle.regress_match.specs.{CompileErrors.{IsOutOfMemory}, ExpansionsAndMatchRanges.{MatchFitsText, IsCharBoundaryRange}};
 ghost use Rattle.use_renamer.specs.Names.{described, groups_shown, parts_of};
 
 use regress_match::{Match, Range, Regex, SearchError};

@@ -5,7 +5,7 @@ use Rattle.regress_exec.specs.WorkLimits.{NextYieldsWithinWork, WorkView}
 use Rattle.regress_exec.specs.declared.exec.Match.{Match}
 use Rattle.regress_exec.specs.declared.exec.work_matches.WorkError.{WorkError}
 use Rattle.regress_exec.specs.declared.exec.work_matches.WorkError.TheVariants.{WorkLimit}
-use Rattle.regress_match.specs.RegexPrograms.{as_utf8, byte_tree, utf8_answers}
+use Rattle.regress_match.specs.ProgramTreesAndAnswers.{as_utf8, byte_tree, utf8_answers}
 use Rattle.regress_match.specs.WorkBounds.{YieldsWithinWork, total_work}
 use Rattle.regress_match.specs.declared.api.regex.Regex.{Regex}
 use Rattle.use_validator.specs.Judge.{by_matches}

@@ -1,3 +1,4 @@
+pub mod Counts
 pub mod Decided
 pub mod Escapes
 pub mod Judged

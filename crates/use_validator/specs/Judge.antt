@@ -1,8 +1,8 @@
 -- What is said of a text by a pattern within a limit of steps.
 use Rattle.std.specs.Prelude.{◌≡◌, ◌⊎◌, ℕ, Bool, true, false, List, [], ◌∷◌, nat_le}
-use Rattle.regex_meaning.specs.Captures.{Answer}
+use Rattle.regex_meaning.specs.GroupsByNumberAndName.{Answer}
 use Rattle.regex_meaning.specs.StepBudget.{need_from}
-use Rattle.regress_match.specs.RegexPrograms.{as_utf8, byte_tree, utf8_answers}
+use Rattle.regress_match.specs.ProgramTreesAndAnswers.{as_utf8, byte_tree, utf8_answers}
 use Rattle.regress_match.specs.declared.api.regex.Regex.{Regex}
 use Rattle.use_validator.specs.declared.judge.Verdict.{Verdict}
 use Rattle.use_validator.specs.declared.judge.Verdict.TheVariants.{Matches, NoMatch, OutOfSteps}

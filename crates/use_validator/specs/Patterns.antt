@@ -3,7 +3,7 @@ use Rattle.std.specs.Prelude.{◌≡◌, ℕ, List, String, chars, codes, string
 use Rattle.std.specs.Global.{Global}
 use Rattle.regex_meaning.specs.FlagLettersAndEscaping.{flags_from_letters}
 use Rattle.regex_meaning.specs.Laws.{Each}
-use Rattle.regress_match.specs.RegexPrograms.{IsCompiledWith}
+use Rattle.regress_match.specs.ProgramTreesAndAnswers.{IsCompiledWith}
 use Rattle.regress_match.specs.declared.api.regex.Regex.{Regex}
 use Rattle.use_validator.specs.Judge.{IsToldOf}
 use Rattle.use_validator.specs.declared.judge.Verdict.{Verdict}

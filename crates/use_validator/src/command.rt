@@ -1,5 +1,6 @@
 //! The command line.
 
+use crate::reader::Reading;
 use use_support::Form::{Number, Switch, Word, WordOr};
 use use_support::{Argument, CommandLine, Given};
 
@@ -10,15 +11,16 @@ pub struct Options<'a> {
     pub document: &'a str,
     /// How many steps each search may take at first.
     pub steps: u64,
+    pub reading: Reading,
     pub rows: bool,
 }
 
-const ABOUT: &str =
-    "Looks through the strings of a JSON document for those that the patterns of a schema refuse.
+const ABOUT: &str = "Checks a JSON document against a JSON Schema (draft 2020-12).
 
-Of the schema `pattern` and `patternProperties` are read, within `properties`, `patternProperties` and `items`.
-A line says where in the document a string stands (JSON Pointer, which is empty for the document itself), and
-which pattern refuses it. Status: 0 where none is refused, 1 where one is, 2 where it cannot be told.";
+A line says where in the document a value stands (a JSON Pointer, which is empty for the document itself), what is
+wrong with it, and in parentheses where the schema says so. `pattern` and `patternProperties` are searched with the
+flag u. `$ref` leads within the schema's own document. A keyword that the program does not check is an error.
+Status: 0 if the document is valid, 1 if it is not, 2 if that cannot be told.";
 
 const STEPS: &str = "100000";
 
@@ -29,6 +31,10 @@ impl<'a> Options<'a> {
             schema: given.text("schema"),
             document: given.text("document"),
             steps: given.number("steps").unwrap_or(0),
+            reading: Reading {
+                assert_format: given.has("assert-format"),
+                ignore_unknown: given.has("ignore-unknown"),
+            },
             rows: given.has("rows"),
         }
     }
@@ -49,12 +55,20 @@ pub static LINE: CommandLine = CommandLine {
         Argument(
             "steps",
             Number(None, "N", Some(STEPS)),
-            "How many steps each search may take; one that takes more, where no bound is known, refuses the string",
+            "How many steps a search may take. If they are too few, only patterns with a work bound are decided",
         ),
         Argument(
-            "rows",
+            "assert-format",
             Switch(None),
-            "Also answer rows of standard input: SCHEMA | DOCUMENT | N",
+            "Check `format`: date, time, date-time, duration, email, hostname, ipv4, ipv6, uri, \
+             uri-reference, uuid, json-pointer, relative-json-pointer",
         ),
+        Argument(
+            "ignore-unknown",
+            Switch(None),
+            "Pass over keywords, formats and dialects that the program does not check",
+        ),
+        // The stored run has rows on standard input.
+        Argument("rows", Switch(None), ""),
     ],
 };

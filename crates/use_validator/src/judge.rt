@@ -1,14 +1,14 @@
 //! Texts in which a pattern has a match.
 
 ghost use Rattle.std.specs.Prelude.{◌≡◌, ◌≤◌, ◌<◌, ◌^◌, IfOk, SomeIff};
-ghost use Rattle.regress_match.specs.{RegexPrograms.{as_utf8, utf8_answers}, WorkBounds.{total_work}};
+ghost use Rattle.regress_match.specs.{ProgramTreesAndAnswers.{as_utf8, utf8_answers}, WorkBounds.{total_work}};
 ghost use Rattle.use_validator.specs.Judge.{IsToldOf, by_matches, verdict_of};
 
 use regress_match::{BoundedRegex, Regex, SearchError, WorkError};
 use std::alloc::AllocError;
 
 /// What a search in a limit of steps says of a text.
-#[derive(Clone, Copy, Debug, PartialEq, Eq)]
+#[derive(Clone, Copy, PartialEq, Eq)]
 pub enum Verdict {
     /// It has a match, somewhere.
     Matches,

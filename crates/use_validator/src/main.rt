@@ -1,24 +1,35 @@
-//! Looks through the strings of a JSON document for those that the patterns of a schema refuse.
+//! Checks a JSON document against a JSON Schema.
 //!
-//! It ends with status 0 where there is none, with 1 where there is one, and with 2 where it cannot tell.
+//! It ends with status 0 if the document is valid, with 1 if it is not, and with 2 if it cannot tell.
 #![tactic(auto)]
 
+mod claims;
 mod command;
+mod formats;
 mod judge;
+mod keyword;
+mod numbers;
+mod patterns;
 mod pointer;
+mod reader;
+mod reference;
+mod report;
 mod rows;
 mod schema;
+mod search;
 mod walk;
 
 use crate::command::{LINE, Options};
+use crate::numbers::make_whole;
+use crate::report::Outcome;
 use crate::rows::answer_rows;
-use crate::schema::Patterns;
-use crate::walk::findings;
+use crate::schema::Schema;
+use crate::walk::report;
 use anyhow::{Result, bail};
 use serde_json::Value;
 use std::process::ExitCode;
 use std::{fs, io};
-use use_support::{CommandLine, Given, Program, run};
+use use_support::{CommandLine, Given, Program, TROUBLE, run};
 
 // A file's text; that of `-` is standard input.
 fn read(rt: &HostRuntime, path: &str) -> io::Result<String> {
@@ -28,32 +39,35 @@ fn read(rt: &HostRuntime, path: &str) -> io::Result<String> {
     fs::read_to_string(rt, path)
 }
 
-// A file as JSON.
+// A file as JSON, in which whole numbers are integers.
 fn read_value(rt: &HostRuntime, path: &str) -> Result<Value> {
     let text = match read(rt, path) {
         Ok(text) => text,
         Err(why) => bail!("{path}: {why}"),
     };
     match Value::from_str(rt.alloc(), text.as_str()) {
-        Ok(value) => Ok(value),
+        Ok(mut value) => {
+            make_whole(&mut value);
+            Ok(value)
+        }
         Err(why) => bail!("{path}: {why}"),
     }
 }
 
-// Whether all strings are valid. Each that is not is told in a line. Where rows are asked for, they are answered, too.
-fn validate(rt: &HostRuntime, options: &Options<'_>) -> Result<bool> {
+// Checks whether the document is valid, and prints a line for each finding. If rows are asked for, answers them too.
+fn validate(rt: &HostRuntime, options: &Options<'_>) -> Result<Outcome> {
     let alloc = rt.alloc();
     let schema = read_value(rt, options.schema)?;
-    let patterns = Patterns::of(alloc, &schema)?;
+    let schema = Schema::read(alloc, &schema, options.reading)?;
     let document = read_value(rt, options.document)?;
-    let findings = findings(rt, &patterns, options.steps, &schema, &document)?;
-    for finding in &findings {
+    let report = report(rt, &schema, options.steps, &document)?;
+    for finding in &report.findings {
         println!(rt; "{finding}")?;
     }
     if options.rows {
-        answer_rows(rt)?;
+        answer_rows(rt, options)?;
     }
-    Ok(findings.is_empty())
+    Ok(report.outcome())
 }
 
 struct Validator;
@@ -64,8 +78,11 @@ impl Program for Validator {
     }
 
     fn run(rt: &HostRuntime, given: &Given<'_>) -> Result<u8> {
-        let are_valid = validate(rt, &Options::of(given))?;
-        Ok(if are_valid { 0 } else { 1 })
+        Ok(match validate(rt, &Options::of(given))? {
+            Outcome::Holds => 0,
+            Outcome::Fails => 1,
+            Outcome::Undecided => TROUBLE,
+        })
     }
 }
 

@@ -1,43 +1,110 @@
 //! Rows of documents, on standard input, each with a schema of its own.
 
-use crate::schema::Patterns;
-use crate::walk::findings;
-use anyhow::{Context, Result, bail};
+use crate::command::Options;
+use crate::numbers::make_whole;
+use crate::reader::Reading;
+use crate::report::{Finding, Outcome, Report};
+use crate::schema::Schema;
+use crate::walk::report;
+use anyhow::{Context, Error, Result, bail};
 use serde_json::Value;
+use std::alloc::Global;
 
-/// Prints each row of standard input with one more field: the lines that are told, or `refused` where the schema is. A row
-/// has three fields, with ` | ` between them: a schema, a document, and how many steps a search may take.
+/// Prints each row of standard input with one more field. A row has fields with ` | ` between them:
+/// a schema and a document, for which the field is `valid`, `invalid`, `undecided` or `refused` (the
+/// schema is); or these and how many steps a search may take, for which it has the findings, or the
+/// first line of why the schema is refused. `--assert-format ` or `--ignore-unknown ` before the schema
+/// is the option for the row.
 ///
 /// # Errors
 ///
-/// Where a row cannot be read or printed, or there is no memory.
-pub fn answer_rows(rt: &HostRuntime) -> Result<()> {
+/// If a row cannot be read or printed. Allocation failure is an error too.
+pub fn answer_rows(rt: &HostRuntime, options: &Options<'_>) -> Result<()> {
     for row in rt.stdin().lines(rt.alloc()) {
         let row = row.context("reading standard input")?;
-        let told = answer(rt, row.as_str())?;
+        let told = answer(rt, options, row.as_str())?;
         println!(rt; "{row} | {told}")?;
     }
     Ok(())
 }
 
-fn answer(rt: &HostRuntime, row: &str) -> Result<String> {
+fn answer(rt: &HostRuntime, options: &Options<'_>, row: &str) -> Result<String> {
     let alloc = rt.alloc();
     let fields: Vec<&str> = row.split(" | ").collect(alloc)?;
-    let [schema, document, steps] = *fields.as_slice() else {
-        bail!("no row: {row}");
-    };
-    let schema = Value::from_str(alloc, schema)?;
-    let document = Value::from_str(alloc, document)?;
-    let steps = steps.parse::<u64>()?;
-    let Ok(patterns) = Patterns::of(alloc, &schema) else {
-        return Ok(String::from_str(alloc, "refused")?);
-    };
-    let mut told = String::new(alloc);
-    for finding in &findings(rt, &patterns, steps, &schema, &document)? {
-        if !told.is_empty() {
-            told.push_str("; ")?;
+    match *fields.as_slice() {
+        [schema, document] => {
+            let told = check(rt, options, options.steps, (schema, document));
+            Ok(String::from_str(alloc, verdict(&told))?)
         }
-        write!(told, "{finding}")?;
+        [schema, document, steps] => {
+            let steps = steps.parse::<u64>()?;
+            match check(rt, options, steps, (schema, document)) {
+                Ok(report) => lines(alloc, &report.findings),
+                Err(why) => refusal(alloc, &why),
+            }
+        }
+        _ => bail!("no row: {row}"),
     }
-    Ok(told)
+}
+
+fn verdict(told: &Result<Report>) -> &'static str {
+    let Ok(report) = told else {
+        return "refused";
+    };
+    match report.outcome() {
+        Outcome::Holds => "valid",
+        Outcome::Fails => "invalid",
+        Outcome::Undecided => "undecided",
+    }
+}
+
+// Checks the document of a row with its schema.
+fn check(
+    rt: &HostRuntime,
+    options: &Options<'_>,
+    steps: u64,
+    (schema, document): (&str, &str),
+) -> Result<Report> {
+    let (schema, reading) = reading(schema, options.reading);
+    let schema = value(rt.alloc(), schema)?;
+    let document = value(rt.alloc(), document)?;
+    let schema = Schema::read(rt.alloc(), &schema, reading)?;
+    report(rt, &schema, steps, &document)
+}
+
+// Takes an option from before a schema.
+fn reading(schema: &str, mut reading: Reading) -> (&str, Reading) {
+    if let Some(schema) = schema.strip_prefix("--assert-format ") {
+        reading.assert_format = true;
+        return (schema, reading);
+    }
+    if let Some(schema) = schema.strip_prefix("--ignore-unknown ") {
+        reading.ignore_unknown = true;
+        return (schema, reading);
+    }
+    (schema, reading)
+}
+
+fn value(alloc: Global, text: &str) -> Result<Value> {
+    let mut value = Value::from_str(alloc, text)?;
+    make_whole(&mut value);
+    Ok(value)
+}
+
+// Returns the first line of why a schema is refused.
+fn refusal(alloc: Global, why: &Error) -> Result<String> {
+    let why = format!(in alloc; "refused: {why}")?;
+    let (line, _) = why.split_once('\n').unwrap_or((why.as_str(), ""));
+    Ok(String::from_str(alloc, line)?)
+}
+
+fn lines(alloc: Global, findings: &Vec<Finding>) -> Result<String> {
+    let mut lines = String::new(alloc);
+    for finding in findings {
+        if !lines.is_empty() {
+            lines.push_str("; ")?;
+        }
+        write!(lines, "{finding}")?;
+    }
+    Ok(lines)
 }

@@ -1,173 +1,163 @@
-//! The patterns of a schema.
+//! A schema as parts: each schema within it, with what it says of a value.
 
-ghost use Rattle.std.specs.Prelude.{◌≡◌, IfOk, IfSome, codes, string_bytes};
-ghost use Rattle.regex_meaning.specs.FlagLettersAndEscaping.{flags_from_letters};
-ghost use Rattle.regress_match.specs.Flags.{flags_of};
-ghost use Rattle.use_validator.specs.Patterns.{AreOfTheirTexts, IsPatternOf, IsProgramOf};
-
-use crate::pointer::child;
-use anyhow::{Result, bail};
-use regress_match::{Error, Flags, Regex};
-use serde_json::{Map, Value};
-use std::alloc::Global;
+use crate::keyword::{Measure, Range};
+use crate::patterns::Patterns;
+use serde_json::{Number, Value};
 use std::collections::BTreeMap;
 
-/// Each pattern of a schema as a program, by its text.
+/// A type of JSON values.
+#[derive(Clone, Copy)]
+pub enum Kind {
+    Null,
+    Boolean,
+    Integer,
+    Number,
+    String,
+    Array,
+    Object,
+}
+
+/// What a keyword says of a value alone.
 #[derive(Drop)]
-pub struct Patterns {
-    compiled: BTreeMap<String, Regex>,
-    ghost of_their_texts: { AreOfTheirTexts compiled.entries },
+pub enum Claim<'s> {
+    /// The schema is `false`.
+    Never,
+    IsOfTypes(Vec<Kind>),
+    IsOneOf(&'s Vec<Value>),
+    Is(&'s Value),
+    AtLeast(Measure, u64),
+    AtMost(Measure, u64),
+    HasDistinctItems,
+    Number(Range, Number),
+    Has(&'s str),
+    /// If it has the first member, it has the second.
+    HasWith(&'s str, &'s str),
 }
 
-// A schema within the whole one, and where it stands.
+/// A claim, and the keyword that makes it; the name of `false` is empty.
 #[derive(Drop)]
-struct Part<'s> {
-    pointer: String,
-    schema: &'s Value,
+pub struct Rule<'s> {
+    pub keyword: &'s str,
+    pub value: &'s Value,
+    pub claim: Claim<'s>,
 }
 
-impl Patterns {
-    /// The patterns of a schema: those of `pattern` and `patternProperties` in it and in each schema of its `properties`,
-    /// `patternProperties` and `items`. They are read with the flag `u`, as JSON Schema says.
-    ///
-    /// # Errors
-    ///
-    /// Where a `pattern` is no string, `properties` or `patternProperties` is no object, a pattern is refused, or there is no
-    /// memory. The error says in which part it stands. What is no object has no pattern.
-    pub fn of(alloc: Global, schema: &Value) -> Result<Self> {
-        let mut patterns = Patterns::none(alloc);
-        let mut parts = Vec::new(alloc);
-        parts.push(Part {
-            pointer: String::new(alloc),
-            schema,
-        })?;
-        for _ in 0..u64::MAX {
-            let Some(part) = parts.pop() else {
-                break;
-            };
-            patterns.read(alloc, &part)?;
-            push_parts(alloc, &mut parts, &part)?;
-        }
-        Ok(patterns)
-    }
-
-    // No pattern yet.
-    fn none(alloc: Global) -> Self {
-        let compiled = BTreeMap::new(alloc);
-        Patterns { compiled }
-    }
-
-    /// The program of a pattern, if the schema has it.
-    pub fn get(&self, pattern: &str) -> Option<&Regex>
-        ensures { IfSome result (λ re. IsPatternOf pattern.now re.now) }
-    {
-        self.compiled.get(pattern)
-    }
-
-    // Reads the patterns that stand in a part itself.
-    fn read(&mut self, alloc: Global, part: &Part<'_>) -> Result<()> {
-        let place = part.pointer.as_str();
-        if let Some(pattern) = part.schema.get("pattern") {
-            let Some(pattern) = pattern.as_str() else {
-                bail!("the schema's {place}/pattern is no string");
-            };
-            let place = child(alloc, place, "pattern")?;
-            self.compile(alloc, place.as_str(), pattern)?;
-        }
-        if let Some(members) = object_of(part, "patternProperties")? {
-            let above = child(alloc, place, "patternProperties")?;
-            for (pattern, _) in members {
-                let place = child(alloc, above.as_str(), pattern.as_str())?;
-                self.compile(alloc, place.as_str(), pattern.as_str())?;
-            }
-        }
-        Ok(())
-    }
-
-    // One more pattern, and where it stands.
-    fn compile(&mut self, alloc: Global, place: &str, pattern: &str) -> Result<()> {
-        let re = compile(alloc, place, pattern)?;
-        self.insert(String::from_str(alloc, pattern)?, re)
-    }
-
-    // The program of one more pattern.
-    fn insert(&mut self, pattern: String, re: Regex) -> Result<()>
-        requires { IsProgramOf (string_bytes pattern) re }
-    {
-        self.compiled.insert(pattern, re)?;
-        Ok(())
-    }
+/// What `pattern` or `format` says of a string: it matches the pattern.
+#[derive(Drop)]
+pub struct TextRule<'s> {
+    pub keyword: &'s str,
+    pub pattern: String,
+    /// The name of the format that the pattern stands for.
+    pub format: Option<&'static str>,
 }
 
-// A pattern as a program. Where it is none, the error says why, and where it stands.
-fn compile(alloc: Global, place: &str, pattern: &str) -> Result<Regex>
-    ensures { IfOk result (IsProgramOf pattern.now) }
-{
-    let why = match read(alloc, pattern) {
-        Ok(re) => return Ok(re),
-        Err(why) => why,
-    };
-    if let Error::Parse(_) = why {
-        if let Some(told) = Regex::diagnose(alloc, pattern, flags())? {
-            bail!(
-                "the schema's {place} is refused: {told}\n{}",
-                told.below_text(pattern)
-            );
+/// A keyword that counts the parts or items that hold.
+#[derive(Clone, Copy)]
+pub enum Counting {
+    AnyOf,
+    OneOf,
+    Not,
+    Contains,
+}
+
+/// How many of what is counted hold at least and at most.
+#[derive(Clone, Copy)]
+pub struct Limits {
+    pub least: u64,
+    pub most: u64,
+}
+
+impl Limits {
+    pub fn at_least(least: u64) -> Self {
+        let most = u64::MAX;
+        Limits { least, most }
+    }
+
+    pub fn exactly(count: u64) -> Self {
+        Limits {
+            least: count,
+            most: count,
         }
     }
-    bail!("the schema's {place} is refused: {why}")
 }
 
-// The same with the error of the constructor.
-fn read(alloc: Global, pattern: &str) -> Result<Regex, Error>
-    ensures { IfOk result (IsProgramOf pattern.now) }
-{
-    Regex::with_flags(alloc, pattern, flags())
+/// Which values are counted with which parts.
+#[derive(Drop)]
+pub enum Counted {
+    /// The value itself, with each part.
+    Parts(Vec<usize>),
+    /// Each item, with one part.
+    Items(usize),
 }
 
-// The flags that patterns are read with.
-fn flags() -> Flags
-    ensures { flags_of result ≡ flags_from_letters (codes "u") }
-{
-    Flags::from("u")
-}
-
-// A member of a schema that has to be an object, if it is there.
-fn object_of<'s>(part: &Part<'s>, name: &str) -> Result<Option<&'s Map<String, Value>>> {
-    let Some(value) = part.schema.get(name) else {
-        return Ok(None);
-    };
-    let Some(members) = value.as_object() else {
-        bail!("the schema's {}/{name} is no object", part.pointer);
-    };
-    Ok(Some(members))
-}
-
-// The schemas right within a part.
-fn push_parts<'s>(alloc: Global, parts: &mut Vec<Part<'s>>, part: &Part<'s>) -> Result<()> {
-    push_members(alloc, parts, part, "properties")?;
-    push_members(alloc, parts, part, "patternProperties")?;
-    if let Some(schema) = part.schema.get("items") {
-        parts.push(Part {
-            pointer: child(alloc, part.pointer.as_str(), "items")?,
-            schema,
-        })?;
-    }
-    Ok(())
-}
-
-fn push_members<'s>(
-    alloc: Global,
-    parts: &mut Vec<Part<'s>>,
-    part: &Part<'s>,
-    name: &str,
-) -> Result<()> {
-    if let Some(members) = object_of(part, name)? {
-        let above = child(alloc, part.pointer.as_str(), name)?;
-        for (key, schema) in members {
-            let pointer = child(alloc, above.as_str(), key.as_str())?;
-            parts.push(Part { pointer, schema })?;
+impl Counting {
+    pub fn keyword(self) -> &'static str {
+        match self {
+            Counting::AnyOf => "anyOf",
+            Counting::OneOf => "oneOf",
+            Counting::Not => "not",
+            Counting::Contains => "contains",
         }
     }
-    Ok(())
+
+    /// Returns what is wrong if too few hold, or too many.
+    pub fn complaint(self, too_few: bool) -> &'static str {
+        match self {
+            Counting::Not => "matches the schema that it must not match",
+            Counting::AnyOf | Counting::OneOf if too_few => "matches none of the schemas",
+            Counting::AnyOf | Counting::OneOf => "matches more than one of the schemas",
+            Counting::Contains if too_few => "too few items match the schema",
+            Counting::Contains => "too many items match the schema",
+        }
+    }
+}
+
+/// What is said by whether other parts hold. A part is named by its number.
+#[derive(Drop)]
+pub enum Test {
+    /// As many of what is counted hold as the limits say.
+    Count {
+        by: Counting,
+        counted: Counted,
+        limits: Limits,
+    },
+    /// The second part applies if the first holds, and else the third.
+    If {
+        test: usize,
+        then: Option<usize>,
+        otherwise: Option<usize>,
+    },
+    /// The part holds for each member's name.
+    Names(usize),
+}
+
+/// A schema within the whole one. Other parts are named by their numbers.
+#[derive(Drop)]
+pub struct Part<'s> {
+    /// Where it stands (a JSON Pointer).
+    pub place: String,
+    pub rules: Vec<Rule<'s>>,
+    pub texts: Vec<TextRule<'s>>,
+    pub tests: Vec<Test>,
+    /// The parts that apply to the same value: those of `$ref` and `allOf`.
+    pub here: Vec<usize>,
+    /// Those that apply to it if it has the member.
+    pub with_member: BTreeMap<String, usize>,
+    /// Those of the members with these names.
+    pub named: BTreeMap<String, usize>,
+    /// Those of the members whose names match these patterns.
+    pub by_pattern: BTreeMap<String, usize>,
+    /// That of all other members.
+    pub others: Option<usize>,
+    /// Those of the first items, and that of all behind them.
+    pub first: Vec<usize>,
+    pub rest: Option<usize>,
+}
+
+/// A schema.
+#[derive(Drop)]
+pub struct Schema<'s> {
+    /// The whole one comes first.
+    pub parts: Vec<Part<'s>>,
+    pub patterns: Patterns,
 }

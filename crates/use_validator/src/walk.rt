@@ -1,97 +1,72 @@
-//! The strings of a document, each with the schemas for it.
+//! The values of a document, each with the schemas for it.
 
-ghost use Rattle.std.specs.Prelude.{IfOk};
-ghost use Rattle.use_validator.specs.Patterns.{IsVerdictOf};
-
-use crate::judge::{Verdict, decide};
+use crate::judge::Verdict;
 use crate::pointer::child;
-use crate::schema::Patterns;
+use crate::report::{Finding, Outcome, Report, Tally};
+use crate::schema::{Counted, Part, Schema, Test, TextRule};
+use crate::search::Search;
 use anyhow::{Result, bail};
 use serde_json::Value;
 use std::alloc::{AllocError, Global};
+use std::io;
 use std::io::IsTerminal;
-use std::{fmt, io};
 
-/// A pattern that a string, or the name of a member, is not said to match.
-#[derive(Debug, Drop)]
-pub struct Finding {
-    /// Where the string stands.
-    pub pointer: String,
-    pub pattern: String,
-    /// Whether the steps were not enough to tell.
-    pub out_of_steps: bool,
-}
-
-impl fmt::Display for Finding {
-    fn fmt<W: fmt::Write>(&self, f: &mut fmt::Formatter<W>) -> fmt::Result {
-        let Finding {
-            pointer,
-            pattern,
-            out_of_steps,
-        } = self;
-        if *out_of_steps {
-            write!(f, "{pointer}: too few steps for {pattern}")
-        } else {
-            write!(f, "{pointer}: no match of {pattern}")
-        }
-    }
-}
-
-// A value of the document, where it stands, and a schema for it.
+// A value of the document, where it stands, and the number of a part of the schema for it.
 #[derive(Drop)]
-struct Place<'a> {
+struct Spot<'v> {
     pointer: String,
-    value: &'a Value,
-    schema: &'a Value,
+    value: &'v Value,
+    part: usize,
+    // How many parts were applied to the value one by another.
+    applied: usize,
 }
 
-// What searches are made with.
+// What a document is checked with.
 #[derive(Clone, Copy)]
-struct Search<'p> {
+struct Walk<'p> {
     alloc: Global,
-    patterns: &'p Patterns,
-    steps: u64,
+    parts: &'p [Part<'p>],
+    search: Search<'p>,
 }
 
 // After how many values of a document it is told on a terminal how far the walk is.
 const MANY: u64 = 100_000;
 
-/// What the patterns of a schema refuse; strings come in the order of the document. `patterns` are those of the schema.
+// How deep tests of schemas may stand in one another.
+const DEPTH: u32 = 300;
+
+/// Returns what the schema says of a document in which whole numbers are integers, with a finding
+/// for each value that it refuses, or of which it is not told in so many steps of each search.
 ///
 /// # Errors
 ///
-/// Where there is no memory for it, or the schema has a pattern that is not among these.
-pub fn findings(
+/// If the schema applies to a value without end, or its tests stand too deep in one another. The
+/// error says where. Allocation failure is an error too.
+pub fn report(
     rt: &HostRuntime,
-    patterns: &Patterns,
+    schema: &Schema<'_>,
     steps: u64,
-    schema: &Value,
     document: &Value,
-) -> Result<Vec<Finding>> {
+) -> Result<Report> {
     let alloc = rt.alloc();
-    let search = Search {
+    let patterns = &schema.patterns;
+    let walk = Walk {
         alloc,
-        patterns,
-        steps,
+        parts: schema.parts.as_slice(),
+        search: Search { patterns, steps },
     };
-    let mut findings = Vec::new(alloc);
-    let mut places = Vec::new(alloc);
-    places.push(Place {
-        pointer: String::new(alloc),
-        value: document,
-        schema,
-    })?;
+    let mut report = Report::new(alloc, false);
+    let mut spots = Vec::new(alloc);
+    spots.push(Spot::new(String::new(alloc), document, 0))?;
     for done in 1..u64::MAX {
-        let Some(place) = places.pop() else {
+        let Some(spot) = spots.pop() else {
             break;
         };
         tell(rt, done)?;
-        search.check_string(&place, &mut findings)?;
-        push_items(alloc, &place, &mut places)?;
-        search.push_members(&place, &mut places, &mut findings)?;
+        walk.step(&spot, DEPTH, &mut spots, &mut report)?;
     }
     clear(rt)?;
-    Ok(findings)
+    Ok(report)
 }
 
 // Tells on a terminal how far the walk is.
@@ -110,148 +85,487 @@ fn clear(rt: &HostRuntime) -> io::Result<()> {
     Ok(())
 }
 
-impl<'p> Search<'p> {
-    // What a pattern of the schema says of a text, in the steps that a search may take or the work that is enough.
-    fn verdict(self, pattern: &str, text: &str) -> Result<Verdict>
-        ensures { IfOk result (IsVerdictOf pattern.now text.now self.entry.steps) }
-    {
-        let Some(re) = self.patterns.get(pattern) else {
-            bail!("the schema has no pattern {pattern}");
-        };
-        Ok(decide(re, text, self.steps)?)
-    }
-
-    // Judges a string by the pattern of its schema.
-    fn check_string(self, place: &Place<'_>, findings: &mut Vec<Finding>) -> Result<()> {
-        let Some(text) = place.value.as_str() else {
-            return Ok(());
-        };
-        let Some(pattern) = place.schema.get("pattern").and_then(Value::as_str) else {
-            return Ok(());
-        };
-        let verdict = self.verdict(pattern, text)?;
-        Ok(self.tell(verdict, place.pointer.clone()?, pattern, findings)?)
-    }
-
-    // Notes what is no match.
-    fn tell(
-        self,
-        verdict: Verdict,
-        pointer: String,
-        pattern: &str,
-        findings: &mut Vec<Finding>,
-    ) -> Result<(), AllocError> {
-        if verdict == Verdict::Matches {
-            return Ok(());
-        }
-        let pattern = String::from_str(self.alloc, pattern)?;
-        let out_of_steps = verdict == Verdict::OutOfSteps;
-        Ok(findings.push(Finding {
+impl<'v> Spot<'v> {
+    fn new(pointer: String, value: &'v Value, part: usize) -> Self {
+        Spot {
             pointer,
-            pattern,
-            out_of_steps,
-        })?)
+            value,
+            part,
+            applied: 0,
+        }
+    }
+}
+
+impl<'p> Walk<'p> {
+    // Checks a value with a part, and puts what else it has to be checked with on the stack.
+    #[cycle(walk)]
+    fn step<'v>(
+        self,
+        spot: &Spot<'v>,
+        depth: u32,
+        spots: &mut Vec<Spot<'v>>,
+        report: &mut Report,
+    ) -> Result<()> {
+        let Some(part) = self.parts.get(spot.part) else {
+            bail!("the schema has no such part");
+        };
+        let mut next = Vec::new(self.alloc);
+        self.check_rules(part, spot, report)?;
+        self.check_texts(part, spot, report)?;
+        for test in &part.tests {
+            self.check_test(test, spot, depth, &mut next, report)?;
+        }
+        self.push_same(part, spot, &mut next)?;
+        self.push_items(part, spot, &mut next)?;
+        self.push_members(part, spot, &mut next, report)?;
+        Ok(put_back(&mut next, spots)?)
     }
 
-    // The members of an object, each with the schemas for it. The last one comes first.
-    fn push_members<'a>(
+    // Checks a value with what asks whether other parts hold.
+    #[cycle(walk)]
+    fn check_test<'v>(
         self,
-        place: &Place<'a>,
-        places: &mut Vec<Place<'a>>,
-        findings: &mut Vec<Finding>,
+        test: &Test,
+        spot: &Spot<'v>,
+        depth: u32,
+        next: &mut Vec<Spot<'v>>,
+        report: &mut Report,
     ) -> Result<()> {
-        let Some(members) = place.value.as_object() else {
+        match test {
+            Test::Count {
+                by,
+                counted,
+                limits,
+            } => {
+                if !counted.is_in(spot.value) {
+                    return Ok(());
+                }
+                let tally = self.count(counted, spot, depth)?;
+                let outcome = tally.conclude(limits.least, limits.most);
+                let told = by.complaint(tally.possible < limits.least);
+                self.tell_test(by.keyword(), spot, outcome, told, report)
+            }
+            Test::If {
+                test,
+                then,
+                otherwise,
+            } => {
+                let of = self.same(spot, *test)?;
+                match self.outcome(of, depth)? {
+                    Outcome::Holds => self.push_if_some(spot, *then, next),
+                    Outcome::Fails => self.push_if_some(spot, *otherwise, next),
+                    outcome => self.tell_test("if", spot, outcome, "", report),
+                }
+            }
+            Test::Names(part) => self.check_names(*part, spot, depth, report),
+        }
+    }
+
+    // Counts the parts that hold for a value, or the items for which a part holds.
+    #[cycle(walk)]
+    fn count(self, counted: &Counted, spot: &Spot<'_>, depth: u32) -> Result<Tally> {
+        let mut tally = Tally::NONE;
+        let mut tried = Vec::new(self.alloc);
+        self.push_counted(counted, spot, &mut tried)?;
+        for of in tried {
+            tally.count(self.outcome(of, depth)?);
+        }
+        Ok(tally)
+    }
+
+    // Checks the name of each member with a part.
+    #[cycle(walk)]
+    fn check_names(
+        self,
+        part: usize,
+        spot: &Spot<'_>,
+        depth: u32,
+        report: &mut Report,
+    ) -> Result<()> {
+        let Some(members) = spot.value.as_object() else {
             return Ok(());
         };
-        for (name, value) in members.iter().rev() {
-            let member = Place {
-                pointer: child(self.alloc, place.pointer.as_str(), name.as_str())?,
-                value,
-                schema: place.schema,
-            };
-            member.push_by_name(name.as_str(), places)?;
-            self.push_by_patterns(&member, name.as_str(), places, findings)?;
+        for (name, _) in members {
+            let pointer = child(self.alloc, spot.pointer.as_str(), name.as_str())?;
+            let value = Value::String(name.clone()?);
+            let outcome = self.outcome(Spot::new(pointer, &value, part), depth)?;
+            self.tell_name(name.as_str(), spot, outcome, report)?;
         }
         Ok(())
     }
 
-    // A member with the schema of each pattern that its name matches; it stands with the schema of its object.
-    fn push_by_patterns<'a>(
+    // Checks whether a part holds for a value.
+    #[cycle(walk)]
+    fn outcome(self, spot: Spot<'_>, depth: u32) -> Result<Outcome> {
+        let Some(depth) = depth.checked_sub(1) else {
+            bail!(
+                "the value at \"{}\": more than {DEPTH} tests of the schema stand in one another",
+                spot.pointer
+            );
+        };
+        let mut report = Report::new(self.alloc, true);
+        let mut spots = Vec::new(self.alloc);
+        spots.push(spot)?;
+        for _ in 0..u64::MAX {
+            let Some(spot) = spots.pop() else {
+                break;
+            };
+            self.step(&spot, depth, &mut spots, &mut report)?;
+            if report.is_done() {
+                break;
+            }
+        }
+        Ok(report.outcome())
+    }
+}
+
+impl<'p> Walk<'p> {
+    // Checks a value with what is said of it alone.
+    fn check_rules(
         self,
-        member: &Place<'a>,
-        name: &str,
-        places: &mut Vec<Place<'a>>,
-        findings: &mut Vec<Finding>,
-    ) -> Result<()> {
-        let Some(schemas) = member
-            .schema
-            .get("patternProperties")
-            .and_then(Value::as_object)
-        else {
+        part: &Part<'_>,
+        spot: &Spot<'_>,
+        report: &mut Report,
+    ) -> Result<(), AllocError> {
+        for rule in &part.rules {
+            if !rule.holds(self.alloc, spot.value)? && report.note(Outcome::Fails) {
+                let told = rule.complaint(self.alloc)?;
+                report.findings.push(Finding {
+                    pointer: spot.pointer.clone()?,
+                    place: self.place(part, rule.keyword)?,
+                    told,
+                })?;
+            }
+        }
+        Ok(())
+    }
+
+    // Checks a string with the patterns for it.
+    fn check_texts(self, part: &Part<'_>, spot: &Spot<'_>, report: &mut Report) -> Result<()> {
+        let Some(text) = spot.value.as_str() else {
             return Ok(());
         };
-        for (pattern, schema) in schemas {
-            match self.verdict(pattern.as_str(), name)? {
-                Verdict::Matches => member.push_with(schema, places)?,
-                Verdict::NoMatch => {}
-                Verdict::OutOfSteps => {
-                    self.tell(
-                        Verdict::OutOfSteps,
-                        member.pointer.clone()?,
-                        pattern.as_str(),
-                        findings,
-                    )?
+        for rule in &part.texts {
+            let outcome = match self.search.verdict(rule.pattern.as_str(), text)? {
+                Verdict::Matches => Outcome::Holds,
+                Verdict::NoMatch => Outcome::Fails,
+                Verdict::OutOfSteps => Outcome::Undecided,
+            };
+            if report.note(outcome) {
+                let told = rule.complaint(self.alloc, outcome)?;
+                report.findings.push(Finding {
+                    pointer: spot.pointer.clone()?,
+                    place: self.place(part, rule.keyword)?,
+                    told,
+                })?;
+            }
+        }
+        Ok(())
+    }
+
+    // Tells what is wrong with a value that a test refuses, or that it is not decided.
+    fn tell_test(
+        self,
+        keyword: &str,
+        spot: &Spot<'_>,
+        outcome: Outcome,
+        told: &str,
+        report: &mut Report,
+    ) -> Result<()> {
+        if !report.note(outcome) {
+            return Ok(());
+        }
+        let told = if outcome == Outcome::Undecided {
+            "too few steps to tell"
+        } else {
+            told
+        };
+        let told = String::from_str(self.alloc, told)?;
+        self.tell(keyword, spot, told, report)
+    }
+
+    // Tells that a member's name is refused, or that it is not decided.
+    fn tell_name(
+        self,
+        name: &str,
+        spot: &Spot<'_>,
+        outcome: Outcome,
+        report: &mut Report,
+    ) -> Result<()> {
+        if !report.note(outcome) {
+            return Ok(());
+        }
+        let before = if outcome == Outcome::Undecided {
+            "too few steps to tell of the member name \""
+        } else {
+            "the schema does not allow the member name \""
+        };
+        let mut told = String::from_str(self.alloc, before)?;
+        told.push_str(name)?;
+        told.push('"')?;
+        self.tell("propertyNames", spot, told, report)
+    }
+
+    // Adds a finding at a keyword of the part that a value is checked with.
+    fn tell(self, keyword: &str, spot: &Spot<'_>, told: String, report: &mut Report) -> Result<()> {
+        let Some(part) = self.parts.get(spot.part) else {
+            bail!("the schema has no such part");
+        };
+        Ok(
+            report.findings.push(Finding {
+                pointer: spot.pointer.clone()?,
+                place: self.place(part, keyword)?,
+                told,
+            })?,
+        )
+    }
+
+    // Returns where a keyword stands, or the part itself if the keyword has no name.
+    fn place(self, part: &Part<'_>, keyword: &str) -> Result<String, AllocError> {
+        if keyword.is_empty() {
+            part.place.clone()
+        } else {
+            child(self.alloc, part.place.as_str(), keyword)
+        }
+    }
+
+    // Returns the same value with another part. With more steps than there are parts one of them
+    // was applied twice, and would be for ever.
+    fn same<'v>(self, spot: &Spot<'v>, part: usize) -> Result<Spot<'v>> {
+        if spot.applied >= self.parts.len() {
+            let place = self.parts.get(part).map_or("", |part| part.place.as_str());
+            bail!(
+                "the schema's #{place} applies to the value at \"{}\" without end",
+                spot.pointer
+            );
+        }
+        Ok(Spot {
+            pointer: spot.pointer.clone()?,
+            value: spot.value,
+            part,
+            applied: spot.applied + 1,
+        })
+    }
+
+    fn push_if_some<'v>(
+        self,
+        spot: &Spot<'v>,
+        part: Option<usize>,
+        next: &mut Vec<Spot<'v>>,
+    ) -> Result<()> {
+        match part {
+            Some(part) => Ok(next.push(self.same(spot, part)?)?),
+            None => Ok(()),
+        }
+    }
+
+    // Puts the value on the stack with each part that applies to it.
+    fn push_same<'v>(
+        self,
+        part: &Part<'_>,
+        spot: &Spot<'v>,
+        next: &mut Vec<Spot<'v>>,
+    ) -> Result<()> {
+        for number in &part.here {
+            next.push(self.same(spot, *number)?)?;
+        }
+        let Some(members) = spot.value.as_object() else {
+            return Ok(());
+        };
+        for (name, number) in &part.with_member {
+            if members.contains_key(name.as_str()) {
+                next.push(self.same(spot, *number)?)?;
+            }
+        }
+        Ok(())
+    }
+
+    // Puts what is counted on the stack.
+    fn push_counted<'v>(
+        self,
+        counted: &Counted,
+        spot: &Spot<'v>,
+        next: &mut Vec<Spot<'v>>,
+    ) -> Result<()> {
+        match counted {
+            Counted::Parts(parts) => {
+                for part in parts {
+                    next.push(self.same(spot, *part)?)?;
+                }
+            }
+            Counted::Items(part) => {
+                let items = spot.value.as_array();
+                let items = items.map_or(&[] as &[Value], |items| items.as_slice());
+                for (i, value) in items.iter().enumerate() {
+                    next.push(self.item(spot, i, value, *part)?)?;
                 }
             }
         }
         Ok(())
     }
-}
 
-impl<'a> Place<'a> {
-    // The same value with another schema.
-    fn push_with(&self, schema: &'a Value, places: &mut Vec<Place<'a>>) -> Result<(), AllocError> {
-        let pointer = self.pointer.clone()?;
-        Ok(places.push(Place {
-            pointer,
-            value: self.value,
-            schema,
-        })?)
+    // Puts the items of an array on the stack, each with the part for it.
+    fn push_items<'v>(
+        self,
+        part: &Part<'_>,
+        spot: &Spot<'v>,
+        next: &mut Vec<Spot<'v>>,
+    ) -> Result<(), AllocError> {
+        let Some(items) = spot.value.as_array() else {
+            return Ok(());
+        };
+        for (i, value) in items.iter().enumerate() {
+            let number = part.first.get(i).copied().or(part.rest);
+            if let Some(number) = number {
+                next.push(self.item(spot, i, value, number)?)?;
+            }
+        }
+        Ok(())
     }
 
-    // A member with the schema that its name has; it stands with the schema of its object.
-    fn push_by_name(&self, name: &str, places: &mut Vec<Place<'a>>) -> Result<(), AllocError> {
-        match self
-            .schema
-            .get("properties")
-            .and_then(|schemas| schemas.get(name))
-        {
-            Some(schema) => self.push_with(schema, places),
-            None => Ok(()),
+    // Returns an item of an array, with a part.
+    fn item<'v>(
+        self,
+        spot: &Spot<'_>,
+        i: usize,
+        value: &'v Value,
+        part: usize,
+    ) -> Result<Spot<'v>, AllocError> {
+        let name = format!(in self.alloc; "{i}")?;
+        let pointer = child(self.alloc, spot.pointer.as_str(), name.as_str())?;
+        Ok(Spot::new(pointer, value, part))
+    }
+
+    // Puts the members of an object on the stack, each with the parts for it.
+    fn push_members<'v>(
+        self,
+        part: &Part<'_>,
+        spot: &Spot<'v>,
+        next: &mut Vec<Spot<'v>>,
+        report: &mut Report,
+    ) -> Result<()> {
+        if !part.has_parts_for_members() {
+            return Ok(());
+        }
+        let Some(members) = spot.value.as_object() else {
+            return Ok(());
+        };
+        for (name, value) in members {
+            let pointer = child(self.alloc, spot.pointer.as_str(), name.as_str())?;
+            let member = Spot::new(pointer, value, spot.part);
+            self.push_member(part, name.as_str(), &member, next, report)?;
+        }
+        Ok(())
+    }
+
+    // Puts a member on the stack with the parts for it.
+    fn push_member<'v>(
+        self,
+        part: &Part<'_>,
+        name: &str,
+        member: &Spot<'v>,
+        next: &mut Vec<Spot<'v>>,
+        report: &mut Report,
+    ) -> Result<()> {
+        let named = part.named.get(name).copied();
+        push_with(member, named, next)?;
+        let by_pattern = self.push_by_patterns(part, name, member, next, report)?;
+        if named.is_none() && !by_pattern {
+            push_with(member, part.others, next)?;
+        }
+        Ok(())
+    }
+
+    // Puts a member on the stack with the part of each pattern that its name matches. Returns
+    // whether it matches one, or may.
+    fn push_by_patterns<'v>(
+        self,
+        part: &Part<'_>,
+        name: &str,
+        member: &Spot<'v>,
+        next: &mut Vec<Spot<'v>>,
+        report: &mut Report,
+    ) -> Result<bool> {
+        let mut matches = false;
+        for (pattern, number) in &part.by_pattern {
+            match self.search.verdict(pattern.as_str(), name)? {
+                Verdict::NoMatch => {}
+                Verdict::Matches => {
+                    matches = true;
+                    push_with(member, Some(*number), next)?;
+                }
+                Verdict::OutOfSteps => {
+                    matches = true;
+                    self.tell_pattern(pattern.as_str(), member, report)?;
+                }
+            }
+        }
+        Ok(matches)
+    }
+
+    // Tells that a pattern is not decided for the name of a member.
+    fn tell_pattern(self, pattern: &str, member: &Spot<'_>, report: &mut Report) -> Result<()> {
+        if !report.note(Outcome::Undecided) {
+            return Ok(());
+        }
+        let mut told = String::from_str(self.alloc, "too few steps for ")?;
+        told.push_str(pattern)?;
+        self.tell("patternProperties", member, told, report)
+    }
+}
+
+impl Part<'_> {
+    // Checks whether it applies other parts to members.
+    fn has_parts_for_members(&self) -> bool {
+        self.others.is_some() || !self.named.is_empty() || !self.by_pattern.is_empty()
+    }
+}
+
+impl Counted {
+    // Checks whether a value has what is counted.
+    fn is_in(&self, value: &Value) -> bool {
+        match self {
+            Counted::Parts(_) => true,
+            Counted::Items(_) => value.is_array(),
         }
     }
 }
 
-// The items of an array with the schema for them. The last one comes first.
-fn push_items<'a>(
-    alloc: Global,
-    place: &Place<'a>,
-    places: &mut Vec<Place<'a>>,
+impl TextRule<'_> {
+    // Returns what is wrong with a string that has no match, or may have none.
+    fn complaint(&self, alloc: Global, outcome: Outcome) -> Result<String, AllocError> {
+        let pattern = self.pattern.as_str();
+        let (before, name) = match self.format {
+            Some(format) if outcome == Outcome::Fails => ("not of the format ", format),
+            Some(format) => ("too few steps for the format ", format),
+            None if outcome == Outcome::Fails => ("no match of ", pattern),
+            None => ("too few steps for ", pattern),
+        };
+        let mut text = String::from_str(alloc, before)?;
+        text.push_str(name)?;
+        Ok(text)
+    }
+}
+
+// Puts a member on the stack with a part, if there is one.
+fn push_with<'v>(
+    member: &Spot<'v>,
+    part: Option<usize>,
+    next: &mut Vec<Spot<'v>>,
 ) -> Result<(), AllocError> {
-    let Some(items) = place.value.as_array() else {
-        return Ok(());
-    };
-    let Some(schema) = place.schema.get("items") else {
-        return Ok(());
-    };
-    for (i, value) in items.iter().enumerate().rev() {
-        let name = format!(in alloc; "{i}")?;
-        let pointer = child(alloc, place.pointer.as_str(), name.as_str())?;
-        places.push(Place {
-            pointer,
-            value,
-            schema,
-        })?;
+    if let Some(part) = part {
+        next.push(Spot::new(member.pointer.clone()?, member.value, part))?;
+    }
+    Ok(())
+}
+
+// Puts what is to come next on the stack, the last one first.
+fn put_back<'v>(next: &mut Vec<Spot<'v>>, spots: &mut Vec<Spot<'v>>) -> Result<(), AllocError> {
+    for _ in 0..u64::MAX {
+        let Some(spot) = next.pop() else {
+            break;
+        };
+        spots.push(spot)?;
     }
     Ok(())
 }

@@ -4,7 +4,7 @@ ghost use Rattle.std.specs.Prelude.{◌≡◌, [], ◌∷◌, IfSome, MatchOptio
 ghost use Rattle.std.specs.List.{list_any};
 ghost use Rattle.std.specs.Iterator.{UpTo, YieldsFirstBy, at_most, item_count};
 ghost use Rattle.std.specs.Iterator.SizeHint.{IsWithinCount};
-ghost use Rattle.regex_meaning.specs.Captures.{named_groups as groups_of_names};
+ghost use Rattle.regex_meaning.specs.GroupsByNumberAndName.{named_groups as groups_of_names};
 ghost use Rattle.regress_exec.specs.{MatchAnswers.{answer_of, range_of}, GroupIterators.{all_groups, is_new as is_new_name, distinct_names_from}};
 
 use crate::exec::Match;

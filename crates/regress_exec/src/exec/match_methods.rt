@@ -1,7 +1,7 @@
 //! The accessors of a match: its range, and its groups by number and by name.
 
 ghost use Rattle.std.specs.Prelude.{◌≡◌, ◌≤◌, IfOk, IsCharBoundary, map, option_map, slice_range};
-ghost use Rattle.regex_meaning.specs.{Outcomes.{group_range}, Captures.{first_range, group as group_of, ids_named, named_group as group_of_name}};
+ghost use Rattle.regex_meaning.specs.{Outcomes.{group_range}, GroupsByNumberAndName.{first_range, group as group_of, ids_named, named_group as group_of_name}};
 ghost use Rattle.regress_exec.specs.MatchAnswers.{answer_of, range_of};
 
 use crate::exec::Match;

@@ -4,7 +4,7 @@ ghost use Rattle.std.specs.Prelude.{◌≡◌, ◌<◌, ◌⊎◌, ℕ, true, Op
 ghost use Rattle.std.specs.Iterator.{at_most};
 ghost use Rattle.std.specs.Option.{ForSome};
 ghost use Rattle.regex_meaning.specs.{CodeUnitOffsets.{IsBoundary, units}, StepBudget.{answers_within, finishes_within}};
-ghost use Rattle.regress_exec.specs.{RemainingAnswers.{remaining_answers_from, items_left}, WorkLimits.{WorkView, IsRefusalCause, NextYieldsWithinWork, is_work_enough}};
+ghost use Rattle.regress_exec.specs.{RemainingAnswers.{remaining_answers_from, items_left}, WorkLimits.{WorkView, IsWorkLimitOrMemoryCause, NextYieldsWithinWork, is_work_enough}};
 
 use super::{Match, MatchProducer, advance_matches};
 use std::marker::Model;
@@ -24,7 +24,7 @@ pub enum WorkError {
 /// A producer of matches with a limit of work. Contracts see how much work is left, which never
 /// rises, and whether it is enough for attempts in ascending order of offsets (`left` and `enough`
 /// of `MatchProducer`).
-pub trait BoundedProducer: MatchProducer {
+pub trait WorkLimitedProducer: MatchProducer {
     /// Returns how much work it may still do.
     fn work_left(&self) -> u64
         ensures { result ≡ Self.left self.now };
@@ -39,12 +39,12 @@ pub trait BoundedProducer: MatchProducer {
 /// Contracts see the answers still to come, how much work is left, and whether it is enough for all
 /// of them.
 #[derive(Drop)]
-pub struct WorkMatches<P: BoundedProducer> {
+pub struct WorkMatches<P: WorkLimitedProducer> {
     mp: P,
     position: Option<P::Position>,
 }
 
-impl<P: BoundedProducer> Model for WorkMatches<P> {
+impl<P: WorkLimitedProducer> Model for WorkMatches<P> {
     ghost Value = { WorkView };
 
     ghost view = { λ m. record {
@@ -57,7 +57,7 @@ impl<P: BoundedProducer> Model for WorkMatches<P> {
     ghost invariant = { λ m. ForSome m.position (λ p. IsBoundary (P.text m.mp) (P.Position.offset p)) };
 }
 
-impl<P: BoundedProducer> WorkMatches<P> {
+impl<P: WorkLimitedProducer> WorkMatches<P> {
     /// Iterates over the matches from an offset in code units on, which is a boundary or past the
     /// end. Past the end there are none.
     pub fn new(mp: P, start: usize) -> Self
@@ -82,7 +82,7 @@ impl<P: BoundedProducer> WorkMatches<P> {
     }
 }
 
-impl<P: BoundedProducer + Drop> Iterator for WorkMatches<P> {
+impl<P: WorkLimitedProducer + Drop> Iterator for WorkMatches<P> {
     type Item = Result<Match, WorkError>;
 
     ghost next_gives = { NextYieldsWithinWork };
@@ -101,8 +101,8 @@ impl<P: BoundedProducer + Drop> Iterator for WorkMatches<P> {
 
 // Returns why the last search failed: the work limit was reached, or otherwise an allocation
 // failed.
-fn cause_in<P: BoundedProducer>(mp: &P) -> WorkError
-    ensures { IsRefusalCause result (P.out_of_work mp.now) (P.left mp.now) }
+fn cause_in<P: WorkLimitedProducer>(mp: &P) -> WorkError
+    ensures { IsWorkLimitOrMemoryCause result (P.out_of_work mp.now) (P.left mp.now) }
 {
     if mp.is_work_exhausted() {
         WorkError::WorkLimit

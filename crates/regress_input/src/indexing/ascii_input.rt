@@ -6,7 +6,7 @@ ghost use Rattle.regex_meaning.specs.Text.{ascii_text, fold_ascii};
 ghost use Rattle.regex_meaning.proofs.{CharactersIn.{ascii-characters}, TextLemmas.{ascii_text-IsText}};
 ghost use Rattle.regress_input.specs.{ByteTextsAreUtf8.{ascii_text-IsInUtf8}, ValidlyEncodedTexts.{ascii_text-IsSpelled, ascii_text-fits}};
 
-use super::{ByteUnits, CharProperties, ElementType, HasUnits, InputIndexer};
+use super::{ByteUnitKind, CharProperties, ElementType, HasUnitType, InputIndexer};
 use crate::position::{DefPosition, IndexPosition};
 
 impl ElementType for u8 {
@@ -71,8 +71,8 @@ impl<'a> AsciiInput<'a> {
     }
 }
 
-impl<'a> HasUnits for AsciiInput<'a> {
-    type Units = ByteUnits;
+impl<'a> HasUnitType for AsciiInput<'a> {
+    type Units = ByteUnitKind;
 }
 
 impl<'a> InputIndexer for AsciiInput<'a> {
@@ -118,7 +118,7 @@ impl<'a> InputIndexer for AsciiInput<'a> {
     }
 
     #[inline(always)]
-    fn between(&self, start: DefPosition<'a>, end: DefPosition<'a>) -> Self {
+    fn text_between(&self, start: DefPosition<'a>, end: DefPosition<'a>) -> Self {
         let start = start.offset;
         let end = end.offset;
         AsciiInput {

@@ -4,9 +4,9 @@ ghost use Rattle.std.specs.Prelude.{◌≡◌, refl, ◌<◌, ◌*◌, ◌^◌, 
 ghost use Rattle.std.proofs.Common.{rules};
 ghost use Rattle.regex_meaning.specs.Text.{ucs2_text, fold_code_point};
 ghost use Rattle.regex_meaning.proofs.{CharactersIn.{ucs2-characters}, TextLemmas.{ucs2_text-IsText}};
-ghost use Rattle.regress_input.specs.{Utf16.{AreU16Units}, ReadsFromOffset.{no_bytes}, ValidlyEncodedTexts.{ucs2_text-IsSpelled, ucs2_text-fits}};
+ghost use Rattle.regress_input.specs.{Utf16.{AreU16Units}, ReadsFromOffset.{vacuous_without_byte_units}, ValidlyEncodedTexts.{ucs2_text-IsSpelled, ucs2_text-fits}};
 
-use super::{CharProperties, ElementType, HasUnits, InputIndexer, Ucs2Units};
+use super::{CharProperties, ElementType, HasUnitType, InputIndexer, Ucs2UnitKind};
 use crate::front::fold_code_point;
 use crate::position::{DefPosition, IndexPosition};
 
@@ -65,8 +65,8 @@ impl CharProperties for Utf16CharProperties {
     }
 }
 
-impl<'a> HasUnits for Ucs2Input<'a> {
-    type Units = Ucs2Units;
+impl<'a> HasUnitType for Ucs2Input<'a> {
+    type Units = Ucs2UnitKind;
 }
 
 impl<'a> InputIndexer for Ucs2Input<'a> {
@@ -86,7 +86,7 @@ impl<'a> InputIndexer for Ucs2Input<'a> {
 
     ghost characters = { λ it. ucs2-characters it.input.now it.small };
 
-    ghost in_utf8 = { λ it bytes. no_bytes bytes };
+    ghost in_utf8 = { λ it bytes. vacuous_without_byte_units bytes };
 
     ghost folds = { λ it. refl };
 
@@ -115,7 +115,7 @@ impl<'a> InputIndexer for Ucs2Input<'a> {
     }
 
     #[inline(always)]
-    fn between(&self, start: DefPosition<'a>, end: DefPosition<'a>) -> Self {
+    fn text_between(&self, start: DefPosition<'a>, end: DefPosition<'a>) -> Self {
         let start = start.offset;
         let end = end.offset;
         Ucs2Input {

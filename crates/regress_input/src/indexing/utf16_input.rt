@@ -3,9 +3,9 @@
 ghost use Rattle.std.specs.Prelude.{◌≡◌, refl, ◌<◌, ◌*◌, ◌^◌, length};
 ghost use Rattle.regex_meaning.specs.Text.{utf16_text};
 ghost use Rattle.regex_meaning.proofs.{CharactersIn.{utf16-characters}, TextLemmas.{utf16_text-IsText}};
-ghost use Rattle.regress_input.specs.{Utf16.{AreU16Units}, ReadsFromOffset.{no_bytes}, ValidlyEncodedTexts.{utf16_text-IsSpelled, utf16_text-fits}};
+ghost use Rattle.regress_input.specs.{Utf16.{AreU16Units}, ReadsFromOffset.{vacuous_without_byte_units}, ValidlyEncodedTexts.{utf16_text-IsSpelled, utf16_text-fits}};
 
-use super::{CharProperties, HasUnits, InputIndexer, Utf16CharProperties, Utf16Units};
+use super::{CharProperties, HasUnitType, InputIndexer, Utf16CharProperties, Utf16UnitKind};
 use crate::position::{DefPosition, IndexPosition};
 use crate::utf16;
 
@@ -31,8 +31,8 @@ impl<'a> Utf16Input<'a> {
     }
 }
 
-impl<'a> HasUnits for Utf16Input<'a> {
-    type Units = Utf16Units;
+impl<'a> HasUnitType for Utf16Input<'a> {
+    type Units = Utf16UnitKind;
 }
 
 impl<'a> InputIndexer for Utf16Input<'a> {
@@ -52,7 +52,7 @@ impl<'a> InputIndexer for Utf16Input<'a> {
 
     ghost characters = { λ it. utf16-characters it.input.now it.small };
 
-    ghost in_utf8 = { λ it bytes. no_bytes bytes };
+    ghost in_utf8 = { λ it bytes. vacuous_without_byte_units bytes };
 
     ghost folds = { λ it. refl };
 
@@ -81,7 +81,7 @@ impl<'a> InputIndexer for Utf16Input<'a> {
     }
 
     #[inline(always)]
-    fn between(&self, start: DefPosition<'a>, end: DefPosition<'a>) -> Self {
+    fn text_between(&self, start: DefPosition<'a>, end: DefPosition<'a>) -> Self {
         let start = start.offset;
         let end = end.offset;
         Utf16Input {

@@ -6,7 +6,7 @@ ghost use Rattle.regex_meaning.proofs.{CharactersIn.{utf8-characters}, TextLemma
 ghost use Rattle.std.proofs.Common.{rules};
 ghost use Rattle.regress_input.specs.{ByteTextsAreUtf8.{utf8_text-IsInUtf8}, ValidlyEncodedTexts.{utf8_text-IsSpelled, utf8_text-fits}};
 
-use super::{ByteUnits, CharProperties, ElementType, HasUnits, InputIndexer};
+use super::{ByteUnitKind, CharProperties, ElementType, HasUnitType, InputIndexer};
 use crate::front::fold_code_point;
 use crate::position::{DefPosition, IndexPosition};
 use crate::utf8;
@@ -65,8 +65,8 @@ impl<'a> Utf8Input<'a> {
     }
 }
 
-impl<'a> HasUnits for Utf8Input<'a> {
-    type Units = ByteUnits;
+impl<'a> HasUnitType for Utf8Input<'a> {
+    type Units = ByteUnitKind;
 }
 
 impl<'a> InputIndexer for Utf8Input<'a> {
@@ -115,7 +115,7 @@ impl<'a> InputIndexer for Utf8Input<'a> {
     }
 
     #[inline(always)]
-    fn between(&self, start: DefPosition<'a>, end: DefPosition<'a>) -> Self {
+    fn text_between(&self, start: DefPosition<'a>, end: DefPosition<'a>) -> Self {
         let start = start.offset;
         let end = end.offset;
         Utf8Input {

@@ -2,7 +2,7 @@
 
 ghost use Rattle.std.specs.Prelude.{◌≡◌, ◌<◌, ◌⊎◌, IfErr, IfOk, IsTrue, false, length, nat_le, not};
 ghost use Rattle.regex_meaning.specs.Text.{is_unit_boundary as is_boundary_of};
-ghost use Rattle.regress_match.specs.{RegexPrograms.{as_ucs2, as_utf16, unit_tree}, CompileErrors.{IsOutOfMemory}, SearchResults.{YieldsMatches}};
+ghost use Rattle.regress_match.specs.{ProgramTreesAndAnswers.{as_ucs2, as_utf16, unit_tree}, CompileErrors.{IsOutOfMemory}, SearchResults.{YieldsMatches}};
 
 use crate::api::{Regex, SearchError};
 use crate::executors::{DefaultUcs2Executor, DefaultUtf16Executor};

@@ -1,9 +1,10 @@
-//! Diagnoses of patterns with a syntax error.
+//! Diagnoses of patterns that are refused.
 
 ghost use Rattle.std.specs.Prelude.{◌≡◌, ◌≤◌, IfOk, IfSome, None, chars, length};
 ghost use Rattle.regex_meaning.specs.Tree.{Tree};
-ghost use Rattle.regex_grammar.specs.{Grammar.{Parses}, ParserInvariants.{HasNoTree}};
-ghost use Rattle.regress_match.specs.Flags.{flags_of};
+ghost use Rattle.regex_grammar.specs.Grammar.{Parses};
+ghost use Rattle.regex_pattern_front.specs.ParserContracts.{IsTextRefused};
+ghost use Rattle.regress_match.specs.PublicFlagsAsSpecFlags.{spec_flags_of};
 
 use crate::api::{Flags, Regex};
 use regex_pattern_front::diagnosis::Diagnosis;
@@ -18,8 +19,9 @@ pub(super) fn code_points(alloc: Global, text: &str) -> Result<Vec<u32>, AllocEr
 }
 
 impl Regex {
-    /// Returns what is wrong with a pattern that `with_flags` refuses as `Parse(Syntax)`, and
-    /// where. Returns `None` if it is a valid pattern.
+    /// Returns what is wrong with a pattern that `with_flags` refuses as `Parse(Syntax)` or for too
+    /// many groups, and where, without compiling it. Returns `None` if it is a valid pattern. The
+    /// error `Parse(Syntax)` of `with_flags` contains the same diagnosis (`Error::diagnosis`).
     ///
     /// The diagnosis is displayed like `unclosed group at 3`, and `below_text` displays it in a
     /// line below the pattern. The position is in code points; `offset_in` converts it to bytes.
@@ -35,8 +37,8 @@ impl Regex {
     ) -> Result<Option<Diagnosis>, AllocError>
         ensures place { IfOk result (λ told. IfSome told (λ d. d.at ≤ length (chars pattern.now))) }
         ensures tells { IfOk result (λ told.
-            IfSome told (λ d. HasNoTree (flags_of flags) (chars pattern.now))
-            × (told ≡ None → (tree : Tree) × Parses (flags_of flags) (chars pattern.now) tree)) }
+            IfSome told (λ d. IsTextRefused (spec_flags_of flags) (chars pattern.now))
+            × (told ≡ None → (tree : Tree) × Parses (spec_flags_of flags) (chars pattern.now) tree)) }
     {
         let code_points = code_points(alloc, pattern)?;
         diagnose(alloc, &code_points, flags.for_front())

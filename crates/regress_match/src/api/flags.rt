@@ -28,15 +28,15 @@ pub struct Flags {
 }
 
 impl Flags {
-    ghost use Rattle.regex_pattern_front.specs.AstToSpecTree.{flags_of as front_flags_of};
-    ghost use Rattle.regress_match.specs.Flags.{flags_of};
+    ghost use Rattle.regex_pattern_front.specs.AstToSpecTree.{spec_flags_of as front_flags_of};
+    ghost use Rattle.regress_match.specs.PublicFlagsAsSpecFlags.{spec_flags_of};
 
     /// Returns the flags whose letters (`m`, `i`, `s`, `u` and `v`) are among the code points of an
     /// iterator, which must be finite. Other code points are ignored, and `no_opt` is never set.
     pub fn new<I: Iterator<Item = u32>>(letters: I) -> Self
         requires can { I.can_next letters }
         requires finite { IsFinite (I.remaining letters) }
-        ensures { WholeRun I.next_gives letters (λ run. flags_of result ≡ flags_from_letters run.items) }
+        ensures { WholeRun I.next_gives letters (λ run. spec_flags_of result ≡ flags_from_letters run.items) }
     {
         let mut flags = Flags::default();
         for letter in letters {
@@ -51,7 +51,7 @@ impl Flags {
 
     /// Returns the same flags as the parser's type, for `try_parse`.
     pub fn for_front(self) -> front::Flags
-        ensures { front_flags_of result ≡ flags_of self }
+        ensures { front_flags_of result ≡ spec_flags_of self }
     {
         front::Flags {
             icase: self.icase,
@@ -65,9 +65,9 @@ impl Flags {
 }
 
 impl From<&str> for Flags {
-    ghost use Rattle.regress_match.specs.Flags.{flags_of};
+    ghost use Rattle.regress_match.specs.PublicFlagsAsSpecFlags.{spec_flags_of};
 
-    ghost from_gives = { λ s f. flags_of f ≡ flags_from_letters s.now };
+    ghost from_gives = { λ s f. spec_flags_of f ≡ flags_from_letters s.now };
 
     /// Returns the flags whose letters (`m`, `i`, `s`, `u` and `v`) are in the text. Other
     /// characters are ignored, and `no_opt` is never set.
@@ -85,9 +85,9 @@ impl From<&str> for Flags {
 }
 
 impl fmt::Display for Flags {
-    ghost use Rattle.regress_match.specs.Flags.{flags_of};
+    ghost use Rattle.regress_match.specs.PublicFlagsAsSpecFlags.{spec_flags_of};
 
-    ghost output = { λ f. Some (flags_text (flags_of f)) };
+    ghost output = { λ f. Some (flags_text (spec_flags_of f)) };
 
     /// Writes the letters of the flags that are set, in the order `m i s u v`; `no_opt` has no
     /// letter.

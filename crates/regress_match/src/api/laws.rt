@@ -1,6 +1,6 @@
 //! Laws of searches that callers may cite. They are functions that do nothing.
 
-ghost use Rattle.regress_match.specs.{Laws.{MatchesStandInText, SearchesFollowThePattern}, SearchResults.{SearchesAnswerInTurn}, WorkBounds.{SearchesAnswerInWork}};
+ghost use Rattle.regress_match.specs.{Laws.{MatchesStandInText, SearchesFollowThePattern}, SearchResults.{SearchesAnswerInTurn}, WorkBounds.{SearchesAnswerInWork, WorkBoundsAreLimited}};
 
 /// States that a search yields the matches of the list one after another, and then `None` for good.
 /// It ends earlier only if an allocation fails.
@@ -25,4 +25,10 @@ pub fn searches_follow_the_pattern()
 /// States that the matches of a search lie in the text, in order, and do not overlap.
 pub fn matches_stand_in_text()
     ensures { MatchesStandInText }
+{}
+
+/// States that no work bound of a pattern exceeds `work_per_unit_limit`, which depends on its two
+/// programs alone. So a budget by that number is enough for every search of the pattern.
+pub fn work_bounds_are_limited()
+    ensures { WorkBoundsAreLimited }
 {}

@@ -3,12 +3,12 @@
 ghost use Rattle.std.specs.Prelude.{◌≡◌, ◌<◌, ◌⊎◌, IfErr, IfOk, IfSome, IsAscii, IsCharBoundary, IsTrue, length, option_map};
 ghost use Rattle.regex_meaning.specs.Text.{is_unit_boundary as is_boundary_of};
 ghost use Rattle.regress_exec.specs.MatchAnswers.{answer_of};
-ghost use Rattle.regress_match.specs.{RegexPrograms.{ascii_answer_at, ucs2_answer_at, utf16_answer_at, utf8_answer_at}, CompileErrors.{IsOutOfMemory}};
-ghost use Rattle.regress_match.specs.Replacements.{MatchFitsText, MatchFitsCodeUnits};
+ghost use Rattle.regress_match.specs.{ProgramTreesAndAnswers.{ascii_answer_at, ucs2_answer_at, utf16_answer_at, utf8_answer_at}, CompileErrors.{IsOutOfMemory}};
+ghost use Rattle.regress_match.specs.ExpansionsAndMatchRanges.{MatchFitsText, MatchFitsCodeUnits};
 
 use crate::api::{Match, Regex, SearchError};
 use crate::executors::DefaultAsciiExecutor;
-use regress_exec::exec::Searcher;
+use regress_exec::exec::ProducerFromProgramAndText;
 use regress_exec::search_loop::match_at;
 
 impl Regex {

@@ -1,8 +1,8 @@
 //! Properties of a pattern that are known before it has matched: its groups and their names.
 
 ghost use Rattle.std.specs.Prelude.{◌≡◌, ◌<◌, ◌^◌, length, map, string_bytes};
-ghost use Rattle.regex_meaning.specs.{Captures.{group_names_by_id}, Tree.{group_ids}};
-ghost use Rattle.regress_match.specs.RegexPrograms.{byte_tree, unit_tree};
+ghost use Rattle.regex_meaning.specs.{GroupsByNumberAndName.{group_names_by_id}, Tree.{group_ids}};
+ghost use Rattle.regress_match.specs.ProgramTreesAndAnswers.{byte_tree, unit_tree};
 
 use crate::api::Regex;
 
@@ -22,7 +22,9 @@ impl Regex {
         ensures count { result ≡ length (group_ids (unit_tree self.now).root) }
         ensures few { result < 2 ^ 32 }
     {
-        self.unit_program().program().groups() as usize
+        self.unit_program()
+            .program_common_to_both_unit_kinds()
+            .groups() as usize
     }
 
     /// Returns the names of the groups in order. A group without a name has the empty string. The

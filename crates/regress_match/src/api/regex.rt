@@ -4,11 +4,13 @@ ghost use Rattle.std.specs.Prelude.{◌≡◌, ◌<◌, ◌⊎◌, IfErr, IfOk, 
 ghost use Rattle.regex_meaning.specs.FlagLettersAndEscaping.{flags_from_letters};
 ghost use Rattle.regex_pattern_front.specs.AstToSpecTree.{tree_of};
 ghost use Rattle.regress_exec.specs.MatchAnswers.{answer_of};
-ghost use Rattle.regress_match.specs.{CompileErrors.{IsOutOfMemory, IsPatternRefusedWith}, Replacements.{MatchFitsText, MatchesAreOrderedFrom}, SearchResults.{YieldsMatches}};
+ghost use Rattle.regress_match.specs.{CompileErrors.{IsOutOfMemory, IsPatternRefusedWith}, ExpansionsAndMatchRanges.{MatchFitsText, MatchesAreOrderedFrom}, SearchResults.{YieldsMatches}};
 
 use crate::api::diagnosis::code_points;
 use crate::api::{Error, Flags};
-use crate::executors::{DefaultAsciiExecutor, DefaultExecutor, LimitedExecutor, search_from};
+use crate::executors::{
+    DefaultAsciiExecutor, DefaultExecutor, LimitedExecutor, search_with_executor_from,
+};
 use regex_pattern_front::parse::try_parse;
 use regress_exec::exec;
 use regress_exec::exec::{Match, MatchProducer, SearchError};
@@ -36,8 +38,8 @@ pub struct Regex {
 }
 
 impl Regex {
-    ghost use Rattle.regress_match.specs.Flags.{flags_of};
-    ghost use Rattle.regress_match.specs.RegexPrograms.{IsCompiledWith, as_ascii, as_utf8, ascii_answers, byte_tree, is_utf8_end_within, unit_tree, utf8_answers, utf8_answers_within};
+    ghost use Rattle.regress_match.specs.PublicFlagsAsSpecFlags.{spec_flags_of};
+    ghost use Rattle.regress_match.specs.ProgramTreesAndAnswers.{IsCompiledWith, as_ascii, as_utf8, ascii_answers, byte_tree, utf8_search_ends_within_steps, unit_tree, utf8_answers, utf8_answers_within_steps};
 
     /// Compiles a pattern with the default flags (`crates/use_dates` compiles `\d{4}-\d\d-\d\d`).
     ///
@@ -71,12 +73,14 @@ impl Regex {
     ///
     /// # Errors
     ///
-    /// - `Parse` if the text is not a valid pattern; `diagnose` reports what is wrong with it.
-    /// - `Emit` if its tree has too many groups, loops or instructions.
+    /// - `Parse` if the text is not a valid pattern; `Error::diagnosis` returns what is wrong with
+    ///   it, and where.
+    /// - `Emit` if it opens more than 65,535 groups, whatever else is wrong with it, or its tree has
+    ///   too many loops or instructions.
     /// - `Memory` if an allocation fails in any of these stages.
     pub fn with_flags(alloc: Global, pattern: &str, flags: Flags) -> Result<Regex, Error>
-        ensures compiled { IfOk result (IsCompiledWith (flags_of flags) (chars pattern.now)) }
-        ensures refused { IfErr result (IsPatternRefusedWith (flags_of flags) (chars pattern.now)) }
+        ensures compiled { IfOk result (IsCompiledWith (spec_flags_of flags) (chars pattern.now)) }
+        ensures refused { IfErr result (IsPatternRefusedWith (spec_flags_of flags) (chars pattern.now)) }
     {
         let code_points = code_points(alloc, pattern)?;
         Regex::from_unicode(alloc, &code_points, flags)
@@ -88,8 +92,8 @@ impl Regex {
     ///
     /// The same as `with_flags`.
     pub fn from_unicode(alloc: Global, pattern: &[u32], flags: Flags) -> Result<Regex, Error>
-        ensures compiled { IfOk result (IsCompiledWith (flags_of flags) pattern.now) }
-        ensures refused { IfErr result (IsPatternRefusedWith (flags_of flags) pattern.now) }
+        ensures compiled { IfOk result (IsCompiledWith (spec_flags_of flags) pattern.now) }
+        ensures refused { IfErr result (IsPatternRefusedWith (spec_flags_of flags) pattern.now) }
     {
         let parsed = try_parse(alloc, pattern, flags.for_front())?;
         let (cr, units) = emit_both(alloc, parsed)?;
@@ -220,7 +224,7 @@ impl Regex {
         ensures ended { IfOk result (λ it. it.ended ≡ not (nat_le start (length text.now))) }
         ensures refused { IfErr result IsOutOfMemory }
     {
-        search_from::<DefaultExecutor<'r, 't>>(&self.cr, text, start)
+        search_with_executor_from::<DefaultExecutor<'r, 't>>(&self.cr, text, start)
     }
 
     /// Like `find_from`, with at most `steps` steps for all items together.
@@ -244,10 +248,10 @@ impl Regex {
     ) -> Result<LimitedMatches<'r, 't>, SearchError>
         requires { IsCharBoundary text.now start ⊎ (length text.now < start) }
         ensures answers { IfOk result (λ it. it.answers
-            ≡ utf8_answers_within steps self.now text.now start) }
+            ≡ utf8_answers_within_steps steps self.now text.now start) }
         ensures stand { IfOk result (λ it. MatchesAreOrderedFrom text.now start it.answers) }
         ensures limited { IfOk result (λ it. it.limited
-            ≡ not (is_utf8_end_within steps self.now text.now start)) }
+            ≡ not (utf8_search_ends_within_steps steps self.now text.now start)) }
         ensures ended { IfOk result (λ it. it.ended ≡ not (nat_le start (length text.now))) }
         ensures refused { IfErr result IsOutOfMemory }
     {
@@ -273,7 +277,7 @@ impl Regex {
         ensures ended { IfOk result (λ it. it.ended ≡ not (nat_le start (length text.now))) }
         ensures refused { IfErr result IsOutOfMemory }
     {
-        search_from::<DefaultAsciiExecutor<'r, 't>>(&self.cr, text, start)
+        search_with_executor_from::<DefaultAsciiExecutor<'r, 't>>(&self.cr, text, start)
     }
 }
 

@@ -3,8 +3,8 @@
 ghost use Rattle.std.specs.Prelude.{◌≡◌, ◌≤◌, ◌++◌, IfErr, IfOk, IsCharBoundary, drop, false, slice_range, string_bytes, take};
 ghost use Rattle.regex_meaning.specs.Replace.{replaced};
 ghost use Rattle.regress_exec.specs.MatchAnswers.{answer_of};
-ghost use Rattle.regress_match.specs.{Laws.{WholeMatchesGiveBack}, RegexPrograms.{utf8_answers}, CompileErrors.{IsOutOfMemory}};
-ghost use Rattle.regress_match.specs.Replacements.{MatchFitsText, MatchesAreOrderedFrom, expansion_of_each_match};
+ghost use Rattle.regress_match.specs.{Laws.{WholeMatchesGiveBack}, ProgramTreesAndAnswers.{utf8_answers}, CompileErrors.{IsOutOfMemory}};
+ghost use Rattle.regress_match.specs.ExpansionsAndMatchRanges.{MatchFitsText, MatchesAreOrderedFrom, matches_with_expansions};
 
 mod closures;
 mod expansion;
@@ -36,7 +36,7 @@ impl Regex {
     /// `Memory` if an allocation for the search or the text fails.
     pub fn replace(&self, text: &str, replacement: &str) -> Result<String, SearchError>
         ensures made { IfOk result (λ s. string_bytes s ≡ replaced text.now 0
-            (expansion_of_each_match text.now replacement.now (take 1 (utf8_answers self.now text.now 0)))) }
+            (matches_with_expansions text.now replacement.now (take 1 (utf8_answers self.now text.now 0)))) }
         ensures refused { IfErr result IsOutOfMemory }
     {
         expand_first(self.allocator(), self.find_iter(text)?, text, replacement)
@@ -52,7 +52,7 @@ impl Regex {
     /// `Memory` if an allocation for the search or the text fails.
     pub fn replace_all(&self, text: &str, replacement: &str) -> Result<String, SearchError>
         ensures made { IfOk result (λ s. string_bytes s
-            ≡ replaced text.now 0 (expansion_of_each_match text.now replacement.now (utf8_answers self.now text.now 0))) }
+            ≡ replaced text.now 0 (matches_with_expansions text.now replacement.now (utf8_answers self.now text.now 0))) }
         ensures refused { IfErr result IsOutOfMemory }
     {
         expand_each(self.allocator(), self.find_iter(text)?, text, replacement)
@@ -65,7 +65,7 @@ pub fn whole_matches_give_back()
 {}
 
 // Appends the text before a match, and returns the offset after the match.
-fn append_up_to(
+fn append_unmatched_text_up_to_match(
     made: &mut String,
     text: &str,
     from: usize,
@@ -100,7 +100,7 @@ fn expand_first<P: MatchProducer + Drop>(
 ) -> Result<String, SearchError>
     requires { MatchesAreOrderedFrom text.now 0 matches.answers }
     ensures made { IfOk result (λ s. string_bytes s
-        ≡ replaced text.now 0 (expansion_of_each_match text.now replacement.now (take 1 matches.answers))) }
+        ≡ replaced text.now 0 (matches_with_expansions text.now replacement.now (take 1 matches.answers))) }
     ensures refused { matches.limited ≡ false → IfErr result IsOutOfMemory }
 {
     let mut made = String::new(alloc);
@@ -108,7 +108,7 @@ fn expand_first<P: MatchProducer + Drop>(
         return Ok(append_rest(made, text, 0)?);
     };
     let found = item?;
-    let from = append_up_to(&mut made, text, 0, &found)?;
+    let from = append_unmatched_text_up_to_match(&mut made, text, 0, &found)?;
     expand(&mut made, &found, text, replacement)?;
     Ok(append_rest(made, text, from)?)
 }
@@ -122,14 +122,14 @@ fn expand_each<P: MatchProducer + Drop>(
 ) -> Result<String, SearchError>
     requires { MatchesAreOrderedFrom text.now 0 matches.answers }
     ensures made { IfOk result (λ s. string_bytes s
-        ≡ replaced text.now 0 (expansion_of_each_match text.now replacement.now matches.answers)) }
+        ≡ replaced text.now 0 (matches_with_expansions text.now replacement.now matches.answers)) }
     ensures refused { matches.limited ≡ false → IfErr result IsOutOfMemory }
 {
     let mut made = String::new(alloc);
     let mut from = 0;
     for item in matches {
         let found = item?;
-        from = append_up_to(&mut made, text, from, &found)?;
+        from = append_unmatched_text_up_to_match(&mut made, text, from, &found)?;
         expand(&mut made, &found, text, replacement)?;
     }
     Ok(append_rest(made, text, from)?)

@@ -2,8 +2,8 @@
 
 ghost use Rattle.std.specs.Prelude.{◌≡◌, ◌<◌, ◌⊎◌, IfErr, IfOk, IfSome, IsAscii, IsCharBoundary, IsTrue, length, nat_le, not};
 ghost use Rattle.regex_meaning.specs.Text.{is_unit_boundary as is_boundary_of};
-ghost use Rattle.regress_match.specs.{RegexPrograms.{as_ascii, as_ucs2, as_utf8, as_utf16, byte_tree, unit_tree}, CompileErrors.{IsOutOfMemory}};
-ghost use Rattle.regress_match.specs.{Replacements.{MatchesAreOrderedFrom}, WorkBounds.{IsWorkBoundOfBothPrograms, YieldsWithinWork, higher}};
+ghost use Rattle.regress_match.specs.{ProgramTreesAndAnswers.{as_ascii, as_ucs2, as_utf8, as_utf16, byte_tree, unit_tree}, CompileErrors.{IsOutOfMemory}};
+ghost use Rattle.regress_match.specs.{ExpansionsAndMatchRanges.{MatchesAreOrderedFrom}, WorkBounds.{IsWorkBoundOfBothPrograms, YieldsWithinWork, higher}};
 
 use crate::api::{Regex, SearchError};
 use regress_bounded::executor::BoundedExecutor;
@@ -79,6 +79,9 @@ impl Regex {
     /// Returns the `work_per_unit` of the pattern: on a text of n units, `work_per_unit` × (n + 1)
     /// work is enough. Returns `None` if no bound is known (see `bounded`).
     ///
+    /// Contracts tie a search to the number of its own `BoundedRegex`. A caller who searches takes
+    /// the number from there.
+    ///
     /// # Errors
     ///
     /// `AllocError` if an allocation for computing the bound fails.
@@ -131,8 +134,11 @@ impl<'r> BoundedRegex<'r> {
         ensures refused { IfErr result IsOutOfMemory }
     {
         let program = self.re.byte_program();
-        let executor = BoundedExecutor::<Utf8Input>::new_utf8(program, &self.bytes, text, work)?;
-        Ok(WorkMatches::new(executor, start))
+        let bound = &self.bytes;
+        let matches = BoundedExecutor::<Utf8Input>::matches_utf8(
+            program, bound, text, start, work,
+        )?;
+        Ok(matches)
     }
 
     /// Like `find_from`, in ASCII text (`is_ascii`).
@@ -154,8 +160,11 @@ impl<'r> BoundedRegex<'r> {
         ensures refused { IfErr result IsOutOfMemory }
     {
         let program = self.re.byte_program();
-        let executor = BoundedExecutor::<AsciiInput>::new_ascii(program, &self.bytes, text, work)?;
-        Ok(WorkMatches::new(executor, start))
+        let bound = &self.bytes;
+        let matches = BoundedExecutor::<AsciiInput>::matches_ascii(
+            program, bound, text, start, work,
+        )?;
+        Ok(matches)
     }
 
     /// Like `find_from`, in UTF-16 text. `start` is an offset in code units that does not split a
@@ -177,8 +186,11 @@ impl<'r> BoundedRegex<'r> {
         ensures refused { IfErr result IsOutOfMemory }
     {
         let program = self.re.unit_program();
-        let executor = BoundedExecutor::<Utf16Input>::new_utf16(program, &self.units, text, work)?;
-        Ok(WorkMatches::new(executor, start))
+        let bound = &self.units;
+        let matches = BoundedExecutor::<Utf16Input>::matches_utf16(
+            program, bound, text, start, work,
+        )?;
+        Ok(matches)
     }
 
     /// Like `find_from`, in UCS-2 text, in which each code unit is a character. `start` is in code
@@ -199,8 +211,11 @@ impl<'r> BoundedRegex<'r> {
         ensures refused { IfErr result IsOutOfMemory }
     {
         let program = self.re.unit_program();
-        let executor = BoundedExecutor::<Ucs2Input>::new_ucs2(program, &self.units, text, work)?;
-        Ok(WorkMatches::new(executor, start))
+        let bound = &self.units;
+        let matches = BoundedExecutor::<Ucs2Input>::matches_ucs2(
+            program, bound, text, start, work,
+        )?;
+        Ok(matches)
     }
 }
 

@@ -4,7 +4,7 @@
 ghost use Rattle.std.specs.Prelude.{◌≡◌, ◌<◌, ◌^◌, ◌+◌, ℕ, IfOk, OnOk, IsTrue, IsSome, if◌then◌else◌, reverse};
 ghost use Rattle.regex_meaning.specs.CodeUnitOffsets.{IsBoundary};
 ghost use Rattle.regress_program.specs.InsnMeanings.{spec_insn_of};
-ghost use Rattle.regress_machine.specs.InsnEffects.{after_loop_at, IsNotStuck};
+ghost use Rattle.regress_machine.specs.InsnEffects.{state_after_char_loop_at, IsNotStuck};
 ghost use Rattle.regress_scan.specs.InsnMatchers.{ByteInsnHasByteText, char_test_of};
 ghost use Rattle.regress_pikevm.specs.{InsnEffects.{effect_of_char_loop, ReachesExits, PushesExit}, States.{state_of, next_threads}};
 
@@ -19,7 +19,7 @@ use std::alloc::AllocError;
 
 /// The least and greatest number of iterations of a char loop, and whether it prefers more of them.
 #[derive(Clone, Copy)]
-pub(crate) struct IterationBounds {
+pub(crate) struct CharLoopBoundsAndGreed {
     pub min_iters: usize,
     pub max_iters: usize,
     pub greedy: bool,
@@ -27,7 +27,7 @@ pub(crate) struct IterationBounds {
 
 /// Executes a char loop, whose body is an instruction that reads one character.
 pub(crate) fn execute_char_loop<Input: InputIndexer, Dir: Direction>(
-    run: IterationBounds,
+    run: CharLoopBoundsAndGreed,
     body: Insn,
     searched: &ProgramAndInput<'_, Input>,
     dir: Dir,
@@ -57,7 +57,7 @@ fn preferred_last<P: PositionType>(greedy: bool, mut states: Vec<State<P>>) -> V
 // Returns how many characters are tried, and the states at the exits, the one after the most
 // iterations last.
 fn loop_exits<Input: InputIndexer, Dir: Direction>(
-    run: IterationBounds,
+    run: CharLoopBoundsAndGreed,
     body: Insn,
     searched: &ProgramAndInput<'_, Input>,
     dir: Dir,
@@ -79,7 +79,7 @@ fn loop_exits<Input: InputIndexer, Dir: Direction>(
         if count == run.max_iters {
             return Ok((count, states));
         }
-        if !insn_matchers::accepts_next(searched, body, dir, &mut at) {
+        if !insn_matchers::insn_accepts_next_char(searched, body, dir, &mut at) {
             return Ok((count + 1, states));
         }
         count += 1;
@@ -106,7 +106,7 @@ fn push_if_wanted<P: PositionType>(
 pub fn exit_state<P: PositionType>(at: P, state: &State<P>) -> Result<State<P>, AllocError>
     requires { state.now.ip + 2 < 2 ^ 64 }
     ensures { IfOk result (λ s. state_of P.offset s
-        ≡ after_loop_at (P.offset at) (state_of P.offset state.now)) }
+        ≡ state_after_char_loop_at (P.offset at) (state_of P.offset state.now)) }
 {
     let mut next = copy_state(state)?;
     next.ip += 2;

@@ -3,7 +3,7 @@
 ghost use Rattle.std.specs.Prelude.{◌≡◌, ◌≤◌, IsTrue, IsSome, Some};
 ghost use Rattle.regex_meaning.specs.CodeUnitOffsets.{IsBoundary, units};
 ghost use Rattle.regress_input.specs.ReadsFromOffset.{end_if_matched};
-ghost use Rattle.regress_machine.specs.InsnEffects.{is_byte_literal_insn};
+ghost use Rattle.regress_machine.specs.InsnEffects.{is_byte_sequence_insn};
 ghost use Rattle.regress_program.specs.InsnMeanings.{spec_insn_of};
 ghost use Rattle.regress_scan.specs.InsnMatchers.{HasPassed, ByteInsnHasByteText, offset_after_matched_insn, read_accepted_char, char_test_of};
 
@@ -11,13 +11,15 @@ use regress_exec::program_and_input::ProgramAndInput;
 use regress_input::cursor::{self, Direction};
 use regress_input::indexing::InputIndexer;
 use regress_program::insn::Insn;
-use regress_scan::insn_matchers::{accepts, at_line_end, at_line_start, at_word_boundary, literal};
+use regress_scan::insn_matchers::{
+    accepts, at_line_end, at_line_start, at_word_boundary, bytes_of_literal_insn,
+};
 
 /// Checks whether the instruction, which reads one character, accepts the next character in the
 /// direction. If so, the position is after the character, and otherwise the position is not
 /// specified.
 #[inline(always)]
-pub fn accepts_next<Input: InputIndexer, Dir: Direction>(
+pub fn insn_accepts_next_char<Input: InputIndexer, Dir: Direction>(
     searched: &ProgramAndInput<'_, Input>,
     insn: Insn,
     dir: Dir,
@@ -35,7 +37,7 @@ pub fn accepts_next<Input: InputIndexer, Dir: Direction>(
     }
 }
 
-// Does the work of `accepts_next` where neither a boundary nor an instruction that reads a
+// Does the work of `insn_accepts_next_char` where neither a boundary nor an instruction that reads a
 // character is known. The precondition `can` excludes the other cases.
 #[inline(always)]
 fn reads_one<Input: InputIndexer, Dir: Direction>(
@@ -52,7 +54,7 @@ fn reads_one<Input: InputIndexer, Dir: Direction>(
         Some (end_if_matched result (at pos.new))
         ≡ read_accepted_char (Input.text s.input) Dir.FORWARD s.program.now insn (at pos.old) }
 {
-    accepts_next(searched, insn, dir, pos)
+    insn_accepts_next_char(searched, insn, dir, pos)
 }
 
 // Checks whether the bytes of the instruction occur in the direction from any offset. If so, the
@@ -64,14 +66,16 @@ fn reads_literal<Input: InputIndexer, Dir: Direction>(
     dir: Dir,
     pos: &mut Input::Position,
 ) -> bool
-    requires literal { IsTrue (is_byte_literal_insn (spec_insn_of insn)) }
+    requires literal { IsTrue (is_byte_sequence_insn (spec_insn_of insn)) }
     requires bytes { ByteInsnHasByteText insn (Input.text searched.now.input) Input.Units.ARE_BYTES }
     requires inside { Input.Position.offset pos.old ≤ units (Input.text searched.now.input) }
     ensures { let s = searched.now in let at = Input.Position.offset in
         Some (end_if_matched result (at pos.new))
         ≡ offset_after_matched_insn s.program.now (Input.text s.input) Dir.FORWARD insn (at pos.old) }
 {
-    searched.input.match_bytes(dir, pos, literal(&insn))
+    searched
+        .input
+        .match_bytes(dir, pos, bytes_of_literal_insn(&insn))
 }
 
 /// Checks whether an instruction that only reads or tests the text matches at a position. If so,

@@ -5,9 +5,9 @@ ghost use Rattle.std.specs.Int.{is_in_range};
 ghost use Rattle.std.specs.List.{list_all};
 ghost use Rattle.regex_meaning.specs.{NumberListHelpers.{contains}, Tree.{bracket}, CompilationRelation.{is_ascii_set}, Outcomes.{in_intervals}, StartPredicate.{bytes_that_pass}};
 ghost use Rattle.regex_pattern_front.specs.{AstToSpecTree.{class_as_spec}, ByteSetMembers.{ascii_bitmap_bytes}, Intervals.{interval_of}};
-ghost use Rattle.regress_program.specs.EmitterModel.{IsEmitted, emitter_state, with_bracket};
+ghost use Rattle.regress_program.specs.EmitterModel.{IsEmitted, emitter_state, with_bracket_table_entry};
 
-use crate::emit::emitter::{EmitMode, Emitter};
+use crate::emit::emitter::{Emitter, FoldingCharLoopLookbehindMode};
 use regex_pattern_front::bytesearch::AsciiBitmap;
 use regex_pattern_front::codepointset::Interval;
 use regex_pattern_front::types::BracketContents;
@@ -19,19 +19,19 @@ impl Emitter {
     // the list of brackets.
     pub(crate) fn emit_bracket(
         &mut self,
-        mode: EmitMode,
+        mode: FoldingCharLoopLookbehindMode,
         contents: &BracketContents,
     ) -> Result<(), AllocError>
         ensures { OnOk result (IsEmitted mode (bracket (class_as_spec contents.now)) self.old self.new) }
     {
         match ascii_bitmap(contents) {
             Some(bitmap) => {
-                self.put(Insn::AsciiBracket(bitmap))?;
+                self.append_insn(Insn::AsciiBracket(bitmap))?;
                 Ok(())
             }
             None => {
                 let index = self.brackets.len();
-                self.put(Insn::Bracket(index))?;
+                self.append_insn(Insn::Bracket(index))?;
                 self.add_bracket(contents)?;
                 Ok(())
             }
@@ -41,7 +41,7 @@ impl Emitter {
     // Adds a bracket to the list of brackets.
     fn add_bracket(&mut self, contents: &BracketContents) -> Result<(), AllocError>
         ensures { OnOk result (emitter_state self.new
-            ≡ with_bracket (class_as_spec contents.now) (emitter_state self.old)) }
+            ≡ with_bracket_table_entry (class_as_spec contents.now) (emitter_state self.old)) }
     {
         self.brackets.push(contents.clone()?)?;
         Ok(())

@@ -1,13 +1,13 @@
 //! The emitter, which appends the code of nodes to the code emitted so far.
-#![tactic(auto, using(std::proofs::lemmas::Grind::common_steps), unfolding(regex_pattern_front::specs::AstToSpecTree::node_of, crate::specs::CodeOfTrees::code_of, crate::specs::EmitterModel::with_char_loops, crate::specs::CodeOfTrees::loop_count, crate::specs::CodeOfTrees::brackets_of, crate::specs::CodeOfTrees::node_insn_count))]
+#![tactic(auto, using(std::proofs::lemmas::Grind::common_steps), unfolding(regex_pattern_front::specs::AstToSpecTree::node_of, crate::specs::CompilationOfTreesAsFunction::code_of, crate::specs::EmitterModel::node_with_char_loops_if_enabled, crate::specs::CompilationOfTreesAsFunction::loop_count, crate::specs::CompilationOfTreesAsFunction::brackets_of, crate::specs::CompilationOfTreesAsFunction::node_insn_count))]
 
 ghost use Rattle.std.specs.Prelude.{◌≡◌, ◌&&◌, ◌+◌, ◌-◌, ◌<◌, ◌^◌, true, length, map, IfOk, OnOk, IsTrue, if◌then◌else◌};
-ghost use Rattle.regex_meaning.specs.{Tree.{every_node_passes}, WellFormedTrees.{fits_instructions}, CompilationRelation.{EnterLoop, lookaround_insn}};
+ghost use Rattle.regex_meaning.specs.{Tree.{every_node_passes}, WellFormedTrees.{sets_and_strings_fit_instructions}, CompilationRelation.{EnterLoop, lookaround_insn}};
 ghost use Rattle.regex_pattern_front.specs.{OptimizedTrees.{reads_one_character as is_one_character}, AstToSpecTree.{class_as_spec, node_of}};
 ghost use Rattle.regress_plan.specs.InsnsAsSpecInsns.{spec_loop_fields_of};
-ghost use Rattle.regress_program.specs.{InsnMeanings.{spec_insn_of}, CodeOfTrees.{group_reset_insns}, NodeListsAndLeaves.{is_leaf}};
-ghost use Rattle.regress_program.specs.EmitterModel.{HasIndexRoom, emitter_state, with_insn, with_insns, with_insn_at, with_loop, empty_state, IsEmitted};
-ghost use Rattle.regress_program.specs.EmitterModel.{lookaround_of};
+ghost use Rattle.regress_program.specs.{InsnMeanings.{spec_insn_of}, CompilationOfTreesAsFunction.{group_reset_insns}, LeavesListsAndCharLoops.{is_leaf}};
+ghost use Rattle.regress_program.specs.EmitterModel.{HasIndexRoom, emitter_state, with_insn_appended, with_insns_appended, with_insn_at, with_loop, empty_state, IsEmitted};
+ghost use Rattle.regress_program.specs.EmitterModel.{lookaround_as_spec};
 
 use crate::emit::leaf_insns::{anchor_insn, byte_set_insn, char_set_insn, word_boundary_insn};
 use crate::insn::EmittedCode;
@@ -21,16 +21,16 @@ use std::ops::Range;
 /// How nodes are compiled: `unicode` selects Unicode case folding, `narrow` makes a char loop of
 /// each loop over a node that reads one character, and `behind` is true inside a lookbehind.
 #[derive(Clone, Copy)]
-pub(crate) struct EmitMode {
+pub(crate) struct FoldingCharLoopLookbehindMode {
     pub(crate) unicode: bool,
     pub(crate) narrow: bool,
     pub(crate) behind: bool,
 }
 
-impl EmitMode {
+impl FoldingCharLoopLookbehindMode {
     // Returns the index in the code of part `at` of `count` parts. Inside a lookbehind the order is
     // reversed.
-    pub(crate) fn place(self, at: usize, count: usize) -> usize
+    pub(crate) fn index_in_emission_order(self, at: usize, count: usize) -> usize
         requires { at < count }
         ensures value { result ≡ (if self.behind then count - 1 - at else at) }
         ensures within { result < count }
@@ -78,7 +78,7 @@ impl LookaroundFields {
     }
 
     pub(crate) fn insn(self, continuation: u32) -> Insn
-        ensures { spec_insn_of result ≡ lookaround_insn (lookaround_of self) continuation }
+        ensures { spec_insn_of result ≡ lookaround_insn (lookaround_as_spec self) continuation }
     {
         let LookaroundFields {
             negate,
@@ -125,7 +125,7 @@ impl Emitter {
     }
 
     // Returns the emitted code.
-    pub(crate) fn end(self) -> EmittedCode
+    pub(crate) fn into_emitted_code(self) -> EmittedCode
         ensures insns { map spec_insn_of result.insns.items ≡ (emitter_state self).insns }
         ensures brackets { map class_as_spec result.brackets.items ≡ (emitter_state self).brackets }
         ensures loops { result.loops ≡ (emitter_state self).loops }
@@ -143,35 +143,41 @@ impl Emitter {
     }
 
     // Emits the code of a leaf, a node without child nodes.
-    pub(crate) fn emit_leaf(&mut self, mode: EmitMode, node: &Node) -> Result<(), AllocError>
+    pub(crate) fn emit_leaf(
+        &mut self,
+        mode: FoldingCharLoopLookbehindMode,
+        node: &Node,
+    ) -> Result<(), AllocError>
         requires leaf { is_leaf (node_of node.now) ≡ true }
-        requires sets { IsTrue (every_node_passes fits_instructions (node_of node.now)) }
+        requires sets { IsTrue (every_node_passes sets_and_strings_fit_instructions (node_of node.now)) }
         requires room { HasIndexRoom (emitter_state self.old) (node_of node.now) }
         ensures { OnOk result (IsEmitted mode (node_of node.now) self.old self.new) }
     {
         match node {
             Node::Empty => Ok(()),
-            Node::Goal => self.put(Insn::Goal),
-            Node::Char { c } => self.put(Insn::Char(*c)),
-            Node::CharSet(members) => self.put(char_set_insn(members)),
-            Node::ByteSet(members) => self.put(byte_set_insn(members)),
+            Node::Goal => self.append_insn(Insn::Goal),
+            Node::Char { c } => self.append_insn(Insn::Char(*c)),
+            Node::CharSet(members) => self.append_insn(char_set_insn(members)),
+            Node::ByteSet(members) => self.append_insn(byte_set_insn(members)),
             Node::ByteSequence(bytes) => self.emit_bytes(mode, bytes),
             Node::Bracket(contents) => self.emit_bracket(mode, contents),
             Node::StringSet {
                 alternatives,
                 icase,
             } => self.emit_strings(mode, *icase, alternatives),
-            Node::MatchAny => self.put(Insn::MatchAny),
-            Node::MatchAnyExceptLineTerminator => self.put(Insn::MatchAnyExceptLineTerminator),
+            Node::MatchAny => self.append_insn(Insn::MatchAny),
+            Node::MatchAnyExceptLineTerminator => self.append_insn(
+                Insn::MatchAnyExceptLineTerminator,
+            ),
             Node::Anchor {
                 anchor_type,
                 multiline,
-            } => self.put(anchor_insn(*anchor_type, *multiline)),
+            } => self.append_insn(anchor_insn(*anchor_type, *multiline)),
             Node::WordBoundary {
                 invert,
                 unicode_icase,
-            } => self.put(word_boundary_insn(*invert, *unicode_icase)),
-            Node::BackRef { group, icase } => self.put(Insn::BackRef {
+            } => self.append_insn(word_boundary_insn(*invert, *unicode_icase)),
+            Node::BackRef { group, icase } => self.append_insn(Insn::BackRef {
                 group: group.saturating_sub(1),
                 icase: *icase,
             }),
@@ -190,16 +196,16 @@ impl Emitter {
         start: CaptureGroupID,
         end: CaptureGroupID,
     ) -> Result<(), AllocError>
-        ensures { OnOk result (emitter_state self.new ≡ with_insns (group_reset_insns start end) (emitter_state self.old)) }
+        ensures { OnOk result (emitter_state self.new ≡ with_insns_appended (group_reset_insns start end) (emitter_state self.old)) }
     {
         for id in start..end {
-            self.put(Insn::ResetCaptureGroup(id))?;
+            self.append_insn(Insn::ResetCaptureGroup(id))?;
         }
         Ok(())
     }
 
     // Counts one more loop.
-    pub(crate) fn add_loop(&mut self)
+    pub(crate) fn count_one_more_loop(&mut self)
         requires { (emitter_state self.old).loops + 1 < 2 ^ 16 }
         ensures { emitter_state self.new ≡ with_loop (emitter_state self.old) }
     {
@@ -215,15 +221,15 @@ impl Emitter {
     }
 
     // Appends an instruction.
-    pub(crate) fn put(&mut self, insn: Insn) -> Result<(), AllocError>
-        ensures { OnOk result (emitter_state self.new ≡ with_insn (spec_insn_of insn) (emitter_state self.old)) }
+    pub(crate) fn append_insn(&mut self, insn: Insn) -> Result<(), AllocError>
+        ensures { OnOk result (emitter_state self.new ≡ with_insn_appended (spec_insn_of insn) (emitter_state self.old)) }
     {
         self.insns.push(insn)?;
         Ok(())
     }
 
     // Replaces the instruction at an index.
-    pub(crate) fn set(&mut self, place: usize, insn: Insn)
+    pub(crate) fn replace_insn_at(&mut self, place: usize, insn: Insn)
         requires { place < length (emitter_state self.old).insns }
         ensures { emitter_state self.new ≡ with_insn_at place (spec_insn_of insn) (emitter_state self.old) }
     {

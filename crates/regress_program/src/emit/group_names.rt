@@ -1,16 +1,16 @@
 //! Collects the names of groups, indexed by group id.
-#![tactic(auto, unfolding(regex_pattern_front::specs::AstToSpecTree::node_of, crate::specs::InnerNodeCounts::inner_node_count))]
+#![tactic(auto, unfolding(regex_pattern_front::specs::AstToSpecTree::node_of, crate::specs::InnerNodeCountMeasure::inner_node_count))]
 
 ghost use Rattle.std.specs.Prelude.{◌≡◌, ◌+◌, ◌∷◌, ◌++◌, [], length, map, set, replicate, string_bytes, IfOk, OnOk, IsTrue, ◌==◌};
 ghost use Rattle.std.proofs.Common.{refl};
-ghost use Rattle.regex_meaning.specs.{Tree.{group_ids}, WellFormedTrees.{each_id_stands_once}, Captures.{capturing_group_ids_and_names, group_names_by_id as names_of_tree}};
+ghost use Rattle.regex_meaning.specs.{Tree.{group_ids}, WellFormedTrees.{each_id_stands_once}, GroupsByNumberAndName.{capturing_group_ids_and_names, group_names_by_id as names_of_tree}};
 ghost use Rattle.regex_pattern_front.specs.AstToSpecTree.{node_of, group_name_bytes};
-ghost use Rattle.regress_program.specs.GroupNames.{StoresNames, StoresSomeStrings, PushesTwoNodes, PushesNodesOfList, is_nameless, is_unnamed as is_node_unnamed, node_measure, naming_measure};
+ghost use Rattle.regress_program.specs.GroupNames.{IsNameListAfterStoringNames, StoresNameStringsOrPushesNodes, PushesTwoNodes, PushesNodesSkippingLeadingNameless, is_nameless, has_no_named_groups as is_node_unnamed, node_measure, naming_measure};
 ghost use Rattle.regress_program.specs.GroupNames.{pending_names};
 ghost use Rattle.regress_program.specs.TreeWalk.{step_of_test};
 
 use crate::emit::nested_nodes::has_children;
-use crate::emit::tree_walk::{Visitor, walk};
+use crate::emit::tree_walk::{NodeVisitor, walk};
 use regex_pattern_front::ir::Node;
 use regex_pattern_front::types::CaptureGroupID;
 use std::alloc::{AllocError, Global};
@@ -29,7 +29,7 @@ pub(crate) fn names_by_id(
     requires all { groups ≡ length (group_ids (node_of root.now)) }
     ensures { IfOk result (λ names. map string_bytes names.items ≡ names_of_tree (node_of root.now)) }
 {
-    if is_unnamed(root) {
+    if has_no_named_groups(root) {
         return Ok(Vec::new(alloc));
     }
     let mut names = empty_names(alloc, groups)?;
@@ -60,7 +60,7 @@ pub(crate) enum SubtreeWithPendingNames<'a> {
 // nested nodes need no stack.
 fn store_names(alloc: Global, root: &Node, names: &mut [String]) -> Result<(), AllocError>
     ensures long { length names.new ≡ length names.old }
-    ensures with_names_stored_by_id { OnOk result (StoresNames (capturing_group_ids_and_names (node_of root.now)) names.old names.new) }
+    ensures with_names_stored_by_id { OnOk result (IsNameListAfterStoringNames (capturing_group_ids_and_names (node_of root.now)) names.old names.new) }
 {
     let mut rest = Vec::with_capacity(alloc, FEW)?;
     rest.push(SubtreeWithPendingNames::Node(root))?;
@@ -78,7 +78,7 @@ fn store_pending<'a>(
     rest: &mut Vec<SubtreeWithPendingNames<'a>>,
 ) -> Result<(), AllocError>
     ensures long { length names.new ≡ length names.old }
-    ensures with_names_stored_by_id { OnOk result (StoresSomeStrings (pending_names next.entry) (naming_measure next.entry)
+    ensures with_names_stored_by_id { OnOk result (StoresNameStringsOrPushesNodes (pending_names next.entry) (naming_measure next.entry)
         names.old names.new rest.old.items rest.new.items) }
 {
     match next {
@@ -95,7 +95,7 @@ fn store_node_names<'a>(
     rest: &mut Vec<SubtreeWithPendingNames<'a>>,
 ) -> Result<(), AllocError>
     ensures long { length names.new ≡ length names.old }
-    ensures with_names_stored_by_id { OnOk result (StoresSomeStrings (capturing_group_ids_and_names (node_of node.now)) (node_measure (node_of node.now))
+    ensures with_names_stored_by_id { OnOk result (StoresNameStringsOrPushesNodes (capturing_group_ids_and_names (node_of node.now)) (node_measure (node_of node.now))
         names.old names.new rest.old.items rest.new.items) }
 {
     match node {
@@ -141,7 +141,7 @@ fn store_group_name<'a>(
 ) -> Result<(), AllocError>
     ensures long { length names.new ≡ length names.old }
     ensures with_names_stored_by_id { let named = (id, group_name_bytes name.now) ∷ capturing_group_ids_and_names (node_of contents.now) in
-        OnOk result (StoresSomeStrings named (node_measure (node_of contents.now) + 1)
+        OnOk result (StoresNameStringsOrPushesNodes named (node_measure (node_of contents.now) + 1)
         names.old names.new rest.old.items rest.new.items) }
 {
     let copy = copy_name(alloc, name)?;
@@ -155,7 +155,7 @@ fn defer_node_list<'a>(
     nodes: &'a [Node],
     rest: &mut Vec<SubtreeWithPendingNames<'a>>,
 ) -> Result<(), AllocError>
-    ensures { OnOk result (PushesNodesOfList nodes.now rest.old.items rest.new.items) }
+    ensures { OnOk result (PushesNodesSkippingLeadingNameless nodes.now rest.old.items rest.new.items) }
 {
     let mut left = nodes;
     while let Some((first, others)) = left.split_first() {
@@ -206,16 +206,16 @@ fn copy_name(alloc: Global, name: &Option<String>) -> Result<String, AllocError>
 
 // A visitor that stops at a group with a name.
 #[derive(Drop)]
-struct NamedGroupFinder;
+struct NamedGroupDetector;
 
-impl Visitor for NamedGroupFinder {
+impl NodeVisitor for NamedGroupDetector {
     ghost step = { λ n it. step_of_test (is_nameless n) it };
 
     ghost passes_rows = { λ first rest it. refl };
 
     ghost passes_ends = { λ it. refl };
 
-    fn visit(&mut self, node: &Node) -> bool {
+    fn visit_single_node(&mut self, node: &Node) -> bool {
         match node {
             Node::CaptureGroup { name, .. } => is_empty_name(name),
             _ => true,
@@ -224,10 +224,10 @@ impl Visitor for NamedGroupFinder {
 }
 
 // Checks whether no group has a name.
-fn is_unnamed(node: &Node) -> bool
+fn has_no_named_groups(node: &Node) -> bool
     ensures { result ≡ is_node_unnamed (node_of node.now) }
 {
-    walk(&mut NamedGroupFinder, node)
+    walk(&mut NamedGroupDetector, node)
 }
 
 fn is_empty_name(name: &Option<String>) -> bool

@@ -26,7 +26,7 @@ pub(crate) fn char_set_insn(members: &[u32]) -> Insn
 }
 
 // Returns the instruction that reads a code point of a string in any of its case variants.
-pub(crate) fn spelling_insn(members: &[u32]) -> Insn
+pub(crate) fn insn_of_case_variants(members: &[u32]) -> Insn
     requires { length members.now ≤ 4 }
     ensures { spec_insn_of result ≡ layout.case_variants_insn members.now }
 {

@@ -3,13 +3,13 @@
 ghost use Rattle.std.specs.Prelude.{◌≡◌, ◌+◌, ◌-◌, ◌*◌, ◌<◌, ◌^◌, length, min, take, drop, OnOk};
 ghost use Rattle.regex_meaning.specs.{Tree.{byte_sequence, string_set}, Text.{expand_code_point as expansion}, CompilationRelation.{chunks}};
 ghost use Rattle.regex_meaning.specs.CompilationRelation as layout;
-ghost use Rattle.regress_program.specs.CodeOfTrees.{string_code, strings_size as size_of_strings};
-ghost use Rattle.regress_program.specs.EmitterModel.{IsEmitted, emitter_state, with_insn, with_insns, strings_as_code_points};
+ghost use Rattle.regress_program.specs.CompilationOfTreesAsFunction.{string_code, strings_size as size_of_strings};
+ghost use Rattle.regress_program.specs.EmitterModel.{IsEmitted, emitter_state, with_insn_appended, with_insns_appended, strings_as_code_points};
 
-use crate::emit::emitter::{EmitMode, Emitter};
-use crate::emit::leaf_insns::spelling_insn;
-use regex_pattern_front::folding::expand_code_point;
-use regress_plan::insn::{Insn, MAX_BYTE_SEQ_LENGTH, byte_seq};
+use crate::emit::emitter::{Emitter, FoldingCharLoopLookbehindMode};
+use crate::emit::leaf_insns::insn_of_case_variants;
+use regex_pattern_front::folding_and_first_bytes::expand_code_point;
+use regress_plan::insn::{Insn, MAX_BYTE_SEQ_LENGTH, byte_seq_insn};
 use std::alloc::AllocError;
 
 // Returns the number of chunks of a byte sequence.
@@ -20,7 +20,7 @@ pub(crate) fn chunk_count(bytes: &[u8]) -> usize
 }
 
 // Returns the number of instructions of a set of strings, saturating at `usize::MAX`.
-pub(crate) fn strings_size(strings: &[Vec<u32>]) -> usize
+pub(crate) fn insn_count_of_strings(strings: &[Vec<u32>]) -> usize
     ensures { result ≡ min (size_of_strings (strings_as_code_points strings.now)) (2 ^ 64 - 1) }
 {
     let Some((first, others)) = strings.split_first() else {
@@ -35,12 +35,16 @@ pub(crate) fn strings_size(strings: &[Vec<u32>]) -> usize
 
 impl Emitter {
     // Emits literal bytes in chunks, in reverse order inside a lookbehind.
-    pub(crate) fn emit_bytes(&mut self, mode: EmitMode, bytes: &[u8]) -> Result<(), AllocError>
+    pub(crate) fn emit_bytes(
+        &mut self,
+        mode: FoldingCharLoopLookbehindMode,
+        bytes: &[u8],
+    ) -> Result<(), AllocError>
         ensures { OnOk result (IsEmitted mode (byte_sequence bytes.now) self.old self.new) }
     {
         let count = chunk_count(bytes);
         for at in 0..count {
-            self.emit_chunk(bytes, mode.place(at, count))?;
+            self.emit_chunk(bytes, mode.index_in_emission_order(at, count))?;
         }
         Ok(())
     }
@@ -48,17 +52,17 @@ impl Emitter {
     fn emit_chunk(&mut self, bytes: &[u8], chunk: usize) -> Result<(), AllocError>
         requires { chunk * 16 < length bytes.now }
         ensures { OnOk result (emitter_state self.new
-            ≡ with_insn (layout.ByteSeq (take 16 (drop (chunk * 16) bytes.now))) (emitter_state self.old)) }
+            ≡ with_insn_appended (layout.ByteSeq (take 16 (drop (chunk * 16) bytes.now))) (emitter_state self.old)) }
     {
         let rest = &bytes[chunk * MAX_BYTE_SEQ_LENGTH..];
-        self.put(byte_seq(&rest[..rest.len().min(MAX_BYTE_SEQ_LENGTH)]))
+        self.append_insn(byte_seq_insn(&rest[..rest.len().min(MAX_BYTE_SEQ_LENGTH)]))
     }
 
     // Emits the alternatives of a set of strings. Each but the last has a branch before it and a
     // jump after it.
     pub(crate) fn emit_strings(
         &mut self,
-        mode: EmitMode,
+        mode: FoldingCharLoopLookbehindMode,
         icase: bool,
         strings: &[Vec<u32>],
     ) -> Result<(), AllocError>
@@ -68,37 +72,51 @@ impl Emitter {
             (IsEmitted mode (string_set (strings_as_code_points strings.now) icase) self.old self.new) }
     {
         if strings.is_empty() {
-            return self.put(Insn::JustFail);
+            return self.append_insn(Insn::JustFail);
         }
         let last = strings.len() - 1;
-        let target = self.next() + strings_size(strings) as u32;
+        let target = self.next() + insn_count_of_strings(strings) as u32;
         for at in 0..last {
             let string = &strings[at];
             let secondary = self.next() + string.len() as u32 + 2;
-            self.put(Insn::Alt { secondary })?;
+            self.append_insn(Insn::Alt { secondary })?;
             self.emit_string(mode, icase, string)?;
-            self.put(Insn::Jump { target })?;
+            self.append_insn(Insn::Jump { target })?;
         }
         self.emit_string(mode, icase, &strings[last])
     }
 
     // Emits the code points of a string, in reverse order inside a lookbehind.
-    fn emit_string(&mut self, mode: EmitMode, icase: bool, string: &[u32]) -> Result<(), AllocError>
+    fn emit_string(
+        &mut self,
+        mode: FoldingCharLoopLookbehindMode,
+        icase: bool,
+        string: &[u32],
+    ) -> Result<(), AllocError>
         ensures { OnOk result (emitter_state self.new
-            ≡ with_insns (string_code mode.unicode icase mode.behind string.now) (emitter_state self.old)) }
+            ≡ with_insns_appended (string_code mode.unicode icase mode.behind string.now) (emitter_state self.old)) }
     {
         for at in 0..string.len() {
-            self.emit_spellings(mode, icase, string[mode.place(at, string.len())])?;
+            self.emit_spellings(
+                mode,
+                icase,
+                string[mode.index_in_emission_order(at, string.len())],
+            )?;
         }
         Ok(())
     }
 
-    fn emit_spellings(&mut self, mode: EmitMode, icase: bool, c: u32) -> Result<(), AllocError>
+    fn emit_spellings(
+        &mut self,
+        mode: FoldingCharLoopLookbehindMode,
+        icase: bool,
+        c: u32,
+    ) -> Result<(), AllocError>
         ensures { OnOk result (emitter_state self.new
-            ≡ with_insn (layout.case_variants_insn (expansion c icase mode.unicode)) (emitter_state self.old)) }
+            ≡ with_insn_appended (layout.case_variants_insn (expansion c icase mode.unicode)) (emitter_state self.old)) }
     {
         let alloc = *self.insns.allocator();
         let members = expand_code_point(alloc, c, icase, mode.unicode)?;
-        self.put(spelling_insn(&members))
+        self.append_insn(insn_of_case_variants(&members))
     }
 }

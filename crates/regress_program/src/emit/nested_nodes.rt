@@ -1,15 +1,17 @@
 //! Emits nested nodes. Pending parts are on the heap, so nested nodes need no stack.
-#![tactic(auto, using(std::proofs::lemmas::Grind::common_steps), unfolding(regex_pattern_front::specs::AstToSpecTree::node_of, crate::specs::EmitterModel::with_char_loops))]
+#![tactic(auto, using(std::proofs::lemmas::Grind::common_steps), unfolding(regex_pattern_front::specs::AstToSpecTree::node_of, crate::specs::EmitterModel::node_with_char_loops_if_enabled))]
 
 ghost use Rattle.std.specs.Prelude.{◌≡◌, ◌+◌, ◌<◌, ◌^◌, [], length, not, OnOk, IsTrue};
 ghost use Rattle.regex_meaning.specs.Tree.{alt, capture_group, lookaround, loop as loop_of, loop_1_char_body, every_node_passes};
-ghost use Rattle.regex_meaning.specs.WellFormedTrees.{fits_instructions};
-ghost use Rattle.regex_pattern_front.specs.AstToSpecTree.{node_of, quantifier_of};
-ghost use Rattle.regress_program.specs.{NodeListsAndLeaves.{cat_of, is_leaf}, EmitterModel.{HasIndexRoom, with_char_loops, with_char_loops_in, emitter_state, IsEmitted, lookaround_of}};
-ghost use Rattle.regress_program.specs.PendingEmission.{CanEmitPending, FitsIndexWidths, EmitsPending, BeginsNode, BeginsRemainingAlternatives, BeginsNodeList, emitter_and_pending_parts, with_remaining_alternatives, with_lookaround_end};
+ghost use Rattle.regex_meaning.specs.WellFormedTrees.{sets_and_strings_fit_instructions};
+ghost use Rattle.regex_pattern_front.specs.AstToSpecTree.{node_of, spec_quantifier_of};
+ghost use Rattle.regress_program.specs.{LeavesListsAndCharLoops.{cat_of, is_leaf}, EmitterModel.{HasIndexRoom, node_with_char_loops_if_enabled, node_with_char_loops_of_mode, emitter_state, IsEmitted, lookaround_as_spec}};
+ghost use Rattle.regress_program.specs.PendingEmission.{CanEmitPending, FitsIndexWidths, EmitsOrBeginsPendingPart, BeginsEmittingNode, BeginsEmittingRemainingAlternatives, BeginsEmittingNodeList, emitter_and_pending_parts, with_remaining_alternatives_emitted, with_lookaround_end};
 ghost use Rattle.regress_program.specs.PendingEmission.{with_loop_end};
 
-use crate::emit::emitter::{EmitMode, Emitter, LookaroundFields, loop_head_insn};
+use crate::emit::emitter::{
+    Emitter, FoldingCharLoopLookbehindMode, LookaroundFields, loop_head_insn,
+};
 use regex_pattern_front::ir::{Node, Quantifier};
 use regex_pattern_front::types::CaptureGroupID;
 use regress_plan::insn::{Insn, LoopFields};
@@ -23,11 +25,11 @@ const FEW: usize = 16;
 #[derive(Clone, Copy)]
 pub(crate) enum PendingCode<'a> {
     // A node.
-    Node(EmitMode, &'a Node),
+    Node(FoldingCharLoopLookbehindMode, &'a Node),
     // The nodes of a list, in order.
-    Row(EmitMode, &'a [Node]),
+    Row(FoldingCharLoopLookbehindMode, &'a [Node]),
     // The alternatives after the one that has just ended, and the index of the branch to them.
-    Others(EmitMode, u32, &'a Node),
+    Others(FoldingCharLoopLookbehindMode, u32, &'a Node),
     // The jump at this index, which ends an alternative, gets the current end of the code as its
     // target.
     Jump(u32),
@@ -40,10 +42,14 @@ pub(crate) enum PendingCode<'a> {
 
 impl Emitter {
     // Appends the code of a node.
-    pub(crate) fn emit(&mut self, mode: EmitMode, node: &Node) -> Result<(), AllocError>
-        requires sets { IsTrue (every_node_passes fits_instructions (node_of node.now)) }
-        requires room { HasIndexRoom (emitter_state self.old) (with_char_loops_in mode node.now) }
-        ensures { OnOk result (IsEmitted mode (with_char_loops_in mode node.now) self.old self.new) }
+    pub(crate) fn emit(
+        &mut self,
+        mode: FoldingCharLoopLookbehindMode,
+        node: &Node,
+    ) -> Result<(), AllocError>
+        requires sets { IsTrue (every_node_passes sets_and_strings_fit_instructions (node_of node.now)) }
+        requires room { HasIndexRoom (emitter_state self.old) (node_with_char_loops_of_mode mode node.now) }
+        ensures { OnOk result (IsEmitted mode (node_with_char_loops_of_mode mode node.now) self.old self.new) }
     {
         let mut rest = Vec::with_capacity(*self.insns.allocator(), FEW)?;
         rest.push(PendingCode::Node(mode, node))?;
@@ -61,7 +67,7 @@ impl Emitter {
         rest: &mut Vec<PendingCode<'a>>,
     ) -> Result<(), AllocError>
         requires { CanEmitPending next (emitter_state self.old) }
-        ensures { OnOk result (EmitsPending next.entry (emitter_and_pending_parts self.old rest.old) (emitter_and_pending_parts self.new rest.new)) }
+        ensures { OnOk result (EmitsOrBeginsPendingPart next.entry (emitter_and_pending_parts self.old rest.old) (emitter_and_pending_parts self.new rest.new)) }
     {
         match next {
             PendingCode::Node(mode, node) => self.begin(mode, node, rest),
@@ -71,10 +77,10 @@ impl Emitter {
             ),
             PendingCode::Jump(place) => {
                 let target = self.next();
-                self.set(place as usize, Insn::Jump { target });
+                self.replace_insn_at(place as usize, Insn::Jump { target });
                 Ok(())
             }
-            PendingCode::GroupEnd(id) => self.put(Insn::EndCaptureGroup(id)),
+            PendingCode::GroupEnd(id) => self.append_insn(Insn::EndCaptureGroup(id)),
             PendingCode::LookaroundEnd(look, head) => self.end_lookaround(look, head),
             PendingCode::LoopEnd(fields, begin) => self.end_loop(fields, begin),
         }
@@ -83,13 +89,13 @@ impl Emitter {
     // Emits the beginning of a node's code, and pushes what remains of it.
     fn begin<'a>(
         &mut self,
-        mode: EmitMode,
+        mode: FoldingCharLoopLookbehindMode,
         node: &'a Node,
         rest: &mut Vec<PendingCode<'a>>,
     ) -> Result<(), AllocError>
-        requires sets { IsTrue (every_node_passes fits_instructions (node_of node.now)) }
-        requires room { HasIndexRoom (emitter_state self.old) (with_char_loops_in mode node.now) }
-        ensures { OnOk result (BeginsNode mode (with_char_loops_in mode node.now) (emitter_and_pending_parts self.old rest.old) (emitter_and_pending_parts self.new rest.new)) }
+        requires sets { IsTrue (every_node_passes sets_and_strings_fit_instructions (node_of node.now)) }
+        requires room { HasIndexRoom (emitter_state self.old) (node_with_char_loops_of_mode mode node.now) }
+        ensures { OnOk result (BeginsEmittingNode mode (node_with_char_loops_of_mode mode node.now) (emitter_and_pending_parts self.old rest.old) (emitter_and_pending_parts self.new rest.new)) }
     {
         match node {
             Node::Cat(nodes) => self.begin_node_list(mode, nodes, rest),
@@ -127,13 +133,13 @@ impl Emitter {
     // it.
     fn begin_node_list<'a>(
         &mut self,
-        mode: EmitMode,
+        mode: FoldingCharLoopLookbehindMode,
         nodes: &'a [Node],
         rest: &mut Vec<PendingCode<'a>>,
     ) -> Result<(), AllocError>
-        requires sets { IsTrue (every_node_passes fits_instructions (cat_of nodes.now)) }
-        requires room { HasIndexRoom (emitter_state self.old) (with_char_loops mode.narrow (cat_of nodes.now)) }
-        ensures { OnOk result (BeginsNodeList mode nodes.now (emitter_and_pending_parts self.old rest.old) (emitter_and_pending_parts self.new rest.new)) }
+        requires sets { IsTrue (every_node_passes sets_and_strings_fit_instructions (cat_of nodes.now)) }
+        requires room { HasIndexRoom (emitter_state self.old) (node_with_char_loops_if_enabled mode.narrow (cat_of nodes.now)) }
+        ensures { OnOk result (BeginsEmittingNodeList mode nodes.now (emitter_and_pending_parts self.old rest.old) (emitter_and_pending_parts self.new rest.new)) }
     {
         let mut left = nodes;
         while let Some((first, others)) = left.split_first() {
@@ -152,19 +158,19 @@ impl Emitter {
     // rewritten once the index of the other alternatives is known.
     fn begin_alternatives<'a>(
         &mut self,
-        mode: EmitMode,
+        mode: FoldingCharLoopLookbehindMode,
         first: &'a Node,
         others: &'a Node,
         rest: &mut Vec<PendingCode<'a>>,
     ) -> Result<(), AllocError>
-        requires first { IsTrue (every_node_passes fits_instructions (node_of first.now)) }
-        requires others { IsTrue (every_node_passes fits_instructions (node_of others.now)) }
-        requires room { HasIndexRoom (emitter_state self.old) (alt (with_char_loops_in mode first.now) (with_char_loops_in mode others.now)) }
-        ensures { OnOk result (BeginsNode mode (alt (with_char_loops_in mode first.now) (with_char_loops_in mode others.now))
+        requires first { IsTrue (every_node_passes sets_and_strings_fit_instructions (node_of first.now)) }
+        requires others { IsTrue (every_node_passes sets_and_strings_fit_instructions (node_of others.now)) }
+        requires room { HasIndexRoom (emitter_state self.old) (alt (node_with_char_loops_of_mode mode first.now) (node_with_char_loops_of_mode mode others.now)) }
+        ensures { OnOk result (BeginsEmittingNode mode (alt (node_with_char_loops_of_mode mode first.now) (node_with_char_loops_of_mode mode others.now))
             (emitter_and_pending_parts self.old rest.old) (emitter_and_pending_parts self.new rest.new)) }
     {
         let branch = self.next();
-        self.put(Insn::Alt { secondary: 0 })?;
+        self.append_insn(Insn::Alt { secondary: 0 })?;
         rest.push(PendingCode::Others(mode, branch, others))?;
         rest.push(PendingCode::Node(mode, first))?;
         Ok(())
@@ -175,21 +181,21 @@ impl Emitter {
     // target.
     fn begin_other_arms<'a>(
         &mut self,
-        mode: EmitMode,
+        mode: FoldingCharLoopLookbehindMode,
         branch: u32,
         others: &'a Node,
         rest: &mut Vec<PendingCode<'a>>,
     ) -> Result<(), AllocError>
         requires branch { branch < length (emitter_state self.old).insns }
-        requires sets { IsTrue (every_node_passes fits_instructions (node_of others.now)) }
-        requires room { FitsIndexWidths (with_remaining_alternatives mode.unicode mode.behind branch (with_char_loops_in mode others.now) (emitter_state self.old)) }
-        ensures { OnOk result (BeginsRemainingAlternatives mode branch (with_char_loops_in mode others.now)
+        requires sets { IsTrue (every_node_passes sets_and_strings_fit_instructions (node_of others.now)) }
+        requires room { FitsIndexWidths (with_remaining_alternatives_emitted mode.unicode mode.behind branch (node_with_char_loops_of_mode mode others.now) (emitter_state self.old)) }
+        ensures { OnOk result (BeginsEmittingRemainingAlternatives mode branch (node_with_char_loops_of_mode mode others.now)
             (emitter_and_pending_parts self.old rest.old) (emitter_and_pending_parts self.new rest.new)) }
     {
         let jump = self.next();
-        self.put(Insn::Jump { target: 0 })?;
+        self.append_insn(Insn::Jump { target: 0 })?;
         let secondary = self.next();
-        self.set(branch as usize, Insn::Alt { secondary });
+        self.replace_insn_at(branch as usize, Insn::Alt { secondary });
         rest.push(PendingCode::Jump(jump))?;
         rest.push(PendingCode::Node(mode, others))?;
         Ok(())
@@ -197,17 +203,17 @@ impl Emitter {
 
     fn begin_group<'a>(
         &mut self,
-        mode: EmitMode,
+        mode: FoldingCharLoopLookbehindMode,
         id: CaptureGroupID,
         contents: &'a Node,
         rest: &mut Vec<PendingCode<'a>>,
     ) -> Result<(), AllocError>
-        requires sets { IsTrue (every_node_passes fits_instructions (node_of contents.now)) }
-        requires room { HasIndexRoom (emitter_state self.old) (capture_group id [] (with_char_loops_in mode contents.now)) }
-        ensures { OnOk result (BeginsNode mode (capture_group id [] (with_char_loops_in mode contents.now))
+        requires sets { IsTrue (every_node_passes sets_and_strings_fit_instructions (node_of contents.now)) }
+        requires room { HasIndexRoom (emitter_state self.old) (capture_group id [] (node_with_char_loops_of_mode mode contents.now)) }
+        ensures { OnOk result (BeginsEmittingNode mode (capture_group id [] (node_with_char_loops_of_mode mode contents.now))
             (emitter_and_pending_parts self.old rest.old) (emitter_and_pending_parts self.new rest.new)) }
     {
-        self.put(Insn::BeginCaptureGroup(id))?;
+        self.append_insn(Insn::BeginCaptureGroup(id))?;
         rest.push(PendingCode::GroupEnd(id))?;
         rest.push(PendingCode::Node(mode, contents))?;
         Ok(())
@@ -217,20 +223,20 @@ impl Emitter {
     // continuation is known.
     fn begin_lookaround<'a>(
         &mut self,
-        mode: EmitMode,
+        mode: FoldingCharLoopLookbehindMode,
         look: LookaroundFields,
         contents: &'a Node,
         rest: &mut Vec<PendingCode<'a>>,
     ) -> Result<(), AllocError>
-        requires sets { IsTrue (every_node_passes fits_instructions (node_of contents.now)) }
-        requires room { HasIndexRoom (emitter_state self.old) (lookaround (lookaround_of look) (with_char_loops_in mode contents.now)) }
-        ensures { OnOk result (BeginsNode mode (lookaround (lookaround_of look) (with_char_loops_in mode contents.now))
+        requires sets { IsTrue (every_node_passes sets_and_strings_fit_instructions (node_of contents.now)) }
+        requires room { HasIndexRoom (emitter_state self.old) (lookaround (lookaround_as_spec look) (node_with_char_loops_of_mode mode contents.now)) }
+        ensures { OnOk result (BeginsEmittingNode mode (lookaround (lookaround_as_spec look) (node_with_char_loops_of_mode mode contents.now))
             (emitter_and_pending_parts self.old rest.old) (emitter_and_pending_parts self.new rest.new)) }
     {
         let head = self.next();
-        self.put(look.insn(0))?;
+        self.append_insn(look.insn(0))?;
         rest.push(PendingCode::LookaroundEnd(look, head))?;
-        let inside = EmitMode {
+        let inside = FoldingCharLoopLookbehindMode {
             unicode: mode.unicode,
             narrow: mode.narrow,
             behind: look.backwards,
@@ -243,28 +249,28 @@ impl Emitter {
         requires head { head < length (emitter_state self.old).insns }
         requires room { length (emitter_state self.old).insns + 1 < 2 ^ 32 }
         ensures { OnOk result
-            (emitter_state self.new ≡ with_lookaround_end (lookaround_of look) head (emitter_state self.old)) }
+            (emitter_state self.new ≡ with_lookaround_end (lookaround_as_spec look) head (emitter_state self.old)) }
     {
-        self.put(Insn::Goal)?;
+        self.append_insn(Insn::Goal)?;
         let continuation = self.next();
-        self.set(head as usize, look.insn(continuation));
+        self.replace_insn_at(head as usize, look.insn(continuation));
         Ok(())
     }
 
     // Emits the beginning of a loop. Its first instruction is rewritten once its exit is known.
     fn begin_loop<'a>(
         &mut self,
-        mode: EmitMode,
+        mode: FoldingCharLoopLookbehindMode,
         quant: &Quantifier,
         groups: &Range<CaptureGroupID>,
         loopee: &'a Node,
         rest: &mut Vec<PendingCode<'a>>,
     ) -> Result<(), AllocError>
-        requires sets { IsTrue (every_node_passes fits_instructions (node_of loopee.now)) }
-        requires room { HasIndexRoom (emitter_state self.old) (loop_of (quantifier_of quant.now)
-            groups.now.start groups.now.end (with_char_loops_in mode loopee.now)) }
-        ensures { OnOk result (BeginsNode mode (loop_of (quantifier_of quant.now)
-            groups.now.start groups.now.end (with_char_loops_in mode loopee.now))
+        requires sets { IsTrue (every_node_passes sets_and_strings_fit_instructions (node_of loopee.now)) }
+        requires room { HasIndexRoom (emitter_state self.old) (loop_of (spec_quantifier_of quant.now)
+            groups.now.start groups.now.end (node_with_char_loops_of_mode mode loopee.now)) }
+        ensures { OnOk result (BeginsEmittingNode mode (loop_of (spec_quantifier_of quant.now)
+            groups.now.start groups.now.end (node_with_char_loops_of_mode mode loopee.now))
             (emitter_and_pending_parts self.old rest.old) (emitter_and_pending_parts self.new rest.new)) }
     {
         let begin = self.next();
@@ -275,8 +281,8 @@ impl Emitter {
             greedy: quant.greedy,
             exit: 0,
         };
-        self.put(loop_head_insn(fields))?;
-        self.add_loop();
+        self.append_insn(loop_head_insn(fields))?;
+        self.count_one_more_loop();
         self.emit_group_resets(groups.start, groups.end)?;
         rest.push(PendingCode::LoopEnd(fields, begin))?;
         rest.push(PendingCode::Node(mode, loopee))?;
@@ -288,26 +294,26 @@ impl Emitter {
         requires room { length (emitter_state self.old).insns + 1 < 2 ^ 32 }
         ensures { OnOk result (emitter_state self.new ≡ with_loop_end fields begin (emitter_state self.old)) }
     {
-        self.put(Insn::LoopAgain { begin })?;
+        self.append_insn(Insn::LoopAgain { begin })?;
         fields.exit = self.next();
-        self.set(begin as usize, loop_head_insn(fields));
+        self.replace_insn_at(begin as usize, loop_head_insn(fields));
         Ok(())
     }
 
     fn begin_loop_1_char<'a>(
         &mut self,
-        mode: EmitMode,
+        mode: FoldingCharLoopLookbehindMode,
         quant: &Quantifier,
         loopee: &'a Node,
         rest: &mut Vec<PendingCode<'a>>,
     ) -> Result<(), AllocError>
-        requires sets { IsTrue (every_node_passes fits_instructions (node_of loopee.now)) }
+        requires sets { IsTrue (every_node_passes sets_and_strings_fit_instructions (node_of loopee.now)) }
         requires room { HasIndexRoom (emitter_state self.old)
-            (loop_1_char_body (quantifier_of quant.now) (with_char_loops_in mode loopee.now)) }
-        ensures { OnOk result (BeginsNode mode (loop_1_char_body (quantifier_of quant.now) (with_char_loops_in mode loopee.now))
+            (loop_1_char_body (spec_quantifier_of quant.now) (node_with_char_loops_of_mode mode loopee.now)) }
+        ensures { OnOk result (BeginsEmittingNode mode (loop_1_char_body (spec_quantifier_of quant.now) (node_with_char_loops_of_mode mode loopee.now))
             (emitter_and_pending_parts self.old rest.old) (emitter_and_pending_parts self.new rest.new)) }
     {
-        self.put(Insn::Loop1CharBody {
+        self.append_insn(Insn::Loop1CharBody {
             min_iters: quant.min,
             max_iters: quant.max.unwrap_or(usize::MAX),
             greedy: quant.greedy,

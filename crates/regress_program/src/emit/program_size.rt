@@ -5,10 +5,10 @@ ghost use Rattle.std.specs.Prelude.{◌≡◌, ◌+◌, ◌-◌, ◌^◌, Some, 
 ghost use Rattle.std.proofs.Common.{refl};
 ghost use Rattle.regex_meaning.specs.Tree.{group_ids};
 ghost use Rattle.regex_pattern_front.specs.AstToSpecTree.{node_of};
-ghost use Rattle.regress_program.specs.{CodeOfTrees.{node_insn_count, own_size as own_size_of, loop_count}, ProgramSizes.{count_node}};
+ghost use Rattle.regress_program.specs.{CompilationOfTreesAsFunction.{node_insn_count, own_size as own_size_of, loop_count}, ProgramSizePerNode.{count_node}};
 
-use crate::emit::literals::{chunk_count, strings_size};
-use crate::emit::tree_walk::{Visitor, walk};
+use crate::emit::literals::{chunk_count, insn_count_of_strings};
+use crate::emit::tree_walk::{NodeVisitor, walk};
 use regex_pattern_front::ir::Node;
 
 /// The number of groups, loops and instructions. Each count saturates at `usize::MAX`.
@@ -33,7 +33,7 @@ impl ProgramSize {
     }
 
     // Counts a node and those inside it.
-    pub(crate) fn add(&mut self, node: &Node)
+    pub(crate) fn count_node_and_descendants(&mut self, node: &Node)
         ensures groups { min self.new.groups (2 ^ 64 - 1)
             ≡ min (self.old.groups + length (group_ids (node_of node.now))) (2 ^ 64 - 1) }
         ensures loops { min self.new.loops (2 ^ 64 - 1)
@@ -53,14 +53,14 @@ impl ProgramSize {
     }
 }
 
-impl Visitor for ProgramSize {
+impl NodeVisitor for ProgramSize {
     ghost step = { λ n it. Some (count_node n it) };
 
     ghost passes_rows = { λ first rest it. refl };
 
     ghost passes_ends = { λ it. refl };
 
-    fn visit(&mut self, node: &Node) -> bool {
+    fn visit_single_node(&mut self, node: &Node) -> bool {
         match node {
             Node::Cat(_) => return true,
             Node::CaptureGroup { .. } => self.groups = self.groups.saturating_add(1),
@@ -93,7 +93,7 @@ fn own_size(node: &Node) -> usize
         | Node::Loop1CharBody { .. } => 1,
         Node::Alt(..) | Node::CaptureGroup { .. } | Node::LookaroundAssertion { .. } => 2,
         Node::ByteSequence(bytes) => chunk_count(bytes),
-        Node::StringSet { alternatives, .. } => strings_size(alternatives),
+        Node::StringSet { alternatives, .. } => insn_count_of_strings(alternatives),
         Node::Loop {
             enclosed_groups,
             ..

@@ -1,20 +1,20 @@
 //! A walk over the nodes of a tree.
-#![tactic(auto, unfolding(regex_pattern_front::specs::AstToSpecTree::node_of, crate::specs::InnerNodeCounts::inner_node_count))]
+#![tactic(auto, unfolding(regex_pattern_front::specs::AstToSpecTree::node_of, crate::specs::InnerNodeCountMeasure::inner_node_count))]
 
 ghost use Rattle.std.specs.Prelude.{◌≡◌, Option, Some, is_some, IsTrue};
 ghost use Rattle.regex_meaning.specs.Tree.{Node as TreeNode, cat, end_of_cat};
 ghost use Rattle.regex_pattern_front.specs.AstToSpecTree.{node_of};
-ghost use Rattle.regress_program.specs.{NodeListsAndLeaves.{cat_of}, TreeWalk.{try_fold_nodes}};
+ghost use Rattle.regress_program.specs.{LeavesListsAndCharLoops.{cat_of}, TreeWalk.{try_fold_nodes}};
 
 use regex_pattern_front::ir::Node;
 
 /// An action on each node of a walk.
-pub(crate) trait Visitor {
+pub(crate) trait NodeVisitor {
     // The visitor after a node, or none if the walk stops at the node.
     ghost step: { TreeNode → Self → Option Self };
 
     // Visits a node. Returns whether the walk continues.
-    fn visit(&mut self, node: &Node) -> bool
+    fn visit_single_node(&mut self, node: &Node) -> bool
         ensures goes_on { result ≡ is_some (step (node_of node.now) self.old) }
         ensures step { IsTrue result → step (node_of node.now) self.old ≡ Some self.new };
 
@@ -28,12 +28,12 @@ pub(crate) trait Visitor {
 // Returns whether none did. It iterates along the last child of each node, so neither many
 // alternatives nor nested groups need stack.
 #[cycle(walk)]
-pub(crate) fn walk<V: Visitor>(visitor: &mut V, root: &Node) -> bool
+pub(crate) fn walk<V: NodeVisitor>(visitor: &mut V, root: &Node) -> bool
     ensures goes_on { result ≡ is_some (try_fold_nodes V.step (node_of root.now) visitor.old) }
     ensures walked { IsTrue result → try_fold_nodes V.step (node_of root.now) visitor.old ≡ Some visitor.new }
 {
     let mut rest = root;
-    while visitor.visit(rest) {
+    while visitor.visit_single_node(rest) {
         match rest {
             Node::Cat(nodes) => return walk_row(visitor, nodes),
             Node::Alt(left, right) => {
@@ -56,7 +56,7 @@ pub(crate) fn walk<V: Visitor>(visitor: &mut V, root: &Node) -> bool
 // nesting takes one stack frame.
 #[cycle(walk)]
 #[inline(always)]
-fn walk_arm<V: Visitor>(visitor: &mut V, arm: &Node) -> bool
+fn walk_arm<V: NodeVisitor>(visitor: &mut V, arm: &Node) -> bool
     ensures goes_on { result ≡ is_some (try_fold_nodes V.step (node_of arm.now) visitor.old) }
     ensures walked { IsTrue result → try_fold_nodes V.step (node_of arm.now) visitor.old ≡ Some visitor.new }
 {
@@ -68,7 +68,7 @@ fn walk_arm<V: Visitor>(visitor: &mut V, arm: &Node) -> bool
 
 #[cycle(walk)]
 #[inline(always)]
-fn walk_row<V: Visitor>(visitor: &mut V, nodes: &[Node]) -> bool
+fn walk_row<V: NodeVisitor>(visitor: &mut V, nodes: &[Node]) -> bool
     ensures goes_on { result ≡ is_some (try_fold_nodes V.step (cat_of nodes.now) visitor.old) }
     ensures walked { IsTrue result → try_fold_nodes V.step (cat_of nodes.now) visitor.old ≡ Some visitor.new }
 {

@@ -5,14 +5,14 @@ ghost use Rattle.std.specs.Prelude.{◌≡◌, ◌+◌, ◌≤◌, ◌↔◌, �
 ghost use Rattle.std.proofs.Common.{refl};
 ghost use Rattle.std.specs.List.{list_all};
 ghost use Rattle.std.specs.Str.{is_utf8, chars, continuation_len};
-ghost use Rattle.regex_pattern_front.specs.AstToSpecTree.{node_of, quantifier_of};
+ghost use Rattle.regex_pattern_front.specs.AstToSpecTree.{node_of, spec_quantifier_of};
 ghost use Rattle.regex_meaning.specs.Tree.{every_node_passes};
-ghost use Rattle.regex_meaning.specs.WellFormedTrees.{number_of_goals, ends_in_goal, goal_is_last, IsWellFormed, is_one_character as is_one_character_node};
-ghost use Rattle.regex_meaning.specs.WellFormedTrees.{is_in_order as is_quantifier_in_order};
-ghost use Rattle.regress_program.specs.{GroupIds.{is_well_formed_node as is_node_sound}, EmitterModel.{strings_as_code_points}, TreeWalk.{step_of_test}, GoalNodes.{visit_goal}};
+ghost use Rattle.regex_meaning.specs.WellFormedTrees.{number_of_goal_nodes, ends_in_goal, goal_is_last, IsWellFormed, is_one_character as is_one_character_node};
+ghost use Rattle.regex_meaning.specs.WellFormedTrees.{is_min_at_most_max as is_quantifier_in_order};
+ghost use Rattle.regress_program.specs.{GroupIds.{is_well_formed_node as is_node_sound}, EmitterModel.{strings_as_code_points}, TreeWalk.{step_of_test}, CountOfGoalNodes.{visit_goal}};
 
-use crate::emit::group_id_checks::span_of_ids;
-use crate::emit::tree_walk::{Visitor, walk};
+use crate::emit::group_id_and_range_checks::span_of_valid_group_ids;
+use crate::emit::tree_walk::{NodeVisitor, walk};
 use regex_pattern_front::ir;
 use regex_pattern_front::ir::{Node, Quantifier};
 
@@ -38,7 +38,7 @@ fn is_root_well_formed(root: &Node) -> bool
     if !is_goal_last(root) {
         return false;
     }
-    let Some(span) = span_of_ids(root) else {
+    let Some(span) = span_of_valid_group_ids(root) else {
         return false;
     };
     if span.high as usize > span.count {
@@ -56,18 +56,18 @@ fn is_goal_last(root: &Node) -> bool
 
 // A visitor that looks for `Goal`, and stops at a second one.
 #[derive(Drop)]
-struct SingleGoalCheck {
+struct SingleGoalNodeVisitor {
     found: bool,
 }
 
-impl Visitor for SingleGoalCheck {
+impl NodeVisitor for SingleGoalNodeVisitor {
     ghost step = { visit_goal };
 
     ghost passes_rows = { λ first rest it. refl };
 
     ghost passes_ends = { λ it. refl };
 
-    fn visit(&mut self, node: &Node) -> bool {
+    fn visit_single_node(&mut self, node: &Node) -> bool {
         match node {
             Node::Goal => {
                 let first = !self.found;
@@ -81,9 +81,9 @@ impl Visitor for SingleGoalCheck {
 
 // Checks whether there is exactly one `Goal`.
 fn has_one_goal(root: &Node) -> bool
-    ensures { result ≡ (number_of_goals (node_of root.now) == 1) }
+    ensures { result ≡ (number_of_goal_nodes (node_of root.now) == 1) }
 {
-    let mut goals = SingleGoalCheck { found: false };
+    let mut goals = SingleGoalNodeVisitor { found: false };
     walk(&mut goals, root) && goals.found
 }
 
@@ -111,22 +111,23 @@ struct WellFormedNodeCheck {
     groups: usize,
 }
 
-impl Visitor for WellFormedNodeCheck {
+impl NodeVisitor for WellFormedNodeCheck {
     ghost step = { λ n it. step_of_test (is_node_sound it.groups n) it };
 
     ghost passes_rows = { λ first rest it. refl };
 
     ghost passes_ends = { λ it. refl };
 
-    fn visit(&mut self, node: &Node) -> bool {
+    fn visit_single_node(&mut self, node: &Node) -> bool {
         match node {
             Node::CharSet(members) => members.len() <= 4,
             Node::ByteSet(members) => members.len() <= 4 && are_ascii(members),
             Node::ByteSequence(bytes) => is_nonempty_utf8(bytes),
             Node::StringSet { alternatives, .. } => are_code_points(alternatives),
             Node::BackRef { group, .. } => 1 <= *group && *group as usize <= self.groups,
-            Node::Loop { quant, .. } => is_in_order(quant),
-            Node::Loop1CharBody { loopee, quant } => is_in_order(quant) && is_one_character(loopee),
+            Node::Loop { quant, .. } => is_min_at_most_max(quant),
+            Node::Loop1CharBody { loopee, quant } => is_min_at_most_max(quant)
+                && is_one_character(loopee),
             _ => true,
         }
     }
@@ -173,8 +174,8 @@ fn holds_code_points(string: &[u32]) -> bool
     string.iter().all(|c| *c <= 0x10_FFFF)
 }
 
-fn is_in_order(quant: &Quantifier) -> bool
-    ensures { result ≡ is_quantifier_in_order (quantifier_of quant.now) }
+fn is_min_at_most_max(quant: &Quantifier) -> bool
+    ensures { result ≡ is_quantifier_in_order (spec_quantifier_of quant.now) }
 {
     match quant.max {
         None => true,

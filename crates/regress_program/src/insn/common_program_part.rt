@@ -1,9 +1,9 @@
 //! The part that programs for bytes and for 16-bit code units have in common.
 
 ghost use Rattle.std.specs.Prelude.{◌≡◌, ◌<◌, ◌^◌, IsTrue, IfOk, [], get_or, map, string_bytes};
-ghost use Rattle.regex_pattern_front.specs.AstToSpecTree.{tree_of, flags_of, class_as_spec};
+ghost use Rattle.regex_pattern_front.specs.AstToSpecTree.{tree_of, spec_flags_of, class_as_spec};
 ghost use Rattle.regex_meaning.specs.WellFormedTrees.{is_well_formed};
-ghost use Rattle.regress_program.specs.{InsnMeanings.{spec_insn_of}, CodeOfTrees.{node_insn_count, compiled}, ProgramFields.{IsCodeOfTree}, TreeToRun.{tree_to_run}};
+ghost use Rattle.regress_program.specs.{InsnMeanings.{spec_insn_of}, CompilationOfTreesAsFunction.{node_insn_count, compiled}, ProgramFieldsMatchTree.{IsCodeOfTree}, OptimizedTreeUnlessNoOpt.{optimized_tree_unless_no_opt}};
 ghost use Rattle.regress_plan.specs.{TableKeysOfUnits.{is_16_bit_width}, Plans.{IsPlanOf}};
 ghost use Rattle.std.specs.Arc.{arc_value};
 
@@ -14,7 +14,7 @@ use regex_pattern_front::flags::Flags;
 use regex_pattern_front::ir;
 use regex_pattern_front::types::BracketContents;
 use regress_plan::insn::Insn;
-use regress_plan::plan::{Plan, PlanInput};
+use regress_plan::plan::{Plan, ProgramPartsForPlan};
 use regress_plan::table_keys_of_units::UnitWidth;
 use std::alloc::{AllocError, Global};
 use std::marker::Model;
@@ -41,7 +41,7 @@ impl Model for Program {
 
     ghost coded = { Prim.hlevel (codes, node.the_row.coded) };
 
-    ghost use Rattle.regress_program.specs.ProgramFields.{IsCompiledProgram};
+    ghost use Rattle.regress_program.specs.ProgramFieldsMatchTree.{IsCompiledProgram};
 
     ghost view = { λ p. p.tree.value };
 
@@ -113,12 +113,12 @@ impl Program {
 
     // Builds the plan of the program's own code, for executors that search texts of these units by
     // plans.
-    pub(crate) fn planned(&self, units: UnitWidth) -> Result<Box<Plan>, AllocError>
+    pub(crate) fn plan_of_own_code(&self, units: UnitWidth) -> Result<Box<Plan>, AllocError>
         requires { node_insn_count (tree_of self.now).root < 2 ^ 32 }
         ensures { IfOk result (λ plan.
             IsPlanOf (is_16_bit_width units) (compiled (tree_of self.now)) plan.value) }
     {
-        let code = PlanInput {
+        let code = ProgramPartsForPlan {
             insns: self.insns(),
             brackets: self.brackets(),
             groups: self.groups(),
@@ -134,12 +134,12 @@ impl Program {
     }
 
     // Returns the program of the tree to run, whose code is `code`.
-    pub(crate) fn with_code(
+    pub(crate) fn with_code_of_tree_to_run(
         &self,
         code: Arc<EmittedCode, Global>,
         tree: &ir::Regex,
     ) -> Result<Program, AllocError>
-        requires run { tree_of tree.now ≡ tree_to_run (tree_of self.now) }
+        requires run { tree_of tree.now ≡ optimized_tree_unless_no_opt (tree_of self.now) }
         requires code { IsCodeOfTree (tree_of tree.now) (arc_value code) }
         ensures { IfOk result (λ p. p ≡ tree.now) }
     {
@@ -178,7 +178,7 @@ impl Program {
     /// Returns the flags of the pattern.
     #[inline(always)]
     pub fn flags(&self) -> Flags
-        ensures { flags_of result ≡ (compiled (tree_of self.now)).flags }
+        ensures { spec_flags_of result ≡ (compiled (tree_of self.now)).flags }
     {
         self.flags
     }

@@ -9,7 +9,7 @@ use std::sync::Arc;
 
 // A list with one owner, or a shared list.
 #[derive(Drop)]
-enum NameStorage {
+enum OwnedOrSharedNameList {
     Own(Vec<String>),
     Shared(Arc<Vec<String>, Global>),
 }
@@ -18,7 +18,7 @@ enum NameStorage {
 /// group has a name. A program shares it with its matches. Contracts see the list.
 #[derive(Drop)]
 pub struct GroupNames {
-    held: NameStorage,
+    held: OwnedOrSharedNameList,
 }
 
 impl Model for GroupNames {
@@ -33,11 +33,11 @@ impl Model for GroupNames {
 
 impl GroupNames {
     /// Stores these names in a list of its own, which `clone` copies. It allocates no memory.
-    pub fn owned(names: Vec<String>) -> Self
+    pub fn from_owned_names(names: Vec<String>) -> Self
         ensures { result ≡ map string_bytes names.items }
     {
         GroupNames {
-            held: NameStorage::Own(names),
+            held: OwnedOrSharedNameList::Own(names),
         }
     }
 
@@ -46,16 +46,16 @@ impl GroupNames {
     /// # Errors
     ///
     /// Returns `Err` if the allocation of the shared list fails. An empty list is not allocated.
-    pub fn shared(names: Vec<String>) -> Result<Self, AllocError>
+    pub fn from_names_to_share(names: Vec<String>) -> Result<Self, AllocError>
         ensures { IfOk result (λ shared. shared ≡ map string_bytes names.items) }
     {
         if names.is_empty() {
-            return Ok(GroupNames::owned(names));
+            return Ok(GroupNames::from_owned_names(names));
         }
         let alloc = *names.allocator();
         let names = Arc::new(alloc, names)?;
         Ok(GroupNames {
-            held: NameStorage::Shared(names),
+            held: OwnedOrSharedNameList::Shared(names),
         })
     }
 
@@ -65,8 +65,8 @@ impl GroupNames {
         ensures { map string_bytes result.now ≡ self.now }
     {
         match &self.held {
-            NameStorage::Own(names) => names,
-            NameStorage::Shared(names) => names.as_slice(),
+            OwnedOrSharedNameList::Own(names) => names,
+            OwnedOrSharedNameList::Shared(names) => names.as_slice(),
         }
     }
 
@@ -80,9 +80,11 @@ impl GroupNames {
         ensures { IfOk result (λ copy. copy ≡ self.now) }
     {
         match &self.held {
-            NameStorage::Own(names) => Ok(GroupNames::owned(copy_names(names)?)),
-            NameStorage::Shared(names) => Ok(GroupNames {
-                held: NameStorage::Shared(names.clone()?),
+            OwnedOrSharedNameList::Own(names) => Ok(GroupNames::from_owned_names(copy_names(
+                names,
+            )?)),
+            OwnedOrSharedNameList::Shared(names) => Ok(GroupNames {
+                held: OwnedOrSharedNameList::Shared(names.clone()?),
             }),
         }
     }

@@ -1,7 +1,7 @@
 //! Start predicates.
 
 ghost use Rattle.std.specs.Prelude.{IfOk};
-ghost use Rattle.regress_program.specs.StartPredicates.{IsCopyOfPredicate};
+ghost use Rattle.regress_program.specs.StartPredicatesAndAllocation.{IsCopyOfPredicate};
 
 use regex_pattern_front::bytesearch::ByteBitmap;
 use std::alloc::AllocError;

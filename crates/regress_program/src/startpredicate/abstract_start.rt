@@ -1,14 +1,14 @@
 //! Computes what the nodes of a tree begin with.
-#![tactic(auto, unfolding(regex_pattern_front::specs::AstToSpecTree::node_of, regex_meaning::specs::StartPredicate::abstract_start_predicate, crate::specs::StartPredicates::node_start_may_allocate, crate::specs::InnerNodeCounts::inner_node_count))]
+#![tactic(auto, unfolding(regex_pattern_front::specs::AstToSpecTree::node_of, regex_meaning::specs::StartPredicate::abstract_start_predicate, crate::specs::StartPredicatesAndAllocation::node_start_may_allocate, crate::specs::InnerNodeCountMeasure::inner_node_count))]
 
 ghost use Rattle.std.specs.Prelude.{◌≡◌, not, true, false, IfOk, OnOk, IsOk};
-ghost use Rattle.regex_meaning.specs.StartPredicate.{abstract_start_predicate, join, byte_sequence_predicate, common_prefix_or_first_bytes, union, first_byte_as_set, common_prefix};
+ghost use Rattle.regex_meaning.specs.StartPredicate.{abstract_start_predicate, join, byte_sequence_predicate, common_prefix_or_first_bytes, union_of_byte_sets, first_byte_as_set, common_prefix};
 ghost use Rattle.regex_pattern_front.specs.AstToSpecTree.{node_of};
-ghost use Rattle.regress_program.specs.{NodeStarts.{as_abstract_start_predicate, join_starts_ignoring_empty, join_starts_empty_as_anything, join_starts}, NodeListsAndLeaves.{cat_of, is_leaf}};
-ghost use Rattle.regress_program.specs.StartPredicates.{reads_nothing_at_start, node_start_may_allocate};
+ghost use Rattle.regress_program.specs.{AbstractStartPredicateJoins.{as_abstract_start_predicate, join_starts_ignoring_empty_node, join_starts_empty_as_anything, join_starts}, LeavesListsAndCharLoops.{cat_of, is_leaf}};
+ghost use Rattle.regress_program.specs.StartPredicatesAndAllocation.{predicate_says_reads_nothing, node_start_may_allocate};
 
 use crate::startpredicate::first_bytes::{
-    add_first_byte, byte_set_of, first_bytes_of_class, first_bytes_of_members, union_into,
+    add_first_byte, bitmap_of_bytes, first_bytes_of_class, first_bytes_of_members, union_into,
 };
 use regex_pattern_front::bytesearch::ByteBitmap;
 use regex_pattern_front::ir::Node;
@@ -48,8 +48,8 @@ fn join_node<'a>(
     node: &'a Node,
 ) -> Result<bool, AllocError>
     ensures shared { OnOk result (as_abstract_start_predicate shared.new
-        ≡ join_starts_ignoring_empty (as_abstract_start_predicate shared.old) (abstract_start_predicate (node_of node.now))) }
-    ensures reads { IfOk result (λ reads. reads ≡ not (reads_nothing_at_start (abstract_start_predicate (node_of node.now)))) }
+        ≡ join_starts_ignoring_empty_node (as_abstract_start_predicate shared.old) (abstract_start_predicate (node_of node.now))) }
+    ensures reads { IfOk result (λ reads. reads ≡ not (predicate_says_reads_nothing (abstract_start_predicate (node_of node.now)))) }
     ensures no_memory { node_start_may_allocate (node_of node.now) ≡ false → IsOk result }
 {
     match node {
@@ -82,8 +82,8 @@ fn join_node_list<'a>(
     nodes: &'a [Node],
 ) -> Result<bool, AllocError>
     ensures shared { OnOk result (as_abstract_start_predicate shared.new
-        ≡ join_starts_ignoring_empty (as_abstract_start_predicate shared.old) (abstract_start_predicate (cat_of nodes.now))) }
-    ensures reads { IfOk result (λ reads. reads ≡ not (reads_nothing_at_start (abstract_start_predicate (cat_of nodes.now)))) }
+        ≡ join_starts_ignoring_empty_node (as_abstract_start_predicate shared.old) (abstract_start_predicate (cat_of nodes.now))) }
+    ensures reads { IfOk result (λ reads. reads ≡ not (predicate_says_reads_nothing (abstract_start_predicate (cat_of nodes.now)))) }
     ensures no_memory { node_start_may_allocate (cat_of nodes.now) ≡ false → IsOk result }
 {
     for node in nodes {
@@ -136,7 +136,7 @@ fn join_one_arm<'a>(
 fn join_leaf<'a>(shared: &mut AbstractStartPredicate<'a>, node: &'a Node) -> Result<(), AllocError>
     requires { is_leaf (node_of node.now) ≡ true }
     ensures shared { OnOk result (as_abstract_start_predicate shared.new
-        ≡ join_starts_ignoring_empty (as_abstract_start_predicate shared.old) (abstract_start_predicate (node_of node.now))) }
+        ≡ join_starts_ignoring_empty_node (as_abstract_start_predicate shared.old) (abstract_start_predicate (node_of node.now))) }
     ensures no_memory { node_start_may_allocate (node_of node.now) ≡ false → IsOk result }
 {
     *shared = join_starts(*shared, leaf_start(node)?);
@@ -151,7 +151,7 @@ fn leaf_start(node: &Node) -> Result<AbstractStartPredicate<'_>, AllocError>
 {
     match node {
         Node::ByteSequence(bytes) => Ok(sequence_start(bytes)),
-        Node::ByteSet(members) => Ok(AbstractStartPredicate::OneOf(byte_set_of(members))),
+        Node::ByteSet(members) => Ok(AbstractStartPredicate::OneOf(bitmap_of_bytes(members))),
         Node::CharSet(members) => Ok(AbstractStartPredicate::OneOf(first_bytes_of_members(
             members,
         ))),
@@ -229,7 +229,7 @@ fn join<'a>(
 // Returns the common prefix or, if it is empty, the set of both first bytes.
 fn join_sequences<'a>(xs: &'a [u8], ys: &[u8]) -> AbstractStartPredicate<'a>
     ensures { as_abstract_start_predicate result
-        ≡ common_prefix_or_first_bytes (common_prefix xs.now ys.now) (union (first_byte_as_set xs.now) (first_byte_as_set ys.now)) }
+        ≡ common_prefix_or_first_bytes (common_prefix xs.now ys.now) (union_of_byte_sets (first_byte_as_set xs.now) (first_byte_as_set ys.now)) }
 {
     let front = common_prefix(xs, ys);
     if !front.is_empty() {

@@ -1,17 +1,17 @@
 //! Sets of the bytes that texts begin with.
 
 ghost use Rattle.std.specs.Prelude.{◌≡◌, ◌+◌, ◌≤◌, [], ◌∷◌, false, map, IfOk, IsOk, MatchOption};
-ghost use Rattle.regex_meaning.specs.{NumberListHelpers.{contains}, StartPredicate.{bytes_that_pass, union, first_byte_as_set, first_bytes, code_points}};
+ghost use Rattle.regex_meaning.specs.{NumberListHelpers.{contains}, StartPredicate.{bytes_that_pass, union_of_byte_sets, first_byte_as_set, first_bytes, code_points_of_class}};
 ghost use Rattle.regex_pattern_front.specs.{ByteSetMembers.{byte_bitmap_bytes}, Intervals.{interval_of}, AstToSpecTree.{class_as_spec}};
-ghost use Rattle.regress_program.specs.NodeStarts.{set_bytes_from};
+ghost use Rattle.regress_program.specs.AbstractStartPredicateJoins.{set_bytes_from};
 
 use regex_pattern_front::bytesearch::{ByteBitmap, ByteSet};
 use regex_pattern_front::codepointset::Interval;
-use regex_pattern_front::folding::add_utf8_first_bytes_to_bitmap;
+use regex_pattern_front::folding_and_first_bytes::add_utf8_first_bytes_to_bitmap;
 use regex_pattern_front::types::BracketContents;
 use std::alloc::AllocError;
 
-pub(crate) fn byte_set_of(bytes: &[u8]) -> ByteBitmap
+pub(crate) fn bitmap_of_bytes(bytes: &[u8]) -> ByteBitmap
     ensures { byte_bitmap_bytes result ≡ bytes_that_pass (contains bytes.now) }
 {
     let mut set = ByteBitmap::default();
@@ -22,7 +22,7 @@ pub(crate) fn byte_set_of(bytes: &[u8]) -> ByteBitmap
 }
 
 pub(crate) fn add_first_byte(set: &mut ByteBitmap, bytes: &[u8])
-    ensures { byte_bitmap_bytes set.new ≡ union (byte_bitmap_bytes set.old) (first_byte_as_set bytes.now) }
+    ensures { byte_bitmap_bytes set.new ≡ union_of_byte_sets (byte_bitmap_bytes set.old) (first_byte_as_set bytes.now) }
 {
     if let Some(byte) = bytes.first() {
         set.set(*byte);
@@ -31,7 +31,7 @@ pub(crate) fn add_first_byte(set: &mut ByteBitmap, bytes: &[u8])
 
 pub(crate) fn union_into(set: &mut ByteBitmap, other: &ByteBitmap)
     ensures { byte_bitmap_bytes set.new
-        ≡ union (byte_bitmap_bytes set.old) (byte_bitmap_bytes other.now) }
+        ≡ union_of_byte_sets (byte_bitmap_bytes set.old) (byte_bitmap_bytes other.now) }
 {
     for byte in 0..=u8::MAX {
         if other.contains(byte) {
@@ -58,7 +58,7 @@ pub(crate) fn first_bytes_of_members(members: &[u32]) -> ByteBitmap
 // Returns the first bytes of the code points that the class accepts.
 pub(crate) fn first_bytes_of_class(contents: &BracketContents) -> Result<ByteBitmap, AllocError>
     ensures bytes { IfOk result (λ s. byte_bitmap_bytes s
-        ≡ first_bytes (code_points (class_as_spec contents.now))) }
+        ≡ first_bytes (code_points_of_class (class_as_spec contents.now))) }
     ensures no_memory { contents.now.invert ≡ false → IsOk result }
 {
     if contents.invert {
@@ -80,7 +80,7 @@ fn first_bytes_of_intervals(intervals: &[Interval]) -> ByteBitmap
 }
 
 // Returns the least member that is at least `from`.
-pub(crate) fn next_member(set: &ByteBitmap, from: usize) -> Option<u8>
+pub(crate) fn least_byte_in_set_from(set: &ByteBitmap, from: usize) -> Option<u8>
     requires { from ≤ 256 }
     ensures { let left = set_bytes_from (byte_bitmap_bytes set.now) in
         MatchOption result (left from ≡ []) (λ b. left from ≡ b ∷ left (b + 1)) }

@@ -1,6 +1,6 @@
 //! Executors that are asked themselves.
 
-ghost use Rattle.regress_match.specs.RegexPrograms.{IsValidStart};
+ghost use Rattle.regress_match.specs.ProgramTreesAndAnswers.{IsBoundaryOrPastEnd};
 
 use crate::fault::ParseFault;
 use crate::hostile::lists::is_first;
@@ -15,7 +15,7 @@ pub fn finds<P: MatchProducer>(
     start: usize,
     words: &str,
 ) -> Result<bool, ParseFault>
-    requires { IsValidStart (P.text executor.old) start }
+    requires { IsBoundaryOrPastEnd (P.text executor.old) start }
 {
     let Some(pos) = executor.initial_position(start) else {
         return Ok(is_none(words));

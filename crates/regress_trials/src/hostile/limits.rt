@@ -1,7 +1,7 @@
 //! Searches that end where their steps do.
 
 ghost use Rattle.std.specs.Prelude.{◌<◌, ◌⊎◌, IsCharBoundary, length};
-ghost use Rattle.regress_match.specs.RegexPrograms.{IsValidStart};
+ghost use Rattle.regress_match.specs.ProgramTreesAndAnswers.{IsBoundaryOrPastEnd};
 
 use crate::fault::ParseFault;
 use crate::hostile::bytes::is_start;
@@ -56,7 +56,7 @@ impl<'r, 't> Counting for LimitedExecutor<'r, 't> {
 // Whether an executor answers by its steps. One to which memory is refused leaves where the list goes on, has no more steps
 // than before, and answers by those when it is asked again.
 fn answers<P: Counting>(executor: &mut P, start: usize, row: Row<'_>) -> Result<bool, ParseFault>
-    requires { IsValidStart (P.text executor.old) start }
+    requires { IsBoundaryOrPastEnd (P.text executor.old) start }
 {
     let Some(pos) = executor.initial_position(start) else {
         return Ok(executor.left() == row.steps);
@@ -136,8 +136,8 @@ fn finds_both<P: Counting>(
     second: &str,
     taken: u64,
 ) -> Result<bool, ParseFault>
-    requires first { IsValidStart (P.text executor.old) 0 }
-    requires second { IsValidStart (P.text executor.old) behind }
+    requires first { IsBoundaryOrPastEnd (P.text executor.old) 0 }
+    requires second { IsBoundaryOrPastEnd (P.text executor.old) behind }
 {
     let (Some(pos), Some(behind)) = (
         executor.initial_position(0),

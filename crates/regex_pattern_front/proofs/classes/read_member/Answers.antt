@@ -1,7 +1,7 @@
 use Rattle.std.proofs.Common.{[], ◌∷◌, ◌≤◌, arith}
 use Rattle.regex_grammar.specs.CharacterClasses.{character, range, alone, from_to, no_range}
-use Rattle.regex_pattern_front.specs.ClassReaderContracts.{atom_member}
-use Rattle.regex_pattern_front.specs.AstToSpecTree.{flags_of}
+use Rattle.regex_pattern_front.specs.ClassReaderContracts.{class_member_of_atom}
+use Rattle.regex_pattern_front.specs.AstToSpecTree.{spec_flags_of}
 use Rattle.regex_pattern_front.proofs.ClassLemmas.{member-no_end, member-not_in_order, adds-range, adds-more, err-member}
 use Rattle.regex_pattern_front.proofs.classes.read_member.Goals as goal
 
@@ -12,9 +12,9 @@ returns-in_err-second-clause-text c =
 
 pub returns-in_default-clause-text : goal.returns-in_default-clause-text
 returns-in_default-clause-text c = (
-  atom_member c.in_ok-first.first ∷ [],
+  class_member_of_atom c.in_ok-first.first ∷ [],
   alone c.in_ok-first.ensures.text (rw c.in_default.is at c.in_ok-second.ensures.text),
-  c.in_ok-add.ensures,
+  c.in_ok-add_class_atom.ensures,
 )
 
 pub returns-then-last-first-clause-text : goal.returns-then-last-first-clause-text
@@ -28,14 +28,14 @@ returns-in-Some-range_ends_of_atoms-clause-text c =
     let in_order : c.in-Some-range_ends_of_atoms.first ≤ c.in-Some-range_ends_of_atoms.last = omega arith in (
       range c.in-Some-range_ends_of_atoms.first c.in-Some-range_ends_of_atoms.last ∷ [],
       from_to (rw c.in-Some-range_ends_of_atoms.ensures.0 at c.in_ok-first.ensures.text) t.1 (rw c.in-Some-range_ends_of_atoms.ensures.1 at t.2) in_order,
-      rw c.in_ok-push.ensures.items (adds-range (flags_of c.args.flags) c.args.intervals.now.items _ _),
+      rw c.in_ok-push.ensures.items (adds-range (spec_flags_of c.args.flags) c.args.intervals.now.items _ _),
     )
 
 pub returns-clause-text : goal.returns-clause-text
 returns-clause-text c =
     let t = rw c.in-Some.is at c.in_ok-second.ensures.text in (
-      atom_member c.in_ok-first.first ∷ character 45 ∷ atom_member c.in-Some.second ∷ [],
+      class_member_of_atom c.in_ok-first.first ∷ character 45 ∷ class_member_of_atom c.in-Some.second ∷ [],
       no_range c.in_ok-first.ensures.text t.1 t.2 c.in_default-range_ends_of_atoms.ensures,
-      adds-more (flags_of c.args.flags) _ _ _ (atom_member c.in_ok-first.first ∷ []) (character 45 ∷ atom_member c.in-Some.second ∷ []) c.in_ok-add-2.ensures
-          (adds-more (flags_of c.args.flags) _ _ _ (character 45 ∷ []) (atom_member c.in-Some.second ∷ []) c.in_ok-add-3.ensures c.in_ok-add-4.ensures),
+      adds-more (spec_flags_of c.args.flags) _ _ _ (class_member_of_atom c.in_ok-first.first ∷ []) (character 45 ∷ class_member_of_atom c.in-Some.second ∷ []) c.in_ok-add_class_atom-2.ensures
+          (adds-more (spec_flags_of c.args.flags) _ _ _ (character 45 ∷ []) (class_member_of_atom c.in-Some.second ∷ []) c.in_ok-add_class_atom-3.ensures c.in_ok-add_class_atom-4.ensures),
     )

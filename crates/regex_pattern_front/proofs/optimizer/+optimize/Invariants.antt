@@ -1,7 +1,7 @@
 use Rattle.std.proofs.Common.{◌≡◌, ℕ, ◌+◌, ◌*◌, ◌<◌, ◌≤◌, max, get_or}
 use Rattle.regex_meaning.specs.Tree.{alt}
 use Rattle.regex_pattern_front.specs.AstToSpecTree.{node_of}
-use Rattle.regex_pattern_front.specs.OptimizedTrees.{optimized, restored_alternatives}
+use Rattle.regex_pattern_front.specs.OptimizedTrees.{optimized, alternatives_with_links_unreversed}
 use Rattle.regex_pattern_front.specs.declared.ir.Node.{size-Node}
 use Rattle.regex_pattern_front.proofs.optimizer.+optimize.Given as goal
 
@@ -22,7 +22,7 @@ invariant-optimize_all-loop-i l =
 abbrev pub invariant-optimize_row-loop-rest : goal.invariant-optimize_row-loop-rest
 invariant-optimize_row-loop-rest l = record {
   deep : size-Node l.rest ≤ size-Node l.fn.rest;
-  turned : restored_alternatives l.turned (node_of l.first) (optimized (node_of l.rest)) ≡ optimized (alt (node_of l.fn.first) (node_of l.fn.rest));
+  turned : alternatives_with_links_unreversed l.turned (node_of l.first) (optimized (node_of l.rest)) ≡ optimized (alt (node_of l.fn.first) (node_of l.fn.rest));
 }
 
 abbrev pub decreases-optimize_row-loop-rest : goal.decreases-optimize_row-loop-rest

@@ -17,4 +17,4 @@ returns g c =
     let first =
     past-run w (g.met.W.SearchContext.has_units c.args.planned.now).is_text tried from past behind.at (omega (arith, c.offset_in.ensures, c.offset_in-start.ensures, c.requires.ahead))
     (omega (arith, c.if-past-start.false)) none behind.vain in
-    rw (← c.offset_in-start.ensures) (next-further w.tree w.text from past _ first (rw (← c.position_in.ensures) c.next_candidate_start.ensures))
+    rw (← c.offset_in-start.ensures) (next-further w.tree w.text from past _ first (rw (← c.position_of_offset_in.ensures) c.next_candidate_start.ensures))

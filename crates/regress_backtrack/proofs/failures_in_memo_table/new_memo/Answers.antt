@@ -1,10 +1,10 @@
 use Rattle.std.proofs.Common.{◌≤◌, ◌*◌, ◌^◌, ◌+◌, false, sym, subst}
 use Rattle.std.specs.Prelude.{IfSome, MatchOption}
 use Rattle.regex_meaning.specs.CompilationRelation.{Program}
-use Rattle.regress_memo_analysis.specs.Successors.{HasInsns}
+use Rattle.regress_memo_analysis.specs.Successors.{AreInsnsOfProgram}
 use Rattle.regress_memo_analysis.specs.CheckedAnalysis.{IsAnalysisOf}
 use Rattle.regress_memo.specs.MemoContents.{IsEmptyMemo, has_failure}
-use Rattle.regress_scan.specs.SearchInputs.{program_of}
+use Rattle.regress_scan.specs.TreePlanAndText.{program_of}
 use Rattle.regress_backtrack.specs.FailuresInMemoTable.{scheme_of}
 use Rattle.regress_backtrack.specs.FailureMemo.{AreFailuresRightIn}
 use Rattle.regress_backtrack.proofs.Rightness.{memory-right}
@@ -16,7 +16,7 @@ returns g c =
     let w = g.W.SearchContext.searching it in
     let t = c.in-Some.memo_analysis in
     let of : IsAnalysisOf (program_of w) t =
-    subst (λ o. IfSome o (λ memo_analysis. (program : Program) → HasInsns program c.args.insns.now → IsAnalysisOf program memo_analysis)) c.in-Some.is
+    subst (λ o. IfSome o (λ memo_analysis. (program : Program) → AreInsnsOfProgram program c.args.insns.now → IsAnalysisOf program memo_analysis)) c.in-Some.is
     c.in_ok-memo_analysis.ensures.of (program_of w) (sym c.requires) in
     let places = c.text_end.result + 1 in
     let begun = subst (λ o. MatchOption o (2 ^ 64 ≤ t.codes * places) (IsEmptyMemo t places false)) c.in-Some-2.is c.in_ok-memo.ensures in

@@ -15,59 +15,59 @@ search-init g c = record {
 
 -- ---- A thread in hand
 
-pub execute_thread-requires-clause-stands : goal.execute_thread-requires-clause-stands
-execute_thread-requires-clause-stands g c = standing-as c.in-Some.is refl c.search.invariant.stands
+pub execute_thread_step-requires-clause-stands : goal.execute_thread_step-requires-clause-stands
+execute_thread_step-requires-clause-stands g c = standing-as c.in-Some.is refl c.search.invariant.stands
 
 pub returns-in_err-next-in-Some-clause-right : goal.returns-in_err-next-in-Some-clause-right
-returns-in_err-next-in-Some-clause-right g c = still-knows c.search.invariant.stands c.execute_thread.ensures.memo
+returns-in_err-next-in-Some-clause-right g c = still-knows c.search.invariant.stands c.execute_thread_step.ensures.memo
 
 pub returns-in_err-next-in-Some-clause-memo_analysis : goal.returns-in_err-next-in-Some-clause-memo_analysis
-returns-in_err-next-in-Some-clause-memo_analysis g c = ap (λ (m : MemoView). m.memo_analysis) c.execute_thread.ensures.memo ∙ c.search.invariant.memo_analysis
+returns-in_err-next-in-Some-clause-memo_analysis g c = ap (λ (m : MemoView). m.memo_analysis) c.execute_thread_step.ensures.memo ∙ c.search.invariant.memo_analysis
 
 pub returns-in_err-next-in-Some-clause-runs : goal.returns-in_err-next-in-Some-clause-runs
 returns-in_err-next-in-Some-clause-runs g c = λ b h.
     let stops = c.in_err-next-in-Some.ensures.goes b (stands-as c.in-Some.is refl (c.search.invariant.from b h)) in
-    runs-handed h c.execute_thread.new.course c.from_residual.result c.in_err-next-in-Some.field-0.0 c.from_residual.ensures.1 stops
+    runs-handed h c.execute_thread_step.new.course c.from_residual.result c.in_err-next-in-Some.field-0.0 c.from_residual.ensures.1 stops
 
 pub returns-in-End-clause-right : goal.returns-in-End-clause-right
-returns-in-End-clause-right g c = still-knows c.search.invariant.stands c.execute_thread.ensures.memo
+returns-in-End-clause-right g c = still-knows c.search.invariant.stands c.execute_thread_step.ensures.memo
 
 pub returns-in-End-clause-memo_analysis : goal.returns-in-End-clause-memo_analysis
-returns-in-End-clause-memo_analysis g c = ap (λ (m : MemoView). m.memo_analysis) c.execute_thread.ensures.memo ∙ c.search.invariant.memo_analysis
+returns-in-End-clause-memo_analysis g c = ap (λ (m : MemoView). m.memo_analysis) c.execute_thread_step.ensures.memo ∙ c.search.invariant.memo_analysis
 
 pub returns-in-End-clause-runs : goal.returns-in-End-clause-runs
 returns-in-End-clause-runs g c = λ b h.
     let there = standing-as c.in-Some.is refl c.search.invariant.stands in
-    came-end there c.execute_thread.new.stack.items c.execute_thread.new.course c.in-End.is c.in_ok-next-in-Some.ensures.goes b (stands-as c.in-Some.is refl (c.search.invariant.from b h))
+    came-end there c.execute_thread_step.new.stack.items c.execute_thread_step.new.course c.in-End.is c.in_ok-next-in-Some.ensures.goes b (stands-as c.in-Some.is refl (c.search.invariant.from b h))
 
 pub search-smaller-in-On : goal.search-smaller-in-On
 search-smaller-in-On g c =
     let there = standing-as c.in-Some.is refl c.search.invariant.stands in
-    less-on there (λ b h. (came-on there c.execute_thread.new.stack.items c.execute_thread.new.course c.in-On.is c.in_ok-next-in-Some.ensures.goes b h).less)
+    less-on there (λ b h. (came-on there c.execute_thread_step.new.stack.items c.execute_thread_step.new.course c.in-On.is c.in_ok-next-in-Some.ensures.goes b h).less)
 
 pub search-preserved-in-On : goal.search-preserved-in-On
 search-preserved-in-On g c =
     let there = standing-as c.in-Some.is refl c.search.invariant.stands in
-    let came = came-on there c.execute_thread.new.stack.items c.execute_thread.new.course c.in-On.is c.in_ok-next-in-Some.ensures.goes in
+    let came = came-on there c.execute_thread_step.new.stack.items c.execute_thread_step.new.course c.in-On.is c.in_ok-next-in-Some.ensures.goes in
     record {
       stands = standing-on there (λ b h. (came b h).stands);
       from = λ b h. (came b (stands-as c.in-Some.is refl (c.search.invariant.from b h))).stands;
-      memo_analysis = ap (λ (m : MemoView). m.memo_analysis) c.execute_thread.ensures.memo ∙ c.search.invariant.memo_analysis;
-      left = omega (arith, c.execute_thread.ensures.left, c.search.invariant.left);
+      memo_analysis = ap (λ (m : MemoView). m.memo_analysis) c.execute_thread_step.ensures.memo ∙ c.search.invariant.memo_analysis;
+      left = omega (arith, c.execute_thread_step.ensures.left, c.search.invariant.left);
     }
 
 -- ---- One that waits
 
-pub backtrack_to_entry-requires-clause-stands : goal.backtrack_to_entry-requires-clause-stands
-backtrack_to_entry-requires-clause-stands g c = standing-as c.in-None.is c.in-Some-pop.ensures.items c.search.invariant.stands
+pub resume_entry_or_record_failure-requires-clause-stands : goal.resume_entry_or_record_failure-requires-clause-stands
+resume_entry_or_record_failure-requires-clause-stands g c = standing-as c.in-None.is c.in-Some-pop.ensures.items c.search.invariant.stands
 
 pub returns-in_err-next-in-Some-pop-clause-memo_analysis : goal.returns-in_err-next-in-Some-pop-clause-memo_analysis
-returns-in_err-next-in-Some-pop-clause-memo_analysis g c = c.backtrack_to_entry.ensures.memo_analysis ∙ c.search.invariant.memo_analysis
+returns-in_err-next-in-Some-pop-clause-memo_analysis g c = c.resume_entry_or_record_failure.ensures.memo_analysis ∙ c.search.invariant.memo_analysis
 
 pub returns-in_err-next-in-Some-pop-clause-runs : goal.returns-in_err-next-in-Some-pop-clause-runs
 returns-in_err-next-in-Some-pop-clause-runs g c = λ b h.
     let stops = c.in_err-next-in-Some-pop.ensures.goes b (stands-as c.in-None.is c.in-Some-pop.ensures.items (c.search.invariant.from b h)) in
-    runs-handed h c.backtrack_to_entry.new.course c.from_residual-in_err-next-in-Some-pop.result c.in_err-next-in-Some-pop.field-0.0 c.from_residual-in_err-next-in-Some-pop.ensures.1 stops
+    runs-handed h c.resume_entry_or_record_failure.new.course c.from_residual-in_err-next-in-Some-pop.result c.in_err-next-in-Some-pop.field-0.0 c.from_residual-in_err-next-in-Some-pop.ensures.1 stops
 
 pub search-smaller : goal.search-smaller
 search-smaller g c =
@@ -77,8 +77,8 @@ pub search-preserved : goal.search-preserved
 search-preserved g c = record {
   stands = standing-on (standing-as c.in-None.is c.in-Some-pop.ensures.items c.search.invariant.stands) (λ b h. (c.in_ok-next-in-Some-pop.ensures.goes b h).stands);
   from = λ b h. (c.in_ok-next-in-Some-pop.ensures.goes b (stands-as c.in-None.is c.in-Some-pop.ensures.items (c.search.invariant.from b h))).stands;
-  memo_analysis = c.backtrack_to_entry.ensures.memo_analysis ∙ c.search.invariant.memo_analysis;
-  left = omega (arith, c.backtrack_to_entry.ensures.left, c.search.invariant.left);
+  memo_analysis = c.resume_entry_or_record_failure.ensures.memo_analysis ∙ c.search.invariant.memo_analysis;
+  left = omega (arith, c.resume_entry_or_record_failure.ensures.left, c.search.invariant.left);
 }
 
 -- ---- None

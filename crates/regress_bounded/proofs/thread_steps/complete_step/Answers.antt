@@ -9,3 +9,9 @@ pub returns-clause-goes : goal.returns-clause-goes
 returns-clause-goes g c = λ program text s key turn b h.
     let left = c.in_ok-spend_and_push_record.ensures.leaves program text b s _ turn key h in
     record { stands = left.0; less = left.1 }
+
+pub returns-clause-pushed : goal.returns-clause-pushed
+returns-clause-pushed g c = c.in_ok-spend_and_push_record.ensures.pushed
+
+pub returns-clause-spent : goal.returns-clause-spent
+returns-clause-spent g c = c.in_ok-spend_and_push_record.ensures.spent

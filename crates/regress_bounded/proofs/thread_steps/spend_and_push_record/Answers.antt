@@ -1,9 +1,9 @@
-use Rattle.std.proofs.Common.{◌++◌, ◌∷◌, [], Some, None, sym, subst, refl}
+use Rattle.std.proofs.Common.{◌++◌, ◌∷◌, [], Some, None, ap, sym, subst, refl, ◌∙◌}
 use Rattle.regress_memo_laws.specs.MemoSearch.{noted, tries}
 use Rattle.regress_machine.specs.Machine.{running}
 use Rattle.regress_memo.specs.MemoContents.{as_key}
 use Rattle.regress_bounded.specs.declared.pending_stack.StackEntry.TheVariants.{Record}
-use Rattle.regress_bounded.specs.SearchStateEntries.{Leaves, MayStop, HasKeyNotKnownToFail, Stands}
+use Rattle.regress_bounded.specs.SearchStateEntries.{Leaves, MayStop, HasKeyNotKnownToFail, Stands, with_record_pushed}
 use Rattle.regress_bounded.proofs.Meeting.{left, less-spent}
 use Rattle.regress_bounded.proofs.Standing.{goes-on, is-over, row-push}
 use Rattle.regress_bounded.proofs.Stopping.{handed-on}
@@ -39,3 +39,15 @@ returns-in_default-clause-leaves g c = λ program text b s ts turn key h.
           (left offset program text b s h c.args.work ts None key' turn) h.is c.spend.ensures.memo spent,
       less-spent offset program text s c.args.work ts turn c.args.course.now.left c.spend.new.self.left spent,
     )
+
+pub returns-in_ok-push_entry-clause-pushed : goal.returns-in_ok-push_entry-clause-pushed
+returns-in_ok-push_entry-clause-pushed g c = c.in_ok-push_entry.ensures ∙ ap (λ k. with_record_pushed k c.args.stack.now.items) (sym c.in-Some.is)
+
+pub returns-in_default-clause-pushed : goal.returns-in_default-clause-pushed
+returns-in_default-clause-pushed g c = ap (λ k. with_record_pushed k c.args.stack.now.items) (sym c.in_default.is)
+
+pub returns-in_ok-push_entry-clause-spent : goal.returns-in_ok-push_entry-clause-spent
+returns-in_ok-push_entry-clause-spent g c = c.in_ok-spend.ensures.spent
+
+pub returns-in_default-clause-spent : goal.returns-in_default-clause-spent
+returns-in_default-clause-spent g c = c.in_ok-spend.ensures.spent

@@ -1,10 +1,9 @@
 use Rattle.std.proofs.Common.{◌≤◌, length, sym, ap, subst, ◌∙◌, arith}
-use Rattle.regex_pattern_front.specs.NestingDepth.{nesting_depth_of}
-use Rattle.regex_meaning.specs.FlagLettersAndEscaping.{flags_from_letters}
-use Rattle.regress_match.specs.Flags.{flags_of}
+use Rattle.regex_pattern_front.specs.ParenthesisDepth.{greatest_parenthesis_depth_in}
+use Rattle.regress_match.specs.PublicFlagsAsSpecFlags.{spec_flags_of}
 use Rattle.regress_match.specs.CompileErrors.{IsPatternRefusedWith}
 use Rattle.regress_c.specs.Compiling.{given}
-use Rattle.regress_c.proofs.CompilingLemmas.{told-refuses}
+use Rattle.regress_c.proofs.CompilingLemmas.{error-refuses}
 use Rattle.regress_c.proofs.compiling.compiled.Goals as goal
 
 pub returns : goal.returns
@@ -14,10 +13,10 @@ returns g c =
     let read = c.in_ok-code_points.ensures in
     let short : length characters ≤ c.args.bounds.length =
     let len = c.len.ensures ∙ sym c.deref.ensures.len ∙ ap length (c.deref.ensures.value ∙ read.1) in let test = c.if-len-bounds.false in omega (arith, len, test) in
-    let shallow : nesting_depth_of characters ≤ c.args.bounds.nesting =
-    let deep = c.nesting.ensures ∙ ap nesting_depth_of (c.deref.ensures.value ∙ read.1) in let test = c.if-nesting-bounds.false in omega (arith, deep, test) in
-    told-refuses asked c.args.bounds (record { letters = c.in_ok-flags.ensures.0; text = read.0 }) (record { length_is = short; nesting_is = shallow })
-    c.in-Err.error c.of_error.result c.told.result
+    let shallow : greatest_parenthesis_depth_in characters ≤ c.args.bounds.nesting =
+    let deep = c.nesting.ensures ∙ ap greatest_parenthesis_depth_in (c.deref.ensures.value ∙ read.1) in let test = c.if-nesting-bounds.false in omega (arith, deep, test) in
+    error-refuses asked c.args.bounds (record { letters = c.in_ok-flags.ensures.0; text = read.0 }) (record { length_is = short; nesting_is = shallow })
+    c.in-Err.error c.of_error.result
     (subst (λ f. IsPatternRefusedWith f characters c.in-Err.error) c.in_ok-flags.ensures.1
-    (subst (λ cs. IsPatternRefusedWith (flags_of c.in_ok-flags.flags) cs c.in-Err.error) (c.deref-2.ensures.value ∙ read.1) c.in-Err.ensures.refused))
-    c.of_error.ensures c.told.ensures.kept (c.told.ensures.refuses (flags_from_letters c.args.flags.now) characters)
+    (subst (λ cs. IsPatternRefusedWith (spec_flags_of c.in_ok-flags.flags) cs c.in-Err.error) (c.deref-2.ensures.value ∙ read.1) c.in-Err.ensures.refused))
+    c.of_error.ensures

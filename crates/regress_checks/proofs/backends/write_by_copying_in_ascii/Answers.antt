@@ -1,5 +1,5 @@
 use Rattle.std.proofs.Common.{refl}
-use Rattle.regress_match.specs.RegexPrograms.{byte_tree}
+use Rattle.regress_match.specs.ProgramTreesAndAnswers.{byte_tree}
 use Rattle.regress_match.proofs.Starts.{ascii_start}
 use Rattle.regress_checks.proofs.backends.write_by_copying_in_ascii.Goals as goal
 

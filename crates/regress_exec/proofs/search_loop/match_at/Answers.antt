@@ -1,5 +1,5 @@
 use Rattle.std.proofs.Common.{◌∙◌, Some, ap}
-use Rattle.regex_meaning.specs.Captures.{group_names_by_id}
+use Rattle.regex_meaning.specs.GroupsByNumberAndName.{group_names_by_id}
 use Rattle.regex_meaning.specs.CodeUnitOffsets.{units}
 use Rattle.regex_meaning.specs.Tree.{Tree}
 use Rattle.regress_exec.specs.MatchAnswers.{answer_from_parts}

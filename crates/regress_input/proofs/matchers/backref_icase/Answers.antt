@@ -1,6 +1,6 @@
 use Rattle.std.proofs.Common.{◌≡◌, inl, inr, sym, ◌∙◌, ap, None, option_map}
 use Rattle.regex_meaning.specs.CodeUnitOffsets.{read}
-use Rattle.regress_input.specs.ReadsFromOffset.{reading_direction, same_fold}
+use Rattle.regress_input.specs.ReadsFromOffset.{direction_of_forward_flag, same_fold}
 use Rattle.regress_input.proofs.Places.{pair}
 use Rattle.regress_input.proofs.Compare.{starts, stopped, none_at, none_there, differs, goes_on, nearer}
 use Rattle.regress_input.proofs.Lists.{unequal, equal}
@@ -24,42 +24,42 @@ pub returns-in_default : goal.returns-in_default
 returns-in_default g c =
     let text = g.Input.InputIndexer.text c.args.input.now in
     let ne = unequal _ _ _ _ c.ne.ensures (g.met.Input.Position.PositionType.equal c.each.at c.if-FORWARD.at.1) c.each-test.true in
-    let none : read text (reading_direction g.Dir.Direction.FORWARD) (g.Input.Position.PositionType.offset c.each.at) ≡ None =
+    let none : read text (direction_of_forward_flag g.Dir.Direction.FORWARD) (g.Input.Position.PositionType.offset c.each.at) ≡ None =
     sym c.next.ensures.read ∙ ap (option_map (λ e. pair (g.Input.Element.ElementType.number e) (g.Input.Position.PositionType.offset c.next.new.pos))) c.in_default.is in
-    sym (none_at text (same_fold text.fold) (g.met.Input.InputIndexer.is_text c.args.input.now) (reading_direction g.Dir.Direction.FORWARD) _ _ _ _ c.each.invariant ne none)
+    sym (none_at text (same_fold text.fold) (g.met.Input.InputIndexer.is_text c.args.input.now) (direction_of_forward_flag g.Dir.Direction.FORWARD) _ _ _ _ c.each.invariant ne none)
 
 pub returns-in_default-next : goal.returns-in_default-next
 returns-in_default-next g c =
     let text = g.Input.InputIndexer.text c.args.input.now in
     let ne = unequal _ _ _ _ c.ne.ensures (g.met.Input.Position.PositionType.equal c.each.at c.if-FORWARD.at.1) c.each-test.true in
-    let none : read text (reading_direction g.Dir.Direction.FORWARD) (g.Input.Position.PositionType.offset c.each.pos) ≡ None =
+    let none : read text (direction_of_forward_flag g.Dir.Direction.FORWARD) (g.Input.Position.PositionType.offset c.each.pos) ≡ None =
     sym c.next-in-each.ensures.read ∙ ap (option_map (λ e. pair (g.Input.Element.ElementType.number e) (g.Input.Position.PositionType.offset c.next-in-each.new.pos))) c.in_default-next.is in
-    sym (none_there text (same_fold text.fold) (g.met.Input.InputIndexer.is_text c.args.input.now) (reading_direction g.Dir.Direction.FORWARD) _ _ _ _ c.each.invariant ne none)
+    sym (none_there text (same_fold text.fold) (g.met.Input.InputIndexer.is_text c.args.input.now) (direction_of_forward_flag g.Dir.Direction.FORWARD) _ _ _ _ c.each.invariant ne none)
 
 pub returns-then-not-fold_equals : goal.returns-then-not-fold_equals
 returns-then-not-fold_equals g c =
     let text = g.Input.InputIndexer.text c.args.input.now in
     let ne = unequal _ _ _ _ c.ne.ensures (g.met.Input.Position.PositionType.equal c.each.at c.if-FORWARD.at.1) c.each-test.true in
-    sym (differs text (same_fold text.fold) (g.met.Input.InputIndexer.is_text c.args.input.now) (reading_direction g.Dir.Direction.FORWARD) _ _ _ _ _ _ _ _ c.each.invariant ne
+    sym (differs text (same_fold text.fold) (g.met.Input.InputIndexer.is_text c.args.input.now) (direction_of_forward_flag g.Dir.Direction.FORWARD) _ _ _ _ _ _ _ _ c.each.invariant ne
     (sym c.in-Some.ensures.read) (sym c.in-Some-next.ensures.read) (sym c.fold_equals.ensures ∙ c.if-not-fold_equals.true))
 
 pub each-preserved : goal.each-preserved
 each-preserved g c =
     let text = g.Input.InputIndexer.text c.args.input.now in
     let ne = unequal _ _ _ _ c.ne.ensures (g.met.Input.Position.PositionType.equal c.each.at c.if-FORWARD.at.1) c.each-test.true in
-    goes_on text (same_fold text.fold) (g.met.Input.InputIndexer.is_text c.args.input.now) (reading_direction g.Dir.Direction.FORWARD) _ _ _ _ _ _ _ _ c.each.invariant ne
+    goes_on text (same_fold text.fold) (g.met.Input.InputIndexer.is_text c.args.input.now) (direction_of_forward_flag g.Dir.Direction.FORWARD) _ _ _ _ _ _ _ _ c.each.invariant ne
     (sym c.in-Some.ensures.read) (sym c.in-Some-next.ensures.read) (sym c.fold_equals.ensures ∙ c.if-not-fold_equals.false)
 
 pub each-smaller : goal.each-smaller
 each-smaller g c =
     let text = g.Input.InputIndexer.text c.args.input.now in
     let ne = unequal _ _ _ _ c.ne.ensures (g.met.Input.Position.PositionType.equal c.each.at c.if-FORWARD.at.1) c.each-test.true in
-    let on = goes_on text (same_fold text.fold) (g.met.Input.InputIndexer.is_text c.args.input.now) (reading_direction g.Dir.Direction.FORWARD) _ _ _ _ _ _ _ _ c.each.invariant ne
+    let on = goes_on text (same_fold text.fold) (g.met.Input.InputIndexer.is_text c.args.input.now) (direction_of_forward_flag g.Dir.Direction.FORWARD) _ _ _ _ _ _ _ _ c.each.invariant ne
     (sym c.in-Some.ensures.read) (sym c.in-Some-next.ensures.read) (sym c.fold_equals.ensures ∙ c.if-not-fold_equals.false) in
-    nearer text (same_fold text.fold) (g.met.Input.InputIndexer.is_text c.args.input.now) (reading_direction g.Dir.Direction.FORWARD) _ _ _ _ _ _ _ c.each.invariant on ne (sym c.in-Some.ensures.read)
+    nearer text (same_fold text.fold) (g.met.Input.InputIndexer.is_text c.args.input.now) (direction_of_forward_flag g.Dir.Direction.FORWARD) _ _ _ _ _ _ _ c.each.invariant on ne (sym c.in-Some.ensures.read)
 
 pub returns : goal.returns
 returns g c =
     let text = g.Input.InputIndexer.text c.args.input.now in
-    sym (stopped text (same_fold text.fold) (g.met.Input.InputIndexer.is_text c.args.input.now) (reading_direction g.Dir.Direction.FORWARD) _ _ _ _ c.each.invariant
+    sym (stopped text (same_fold text.fold) (g.met.Input.InputIndexer.is_text c.args.input.now) (direction_of_forward_flag g.Dir.Direction.FORWARD) _ _ _ _ c.each.invariant
     (equal _ _ _ _ c.ne.ensures (g.met.Input.Position.PositionType.equal c.each.at c.if-FORWARD.at.1) c.each-test.false))

@@ -2,10 +2,10 @@
 
 ghost use Rattle.std.specs.Prelude.{◌≡◌, ◌++◌, IfErr, IfOk, false, string_bytes, take};
 ghost use Rattle.std.specs.Result.{IsOkAnd};
-ghost use Rattle.regress_match.specs.{ClosureReplacements.{IsErrorOfClosureResult}, ReplacementClosures.{ClosureCanBeCalled, CanRefuseWith, IsReplacedBy}, RegexPrograms.{utf8_answers}};
-ghost use Rattle.regress_match.specs.Replacements.{MatchesAreOrderedFrom};
+ghost use Rattle.regress_match.specs.{ClosureReplacements.{IsClosureErrorOrOutOfMemory}, ReplacementClosures.{ClosureCanBeCalled, CanRefuseWith, IsReplacedBy}, ProgramTreesAndAnswers.{utf8_answers}};
+ghost use Rattle.regress_match.specs.ExpansionsAndMatchRanges.{MatchesAreOrderedFrom};
 
-use crate::api::replace::{append_rest, append_up_to};
+use crate::api::replace::{append_rest, append_unmatched_text_up_to_match};
 use crate::api::{Match, Regex, ReplaceError};
 use regress_exec::exec::{MatchProducer, Matches};
 use std::alloc::Global;
@@ -56,7 +56,7 @@ fn append_closure_result<E>(
 ) -> Result<(), ReplaceError<E>>
     ensures made { IfOk result (λ _. IsOkAnd answer (λ piece. string_bytes made.new
         ≡ string_bytes made.old ++ string_bytes piece)) }
-    ensures refused { IfErr result (IsErrorOfClosureResult answer) }
+    ensures refused { IfErr result (IsClosureErrorOrOutOfMemory answer) }
 {
     let piece = answer.map_err(ReplaceError::Closure)?;
     made.push_str(&piece)?;
@@ -82,7 +82,7 @@ fn write_first<P: MatchProducer + Drop, E, F: FnOnce(&Match) -> Result<String, E
         return Ok(append_rest(made, text, 0)?);
     };
     let found = item?;
-    let behind = append_up_to(&mut made, text, 0, &found)?;
+    let behind = append_unmatched_text_up_to_match(&mut made, text, 0, &found)?;
     append_closure_result(&mut made, with(&found))?;
     Ok(append_rest(made, text, behind)?)
 }
@@ -105,7 +105,7 @@ fn replace_each_match<P: MatchProducer + Drop, E, F: Fn(&Match) -> Result<String
     let mut from = 0;
     for item in matches {
         let found = item?;
-        from = append_up_to(&mut made, text, from, &found)?;
+        from = append_unmatched_text_up_to_match(&mut made, text, from, &found)?;
         append_closure_result(&mut made, with(&found))?;
     }
     Ok(append_rest(made, text, from)?)

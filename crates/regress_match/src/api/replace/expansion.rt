@@ -1,9 +1,9 @@
 //! Parsing of replacements, and their expansion for a match.
 
 ghost use Rattle.std.specs.Prelude.{◌≡◌, ◌++◌, ◌<◌, IfNone, IfOk, IfSome, Some, length, option_map, slice_get, string_bytes};
-ghost use Rattle.regex_meaning.specs.{Captures.{Answer}, Replace.{parse_after_dollar, expansion, group_part, parse_group_number, one_part_and_rest, text_of, text_of_parts}};
+ghost use Rattle.regex_meaning.specs.{GroupsByNumberAndName.{Answer}, Replace.{parse_after_dollar, expansion, group_part, parse_digits_of_group_number, single_replacement_part_and_rest, text_of, text_of_parts}};
 ghost use Rattle.regress_exec.specs.MatchAnswers.{answer_of, range_of};
-ghost use Rattle.regress_match.specs.{ReplacementParts.{part_and_rest, replacement_parts_of}, Replacements.{MatchFitsText, IsCharBoundaryRange}};
+ghost use Rattle.regress_match.specs.{ReplacementParts.{parsed_part_and_rest, spec_parts_of_dollar_substitution}, ExpansionsAndMatchRanges.{MatchFitsText, IsCharBoundaryRange}};
 
 use crate::api::Match;
 use regex_pattern_front::types::MAX_CAPTURE_GROUPS;
@@ -44,7 +44,7 @@ pub(super) fn expand(
 
 // Reads the part after a `$`. Returns the part and the rest of the replacement.
 fn read_part(behind: &str) -> (DollarSubstitution<'_>, &str)
-    ensures { part_and_rest result.0 result.1.now ≡ parse_after_dollar behind.now }
+    ensures { parsed_part_and_rest result.0 result.1.now ≡ parse_after_dollar behind.now }
 {
     match behind.as_bytes().first() {
         Some(b'$') => (DollarSubstitution::Dollar(""), &behind[1..]),
@@ -61,7 +61,7 @@ fn read_part(behind: &str) -> (DollarSubstitution<'_>, &str)
 // text begins with `{`.
 fn read_name(braced_name: &str) -> (DollarSubstitution<'_>, &str)
     requires { slice_get braced_name.now 0 ≡ Some 123 }
-    ensures { part_and_rest result.0 result.1.now ≡ parse_after_dollar braced_name.now }
+    ensures { parsed_part_and_rest result.0 result.1.now ≡ parse_after_dollar braced_name.now }
 {
     match braced_name[1..].split_once('}') {
         Some((name, left)) => (DollarSubstitution::Named(name), left),
@@ -71,7 +71,7 @@ fn read_name(braced_name: &str) -> (DollarSubstitution<'_>, &str)
 
 // Reads digits until the number exceeds the largest group number. Returns the number and the rest.
 fn read_number(digits: &str) -> (usize, &str)
-    ensures { one_part_and_rest (group_part result.0) result.1.now ≡ parse_group_number 0 digits.now }
+    ensures { single_replacement_part_and_rest (group_part result.0) result.1.now ≡ parse_digits_of_group_number 0 digits.now }
 {
     let mut number = 0;
     let mut left = digits;
@@ -85,9 +85,9 @@ fn read_number(digits: &str) -> (usize, &str)
 // Appends one more digit to the number. Returns the new number and the rest, or `None` if no digit
 // is to be read.
 fn next_digit(number: usize, digits: &str) -> Option<(usize, &str)>
-    ensures ends { IfNone result (parse_group_number number digits.now
-        ≡ one_part_and_rest (group_part number) digits.now) }
-    ensures goes_on { IfSome result (λ next. parse_group_number number digits.now ≡ parse_group_number next.0 next.1.now) }
+    ensures ends { IfNone result (parse_digits_of_group_number number digits.now
+        ≡ single_replacement_part_and_rest (group_part number) digits.now) }
+    ensures goes_on { IfSome result (λ next. parse_digits_of_group_number number digits.now ≡ parse_digits_of_group_number next.0 next.1.now) }
     ensures shorter { IfSome result (λ next. length next.1.now < length digits.now) }
 {
     match digits.as_bytes().first() {
@@ -107,7 +107,7 @@ fn write_part(
 ) -> Result<(), AllocError>
     requires { MatchFitsText text.now (answer_of found.now) }
     ensures { IfOk result (λ _. string_bytes out.new
-        ≡ string_bytes out.old ++ text_of_parts text.now (answer_of found.now) (replacement_parts_of part.entry)) }
+        ≡ string_bytes out.old ++ text_of_parts text.now (answer_of found.now) (spec_parts_of_dollar_substitution part.entry)) }
 {
     match part {
         DollarSubstitution::Dollar(behind) => {

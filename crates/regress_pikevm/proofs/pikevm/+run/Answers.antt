@@ -1,7 +1,7 @@
 use Rattle.std.proofs.Common.{ℕ, ap, sym, subst, ◌∙◌, ◌++◌, ◌∷◌}
 use Rattle.regex_pattern_front.specs.AstToSpecTree.{tree_of}
-use Rattle.regress_input.specs.ReadsFromOffset.{reading_direction}
-use Rattle.regress_program.specs.CodeOfTrees.{compiled}
+use Rattle.regress_input.specs.ReadsFromOffset.{direction_of_forward_flag}
+use Rattle.regress_program.specs.CompilationOfTreesAsFunction.{compiled}
 use Rattle.regress_machine.specs.Machine.{running, first_runs_others_wait, after_lookaround}
 use Rattle.regress_pikevm.specs.States.{state_of, next_threads, running_thread, waiting_threads, preferred_last}
 use Rattle.regress_exec.specs.Attempts.{steps_for_attempt, search_from}
@@ -19,8 +19,8 @@ IsTaken g n c =
     let tree = tree_of c.args.searched.now.program.now in
     let text = g.Input.InputIndexer.text c.args.searched.now.input in
     let offset = g.Input.Position.PositionType.offset in
-    let found = search_from tree text (offset c.args.at) (reading_direction c.args.forward) (state_of offset c.args.start) in
-    TakenUp offset (compiled tree) text (steps_for_attempt tree text (offset c.args.at)) (reading_direction c.args.forward) (steps_of found) (end_of_search found)
+    let found = search_from tree text (offset c.args.at) (direction_of_forward_flag c.args.forward) (state_of offset c.args.start) in
+    TakenUp offset (compiled tree) text (steps_for_attempt tree text (offset c.args.at)) (direction_of_forward_flag c.args.forward) (steps_of found) (end_of_search found)
     (running_thread offset c.search.next ++ waiting_threads offset c.search.stack.items) c.in-Some.state c.next_thread.new.stack.items
 
 taken : (g : Over) (n : ℕ) (c : In-Some g n) → IsTaken g n c
@@ -36,7 +36,7 @@ search-init g n c =
     let text = g.Input.InputIndexer.text searched.input in
     let offset = g.Input.Position.PositionType.offset in
     let turns = steps_for_attempt tree text (offset c.args.at) in
-    let d = reading_direction c.args.forward in
+    let d = direction_of_forward_flag c.args.forward in
     let top = steps_of (search_from tree text (offset c.args.at) d (state_of offset c.args.start)) in
     let end = end_of_search (search_from tree text (offset c.args.at) d (state_of offset c.args.start)) in
     subst (λ l. Remains program text turns d top end (running (state_of offset c.args.start) ∷ waiting_threads offset l)) (sym c.clear.ensures.items)

@@ -1,7 +1,7 @@
 use Rattle.std.proofs.Common.{◌++◌}
 use Rattle.regex_pattern_front.specs.AstToSpecTree.{tree_of}
-use Rattle.regress_input.specs.ReadsFromOffset.{reading_direction}
-use Rattle.regress_program.specs.CodeOfTrees.{compiled}
+use Rattle.regress_input.specs.ReadsFromOffset.{direction_of_forward_flag}
+use Rattle.regress_program.specs.CompilationOfTreesAsFunction.{compiled}
 use Rattle.regress_pikevm.specs.States.{state_of, running_thread, waiting_threads}
 use Rattle.regress_exec.specs.Attempts.{steps_for_attempt, search_from}
 use Rattle.regress_machine.specs.InsnEffects.{end_of_search}
@@ -11,16 +11,16 @@ use Rattle.regress_pikevm.proofs.pikevm.+run.Given as goal
 abbrev pub decreases-run : goal.decreases-run
 decreases-run g l =
     let offset = g.Input.Position.PositionType.offset in
-    steps_of (search_from (tree_of l.searched.now.program.now) (g.Input.InputIndexer.text l.searched.now.input) (offset l.at) (reading_direction l.forward) (state_of offset l.start))
+    steps_of (search_from (tree_of l.searched.now.program.now) (g.Input.InputIndexer.text l.searched.now.input) (offset l.at) (direction_of_forward_flag l.forward) (state_of offset l.start))
 
 abbrev pub invariant-search : goal.invariant-search
 invariant-search g l =
     let tree = tree_of l.searched.program.now in
     let text = g.Input.InputIndexer.text l.searched.input in
     let offset = g.Input.Position.PositionType.offset in
-    Remains (compiled tree) text (steps_for_attempt tree text (offset l.fn.at)) (reading_direction l.fn.forward)
-    (steps_of (search_from tree text (offset l.fn.at) (reading_direction l.fn.forward) (state_of offset l.fn.start)))
-    (end_of_search (search_from tree text (offset l.fn.at) (reading_direction l.fn.forward) (state_of offset l.fn.start)))
+    Remains (compiled tree) text (steps_for_attempt tree text (offset l.fn.at)) (direction_of_forward_flag l.fn.forward)
+    (steps_of (search_from tree text (offset l.fn.at) (direction_of_forward_flag l.fn.forward) (state_of offset l.fn.start)))
+    (end_of_search (search_from tree text (offset l.fn.at) (direction_of_forward_flag l.fn.forward) (state_of offset l.fn.start)))
     (running_thread offset l.next ++ waiting_threads offset l.stack.items)
 
 abbrev pub decreases-search : goal.decreases-search
@@ -28,4 +28,4 @@ decreases-search g l =
     let tree = tree_of l.searched.program.now in
     let text = g.Input.InputIndexer.text l.searched.input in
     let offset = g.Input.Position.PositionType.offset in
-    steps_left (compiled tree) text (steps_for_attempt tree text (offset l.fn.at)) (reading_direction l.fn.forward) (running_thread offset l.next ++ waiting_threads offset l.stack.items)
+    steps_left (compiled tree) text (steps_for_attempt tree text (offset l.fn.at)) (direction_of_forward_flag l.fn.forward) (running_thread offset l.next ++ waiting_threads offset l.stack.items)

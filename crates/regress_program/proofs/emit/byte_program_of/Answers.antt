@@ -1,5 +1,5 @@
 use Rattle.regex_pattern_front.specs.AstToSpecTree.{tree_of}
-use Rattle.regress_program.specs.CodeOfTrees.{compiled}
+use Rattle.regress_program.specs.CompilationOfTreesAsFunction.{compiled}
 use Rattle.regress_program.proofs.emit.byte_program_of.Goals as goal
 
 pub invariant_of-result : goal.invariant_of-result
@@ -12,5 +12,5 @@ invariant_of-result c = record {
   planned = c.in_ok-plan.ensures;
 }
 
-pub planned-requires : goal.planned-requires
-planned-requires c = rw c.requires.same c.requires.fits
+pub plan_of_own_code-requires : goal.plan_of_own_code-requires
+plan_of_own_code-requires c = rw c.requires.same c.requires.fits

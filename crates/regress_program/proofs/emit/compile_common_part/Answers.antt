@@ -2,8 +2,8 @@ use Rattle.std.proofs.Common.{◌∙◌, refl, subst}
 use Rattle.std.specs.Arc.{arc_value}
 use Rattle.regex_meaning.proofs.WellFormedLemmas.{clauses}
 use Rattle.regex_pattern_front.specs.AstToSpecTree.{node_of, tree_of}
-use Rattle.regress_program.specs.CodeOfTrees.{compiled}
-use Rattle.regress_program.specs.ProgramFields.{IsCodeOfTree}
+use Rattle.regress_program.specs.CompilationOfTreesAsFunction.{compiled}
+use Rattle.regress_program.specs.ProgramFieldsMatchTree.{IsCodeOfTree}
 use Rattle.regress_program.proofs.ShapedLemmas.{shaped-plain}
 use Rattle.regress_program.proofs.emit.compile_common_part.Goals as goal
 

@@ -1,7 +1,7 @@
 use Rattle.std.proofs.Common.{◌≡◌, sym, ap, ◌∙◌, ◌<◌, ◌≤◌, ◌^◌, subst, true, arith, length}
 use Rattle.std.specs.Arc.{arc_value}
 use Rattle.regex_pattern_front.specs.AstToSpecTree.{tree_of}
-use Rattle.regress_program.specs.CodeOfTrees.{node_insn_count}
+use Rattle.regress_program.specs.CompilationOfTreesAsFunction.{node_insn_count}
 use Rattle.regress_program.proofs.CodeLemmas.{compiled-is_code}
 use Rattle.regress_program.proofs.RunningLemmas.{run-fits, size-to_run, well_formed-planned}
 use Rattle.regress_program.proofs.emit.emit_both.Goals as goal
@@ -18,7 +18,7 @@ byte_program_of-requires-clause-fits c =
 pub returns-clause-unit_code : goal.returns-clause-unit_code
 returns-clause-unit_code c = record {
   code = (compiled-is_code (tree_of c.args.re) c.in_ok-program.ensures.fits.well_formed).code;
-  no_bytes = sym c.reads_bytes.ensures ∙ c.in_ok-program.ensures.no_bytes;
+  no_bytes = sym c.tree_contains_byte_nodes.ensures ∙ c.in_ok-program.ensures.no_bytes;
 }
 
 pub returns-clause-byte_code : goal.returns-clause-byte_code

@@ -11,5 +11,5 @@ unit_plan_of-requires c = run-fits (tree_of c.args.re.now) (arc_value c.in_ok-co
 pub returns-clause-code : goal.returns-clause-code
 returns-clause-code c = record {
   code = (compiled-is_code (tree_of c.args.re.now) c.in_ok-program.ensures.fits.well_formed).code;
-  no_bytes = sym c.reads_bytes.ensures ∙ c.in_ok-program.ensures.no_bytes;
+  no_bytes = sym c.tree_contains_byte_nodes.ensures ∙ c.in_ok-program.ensures.no_bytes;
 }

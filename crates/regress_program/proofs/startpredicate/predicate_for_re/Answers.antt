@@ -1,7 +1,7 @@
 use Rattle.std.proofs.Common.{sym, ap, ◌∙◌}
 use Rattle.regex_pattern_front.specs.AstToSpecTree.{tree_of}
-use Rattle.regress_program.specs.NodeStarts.{as_abstract_start_predicate}
-use Rattle.regress_program.specs.StartPredicates.{is_sequence}
+use Rattle.regress_program.specs.AbstractStartPredicateJoins.{as_abstract_start_predicate}
+use Rattle.regress_program.specs.StartPredicatesAndAllocation.{predicate_is_byte_sequence}
 use Rattle.regress_program.proofs.BeginningLemmas.{predicate-anchored, predicate-begun, sound-as, all-sound, no_sequence, quiet-root}
 use Rattle.regress_program.proofs.startpredicate.predicate_for_re.Goals as goal
 
@@ -27,4 +27,4 @@ pub returns-clause-no_memory : goal.returns-clause-no_memory
 returns-clause-no_memory c quiet =
     let tree = tree_of c.args.re.now in
     c.beginning_predicate.ensures.no_memory
-    (ap is_sequence c.in_ok-beginning.ensures.beginning ∙ no_sequence tree.root (quiet-root tree (sym c.if-matches_at_left_end.ensures) quiet))
+    (ap predicate_is_byte_sequence c.in_ok-beginning.ensures.beginning ∙ no_sequence tree.root (quiet-root tree (sym c.if-matches_at_left_end.ensures) quiet))

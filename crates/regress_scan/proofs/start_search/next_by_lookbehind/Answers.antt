@@ -16,12 +16,12 @@ pub returns-in-Some : goal.returns-in-Some
 returns-in-Some g c =
     let w = g.W.SearchContext.searching c.args.planned.now in
     first-behind w (g.met.W.SearchContext.has_units c.args.planned.now) c.args.before c.args.from c.offset_in.result c.requires.at
-    (inl (rw (← c.input.ensures.text, ← c.position_in.ensures, c.offset_in.ensures) (sym c.in-Some.ensures.read)))
+    (inl (rw (← c.input.ensures.text, ← c.position_of_offset_in.ensures, c.offset_in.ensures) (sym c.in-Some.ensures.read)))
     c.next_past.result c.next_past.ensures
 
 pub returns-else-edge : goal.returns-else-edge
 returns-else-edge g c =
     let w = g.W.SearchContext.searching c.args.planned.now in
     first-behind w (g.met.W.SearchContext.has_units c.args.planned.now) c.args.before c.args.from c.args.from c.requires.at
-    (inr (rw (← c.input.ensures.text, ← c.position_in.ensures) (sym c.in-None.ensures.read), refl, c.if-edge.false))
+    (inr (rw (← c.input.ensures.text, ← c.position_of_offset_in.ensures) (sym c.in-None.ensures.read), refl, c.if-edge.false))
     c.next_past-else-edge.result c.next_past-else-edge.ensures

@@ -1,6 +1,6 @@
 use Rattle.std.proofs.Common.{inl, refl}
 use Rattle.std.proofs.lemmas.Str.{IsCharBoundary-start}
-use Rattle.regress_match.specs.RegexPrograms.{byte_tree}
+use Rattle.regress_match.specs.ProgramTreesAndAnswers.{byte_tree}
 use Rattle.regress_match.proofs.Starts.{utf8_start}
 use Rattle.regress_trials.proofs.checks.is_copied.Goals as goal
 

@@ -3,7 +3,7 @@ use Rattle.std.specs.Prelude.{Some, None}
 use Rattle.std.proofs.lemmas.Str.{IsCharBoundary-end}
 use Rattle.regress_exec.specs.MatchAnswers.{answer_of}
 use Rattle.regress_exec.specs.RemainingAnswers.{RemainingView}
-use Rattle.regress_match.specs.RegexPrograms.{utf8_answers}
+use Rattle.regress_match.specs.ProgramTreesAndAnswers.{utf8_answers}
 use Rattle.regress_match.proofs.CallerLemmas.{IsReached, reached-unlimited, takes-next}
 use Rattle.use_highlighter.specs.Tokens.{names_of}
 use Rattle.use_highlighter.proofs.Rows.{IsCutTo, cut-more, cut-none, cut-rest, piece}

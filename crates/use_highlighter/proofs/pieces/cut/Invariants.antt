@@ -1,5 +1,5 @@
 use Rattle.std.proofs.Common.{false}
-use Rattle.regress_match.specs.RegexPrograms.{utf8_answers}
+use Rattle.regress_match.specs.ProgramTreesAndAnswers.{utf8_answers}
 use Rattle.regress_match.proofs.CallerLemmas.{IsReached}
 use Rattle.use_highlighter.specs.Tokens.{names_of}
 use Rattle.use_highlighter.proofs.Rows.{IsCutTo}

@@ -2,7 +2,7 @@ use Rattle.std.proofs.Common.{◌∙◌, ◌++◌, ap, flat_map, subst, sym, ℕ
 use Rattle.std.specs.Prelude.{IfSome, Option}
 use Rattle.regex_meaning.specs.Laws.{Each}
 use Rattle.regress_exec.specs.MatchAnswers.{answer_of}
-use Rattle.regress_match.specs.Replacements.{IsCharBoundaryRange}
+use Rattle.regress_match.specs.ExpansionsAndMatchRanges.{IsCharBoundaryRange}
 use Rattle.regress_match.proofs.CallerLemmas.{named-fit}
 use Rattle.use_renamer.specs.Names.{described}
 use Rattle.use_renamer.proofs.groups.show.Goals as goal

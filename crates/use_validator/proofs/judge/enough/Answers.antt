@@ -1,6 +1,6 @@
 use Rattle.std.proofs.Common.{◌+◌, ap, sym}
 use Rattle.regex_meaning.proofs.UnitLengths.{utf8_text-units}
-use Rattle.regress_match.specs.RegexPrograms.{byte_tree}
+use Rattle.regress_match.specs.ProgramTreesAndAnswers.{byte_tree}
 use Rattle.use_validator.proofs.Decided.{enough-same}
 use Rattle.use_validator.proofs.judge.enough.Goals as goal
 

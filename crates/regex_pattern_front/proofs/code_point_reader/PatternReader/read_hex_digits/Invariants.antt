@@ -5,5 +5,5 @@ use Rattle.regex_pattern_front.proofs.code_point_reader.PatternReader.read_hex_d
 abbrev pub invariant-loop : goal.invariant-loop
 invariant-loop l = record {
   moves : length l.self.rest.now ≤ length l.fn.self.rest.now;
-  digits : l.count ≤ 4 → HexSoFar l.counter l.fn.self.rest.now l.value l.self.rest.now;
+  leading_digits : l.count ≤ 4 → HexSoFar l.counter l.fn.self.rest.now l.value l.self.rest.now;
 }

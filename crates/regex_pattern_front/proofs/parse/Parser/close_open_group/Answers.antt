@@ -1,7 +1,7 @@
 use Rattle.std.proofs.Common.{arith}
 use Rattle.regex_pattern_front.specs.AstToSpecTree.{node_of}
 use Rattle.regex_pattern_front.specs.SubtreeListInvariants.{IsSoundSubtree}
-use Rattle.regex_pattern_front.specs.GroupStackInvariant.{nodes_at}
+use Rattle.regex_pattern_front.specs.GroupIdsWhileParsing.{nodes_at}
 use Rattle.regex_pattern_front.proofs.PartLemmas.{parts-push, empty-list}
 use Rattle.regex_pattern_front.proofs.LevelLemmas.{IsLast, open-pop}
 use Rattle.std.proofs.Common.{◌≡◌, []}

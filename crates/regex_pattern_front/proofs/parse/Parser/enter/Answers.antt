@@ -1,5 +1,5 @@
 use Rattle.std.proofs.Common.{◌+◌}
-use Rattle.regex_pattern_front.specs.GroupStackInvariant.{captures}
+use Rattle.regex_pattern_front.specs.GroupIdsWhileParsing.{captures_opened_by_group_kind}
 use Rattle.regex_pattern_front.proofs.PartLemmas.{parts-none}
 use Rattle.regex_pattern_front.proofs.LevelLemmas.{open-push}
 use Rattle.std.proofs.Common.{[], arith}
@@ -15,12 +15,12 @@ returns-clause-reading c =
     let opening = c.in_ok-opening.opening in
     rw c.in_ok-name.ensures.references
     (record {
-      inner = groups + captures opening;
+      inner = groups + captures_opened_by_group_kind opening;
       around = rw c.in_ok-push.ensures.items
           (open-push references 0 r.inner c.args.self.now.around.items
-          (record { outer = c.replace.result; opening = opening; name = c.in_ok-name.name; start = groups; left = c.count_left_with_last.result })
+          (record { outer = c.replace.result; opening = opening; name = c.in_ok-name.name; start = groups; left = c.count_code_points_from_last_read.result })
           r.around (rw c.replace.ensures.value r.level));
-      level = rw (c.replace.ensures.after, c.new-inner.ensures.parts, c.captures-more.ensures) (parts-none (groups + captures opening) references);
+      level = rw (c.replace.ensures.after, c.new-inner.ensures.parts, c.captures_opened_by_group_kind-more.ensures) (parts-none (groups + captures_opened_by_group_kind opening) references);
     })
 
 pub returns-in_err-opening-clause-text : goal.returns-in_err-opening-clause-text
@@ -38,7 +38,7 @@ pub returns-then-more-start-clause-text : goal.returns-then-more-start-clause-te
 returns-then-more-start-clause-text c = λ r pattern h.
     past-most (entered h.stands c.read_group_kind.new.reader.rest.now c.in_ok-opening.opening c.in_ok-opening.ensures.text
     (λ x. get_by_text c.args.self.now.leaves.numbers x) h.numbers c.in_ok-name.name _ c.in_ok-name.ensures.text)
-    (omega (arith, c.if-more-start.true, c.captures-more.ensures))
+    (omega (arith, c.if-more-start.true, c.captures_opened_by_group_kind-more.ensures))
 
 pub returns-clause-text : goal.returns-clause-text
 returns-clause-text c = λ pattern h. record {
@@ -47,15 +47,15 @@ returns-clause-text c = λ pattern h. record {
   stands = rw (
     c.in_ok-name.ensures.same.0,
     c.in_ok-name.ensures.references,
-    c.captures-more.ensures,
+    c.captures_opened_by_group_kind-more.ensures,
     c.in_ok-push.ensures.items,
     c.replace.ensures.value,
     around-push [] c.args.self.now.around.items
-        (record { outer = c.args.self.now.level; opening = c.in_ok-opening.opening; name = c.in_ok-name.name; start = c.args.self.now.groups; left = c.count_left_with_last.result }),
+        (record { outer = c.args.self.now.level; opening = c.in_ok-opening.opening; name = c.in_ok-name.name; start = c.args.self.now.groups; left = c.count_code_points_from_last_read.result }),
     c.replace.ensures.after,
     c.new-inner.ensures.level,
     c.reverses_terms.ensures,
-    c.behind.ensures,
+    c.are_terms_reversed.ensures,
   )
       (entered h.stands c.read_group_kind.new.reader.rest.now c.in_ok-opening.opening c.in_ok-opening.ensures.text
       (λ x. get_by_text c.args.self.now.leaves.numbers x) h.numbers c.in_ok-name.name _ c.in_ok-name.ensures.text);

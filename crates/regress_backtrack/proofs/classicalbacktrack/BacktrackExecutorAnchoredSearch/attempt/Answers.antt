@@ -1,5 +1,5 @@
 use Rattle.regex_pattern_front.specs.AstToSpecTree.{tree_of}
-use Rattle.regress_backtrack.specs.State.{machine_state_of}
+use Rattle.regress_backtrack.specs.State.{current_thread_state_of}
 use Rattle.regress_exec.proofs.InWork.{goes-on-free}
 use Rattle.regress_backtrack.proofs.InPlace.{can-be, can-run, ends-planned}
 use Rattle.regress_backtrack.proofs.classicalbacktrack.BacktrackExecutorAnchoredSearch.attempt.Goals as goal
@@ -15,7 +15,7 @@ returns-then-is_work_spent-clause-found g c =
     let can = can-be s.same s.searched.well_formed s.searched.unicode s.searched.bytes in
     let offset = g.Input.Position.PositionType.offset in
     ends-planned offset s.program.wide (tree_of s.program.regex) (g.Input.InputIndexer.text s.searched.input) can.well_formed (offset c.args.pos)
-    (machine_state_of c.retry_with_memo.new.memory 0 0).groups c.retry_with_memo.result c.retry_with_memo.ensures.found
+    (current_thread_state_of c.retry_with_memo.new.memory 0 0).groups c.retry_with_memo.result c.retry_with_memo.ensures.found
 
 pub attempt-end-requires-clause-can : goal.attempt-end-requires-clause-can
 attempt-end-requires-clause-can g c =
@@ -28,7 +28,7 @@ returns-then-is_ok-clause-found g c =
     let can = can-be s.same s.searched.well_formed s.searched.unicode s.searched.bytes in
     let offset = g.Input.Position.PositionType.offset in
     ends-planned offset s.program.wide (tree_of s.program.regex) (g.Input.InputIndexer.text s.searched.input) can.well_formed (offset c.args.pos)
-    (machine_state_of c.attempt-end.new.memory 0 0).groups c.attempt-end.result c.attempt-end.ensures.found
+    (current_thread_state_of c.attempt-end.new.memory 0 0).groups c.attempt-end.result c.attempt-end.ensures.found
 
 pub retry_with_memo-requires-2-clause-can : goal.retry_with_memo-requires-2-clause-can
 retry_with_memo-requires-2-clause-can g c =
@@ -41,7 +41,7 @@ returns-clause-found g c =
     let can = can-be s.same s.searched.well_formed s.searched.unicode s.searched.bytes in
     let offset = g.Input.Position.PositionType.offset in
     ends-planned offset s.program.wide (tree_of s.program.regex) (g.Input.InputIndexer.text s.searched.input) can.well_formed (offset c.args.pos)
-    (machine_state_of c.retry_with_memo-2.new.memory 0 0).groups c.retry_with_memo-2.result c.retry_with_memo-2.ensures.found
+    (current_thread_state_of c.retry_with_memo-2.new.memory 0 0).groups c.retry_with_memo-2.result c.retry_with_memo-2.ensures.found
 
 pub returns-then-is_work_spent-clause-work : goal.returns-then-is_work_spent-clause-work
 returns-then-is_work_spent-clause-work g c = goes-on-free g.Input.Position.PositionType.offset (g.Input.Position.PositionType.offset c.args.pos) c.retry_with_memo.result

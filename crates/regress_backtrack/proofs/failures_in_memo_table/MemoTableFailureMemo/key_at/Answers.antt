@@ -5,7 +5,7 @@ use Rattle.regress_memo_laws.specs.MemoKeys.{IsSoundState}
 use Rattle.regress_memo_analysis.specs.declared.analysis.MemoAnalysis.{MemoAnalysis}
 use Rattle.regress_memo_analysis.specs.declared.analysis.InsnAnalysis.{InsnAnalysis}
 use Rattle.regress_memo_analysis.specs.AnalysisContents.{insn_analysis_of, liveness_of, insn_direction}
-use Rattle.regress_backtrack.specs.State.{machine_state_of}
+use Rattle.regress_backtrack.specs.State.{current_thread_state_of}
 use Rattle.regress_backtrack.proofs.MemoKeys.{key-of-thread, stored-key, same-way}
 use Rattle.regress_backtrack.proofs.failures_in_memo_table.MemoTableFailureMemo.key_at.Goals as goal
 
@@ -13,8 +13,8 @@ pub returns : goal.returns
 returns g c =
     let w = g.W.SearchContext.searching c.args.planned.now in
     let t = c.args.self.now.memo_analysis in
-    let s = machine_state_of c.args.memory.now c.args.thread.here.ip c.args.thread.here.at in
-    let line : c.line-line.result ≡ insn_analysis_of t s.ip = c.line-line.ensures ∙ ap (λ (x : MemoAnalysis). insn_analysis_of x s.ip) c.memo_analysis.ensures in
+    let s = current_thread_state_of c.args.memory.now c.args.thread.here.ip c.args.thread.here.at in
+    let line : c.insn_analysis_at-line.result ≡ insn_analysis_of t s.ip = c.insn_analysis_at-line.ensures ∙ ap (λ (x : MemoAnalysis). insn_analysis_of x s.ip) c.memo_analysis.ensures in
     let forward = sym (ap (λ (x : InsnAnalysis). x.forward) line) ∙ same-way _ _ c.if-line-forward.false in
     let sound =
     subst (λ (x : MemoAnalysis). IsSoundState (liveness_of x) (units w.text) (insn_direction x s.ip) s) c.memo_analysis-2.ensures

@@ -7,11 +7,11 @@ use Rattle.regress_backtrack.proofs.state.BacktrackState.captured_range_of.Goals
 pub returns-then-slot : goal.returns-then-slot
 returns-then-slot c =
     let h = c.args.self.now in
-    let s = c.held-slot.result in
-    of-group range_in h.groups h.slots c.args.id s c.requires c.held-slot.ensures.slot ∙ ap (λ b. Some (if b then Some (s.from, s.to) else None)) c.if-slot.true
+    let s = c.value_of_slot-slot.result in
+    of-group range_in h.groups h.slots c.args.id s c.requires c.value_of_slot-slot.ensures.slot ∙ ap (λ b. Some (if b then Some (s.from, s.to) else None)) c.if-slot.true
 
 pub returns-else-slot : goal.returns-else-slot
 returns-else-slot c =
     let h = c.args.self.now in
-    let s = c.held-slot.result in
-    of-group range_in h.groups h.slots c.args.id s c.requires c.held-slot.ensures.slot ∙ ap (λ b. Some (if b then Some (s.from, s.to) else None)) c.if-slot.false
+    let s = c.value_of_slot-slot.result in
+    of-group range_in h.groups h.slots c.args.id s c.requires c.value_of_slot-slot.ensures.slot ∙ ap (λ b. Some (if b then Some (s.from, s.to) else None)) c.if-slot.false

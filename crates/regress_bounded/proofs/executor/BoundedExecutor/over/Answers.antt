@@ -7,14 +7,14 @@ use Rattle.std.proofs.lemmas.Bool.{leb-true}
 use Rattle.regex_meaning.specs.CodeUnitOffsets.{units}
 use Rattle.regex_pattern_front.specs.AstToSpecTree.{tree_of}
 use Rattle.regress_memo.specs.MemoContents.{IsEmptyMemo}
-use Rattle.regress_program.specs.CodeOfTrees.{compiled}
+use Rattle.regress_program.specs.CompilationOfTreesAsFunction.{compiled}
 use Rattle.regress_pikevm.proofs.Remains.{reads-literals}
 use Rattle.regress_bounded.specs.ProgramWorkBounds.{work_per_unit}
 use Rattle.regress_bounded.proofs.Ending.{begun-right, begun-walked}
 use Rattle.regress_bounded.proofs.executor.BoundedExecutor.over.Goals as goal
 
-pub memory-requires : goal.memory-requires
-memory-requires g c = ∥∥₁_elim c.requires (Prim.hlevel props) (λ b. b.has.memo_analysis.coded)
+pub empty_memo_table-requires : goal.empty_memo_table-requires
+empty_memo_table-requires g c = ∥∥₁_elim c.requires (Prim.hlevel props) (λ b. b.has.memo_analysis.coded)
 
 pub invariant_of-result : goal.invariant_of-result
 invariant_of-result g c =

@@ -2,9 +2,9 @@ use Rattle.std.proofs.Common.{◌≡◌, ◌≤◌, ◌+◌, true, false, ap, sy
 use Rattle.std.proofs.lemmas.Bool.{leb-true}
 use Rattle.regex_pattern_front.specs.AstToSpecTree.{tree_of}
 use Rattle.regress_input.proofs.Places.{boundary_inside}
-use Rattle.regress_machine.specs.SearchResults.{ProgramCanSearchText}
-use Rattle.regress_program.specs.CodeOfTrees.{compiled}
-use Rattle.regress_exec.specs.WorkLimits.{next_attempt_offset}
+use Rattle.regress_machine.specs.SearchResults.{TreeProgramCanSearchText}
+use Rattle.regress_program.specs.CompilationOfTreesAsFunction.{compiled}
+use Rattle.regress_exec.specs.WorkLimits.{least_offset_after_match}
 use Rattle.regress_exec.proofs.Searchable.{can-search}
 use Rattle.regress_bounded.specs.SuccessiveAttempts.{HasWalked}
 use Rattle.regress_bounded.proofs.Ending.{found-inside, none-left, on-by-none, on-by-found, never-wanted}
@@ -14,7 +14,7 @@ use Rattle.regress_bounded.proofs.executor.BoundedExecutorAnchoredSearch.attempt
 
 -- how the tree is searched
 can : (g : Over) (c : Start g)
-    → ProgramCanSearchText (compiled (tree_of c.args.self.now.searched.program.now)) (tree_of c.args.self.now.searched.program.now) (g.Input.InputIndexer.text c.args.self.now.searched.input)
+    → TreeProgramCanSearchText (compiled (tree_of c.args.self.now.searched.program.now)) (tree_of c.args.self.now.searched.program.now) (g.Input.InputIndexer.text c.args.self.now.searched.input)
 can g c =
     let searched = c.args.self.now.searched in
     can-search (tree_of searched.program.now) (g.Input.InputIndexer.text searched.input) searched.well_formed (g.met.Input.InputIndexer.is_text searched.input) searched.unicode
@@ -22,17 +22,17 @@ can g c =
 
 -- ---- An end is found
 
-pub next_attempt_offset-self-requires : goal.next_attempt_offset-self-requires
-next_attempt_offset-self-requires g c =
+pub least_offset_after_match-self-requires : goal.least_offset_after_match-self-requires
+least_offset_after_match-self-requires g c =
     let self = c.args.self.now in
-    let inside = found-inside g.Input.Position.PositionType.offset (can g (goal.at.next_attempt_offset-self-requires g c).Start) (g.Input.Position.PositionType.offset c.args.pos) c.requires self.course c.preferred_end.new.course c.in-Ok-Some.field-0-is self.right c.in-Ok-Some.ensures.runs in
+    let inside = found-inside g.Input.Position.PositionType.offset (can g (goal.at.least_offset_after_match-self-requires g c).Start) (g.Input.Position.PositionType.offset c.args.pos) c.requires self.course c.preferred_final_state.new.course c.in-Ok-Some.field-0-is self.right c.in-Ok-Some.ensures.runs in
     let short = g.met.Input.InputIndexer.offsets_fit self.searched.input in
     let end_is = c.to_offset.ensures in
     omega (arith, inside, short, end_is)
 
 pub invariant_of-self : goal.invariant_of-self
 invariant_of-self g c = record {
-  right = c.preferred_end.ensures.right;
+  right = c.preferred_final_state.ensures.right;
   walked = λ on.
       let turn : (c.args.self.now.enough ≡ true) × (c.args.self.now.ahead ≤ g.Input.Position.PositionType.offset c.args.pos) = elim c.if-self.branch [
         | then-self w ↦ (
@@ -41,10 +41,10 @@ invariant_of-self g c = record {
         )
         | else-self w ↦ absurd (let never : false ≡ true = sym w.if-self.false ∙ sym w.self-is ∙ on in let no : ⊥ = cc in no)
       ] in
-      let end_is = ap (λ n. next_attempt_offset n c.to_offset.result) c.to_offset-at.ensures ∙ ap (next_attempt_offset (g.Input.Position.PositionType.offset c.args.pos)) c.to_offset.ensures in
-      subst (HasWalked (compiled (tree_of c.args.self.now.searched.program.now)) (g.Input.InputIndexer.text c.args.self.now.searched.input) c.preferred_end.new.course) (sym (c.next_attempt_offset-self.ensures ∙ end_is))
-      (on-by-found g.Input.Position.PositionType.offset (can g (goal.at.invariant_of-self g c).Start) (g.Input.Position.PositionType.offset c.args.pos) c.requires c.args.self.now.course c.preferred_end.new.course
-      (g.met.Input.InputIndexer.is_text c.args.self.now.searched.input) c.args.self.now.right c.preferred_end.ensures.memo_analysis (c.args.self.now.walked turn.0) turn.1
+      let end_is = ap (λ n. least_offset_after_match n c.to_offset.result) c.to_offset-at.ensures ∙ ap (least_offset_after_match (g.Input.Position.PositionType.offset c.args.pos)) c.to_offset.ensures in
+      subst (HasWalked (compiled (tree_of c.args.self.now.searched.program.now)) (g.Input.InputIndexer.text c.args.self.now.searched.input) c.preferred_final_state.new.course) (sym (c.least_offset_after_match-self.ensures ∙ end_is))
+      (on-by-found g.Input.Position.PositionType.offset (can g (goal.at.invariant_of-self g c).Start) (g.Input.Position.PositionType.offset c.args.pos) c.requires c.args.self.now.course c.preferred_final_state.new.course
+      (g.met.Input.InputIndexer.is_text c.args.self.now.searched.input) c.args.self.now.right c.preferred_final_state.ensures.memo_analysis (c.args.self.now.walked turn.0) turn.1
       c.in-Ok-Some.field-0-is c.in-Ok-Some.ensures.runs);
   spent = λ e. absurd (let no : ⊥ = cc in no);
 }
@@ -61,7 +61,7 @@ overflow_add-self g c =
 
 pub invariant_of-self-in-Ok-None : goal.invariant_of-self-in-Ok-None
 invariant_of-self-in-Ok-None g c = record {
-  right = c.preferred_end.ensures.right;
+  right = c.preferred_final_state.ensures.right;
   walked = λ on.
       let turn : (c.args.self.now.enough ≡ true) × (c.args.self.now.ahead ≤ g.Input.Position.PositionType.offset c.args.pos) = elim c.if-self.branch [
         | then-self w ↦ (
@@ -70,9 +70,9 @@ invariant_of-self-in-Ok-None g c = record {
         )
         | else-self w ↦ absurd (let never : false ≡ true = sym w.if-self.false ∙ sym w.self-is ∙ on in let no : ⊥ = cc in no)
       ] in
-      subst (λ n. HasWalked (compiled (tree_of c.args.self.now.searched.program.now)) (g.Input.InputIndexer.text c.args.self.now.searched.input) c.preferred_end.new.course (n + 1)) (sym c.to_offset-at.ensures)
-      (on-by-none g.Input.Position.PositionType.offset (can g (goal.at.invariant_of-self-in-Ok-None g c).Start) (g.Input.Position.PositionType.offset c.args.pos) c.requires c.args.self.now.course c.preferred_end.new.course
-      (g.met.Input.InputIndexer.is_text c.args.self.now.searched.input) c.args.self.now.right c.preferred_end.ensures.memo_analysis (c.args.self.now.walked turn.0) turn.1
+      subst (λ n. HasWalked (compiled (tree_of c.args.self.now.searched.program.now)) (g.Input.InputIndexer.text c.args.self.now.searched.input) c.preferred_final_state.new.course (n + 1)) (sym c.to_offset-at.ensures)
+      (on-by-none g.Input.Position.PositionType.offset (can g (goal.at.invariant_of-self-in-Ok-None g c).Start) (g.Input.Position.PositionType.offset c.args.pos) c.requires c.args.self.now.course c.preferred_final_state.new.course
+      (g.met.Input.InputIndexer.is_text c.args.self.now.searched.input) c.args.self.now.right c.preferred_final_state.ensures.memo_analysis (c.args.self.now.walked turn.0) turn.1
       c.in-Ok-None.field-0-is c.in-Ok-None.ensures.runs);
   spent = λ e. absurd (let no : ⊥ = cc in no);
 }
@@ -83,10 +83,10 @@ pub invariant_of-self-in-Err : goal.invariant_of-self-in-Err
 invariant_of-self-in-Err g c =
     let self = c.args.self.now in
     record {
-      right = c.preferred_end.ensures.right;
+      right = c.preferred_final_state.ensures.right;
       walked = λ e. absurd (let no : ⊥ = cc in no);
       spent = λ e. elim c.match-matches.branch [
-        | in-Work w ↦ none-left g.Input.Position.PositionType.offset (can g (goal.at.invariant_of-self-in-Err g c).Start) (g.Input.Position.PositionType.offset c.args.pos) c.requires self.course c.preferred_end.new.course c.in-Err.refusal self.right c.in-Err.ensures.runs w.in-Work.is
+        | in-Work w ↦ none-left g.Input.Position.PositionType.offset (can g (goal.at.invariant_of-self-in-Err g c).Start) (g.Input.Position.PositionType.offset c.args.pos) c.requires self.course c.preferred_final_state.new.course c.in-Err.refusal self.right c.in-Err.ensures.runs w.in-Work.is
         | in_default w ↦ absurd (let never : false ≡ true = sym w.self-is ∙ e in let no : ⊥ = cc in no)
       ];
     }
@@ -95,7 +95,7 @@ pub returns-after-matches-clause-work : goal.returns-after-matches-clause-work
 returns-after-matches-clause-work g c =
     let self = c.args.self.now in
     λ turn. elim c.match-matches.branch [
-      | in-Work w ↦ absurd (never-wanted g.Input.Position.PositionType.offset (can g (goal.at.returns-after-matches-clause-work g c).Start) (g.Input.Position.PositionType.offset c.args.pos) c.requires self.course c.preferred_end.new.course (g.met.Input.InputIndexer.is_text self.searched.input) self.right c.preferred_end.ensures.memo_analysis (self.walked turn.is) turn.past
+      | in-Work w ↦ absurd (never-wanted g.Input.Position.PositionType.offset (can g (goal.at.returns-after-matches-clause-work g c).Start) (g.Input.Position.PositionType.offset c.args.pos) c.requires self.course c.preferred_final_state.new.course (g.met.Input.InputIndexer.is_text self.searched.input) self.right c.preferred_final_state.ensures.memo_analysis (self.walked turn.is) turn.past
           c.in-Err.refusal c.in-Err.ensures.runs w.in-Work.is)
       | in_default w ↦ (w.self-is, tt)
     ]

@@ -1,5 +1,5 @@
 use Rattle.std.proofs.Common.{◌≡◌, drop, map, string_bytes, bytes_eq}
-use Rattle.regex_meaning.specs.Captures.{first_range, ids_named, ids_where}
+use Rattle.regex_meaning.specs.GroupsByNumberAndName.{first_range, ids_named, ids_where}
 use Rattle.regress_exec.specs.MatchAnswers.{answer_of}
 use Rattle.regress_exec.proofs.exec.Match.first_named.Given as goal
 

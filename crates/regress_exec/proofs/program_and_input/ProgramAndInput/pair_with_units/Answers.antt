@@ -5,9 +5,9 @@ use Rattle.regress_exec.proofs.program_and_input.ProgramAndInput.pair_with_units
 
 pub invariant_of-result : goal.invariant_of-result
 invariant_of-result g c = record {
-  unicode = c.requires ∙ ap (λ re. (tree_of re).flags.unicode) (sym c.program-program.ensures.tree);
+  unicode = c.requires ∙ ap (λ re. (tree_of re).flags.unicode) (sym c.program_common_to_both_unit_kinds-program.ensures.tree);
   well_formed = c.insns-well_formed.ensures.well_formed;
-  bytes = without-bytes (tree_of c.args.re.now) (tree_of c.program-program.result.now) (ap tree_of c.program-program.ensures.tree) c.program-program.ensures.no_bytes;
+  bytes = without-bytes (tree_of c.args.re.now) (tree_of c.program_common_to_both_unit_kinds-program.result.now) (ap tree_of c.program_common_to_both_unit_kinds-program.ensures.tree) c.program_common_to_both_unit_kinds-program.ensures.no_bytes;
   predicted = refl;
   scalars = λ none. cc;
 }

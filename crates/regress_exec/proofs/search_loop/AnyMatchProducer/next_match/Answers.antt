@@ -1,7 +1,7 @@
 use Rattle.std.proofs.Common.{◌+◌, ◌<◌, Option, Some, None, ap, sym, refl, subst, ◌∙◌, arith, option_map}
 use Rattle.regex_meaning.specs.CodeUnitOffsets.{IsBoundary}
 use Rattle.regex_meaning.specs.Tree.{Tree}
-use Rattle.regex_meaning.specs.Captures.{group_names_by_id}
+use Rattle.regex_meaning.specs.GroupsByNumberAndName.{group_names_by_id}
 use Rattle.regex_meaning.specs.StepBudget.{need_from}
 use Rattle.regress_exec.specs.MatchAnswers.{answer_from_parts}
 use Rattle.regress_exec.specs.Attempts.{next_search_offset}
@@ -17,8 +17,8 @@ use Rattle.regress_exec.proofs.search_loop.AnyMatchProducer.next_match.Goals as 
 pub places-init : goal.places-init
 places-init g c = record {
   walk = record {
-    walks = walk-begins _ _ (g.met.A.AnchoredSearch.is_text c.args.self.now) _ _ c.requires c.start_from-next.ensures.next;
-    spent = spent-begins _ _ (g.met.A.AnchoredSearch.is_text c.args.self.now) _ _ _ c.requires c.start_from-next.ensures.counted;
+    walks = walk-begins _ _ (g.met.A.AnchoredSearch.is_text c.args.self.now) _ _ c.requires c.first_start_to_try_from-next.ensures.next;
+    spent = spent-begins _ _ (g.met.A.AnchoredSearch.is_text c.args.self.now) _ _ _ c.requires c.first_start_to_try_from-next.ensures.counted;
   };
   same_tree = refl;
   same_text = refl;
@@ -26,7 +26,7 @@ places-init g c = record {
       let a = g.A.AnchoredSearch in
       let offset = g.A.Input.Position.PositionType.offset in
       let self = c.args.self.now in
-      enough-next (a.enough self) (a.ahead self) (a.tree self) (a.text self) (offset c.args.pos) (option_map offset c.start_from-next.result) c.start_from-next.ensures.next;
+      enough-next (a.enough self) (a.ahead self) (a.tree self) (a.text self) (offset c.args.pos) (option_map offset c.first_start_to_try_from-next.result) c.first_start_to_try_from-next.ensures.next;
   next_start = refl;
   left = omega arith;
 }
@@ -78,17 +78,17 @@ pub places-smaller : goal.places-smaller
 places-smaller g c =
     let goes = goes-there g.A.Input.Position.PositionType.offset (g.A.AnchoredSearch.groups c.attempt.new.self) (g.met.A.AnchoredSearch.is_text c.args.self.now)
     c.places.invariant.walk c.in-Some.is c.places.invariant.same_tree c.places.invariant.same_text c.in_ok-end.ensures.found c.in_ok-end.ensures.steps
-    c.in_default-2.is c.in_ok-end.ensures.same.0 c.in_ok-end.ensures.same.1 c.start_after-next.ensures.next c.start_after-next.ensures.counted in
+    c.in_default-2.is c.in_ok-end.ensures.same.0 c.in_ok-end.ensures.same.1 c.next_start_to_try_after-next.ensures.next c.next_start_to_try_after-next.ensures.counted in
     let offset = g.A.Input.Position.PositionType.offset in
     let text = g.A.AnchoredSearch.text c.args.self.now in
-    subst (λ o. untried text (option_map offset c.start_after-next.result) < untried text (option_map offset o)) (sym c.in-Some.is) goes.less
+    subst (λ o. untried text (option_map offset c.next_start_to_try_after-next.result) < untried text (option_map offset o)) (sym c.in-Some.is) goes.less
 
 pub places-preserved : goal.places-preserved
 places-preserved g c =
     let invariant = c.places.invariant in
     let goes = goes-there g.A.Input.Position.PositionType.offset (g.A.AnchoredSearch.groups c.attempt.new.self) (g.met.A.AnchoredSearch.is_text c.args.self.now)
     c.places.invariant.walk c.in-Some.is c.places.invariant.same_tree c.places.invariant.same_text c.in_ok-end.ensures.found c.in_ok-end.ensures.steps
-    c.in_default-2.is c.in_ok-end.ensures.same.0 c.in_ok-end.ensures.same.1 c.start_after-next.ensures.next c.start_after-next.ensures.counted in
+    c.in_default-2.is c.in_ok-end.ensures.same.0 c.in_ok-end.ensures.same.1 c.next_start_to_try_after-next.ensures.next c.next_start_to_try_after-next.ensures.counted in
     record {
       walk = goes.walk;
       same_tree = c.in_ok-end.ensures.same.0 ∙ invariant.same_tree;
@@ -98,7 +98,7 @@ places-preserved g c =
           let offset = g.A.Input.Position.PositionType.offset in
           let old = c.places.self in
           let new = c.attempt.new.self in
-          enough-next (a.enough new) (a.ahead new) (a.tree new) (a.text new) (offset c.in-Some.start + 1) (option_map offset c.start_after-next.result) c.start_after-next.ensures.next
+          enough-next (a.enough new) (a.ahead new) (a.tree new) (a.text new) (offset c.in-Some.start + 1) (option_map offset c.next_start_to_try_after-next.result) c.next_start_to_try_after-next.ensures.next
           (turn-behind (a.enough old) (a.ahead old) (a.enough new) (a.ahead new) (a.out_of_work new) offset c.places.next _ None c.in-Some.start
           c.in-Some.is (invariant.turn begins) c.in_ok-end.ensures.work c.in_default-2.is);
       next_start = invariant.next_start;

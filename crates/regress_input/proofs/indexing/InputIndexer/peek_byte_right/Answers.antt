@@ -2,7 +2,7 @@ use Rattle.std.proofs.Common.{arith}
 use Rattle.regress_input.proofs.Moves.{inside_bytes}
 use Rattle.regress_input.proofs.indexing.InputIndexer.peek_byte_right.Goals as goal
 
-pub unit_right-requires : goal.unit_right-requires
-unit_right-requires g c =
-    let all = inside_bytes g.Self.Units.CodeUnits.ARE_BYTES _ (g.met.Self.InputIndexer.is_text c.args.self.now) (g.met.Self.InputIndexer.in_utf8 c.args.self.now) c.in-Some.all.now c.in-Some.ensures in
+pub byte_right-requires : goal.byte_right-requires
+byte_right-requires g c =
+    let all = inside_bytes g.Self.Units.CodeUnitKind.ARE_BYTES _ (g.met.Self.InputIndexer.is_text c.args.self.now) (g.met.Self.InputIndexer.in_utf8 c.args.self.now) c.in-Some.all.now c.in-Some.ensures in
     omega (arith, all, c.requires.inside, c.to_offset.ensures)

@@ -1,5 +1,5 @@
 use Rattle.std.proofs.Common.{◌≡◌, Bool, true, sym, ◌∙◌, ap, arith}
-use Rattle.regress_input.specs.ReadsFromOffset.{reading_direction, past_bytes, bytes_of, if_byte_units}
+use Rattle.regress_input.specs.ReadsFromOffset.{direction_of_forward_flag, past_bytes_if_next, bytes_of, read_if_units_are_bytes}
 use Rattle.regress_input.proofs.Places.{boundary_inside}
 use Rattle.regress_input.proofs.ByteTests.{literal_accepts}
 use Rattle.regress_input.proofs.scm.MatchByteSeqSingleCharMatcher.matches.Goals as goal
@@ -13,12 +13,12 @@ returns-then-ARE_BYTES g c =
     let laws = g.met.Input.InputIndexer in
     let text = g.Input.InputIndexer.text input in
     let literal = c.args.self.now.0.now in
-    let d = reading_direction g.Dir.Direction.FORWARD in
+    let d = direction_of_forward_flag g.Dir.Direction.FORWARD in
     let at = g.Input.Position.PositionType.offset c.args.pos.now in
     let one = c.requires.can.1 in
-    let are : g.Input.Units.CodeUnits.ARE_BYTES ≡ true = sym c.ARE_BYTES.ensures ∙ c.if-ARE_BYTES.true in
+    let are : g.Input.Units.CodeUnitKind.ARE_BYTES ≡ true = sym c.ARE_BYTES.ensures ∙ c.if-ARE_BYTES.true in
     c.match_bytes.ensures
-    ∙ ap (λ (b : Bool). if_byte_units b (past_bytes (bytes_of text) literal d at)) are
+    ∙ ap (λ (b : Bool). read_if_units_are_bytes b (past_bytes_if_next (bytes_of text) literal d at)) are
     ∙ literal_accepts text (laws.is_text input) (laws.in_utf8 input are) literal one.0 one.1 one.2 d at c.requires.at
 
 pub shared_whole_as_slice-match_bytes : goal.shared_whole_as_slice-match_bytes

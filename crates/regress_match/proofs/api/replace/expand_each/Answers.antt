@@ -1,7 +1,7 @@
 use Rattle.std.proofs.Common.{◌≡◌, ◌∙◌, ◌++◌, ap, string_bytes}
 use Rattle.regex_meaning.specs.Replace.{expansion, replaced}
 use Rattle.regress_exec.specs.RemainingAnswers.{RemainingView}
-use Rattle.regress_match.specs.Replacements.{expansion_of_each_match}
+use Rattle.regress_match.specs.ExpansionsAndMatchRanges.{matches_with_expansions}
 use Rattle.regress_match.proofs.CallerLemmas.{IsReached, reached-none, takes-next}
 use Rattle.regress_match.proofs.Replacing.{replaced-more, replaced-end}
 use Rattle.regress_match.proofs.api.replace.expand_each.Given.{Over}
@@ -18,28 +18,28 @@ loop-item-init g c =
       finite = tt;
       reached = reached-none text 0 c.args.matches left c.utf8.text c.requires c.into_iter-item-iterator.ensures.into_iter_gives;
       begun =
-          ap (λ bs. bs ++ replaced text 0 (expansion_of_each_match text replacement left.answers)) c.new-made.ensures.bytes
-          ∙ ap (λ (it : RemainingView). replaced text 0 (expansion_of_each_match text replacement it.answers)) c.into_iter-item-iterator.ensures.into_iter_gives;
+          ap (λ bs. bs ++ replaced text 0 (matches_with_expansions text replacement left.answers)) c.new-made.ensures.bytes
+          ∙ ap (λ (it : RemainingView). replaced text 0 (matches_with_expansions text replacement it.answers)) c.into_iter-item-iterator.ensures.into_iter_gives;
     }
 
-pub append_up_to-requires-clause-rising : goal.append_up_to-requires-clause-rising
-append_up_to-requires-clause-rising g c = (takes-next _ _ _ _ _ _ c.in_ok-found.found c.loop-item.invariant.reached c.in-Some.ensures.steps c.in_ok-found.was).before.0
+pub append_unmatched_text_up_to_match-requires-clause-rising : goal.append_unmatched_text_up_to_match-requires-clause-rising
+append_unmatched_text_up_to_match-requires-clause-rising g c = (takes-next _ _ _ _ _ _ c.in_ok-found.found c.loop-item.invariant.reached c.in-Some.ensures.steps c.in_ok-found.was).before.0
 
-pub append_up_to-requires-clause-boundary : goal.append_up_to-requires-clause-boundary
-append_up_to-requires-clause-boundary g c = c.loop-item.invariant.reached.boundary
+pub append_unmatched_text_up_to_match-requires-clause-boundary : goal.append_unmatched_text_up_to_match-requires-clause-boundary
+append_unmatched_text_up_to_match-requires-clause-boundary g c = c.loop-item.invariant.reached.boundary
 
-pub append_up_to-requires-clause-fits : goal.append_up_to-requires-clause-fits
-append_up_to-requires-clause-fits g c = (takes-next _ _ _ _ _ _ c.in_ok-found.found c.loop-item.invariant.reached c.in-Some.ensures.steps c.in_ok-found.was).fits
+pub append_unmatched_text_up_to_match-requires-clause-fits : goal.append_unmatched_text_up_to_match-requires-clause-fits
+append_unmatched_text_up_to_match-requires-clause-fits g c = (takes-next _ _ _ _ _ _ c.in_ok-found.found c.loop-item.invariant.reached c.in-Some.ensures.steps c.in_ok-found.was).fits
 
 -- what holds once a match is expanded
 written : (g : Over) (c : In_ok-expand g)
     → IsReached c.args.text.now c.args.matches.limited c.in_ok-from.from c.next.new.self
-    × (string_bytes c.expand.new.out ++ replaced c.args.text.now c.in_ok-from.from (expansion_of_each_match c.args.text.now c.args.replacement.now c.next.new.self.answers)
-    ≡ replaced c.args.text.now 0 (expansion_of_each_match c.args.text.now c.args.replacement.now c.args.matches.answers))
+    × (string_bytes c.expand.new.out ++ replaced c.args.text.now c.in_ok-from.from (matches_with_expansions c.args.text.now c.args.replacement.now c.next.new.self.answers)
+    ≡ replaced c.args.text.now 0 (matches_with_expansions c.args.text.now c.args.replacement.now c.args.matches.answers))
 written g c =
     let takes = takes-next c.args.text.now _ _ c.loop-item.item-iterator c.next.new.self _ c.in_ok-found.found c.loop-item.invariant.reached c.in-Some.ensures.steps c.in_ok-found.was in (
       takes.reached c.in_ok-from.from c.in_ok-from.ensures.behind,
-      replaced-more c.args.text.now (λ m. expansion c.args.text.now m c.args.replacement.now) (string_bytes c.loop-item.made) (string_bytes c.append_up_to.new.made) (string_bytes c.expand.new.out) _ c.loop-item.from c.in_ok-from.from
+      replaced-more c.args.text.now (λ m. expansion c.args.text.now m c.args.replacement.now) (string_bytes c.loop-item.made) (string_bytes c.append_unmatched_text_up_to_match.new.made) (string_bytes c.expand.new.out) _ c.loop-item.from c.in_ok-from.from
           c.loop-item.item-iterator.answers c.next.new.self.answers _ c.loop-item.invariant.begun takes.next c.in_ok-from.ensures.made c.in_ok-expand.ensures c.in_ok-from.ensures.behind,
     )
 

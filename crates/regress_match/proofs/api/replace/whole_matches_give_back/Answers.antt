@@ -3,7 +3,7 @@ use Rattle.regex_meaning.specs.Text.{utf8_text}
 use Rattle.regex_meaning.proofs.Ordered.{answers-StandInOrder}
 use Rattle.regex_meaning.proofs.TextLemmas.{utf8_text-IsText}
 use Rattle.regex_meaning.proofs.TextOut.{replaced-whole}
-use Rattle.regress_match.specs.RegexPrograms.{byte_tree, utf8_answers}
+use Rattle.regress_match.specs.ProgramTreesAndAnswers.{byte_tree, utf8_answers}
 use Rattle.regress_match.proofs.Replacing.{first-stands}
 use Rattle.regress_match.proofs.api.replace.whole_matches_give_back.Goals as goal
 

@@ -1,7 +1,7 @@
 use Rattle.std.proofs.Common.{◌≡◌, true, sym, subst, ap, ◌∙◌}
 use Rattle.std.specs.Arc.{arc_value}
 use Rattle.regress_memo_analysis.specs.AnalysisContents.{bit_of}
-use Rattle.regress_memo_analysis.specs.CheckedAnalysis.{HasBit}
+use Rattle.regress_memo_analysis.specs.CheckedAnalysis.{MemoKeyHasBit}
 use Rattle.regress_memo.specs.MemoContractView.{MemoView}
 use Rattle.regress_memo.specs.MemoContents.{as_key, RecordsSuccess}
 use Rattle.regress_memo.proofs.MemoLemmas.{known_by, notes-end}
@@ -10,7 +10,7 @@ use Rattle.regress_memo.proofs.memo.MemoTable.record_success.Goals as goal
 pub returns : goal.returns
 returns c =
     let k = as_key c.args.key in
-    let has = subst (λ (m : MemoView). HasBit m.memo_analysis m.places k) (sym c.self.view_is) c.requires.key in
+    let has = subst (λ (m : MemoView). MemoKeyHasBit m.memo_analysis m.places k) (sym c.self.view_is) c.requires.key in
     let wanted = subst (λ (m : MemoView). m.records_successes ≡ true) (sym c.self.view_is) c.requires.wanted in
     let m = c.self.inside in
     let old = known_by (arc_value m.memo_analysis) m.places m.records_successes m.failures.words.items m.ends.words.items in

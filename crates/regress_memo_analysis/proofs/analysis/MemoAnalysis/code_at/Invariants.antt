@@ -6,4 +6,4 @@ use Rattle.regress_memo_analysis.proofs.analysis.MemoAnalysis.code_at.Given as g
 abbrev pub invariant-loop-row : goal.invariant-loop-row
 invariant-loop-row g l =
     let up : ℕ → ℕ = λ i. (count_bound_of l.self i).up_to in
-    SoFar up l.rows (drop l.row-index l.rows) l.at (g.R.LoopStates.rounds l.rounds) l.digits.code l.digits.codes
+    SoFar up l.rows (drop l.row-index l.rows) l.at (g.R.IterationStatesOfAllLoops.rounds l.rounds) l.digits.code l.digits.codes

@@ -9,6 +9,6 @@ loop-row-preserved c =
     record {
       few = omega arith;
       product =
-          few-next up c.enclosing_loops-rows.result.now c.loop-row.row-index _ c.loop-row-test.true c.loop-row.codes c.answers-answers.result _
-          c.answers-answers.ensures.answers c.loop-row.invariant.product;
+          few-next up c.enclosing_loops-rows.result.now c.loop-row.row-index _ c.loop-row-test.true c.loop-row.codes c.number_of_digit_values-answers.result _
+          c.number_of_digit_values-answers.ensures.answers c.loop-row.invariant.product;
     }

@@ -1,8 +1,8 @@
 use Rattle.std.proofs.Common.{sym, subst, arith, map, Some, ◌+◌}
 use Rattle.regex_meaning.proofs.TextLemmas.{IsBoundary-place}
 use Rattle.regex_pattern_front.specs.AstToSpecTree.{tree_of}
-use Rattle.regress_input.specs.ReadsFromOffset.{reading_direction}
-use Rattle.regress_program.specs.CodeOfTrees.{compiled}
+use Rattle.regress_input.specs.ReadsFromOffset.{direction_of_forward_flag}
+use Rattle.regress_program.specs.CompilationOfTreesAsFunction.{compiled}
 use Rattle.regress_program.specs.InsnMeanings.{spec_insn_of}
 use Rattle.regress_machine.specs.Machine.{test_of}
 use Rattle.regress_pikevm.specs.States.{state_of}
@@ -18,42 +18,42 @@ characters-init g c =
       boundary = c.requires.boundary;
       fits = omega arith;
       reaching = λ test p e f.
-          subst (λ l. IsReaching text test (reading_direction g.Dir.Direction.FORWARD) c.args.run.min_iters c.args.run.max_iters p s 0 (offset c.args.state.now.pos) (map (λ s. state_of offset s) l)) (sym c.new-states.ensures.items)
-          (reach-none text (g.met.Input.InputIndexer.is_text c.args.searched.now.input) test (reading_direction g.Dir.Direction.FORWARD) c.args.run.min_iters c.args.run.max_iters p s f);
+          subst (λ l. IsReaching text test (direction_of_forward_flag g.Dir.Direction.FORWARD) c.args.run.min_iters c.args.run.max_iters p s 0 (offset c.args.state.now.pos) (map (λ s. state_of offset s) l)) (sym c.new-states.ensures.items)
+          (reach-none text (g.met.Input.InputIndexer.is_text c.args.searched.now.input) test (direction_of_forward_flag g.Dir.Direction.FORWARD) c.args.run.min_iters c.args.run.max_iters p s f);
     }
 
 pub returns-then-count-run : goal.returns-then-count-run
 returns-then-count-run g c = λ test p e f.
     let offset = g.Input.Position.PositionType.offset in
-    reach-most _ (g.met.Input.InputIndexer.is_text c.args.searched.now.input) test (reading_direction g.Dir.Direction.FORWARD) c.args.run.min_iters c.args.run.max_iters p (state_of offset c.args.state.now)
+    reach-most _ (g.met.Input.InputIndexer.is_text c.args.searched.now.input) test (direction_of_forward_flag g.Dir.Direction.FORWARD) c.args.run.min_iters c.args.run.max_iters p (state_of offset c.args.state.now)
     c.characters.count (offset c.characters.at) _ _ (c.characters.invariant.reaching test p e f) c.in_ok-push_if_wanted.ensures c.if-count-run.true
 
-pub accepts_next-requires-clause-at : goal.accepts_next-requires-clause-at
-accepts_next-requires-clause-at g c = c.characters.invariant.boundary
+pub insn_accepts_next_char-requires-clause-at : goal.insn_accepts_next_char-requires-clause-at
+insn_accepts_next_char-requires-clause-at g c = c.characters.invariant.boundary
 
-pub returns-then-not-accepts_next : goal.returns-then-not-accepts_next
-returns-then-not-accepts_next g c = λ test p e f.
+pub returns-then-not-insn_accepts_next_char : goal.returns-then-not-insn_accepts_next_char
+returns-then-not-insn_accepts_next_char g c = λ test p e f.
     let offset = g.Input.Position.PositionType.offset in
-    reach-end _ (g.met.Input.InputIndexer.is_text c.args.searched.now.input) test (reading_direction g.Dir.Direction.FORWARD) c.args.run.min_iters c.args.run.max_iters p (state_of offset c.args.state.now)
-    c.characters.count (offset c.characters.at) (offset c.accepts_next.new.pos) _ _ c.accepts_next.result (c.characters.invariant.reaching test p e f) c.in_ok-push_if_wanted.ensures
-    (omega (arith, c.characters.invariant.fits, c.if-count-run.false)) c.if-not-accepts_next.true (c.accepts_next.ensures test e)
+    reach-end _ (g.met.Input.InputIndexer.is_text c.args.searched.now.input) test (direction_of_forward_flag g.Dir.Direction.FORWARD) c.args.run.min_iters c.args.run.max_iters p (state_of offset c.args.state.now)
+    c.characters.count (offset c.characters.at) (offset c.insn_accepts_next_char.new.pos) _ _ c.insn_accepts_next_char.result (c.characters.invariant.reaching test p e f) c.in_ok-push_if_wanted.ensures
+    (omega (arith, c.characters.invariant.fits, c.if-count-run.false)) c.if-not-insn_accepts_next_char.true (c.insn_accepts_next_char.ensures test e)
 
 pub characters-preserved : goal.characters-preserved
 characters-preserved g c =
     let text = g.Input.InputIndexer.text c.args.searched.now.input in
     let is = g.met.Input.InputIndexer.is_text c.args.searched.now.input in
     let offset = g.Input.Position.PositionType.offset in
-    let d = reading_direction g.Dir.Direction.FORWARD in
+    let d = direction_of_forward_flag g.Dir.Direction.FORWARD in
     let s = state_of offset c.args.state.now in
     let t = some-of (test_of (compiled (tree_of c.args.searched.now.program.now)) (Some (spec_insn_of c.args.body))) c.requires.test in
     let p = IsBoundary-place text (offset c.args.state.now.pos) is c.requires.boundary in
     record {
       boundary =
-          reaching-boundary text is t.0 d c.args.run.min_iters c.args.run.max_iters p.0 s (c.characters.count + 1) (offset c.accepts_next.new.pos) _
-          (reach-more text is t.0 d c.args.run.min_iters c.args.run.max_iters p.0 s c.characters.count (offset c.characters.at) (offset c.accepts_next.new.pos) _ _ c.accepts_next.result
-          (c.characters.invariant.reaching t.0 p.0 t.1 p.1) c.in_ok-push_if_wanted.ensures c.if-not-accepts_next.false (c.accepts_next.ensures t.0 t.1));
+          reaching-boundary text is t.0 d c.args.run.min_iters c.args.run.max_iters p.0 s (c.characters.count + 1) (offset c.insn_accepts_next_char.new.pos) _
+          (reach-more text is t.0 d c.args.run.min_iters c.args.run.max_iters p.0 s c.characters.count (offset c.characters.at) (offset c.insn_accepts_next_char.new.pos) _ _ c.insn_accepts_next_char.result
+          (c.characters.invariant.reaching t.0 p.0 t.1 p.1) c.in_ok-push_if_wanted.ensures c.if-not-insn_accepts_next_char.false (c.insn_accepts_next_char.ensures t.0 t.1));
       fits = omega (arith, c.characters.invariant.fits, c.if-count-run.false);
       reaching = λ test q e f.
-          reach-more text is test d c.args.run.min_iters c.args.run.max_iters q s c.characters.count (offset c.characters.at) (offset c.accepts_next.new.pos) _ _ c.accepts_next.result
-          (c.characters.invariant.reaching test q e f) c.in_ok-push_if_wanted.ensures c.if-not-accepts_next.false (c.accepts_next.ensures test e);
+          reach-more text is test d c.args.run.min_iters c.args.run.max_iters q s c.characters.count (offset c.characters.at) (offset c.insn_accepts_next_char.new.pos) _ _ c.insn_accepts_next_char.result
+          (c.characters.invariant.reaching test q e f) c.in_ok-push_if_wanted.ensures c.if-not-insn_accepts_next_char.false (c.insn_accepts_next_char.ensures test e);
     }

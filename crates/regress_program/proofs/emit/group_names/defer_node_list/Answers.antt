@@ -1,7 +1,7 @@
 use Rattle.std.proofs.Common.{◌≡◌, ◌∙◌, ◌∷◌, sym, true, arith}
-use Rattle.regex_meaning.specs.Captures.{capturing_group_ids_and_names}
+use Rattle.regex_meaning.specs.GroupsByNumberAndName.{capturing_group_ids_and_names}
 use Rattle.regex_pattern_front.specs.AstToSpecTree.{node_of}
-use Rattle.regress_program.specs.NodeListsAndLeaves.{cat_of, is_leaf}
+use Rattle.regress_program.specs.LeavesListsAndCharLoops.{cat_of, is_leaf}
 use Rattle.regress_program.specs.GroupNames.{naming_measure, node_list_measure, pending_names}
 use Rattle.regress_program.proofs.FilingLemmas.{files-none, files-two, row-load, row-names, row-none, row-skips}
 use Rattle.regress_program.proofs.emit.group_names.defer_node_list.Goals as goal

@@ -1,6 +1,6 @@
 use Rattle.std.proofs.Common.{◌≡◌, ◌≤◌, length}
-use Rattle.regex_meaning.specs.Captures.{capturing_group_ids_and_names}
-use Rattle.regress_program.specs.NodeListsAndLeaves.{cat_of}
+use Rattle.regex_meaning.specs.GroupsByNumberAndName.{capturing_group_ids_and_names}
+use Rattle.regress_program.specs.LeavesListsAndCharLoops.{cat_of}
 use Rattle.regress_program.specs.GroupNames.{node_list_measure}
 use Rattle.regress_program.proofs.emit.group_names.defer_node_list.Given as goal
 

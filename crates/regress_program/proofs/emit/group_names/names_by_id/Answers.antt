@@ -1,5 +1,5 @@
 use Rattle.std.proofs.Common.{◌≡◌, ◌∙◌, ap, sym, length, map, string_bytes}
-use Rattle.regex_meaning.specs.Captures.{capturing_group_ids_and_names}
+use Rattle.regex_meaning.specs.GroupsByNumberAndName.{capturing_group_ids_and_names}
 use Rattle.regex_pattern_front.specs.AstToSpecTree.{node_of}
 use Rattle.regress_program.specs.GroupNames.{with_names_stored_by_id}
 use Rattle.regress_program.proofs.FilingLemmas.{written_over, names-filed}
@@ -14,4 +14,4 @@ returns c =
     let filed_names : map string_bytes c.store_names.new.names ≡ with_names_stored_by_id (capturing_group_ids_and_names root) (map string_bytes old) = rw c.deref_mut.ensures.value at c.in_ok-store_names.ensures.with_names_stored_by_id in
     ap (map string_bytes) (written_over c.store_names.new.names old c.in_ok-names.names.len all)
     ∙ filed_names ∙ ap (with_names_stored_by_id (capturing_group_ids_and_names root)) c.in_ok-names.ensures
-    ∙ names-filed root c.args.groups c.requires.once c.requires.all (sym c.is_unnamed.ensures ∙ c.if-is_unnamed.false)
+    ∙ names-filed root c.args.groups c.requires.once c.requires.all (sym c.has_no_named_groups.ensures ∙ c.if-has_no_named_groups.false)

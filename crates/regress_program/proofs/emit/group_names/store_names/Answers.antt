@@ -1,5 +1,5 @@
 use Rattle.std.proofs.Common.{◌∙◌, ap, refl, map, string_bytes}
-use Rattle.regex_meaning.specs.Captures.{capturing_group_ids_and_names}
+use Rattle.regex_meaning.specs.GroupsByNumberAndName.{capturing_group_ids_and_names}
 use Rattle.regex_pattern_front.specs.AstToSpecTree.{node_of}
 use Rattle.regress_program.specs.GroupNames.{with_names_stored_by_id, pending_names_stored, pending_names}
 use Rattle.regress_program.proofs.FilingLemmas.{next-filed, next-less}

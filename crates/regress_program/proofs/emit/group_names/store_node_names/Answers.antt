@@ -1,9 +1,9 @@
 use Rattle.std.proofs.Common.{◌≡◌, ◌+◌, ◌∷◌, ◌++◌, ◌∙◌, ap, sym, arith, map, string_bytes}
 use Rattle.std.proofs.lemmas.Result.{IfOk-weaker}
-use Rattle.regex_meaning.specs.Captures.{capturing_group_ids_and_names}
+use Rattle.regex_meaning.specs.GroupsByNumberAndName.{capturing_group_ids_and_names}
 use Rattle.regex_pattern_front.specs.AstToSpecTree.{node_of, group_name_bytes}
-use Rattle.regress_program.specs.NodeListsAndLeaves.{cat_of}
-use Rattle.regress_program.specs.InnerNodeCounts.{inner_node_count}
+use Rattle.regress_program.specs.LeavesListsAndCharLoops.{cat_of}
+use Rattle.regress_program.specs.InnerNodeCountMeasure.{inner_node_count}
 use Rattle.regress_program.specs.GroupNames.{node_measure, naming_measure, node_list_measure, pending_names}
 use Rattle.regress_program.proofs.FilingLemmas.{files-alternatives, files-cheap, files-group, files-inside, files-none}
 use Rattle.regress_program.proofs.LeafLemmas.{leaf-bare, leaf-left}

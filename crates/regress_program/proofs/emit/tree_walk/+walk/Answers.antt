@@ -2,7 +2,7 @@ use Rattle.std.proofs.Common.{◌≡◌, ◌<◌, [], ◌∙◌, ap, sym, rules,
 use Rattle.std.specs.Prelude.{is_some}
 use Rattle.std.proofs.lemmas.List.{drop_all}
 use Rattle.regex_pattern_front.specs.AstToSpecTree.{node_of}
-use Rattle.regress_program.specs.NodeListsAndLeaves.{cat_of}
+use Rattle.regress_program.specs.LeavesListsAndCharLoops.{cat_of}
 use Rattle.regress_program.specs.TreeWalk.{try_fold_nodes}
 use Rattle.regress_program.proofs.NodeLemmas.{node_of-Cat}
 use Rattle.regress_program.proofs.WalkedLemmas.{row-same, walk-stops}
@@ -18,26 +18,26 @@ walk-walk_row-requires g t c κs inside =
 
 pub walk-returns-in-Cat-clause-goes_on : goal.walk-returns-in-Cat-clause-goes_on
 walk-returns-in-Cat-clause-goes_on g t c =
-    let step = g.V.Visitor.step in
-    let laws = g.met.V.Visitor in
+    let step = g.V.NodeVisitor.step in
+    let laws = g.met.V.NodeVisitor in
     let is : node_of c.loop-rest.rest.now ≡ cat_of c.deref.result.now = ap node_of c.in-Cat.is ∙ node_of-Cat c.in-Cat.nodes ∙ ap cat_of (sym c.deref.ensures.value) in
-    let same = row-same step laws.passes_rows laws.passes_ends c.deref.result.now _ _ _ is (c.visit.ensures.step c.loop-rest-test.true) in
+    let same = row-same step laws.passes_rows laws.passes_ends c.deref.result.now _ _ _ is (c.visit_single_node.ensures.step c.loop-rest-test.true) in
     c.walk_row.ensures.goes_on ∙ ap (λ v. is_some (try_fold_nodes step (cat_of c.deref.result.now) v)) same
     ∙ ap (λ n. is_some (try_fold_nodes step n c.loop-rest.visitor)) (sym is) ∙ ap is_some c.loop-rest.invariant.walked
 
 pub walk-returns-in-Cat-clause-walked : goal.walk-returns-in-Cat-clause-walked
 walk-returns-in-Cat-clause-walked g t c went =
-    let step = g.V.Visitor.step in
-    let laws = g.met.V.Visitor in
+    let step = g.V.NodeVisitor.step in
+    let laws = g.met.V.NodeVisitor in
     let is : node_of c.loop-rest.rest.now ≡ cat_of c.deref.result.now = ap node_of c.in-Cat.is ∙ node_of-Cat c.in-Cat.nodes ∙ ap cat_of (sym c.deref.ensures.value) in
-    let same = row-same step laws.passes_rows laws.passes_ends c.deref.result.now _ _ _ is (c.visit.ensures.step c.loop-rest-test.true) in
+    let same = row-same step laws.passes_rows laws.passes_ends c.deref.result.now _ _ _ is (c.visit_single_node.ensures.step c.loop-rest-test.true) in
     sym c.loop-rest.invariant.walked ∙ ap (λ n. try_fold_nodes step n c.loop-rest.visitor) is
     ∙ ap (try_fold_nodes step (cat_of c.deref.result.now)) (sym same) ∙ c.walk_row.ensures.walked went
 
 pub walk-returns-clause-goes_on : goal.walk-returns-clause-goes_on
 walk-returns-clause-goes_on g t c =
-    let step = g.V.Visitor.step in
-    walk-stops step (node_of c.loop-rest.rest.now) c.loop-rest.visitor (sym c.loop-rest-test.false ∙ c.visit.ensures.goes_on) ∙ ap is_some c.loop-rest.invariant.walked
+    let step = g.V.NodeVisitor.step in
+    walk-stops step (node_of c.loop-rest.rest.now) c.loop-rest.visitor (sym c.loop-rest-test.false ∙ c.visit_single_node.ensures.goes_on) ∙ ap is_some c.loop-rest.invariant.walked
 
 pub walk_arm-walk_row-requires : goal.walk_arm-walk_row-requires
 walk_arm-walk_row-requires g t c κs inside =
@@ -64,12 +64,12 @@ walk_row-walk-requires g t c κs inside =
 
 pub walk_row-returns-clause-walked : goal.walk_row-returns-clause-walked
 walk_row-returns-clause-walked g t c went =
-    let step = g.V.Visitor.step in
+    let step = g.V.NodeVisitor.step in
     let none : drop c.loop-node.node-index c.args.nodes.now ≡ [] = drop_all c.loop-node.node-index c.args.nodes.now c.loop-node-test.false in
-    sym c.loop-node.invariant ∙ ap (λ ns. try_fold_nodes step (cat_of ns) c.loop-node.visitor) none ∙ g.met.V.Visitor.passes_ends c.loop-node.visitor
+    sym c.loop-node.invariant ∙ ap (λ ns. try_fold_nodes step (cat_of ns) c.loop-node.visitor) none ∙ g.met.V.NodeVisitor.passes_ends c.loop-node.visitor
 
 pub walk_row-returns-clause-goes_on : goal.walk_row-returns-clause-goes_on
 walk_row-returns-clause-goes_on g t c =
-    let step = g.V.Visitor.step in
+    let step = g.V.NodeVisitor.step in
     let none : drop c.loop-node.node-index c.args.nodes.now ≡ [] = drop_all c.loop-node.node-index c.args.nodes.now c.loop-node-test.false in
-    ap is_some (sym (ap (λ ns. try_fold_nodes step (cat_of ns) c.loop-node.visitor) none ∙ g.met.V.Visitor.passes_ends c.loop-node.visitor)) ∙ ap is_some c.loop-node.invariant
+    ap is_some (sym (ap (λ ns. try_fold_nodes step (cat_of ns) c.loop-node.visitor) none ∙ g.met.V.NodeVisitor.passes_ends c.loop-node.visitor)) ∙ ap is_some c.loop-node.invariant

@@ -1,6 +1,6 @@
 use Rattle.std.proofs.Common.{◌≡◌, ◌+◌, ◌*◌, ◌≤◌, drop}
 use Rattle.regex_pattern_front.specs.AstToSpecTree.{node_of}
-use Rattle.regress_program.specs.NodeListsAndLeaves.{cat_of}
+use Rattle.regress_program.specs.LeavesListsAndCharLoops.{cat_of}
 use Rattle.regress_program.specs.TreeWalk.{try_fold_nodes}
 use Rattle.regress_program.proofs.Weights.{inner_node_count}
 use Rattle.regress_program.proofs.emit.tree_walk.+walk.Given as goal
@@ -17,11 +17,11 @@ decreases-walk_row g l = 3 * inner_node_count (cat_of l.nodes.now)
 abbrev pub invariant-walk-loop-rest : goal.invariant-walk-loop-rest
 invariant-walk-loop-rest g l = record {
   within : inner_node_count (node_of l.rest) ≤ inner_node_count (node_of l.root);
-  walked : try_fold_nodes g.V.Visitor.step (node_of l.rest) l.visitor ≡ try_fold_nodes g.V.Visitor.step (node_of l.root) l.initial.visitor;
+  walked : try_fold_nodes g.V.NodeVisitor.step (node_of l.rest) l.visitor ≡ try_fold_nodes g.V.NodeVisitor.step (node_of l.root) l.initial.visitor;
 }
 
 abbrev pub decreases-walk-loop-rest : goal.decreases-walk-loop-rest
 decreases-walk-loop-rest g l = inner_node_count (node_of l.rest)
 
 abbrev pub invariant-walk_row-loop-node : goal.invariant-walk_row-loop-node
-invariant-walk_row-loop-node g l = try_fold_nodes g.V.Visitor.step (cat_of (drop l.node-index l.nodes)) l.visitor ≡ try_fold_nodes g.V.Visitor.step (cat_of l.nodes) l.initial.visitor
+invariant-walk_row-loop-node g l = try_fold_nodes g.V.NodeVisitor.step (cat_of (drop l.node-index l.nodes)) l.visitor ≡ try_fold_nodes g.V.NodeVisitor.step (cat_of l.nodes) l.initial.visitor

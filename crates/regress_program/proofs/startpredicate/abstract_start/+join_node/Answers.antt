@@ -2,9 +2,9 @@ use Rattle.std.proofs.Common.{◌≡◌, ◌+◌, ◌<◌, ◌∙◌, ap, sym, a
 use Rattle.regex_meaning.specs.Tree.{alt}
 use Rattle.regex_meaning.specs.StartPredicate.{abstract_start_predicate}
 use Rattle.regex_pattern_front.specs.AstToSpecTree.{node_of}
-use Rattle.regress_program.specs.NodeStarts.{as_abstract_start_predicate, join_starts_ignoring_empty, join_starts_empty_as_anything}
-use Rattle.regress_program.specs.NodeListsAndLeaves.{cat_of}
-use Rattle.regress_program.specs.StartPredicates.{node_start_may_allocate}
+use Rattle.regress_program.specs.AbstractStartPredicateJoins.{as_abstract_start_predicate, join_starts_ignoring_empty_node, join_starts_empty_as_anything}
+use Rattle.regress_program.specs.LeavesListsAndCharLoops.{cat_of}
+use Rattle.regress_program.specs.StartPredicatesAndAllocation.{node_start_may_allocate}
 use Rattle.regress_program.proofs.BeginningLemmas.{arms-after, arms-next, quiet-arms}
 use Rattle.regress_program.proofs.NodeLemmas.{node_of-Cat}
 use Rattle.regress_program.proofs.Weights.{inner_node_count, weight-child}
@@ -28,7 +28,7 @@ join_node-returns-in_ok-join_arms-in-Alt-clause-shared t c =
     let is : node_of c.args.node.now ≡ alt l r = ap node_of c.in-Alt.is in
     let arms : as_abstract_start_predicate c.join_arms.new.shared ≡ join_starts_empty_as_anything (join_starts_empty_as_anything shared (abstract_start_predicate l)) (abstract_start_predicate r) =
     rw (c.deref-in-Alt.ensures, c.deref-in-Alt-2.ensures) at c.in_ok-join_arms-in-Alt.ensures.shared in
-    arms ∙ arms-after shared l r ∙ sym (ap (λ n. join_starts_ignoring_empty shared (abstract_start_predicate n)) is)
+    arms ∙ arms-after shared l r ∙ sym (ap (λ n. join_starts_ignoring_empty_node shared (abstract_start_predicate n)) is)
 
 pub join_arms-loop-rest-preserved : goal.join_arms-loop-rest-preserved
 unfolding node_of inner_node_count

@@ -1,9 +1,9 @@
 use Rattle.std.proofs.Common.{◌≡◌, ◌+◌, ◌*◌, ◌≤◌, false, drop}
 use Rattle.regex_meaning.specs.StartPredicate.{abstract_start_predicate}
 use Rattle.regex_pattern_front.specs.AstToSpecTree.{node_of}
-use Rattle.regress_program.specs.NodeStarts.{as_abstract_start_predicate, join_starts_empty_as_anything}
-use Rattle.regress_program.specs.NodeListsAndLeaves.{cat_of}
-use Rattle.regress_program.specs.StartPredicates.{node_start_may_allocate}
+use Rattle.regress_program.specs.AbstractStartPredicateJoins.{as_abstract_start_predicate, join_starts_empty_as_anything}
+use Rattle.regress_program.specs.LeavesListsAndCharLoops.{cat_of}
+use Rattle.regress_program.specs.StartPredicatesAndAllocation.{node_start_may_allocate}
 use Rattle.regress_program.proofs.Weights.{inner_node_count}
 use Rattle.regress_program.proofs.startpredicate.abstract_start.+join_node.Given as goal
 

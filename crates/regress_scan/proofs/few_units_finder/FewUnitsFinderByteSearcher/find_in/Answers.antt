@@ -1,5 +1,5 @@
 use Rattle.std.proofs.Common.{◌≡◌, ◌≤◌, length, sym, subst, take_all, arith, rules}
-use Rattle.regex_pattern_front.specs.FirstPassingIndex.{FindsFirstPassingIndex, member_byte_at_index}
+use Rattle.regex_pattern_front.specs.FirstPassingIndex.{FindsFirstPassingIndex, is_member_byte_at_index}
 use Rattle.regress_scan.proofs.few_units_finder.FewUnitsFinderByteSearcher.find_in.Goals as goal
 
 pub returns-in_default : goal.returns-in_default
@@ -8,4 +8,4 @@ returns-in_default c =
     let bytes = c.args.bytes.now in
     let sized : length few.units ≡ 3 = search rules in
     let more : 3 ≤ few.len = search rules in
-    subst (λ us. FindsFirstPassingIndex (member_byte_at_index us bytes) (length bytes) c.first_of_three.result) (sym (take_all few.len few.units (omega (arith, sized, more)))) c.first_of_three.ensures
+    subst (λ us. FindsFirstPassingIndex (is_member_byte_at_index us bytes) (length bytes) c.first_of_three.result) (sym (take_all few.len few.units (omega (arith, sized, more)))) c.first_of_three.ensures

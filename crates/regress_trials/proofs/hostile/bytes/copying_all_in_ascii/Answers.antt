@@ -1,5 +1,5 @@
 use Rattle.std.proofs.Common.{refl}
-use Rattle.regress_match.specs.RegexPrograms.{byte_tree}
+use Rattle.regress_match.specs.ProgramTreesAndAnswers.{byte_tree}
 use Rattle.regress_match.proofs.Starts.{ascii_start}
 use Rattle.regress_trials.proofs.hostile.bytes.copying_all_in_ascii.Goals as goal
 

@@ -1,15 +1,14 @@
 use Rattle.std.proofs.Common.{◌∙◌, ap, sym, subst, IsTrue}
-use Rattle.regex_meaning.specs.CompilationRelation.{IsByteCodeOf, IsUnitCodeOf}
+use Rattle.regex_meaning.specs.CompilationRelation.{IsByteProgramOfTree, Is16BitProgramOfTree}
 use Rattle.regex_meaning.specs.Tree.{Tree}
 use Rattle.regex_meaning.specs.WellFormedTrees.{IsWellFormed}
 use Rattle.regex_pattern_front.specs.OptimizedTrees.{has_no_char_loops}
-use Rattle.regex_pattern_front.specs.AstToSpecTree.{tree_of, flags_of}
-use Rattle.regress_program.specs.CodeOfTrees.{compiled}
-use Rattle.regress_program.specs.TreeToRun.{tree_to_run}
+use Rattle.regex_pattern_front.specs.AstToSpecTree.{tree_of, spec_flags_of}
+use Rattle.regress_program.specs.CompilationOfTreesAsFunction.{compiled}
+use Rattle.regress_program.specs.OptimizedTreeUnlessNoOpt.{optimized_tree_unless_no_opt}
 use Rattle.regress_program.specs.CompileRefusals.{IsUnitCompileErrorCause, IsCompileErrorCause}
-use Rattle.std.specs.Prelude.{Err}
+use Rattle.regex_pattern_front.specs.ParseErrors.{IsParseErrorOf}
 use Rattle.regex_grammar.specs.Grammar.{Parses}
-use Rattle.regex_grammar.specs.ParserInvariants.{HasNoTree}
 use Rattle.regress_match.specs.CompileErrors.{error_of_emit, error_of_parse}
 use Rattle.regress_match.proofs.RefusalLemmas.{parse-refuses, emit-refuses, err-refused, reads-not}
 use Rattle.regress_match.proofs.api.regex.Regex.from_unicode.Goals as goal
@@ -20,20 +19,19 @@ returns-clause-compiled c =
     let both = c.in_ok-cr.ensures in
     record {
       parsed = subst (Parses _ _) (sym (ap tree_of both.units)) (subst (λ f. Parses f c.args.pattern.now (tree_of c.in_ok-parsed.parsed)) c.for_front.ensures parsed.tree);
-      flags = ap (λ t. (tree_of t).flags) both.units ∙ ap flags_of parsed.flags ∙ c.for_front.ensures;
+      flags = ap (λ t. (tree_of t).flags) both.units ∙ ap spec_flags_of parsed.flags ∙ c.for_front.ensures;
       well_formed = subst (λ t. IsWellFormed (tree_of t).root) (sym both.units) parsed.well_formed;
       plain = subst (λ t. IsTrue (has_no_char_loops (tree_of t).root)) (sym both.units) parsed.plain;
-      units = subst (λ t. IsUnitCodeOf (compiled (tree_of t)) (tree_of t)) (sym both.units) both.unit_code;
-      optimized = both.bytes ∙ ap (λ t. tree_to_run (tree_of t)) (sym both.units);
-      bytes = subst (λ (t : Tree). IsByteCodeOf (compiled t) t) (sym both.bytes) both.byte_code;
+      units = subst (λ t. Is16BitProgramOfTree (compiled (tree_of t)) (tree_of t)) (sym both.units) both.unit_code;
+      optimized = both.bytes ∙ ap (λ t. optimized_tree_unless_no_opt (tree_of t)) (sym both.units);
+      bytes = subst (λ (t : Tree). IsByteProgramOfTree (compiled t) t) (sym both.bytes) both.byte_code;
     }
 
 pub returns-in_err-parsed-clause-refused : goal.returns-in_err-parsed-clause-refused
 returns-in_err-parsed-clause-refused c =
     let e = c.in_err-parsed.field-0.0 in
     err-refused c.from_residual.result (error_of_parse e) _ _ (λ x h. h) c.from_residual.ensures.1
-    (parse-refuses _ _ e (λ is. subst (λ f. HasNoTree f c.args.pattern.now) c.for_front.ensures
-    (c.in_err-parsed.ensures.refused (ap Err is))))
+    (parse-refuses _ _ e (subst (λ f. IsParseErrorOf f c.args.pattern.now e) c.for_front.ensures c.in_err-parsed.ensures.refused))
 
 pub returns-in_err-cr-clause-refused : goal.returns-in_err-cr-clause-refused
 returns-in_err-cr-clause-refused c =

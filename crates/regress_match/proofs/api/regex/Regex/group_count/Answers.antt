@@ -2,7 +2,7 @@ use Rattle.std.proofs.Common.{length, ap, ◌∙◌}
 use Rattle.regex_meaning.specs.Tree.{group_ids}
 use Rattle.regex_pattern_front.specs.AstToSpecTree.{tree_of}
 use Rattle.regex_pattern_front.specs.declared.ir.Regex.{Regex as Parsed}
-use Rattle.regress_program.specs.CodeOfTrees.{compiled}
+use Rattle.regress_program.specs.CompilationOfTreesAsFunction.{compiled}
 use Rattle.regress_match.proofs.api.regex.Regex.group_count.Goals as goal
 
 pub returns-clause-count : goal.returns-clause-count

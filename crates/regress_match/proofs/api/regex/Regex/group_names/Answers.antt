@@ -1,8 +1,8 @@
 use Rattle.std.proofs.Common.{ap, ◌∙◌}
-use Rattle.regex_meaning.specs.Captures.{group_names_by_id}
+use Rattle.regex_meaning.specs.GroupsByNumberAndName.{group_names_by_id}
 use Rattle.regex_pattern_front.specs.AstToSpecTree.{tree_of}
 use Rattle.regex_pattern_front.specs.declared.ir.Regex.{Regex as Parsed}
-use Rattle.regress_program.specs.CodeOfTrees.{compiled}
+use Rattle.regress_program.specs.CompilationOfTreesAsFunction.{compiled}
 use Rattle.regress_match.proofs.api.regex.Regex.group_names.Goals as goal
 
 pub returns : goal.returns

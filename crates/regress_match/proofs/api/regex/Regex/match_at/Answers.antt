@@ -2,7 +2,7 @@ use Rattle.std.proofs.Common.{refl}
 use Rattle.regex_meaning.specs.Text.{utf8_text}
 use Rattle.regress_match.proofs.FlagLemmas.{IfOk-map}
 use Rattle.regex_meaning.proofs.TextLemmas.{utf8_text-IsText}
-use Rattle.regress_match.specs.RegexPrograms.{as_utf8, byte_tree}
+use Rattle.regress_match.specs.ProgramTreesAndAnswers.{as_utf8, byte_tree}
 use Rattle.regress_match.proofs.CallerLemmas.{matches-stand}
 use Rattle.regress_match.proofs.FoundLemmas.{at-fits_text, at-found}
 use Rattle.regress_match.proofs.Starts.{utf8_start}

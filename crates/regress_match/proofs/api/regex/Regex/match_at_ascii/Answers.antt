@@ -1,7 +1,7 @@
 use Rattle.regex_meaning.specs.Text.{ascii_text}
 use Rattle.regress_match.proofs.FlagLemmas.{IfOk-map}
 use Rattle.regex_meaning.proofs.TextLemmas.{ascii_text-IsText}
-use Rattle.regress_match.specs.RegexPrograms.{as_ascii, byte_tree}
+use Rattle.regress_match.specs.ProgramTreesAndAnswers.{as_ascii, byte_tree}
 use Rattle.regress_match.proofs.CallerLemmas.{ascii-stand}
 use Rattle.regress_match.proofs.FoundLemmas.{at-fits_text, at-found}
 use Rattle.regress_match.proofs.Starts.{ascii_start}

@@ -3,7 +3,7 @@ use Rattle.regex_meaning.specs.Text.{ucs2_text}
 use Rattle.regress_match.proofs.FlagLemmas.{IfOk-map}
 use Rattle.regex_meaning.proofs.TextLemmas.{ucs2_text-IsText}
 use Rattle.regex_meaning.proofs.UnitLengths.{ucs2_text-units}
-use Rattle.regress_match.specs.RegexPrograms.{as_ucs2, unit_tree}
+use Rattle.regress_match.specs.ProgramTreesAndAnswers.{as_ucs2, unit_tree}
 use Rattle.regress_match.proofs.FoundLemmas.{at-fits_units, at-found}
 use Rattle.regress_match.proofs.Starts.{ucs2_start}
 use Rattle.regress_match.proofs.api.regex.Regex.match_at_ucs2.Goals as goal

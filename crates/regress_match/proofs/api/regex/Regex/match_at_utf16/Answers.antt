@@ -3,7 +3,7 @@ use Rattle.regex_meaning.specs.Text.{utf16_text}
 use Rattle.regress_match.proofs.FlagLemmas.{IfOk-map}
 use Rattle.regex_meaning.proofs.TextLemmas.{utf16_text-IsText}
 use Rattle.regex_meaning.proofs.UnitLemmas.{units-utf16}
-use Rattle.regress_match.specs.RegexPrograms.{as_utf16, unit_tree}
+use Rattle.regress_match.specs.ProgramTreesAndAnswers.{as_utf16, unit_tree}
 use Rattle.regress_match.proofs.FoundLemmas.{at-fits_units, at-found}
 use Rattle.regress_match.proofs.Starts.{utf16_start}
 use Rattle.regress_match.proofs.api.regex.Regex.match_at_utf16.Goals as goal

@@ -2,7 +2,7 @@ use Rattle.std.proofs.Common.{◌≡◌, [], subst}
 use Rattle.regex_meaning.specs.FlagLettersAndEscaping.{flags_from_letters}
 use Rattle.regress_match.proofs.FlagLemmas.{IfErr-map, IfOk-map, flags-none, flags_by}
 use Rattle.std.specs.Prelude.{chars}
-use Rattle.regress_match.specs.RegexPrograms.{IsCompiledWith}
+use Rattle.regress_match.specs.ProgramTreesAndAnswers.{IsCompiledWith}
 use Rattle.regress_match.specs.CompileErrors.{IsPatternRefusedWith}
 use Rattle.regress_match.proofs.api.regex.Regex.new.Goals.{After-with_flags}
 use Rattle.regress_match.proofs.api.regex.Regex.new.Goals as goal

@@ -43,7 +43,7 @@ written g c =
       callable-rest _ c.loop-item.item-iterator.answers c.next.new.self.answers (answer_of c.in_ok-found.found) c.loop-item.invariant.callable takes.next,
       goes-answered _ string_bytes c.args.text.now c.args.matches.answers c.loop-item.item-iterator.answers c.loop-item.from (string_bytes c.loop-item.made) c.loop-item.invariant.begun
           c.next.new.self.answers (answer_of c.in_ok-found.found) c.with.result takes.next (_, refl, c.with.ensures)
-          c.in_ok-from.from (string_bytes c.append_up_to.new.made) (string_bytes c.append_closure_result.new.made) c.in_ok-from.ensures.made c.in_ok-append_closure_result.ensures.made c.in_ok-from.ensures.behind,
+          c.in_ok-from.from (string_bytes c.append_unmatched_text_up_to_match.new.made) (string_bytes c.append_closure_result.new.made) c.in_ok-from.ensures.made c.in_ok-append_closure_result.ensures.made c.in_ok-from.ensures.behind,
     )
 
 pub loop-item-preserved : goal.loop-item-preserved

@@ -2,10 +2,10 @@ use Rattle.std.proofs.Common.{◌≡◌, ◌+◌, ◌*◌, ◌∙◌, ap, [], sy
 use Rattle.std.proofs.lemmas.Result.{IfOk-weaker}
 use Rattle.regex_meaning.specs.Tree.{capture_group}
 use Rattle.regex_pattern_front.specs.AstToSpecTree.{node_of}
-use Rattle.regress_program.specs.NodeListsAndLeaves.{cat_of}
-use Rattle.regress_program.specs.CodeOfTrees.{code_of, loop_count, brackets_of}
-use Rattle.regress_program.specs.InnerNodeCounts.{inner_node_count}
-use Rattle.regress_program.specs.EmitterModel.{HasIndexRoom, with_char_loops, emitter_state, with_code}
+use Rattle.regress_program.specs.LeavesListsAndCharLoops.{cat_of}
+use Rattle.regress_program.specs.CompilationOfTreesAsFunction.{code_of, loop_count, brackets_of}
+use Rattle.regress_program.specs.InnerNodeCountMeasure.{inner_node_count}
+use Rattle.regress_program.specs.EmitterModel.{HasIndexRoom, node_with_char_loops_if_enabled, emitter_state, with_code}
 use Rattle.regress_program.specs.PendingEmission.{node_measure}
 use Rattle.regress_program.proofs.EmitLemmas.{room-unnamed}
 use Rattle.regress_program.proofs.LeafLemmas.{leaf-left}
@@ -15,11 +15,11 @@ use Rattle.regress_program.proofs.RemainingLemmas.{begun-cheap, begun-whole, gro
 use Rattle.regress_program.proofs.emit.emitter.Emitter.begin.Goals as goal
 
 pub begin_group-requires-clause-room : goal.begin_group-requires-clause-room
-unfolding node_of with_char_loops
+unfolding node_of node_with_char_loops_if_enabled
 begin_group-requires-clause-room c =
     let is = ap node_of c.in-CaptureGroup.is in
     let inside = node_of c.in-CaptureGroup.contents.value in
-    let room : HasIndexRoom (emitter_state c.args.self.now) (capture_group c.in-CaptureGroup.id [] (with_char_loops c.args.mode.narrow inside)) = room-unnamed _ _ _ _ (rw is at c.requires.room) in
+    let room : HasIndexRoom (emitter_state c.args.self.now) (capture_group c.in-CaptureGroup.id [] (node_with_char_loops_if_enabled c.args.mode.narrow inside)) = room-unnamed _ _ _ _ (rw is at c.requires.room) in
     rw c.deref-in-CaptureGroup.ensures room
 
 pub begin_node_list-requires-clause-sets : goal.begin_node_list-requires-clause-sets
@@ -35,13 +35,13 @@ begin_node_list-requires-clause-room c =
 pub returns-in-Cat : goal.returns-in-Cat
 returns-in-Cat c =
     let m = c.args.mode in
-    let row = with_char_loops m.narrow (cat_of c.deref.result.now) in
+    let row = node_with_char_loops_if_enabled m.narrow (cat_of c.deref.result.now) in
     let same : node_of c.args.node.now ≡ cat_of c.deref.result.now = ap node_of c.in-Cat.is ∙ node_of-Cat c.in-Cat.nodes ∙ ap cat_of (sym c.deref.ensures.value) in
     rw same
     (IfOk-weaker c.begin_node_list.result _ _ (λ _ b. begun-cheap (with_code m.unicode m.behind row) (5 * inner_node_count row + 1) (node_measure row) _ _ b (omega arith)) c.begin_node_list.ensures)
 
 pub returns-in-CaptureGroup : goal.returns-in-CaptureGroup
-unfolding node_of with_char_loops code_of loop_count brackets_of inner_node_count
+unfolding node_of node_with_char_loops_if_enabled code_of loop_count brackets_of inner_node_count
 returns-in-CaptureGroup c = rw (c.in-CaptureGroup.is, ← c.deref-in-CaptureGroup.ensures) c.begin_group.ensures
 
 pub emit_leaf-requires : goal.emit_leaf-requires

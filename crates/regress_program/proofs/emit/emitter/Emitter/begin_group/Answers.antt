@@ -2,8 +2,8 @@ use Rattle.std.proofs.Common.{[], refl, arith}
 use Rattle.regex_meaning.specs.Tree.{capture_group}
 use Rattle.regex_meaning.specs.CompilationRelation.{BeginCaptureGroup, EndCaptureGroup}
 use Rattle.regex_pattern_front.specs.AstToSpecTree.{node_of}
-use Rattle.regress_program.specs.InnerNodeCounts.{inner_node_count}
-use Rattle.regress_program.specs.EmitterModel.{with_char_loops, emitter_state, with_code, with_insn}
+use Rattle.regress_program.specs.InnerNodeCountMeasure.{inner_node_count}
+use Rattle.regress_program.specs.EmitterModel.{node_with_char_loops_if_enabled, emitter_state, with_code, with_insn_appended}
 use Rattle.regress_program.specs.PendingEmission.{node_measure, pending_measure, is_emittable, with_pending}
 use Rattle.regress_program.proofs.EmitLemmas.{with_code-capture_group}
 use Rattle.regress_program.proofs.RemainingLemmas.{begun-two, grows-put}
@@ -13,11 +13,11 @@ pub returns : goal.returns
 unfolding with_pending is_emittable pending_measure inner_node_count
 returns c =
     let m = c.args.mode in
-    let n = with_char_loops m.narrow (node_of c.args.contents.now) in
+    let n = node_with_char_loops_if_enabled m.narrow (node_of c.args.contents.now) in
     let s = emitter_state c.args.self.now in
-    let t = emitter_state c.put.new.self in
+    let t = emitter_state c.append_insn.new.self in
     let inside = with_code m.unicode m.behind n t in
     begun-two (with_code m.unicode m.behind (capture_group c.args.id [] n)) (node_measure (capture_group c.args.id [] n)) c.args.rest.now.items c.push.new.self.items c.push-2.new.self.items _ _ s t
     c.in_ok-push.ensures.items c.in_ok-push-2.ensures.items
-    (with_code-capture_group m.unicode m.behind c.args.id [] n s t inside (with_insn (EndCaptureGroup c.args.id) inside) c.in_ok-put.ensures refl refl)
-    (grows-put (BeginCaptureGroup c.args.id) s t c.in_ok-put.ensures) refl c.requires.sets (omega arith)
+    (with_code-capture_group m.unicode m.behind c.args.id [] n s t inside (with_insn_appended (EndCaptureGroup c.args.id) inside) c.in_ok-append_insn.ensures refl refl)
+    (grows-put (BeginCaptureGroup c.args.id) s t c.in_ok-append_insn.ensures) refl c.requires.sets (omega arith)

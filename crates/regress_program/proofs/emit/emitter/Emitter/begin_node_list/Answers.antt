@@ -1,8 +1,8 @@
 use Rattle.std.proofs.Common.{◌≡◌, ◌+◌, ◌*◌, ◌∙◌, ◌∷◌, true, false, arith}
 use Rattle.regex_pattern_front.specs.AstToSpecTree.{node_of}
-use Rattle.regress_program.specs.NodeListsAndLeaves.{cat_of, is_leaf}
-use Rattle.regress_program.specs.InnerNodeCounts.{inner_node_count}
-use Rattle.regress_program.specs.EmitterModel.{with_char_loops, emitter_state, with_code}
+use Rattle.regress_program.specs.LeavesListsAndCharLoops.{cat_of, is_leaf}
+use Rattle.regress_program.specs.InnerNodeCountMeasure.{inner_node_count}
+use Rattle.regress_program.specs.EmitterModel.{node_with_char_loops_if_enabled, emitter_state, with_code}
 use Rattle.regress_program.specs.PendingEmission.{pending_measure, is_emittable, with_pending}
 use Rattle.regress_program.proofs.RemainingLemmas.{begun-whole, begun-two, grows-code, grows-then, put-row, row-code, row-ended, row-less, row-light}
 use Rattle.regress_program.proofs.RemainingLemmas.{row-room-first, row-room-rest, row-sets}
@@ -38,7 +38,7 @@ loop-first-preserved c =
 pub returns : goal.returns
 returns c =
     let m = c.args.mode in
-    let row = with_char_loops m.narrow (cat_of c.args.nodes.now) in
+    let row = node_with_char_loops_if_enabled m.narrow (cat_of c.args.nodes.now) in
     let i = c.loop-first.invariant in
     let t = emitter_state c.loop-first.self in
     let whole = begun-whole (with_code m.unicode m.behind row) (5 * inner_node_count row + 1) c.args.rest.now.items (emitter_state c.args.self.now) t
@@ -50,7 +50,7 @@ unfolding with_pending is_emittable pending_measure
 returns-then-has_children c =
     let m = c.args.mode in
     let nodes = c.loop-first.left.now in
-    let row = with_char_loops m.narrow (cat_of c.args.nodes.now) in
+    let row = node_with_char_loops_if_enabled m.narrow (cat_of c.args.nodes.now) in
     let first = c.in-Some.first.now in
     let others = c.in-Some.others.now in
     let i = c.loop-first.invariant in

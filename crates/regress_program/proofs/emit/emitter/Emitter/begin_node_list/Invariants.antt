@@ -1,21 +1,21 @@
 use Rattle.std.proofs.Common.{◌≡◌, ◌≤◌, length, IsTrue}
 use Rattle.regex_meaning.specs.Tree.{every_node_passes}
-use Rattle.regex_meaning.specs.WellFormedTrees.{fits_instructions}
-use Rattle.regress_program.specs.NodeListsAndLeaves.{cat_of}
-use Rattle.regress_program.specs.InnerNodeCounts.{inner_node_count}
-use Rattle.regress_program.specs.EmitterModel.{HasIndexRoom, with_char_loops, emitter_state, with_code}
+use Rattle.regex_meaning.specs.WellFormedTrees.{sets_and_strings_fit_instructions}
+use Rattle.regress_program.specs.LeavesListsAndCharLoops.{cat_of}
+use Rattle.regress_program.specs.InnerNodeCountMeasure.{inner_node_count}
+use Rattle.regress_program.specs.EmitterModel.{HasIndexRoom, node_with_char_loops_if_enabled, emitter_state, with_code}
 use Rattle.regress_program.proofs.RemainingLemmas.{Grows}
 use Rattle.regress_program.proofs.emit.emitter.Emitter.begin_node_list.Given as goal
 
 abbrev pub invariant-loop-first : goal.invariant-loop-first
 invariant-loop-first l =
     let m = l.fn.mode in
-    let row = with_char_loops m.narrow (cat_of l.left) in
-    let whole = with_char_loops m.narrow (cat_of l.fn.nodes) in
+    let row = node_with_char_loops_if_enabled m.narrow (cat_of l.left) in
+    let whole = node_with_char_loops_if_enabled m.narrow (cat_of l.fn.nodes) in
     record {
       rest : l.rest.items ≡ l.fn.rest.items;
       grows : Grows (emitter_state l.fn.self) (emitter_state l.self);
-      sets : IsTrue (every_node_passes fits_instructions (cat_of l.left));
+      sets : IsTrue (every_node_passes sets_and_strings_fit_instructions (cat_of l.left));
       room : HasIndexRoom (emitter_state l.self) row;
       light : inner_node_count row ≤ inner_node_count whole;
       code : with_code m.unicode m.behind row (emitter_state l.self) ≡ with_code m.unicode m.behind whole (emitter_state l.fn.self);

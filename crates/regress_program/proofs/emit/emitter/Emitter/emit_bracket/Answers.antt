@@ -6,10 +6,10 @@ use Rattle.regress_program.specs.EmitterModel.{emitter_state}
 use Rattle.regress_program.proofs.EmitLemmas.{with_code-ascii, with_code-bracket}
 use Rattle.regress_program.proofs.emit.emitter.Emitter.emit_bracket.Goals as goal
 
-pub returns-in_ok-put-in-Some : goal.returns-in_ok-put-in-Some
-returns-in_ok-put-in-Some c =
+pub returns-in_ok-append_insn-in-Some : goal.returns-in_ok-append_insn-in-Some
+returns-in_ok-append_insn-in-Some c =
     let same = with_code-ascii c.args.mode.unicode c.args.mode.behind (class_as_spec c.args.contents.now) (emitter_state c.args.self.now) (sym c.in-Some.ensures.found) in
-    rw (same, ← c.in-Some.ensures.members) c.in_ok-put-in-Some.ensures
+    rw (same, ← c.in-Some.ensures.members) c.in_ok-append_insn-in-Some.ensures
 
 pub returns-in_ok-add_bracket-in-None : goal.returns-in_ok-add_bracket-in-None
 returns-in_ok-add_bracket-in-None c =
@@ -17,4 +17,4 @@ returns-in_ok-add_bracket-in-None c =
     let index : c.len-index.result ≡ length (emitter_state c.args.self.now).brackets =
     c.len-index.ensures ∙ c.args.self.now.brackets.ok.0 ∙ sym (length-map c.args.self.now.brackets.items class_as_spec) in
     with_code-bracket c.args.mode.unicode c.args.mode.behind (class_as_spec c.args.contents.now)
-    (emitter_state c.args.self.now) (emitter_state c.put-in-None.new.self) (emitter_state c.add_bracket.new.self) c.len-index.result wide index c.in_ok-put-in-None.ensures c.in_ok-add_bracket-in-None.ensures
+    (emitter_state c.args.self.now) (emitter_state c.append_insn-in-None.new.self) (emitter_state c.add_bracket.new.self) c.len-index.result wide index c.in_ok-append_insn-in-None.ensures c.in_ok-add_bracket-in-None.ensures

@@ -4,8 +4,8 @@ use Rattle.std.proofs.lemmas.Result.{IfOk-weaker}
 use Rattle.regex_meaning.specs.CompilationRelation.{Goal, Jump as JumpInsn, LoopAgain}
 use Rattle.regex_meaning.proofs.Booleans.{and-left, and-right}
 use Rattle.regex_pattern_front.specs.AstToSpecTree.{node_of}
-use Rattle.regress_program.specs.NodeListsAndLeaves.{cat_of}
-use Rattle.regress_program.specs.EmitterModel.{with_char_loops, emitter_state, with_insn_at}
+use Rattle.regress_program.specs.LeavesListsAndCharLoops.{cat_of}
+use Rattle.regress_program.specs.EmitterModel.{node_with_char_loops_if_enabled, emitter_state, with_insn_at}
 use Rattle.regress_program.specs.PendingEmission.{is_emittable, pending_measure, with_pending}
 use Rattle.regress_program.specs.declared.emit.nested_nodes.PendingCode.TheVariants.{Jump, GroupEnd, LookaroundEnd, LoopEnd}
 use Rattle.regress_program.proofs.RemainingLemmas.{end-room, jump-room, put-whole, room-of}
@@ -19,7 +19,7 @@ pub begin-requires-clause-room : goal.begin-requires-clause-room
 unfolding with_pending
 begin-requires-clause-room c =
     let m = c.in-Node.mode in
-    room-of m.unicode m.behind (with_char_loops m.narrow (node_of c.in-Node.node.now)) (emitter_state c.args.self.now) (rw c.in-Node.is at c.requires.room)
+    room-of m.unicode m.behind (node_with_char_loops_if_enabled m.narrow (node_of c.in-Node.node.now)) (emitter_state c.args.self.now) (rw c.in-Node.is at c.requires.room)
 
 pub begin_node_list-requires-clause-sets : goal.begin_node_list-requires-clause-sets
 unfolding is_emittable
@@ -29,7 +29,7 @@ pub begin_node_list-requires-clause-room : goal.begin_node_list-requires-clause-
 unfolding with_pending
 begin_node_list-requires-clause-room c =
     let m = c.in-Row.mode in
-    room-of m.unicode m.behind (with_char_loops m.narrow (cat_of c.in-Row.nodes.now)) (emitter_state c.args.self.now) (rw c.in-Row.is at c.requires.room)
+    room-of m.unicode m.behind (node_with_char_loops_if_enabled m.narrow (cat_of c.in-Row.nodes.now)) (emitter_state c.args.self.now) (rw c.in-Row.is at c.requires.room)
 
 pub begin_other_arms-requires-clause-branch : goal.begin_other_arms-requires-clause-branch
 unfolding is_emittable
@@ -48,9 +48,9 @@ pub next-target-requires : goal.next-target-requires
 unfolding with_pending
 next-target-requires c = jump-room c.in-Jump.place (emitter_state c.args.self.now) (rw c.in-Jump.is at c.requires.room)
 
-pub set-requires : goal.set-requires
+pub replace_insn_at-requires : goal.replace_insn_at-requires
 unfolding is_emittable
-set-requires c = ltb-true c.in-Jump.place (length (emitter_state c.args.self.now).insns) (rw c.in-Jump.is at c.requires.ready)
+replace_insn_at-requires c = ltb-true c.in-Jump.place (length (emitter_state c.args.self.now).insns) (rw c.in-Jump.is at c.requires.ready)
 
 pub end_lookaround-requires-clause-head : goal.end_lookaround-requires-clause-head
 unfolding is_emittable
@@ -88,14 +88,14 @@ returns-in-Jump c =
     let place = c.in-Jump.place in
     let s = emitter_state c.args.self.now in
     rw c.in-Jump.is
-    (put-whole (Jump place) c.args.rest.now.items s (emitter_state c.set.new.self)
-    (c.set.ensures ∙ ap (λ n. with_insn_at place (JumpInsn n) s) c.next-target.ensures) (omega arith))
+    (put-whole (Jump place) c.args.rest.now.items s (emitter_state c.replace_insn_at.new.self)
+    (c.replace_insn_at.ensures ∙ ap (λ n. with_insn_at place (JumpInsn n) s) c.next-target.ensures) (omega arith))
 
 pub returns-in-GroupEnd : goal.returns-in-GroupEnd
 unfolding with_pending pending_measure
 returns-in-GroupEnd c =
     rw c.in-GroupEnd.is
-    (IfOk-weaker c.put.result _ _ (λ _ is. put-whole (GroupEnd c.in-GroupEnd.id) c.args.rest.now.items (emitter_state c.args.self.now) (emitter_state c.put.new.self) is (omega arith)) c.put.ensures)
+    (IfOk-weaker c.append_insn.result _ _ (λ _ is. put-whole (GroupEnd c.in-GroupEnd.id) c.args.rest.now.items (emitter_state c.args.self.now) (emitter_state c.append_insn.new.self) is (omega arith)) c.append_insn.ensures)
 
 pub returns-in-LookaroundEnd : goal.returns-in-LookaroundEnd
 unfolding with_pending pending_measure

@@ -1,6 +1,6 @@
 use Rattle.std.proofs.Common.{◌∙◌, sym, subst}
 use Rattle.regex_pattern_front.specs.AstToSpecTree.{tree_of}
-use Rattle.regress_program.specs.ProgramFields.{IsCodeOfTree}
+use Rattle.regress_program.specs.ProgramFieldsMatchTree.{IsCodeOfTree}
 use Rattle.regress_program.proofs.insn.common_program_part.Program.clone.Goals as goal
 
 pub invariant_of-result : goal.invariant_of-result

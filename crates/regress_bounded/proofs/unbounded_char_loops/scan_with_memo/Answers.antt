@@ -1,0 +1,89 @@
+use Rattle.std.proofs.Common.{◌∷◌, ◌++◌, [], sym, ap, ◌∙◌, subst, arith}
+use Rattle.std.specs.Prelude.{IfSome}
+use Rattle.regress_input.proofs.Places.{boundary_inside}
+use Rattle.regress_memo_analysis.specs.CheckedAnalysis.{MemoKeyHasBit}
+use Rattle.regress_memo.specs.MemoContents.{as_key}
+use Rattle.regress_scan.proofs.Reach.{some-of}
+use Rattle.regress_scan.specs.InsnMatchers.{char_test_of}
+use Rattle.regress_bounded.specs.declared.pending_stack.StackEntry.TheVariants.{Thread as AsThread}
+use Rattle.regress_bounded.proofs.Furthest.{further-by, key-some, place-kept, furthest-none, furthest-known, furthest-all, furthest-more}
+use Rattle.regress_bounded.proofs.unbounded_char_loops.scan_with_memo.Goals as goal
+
+pub places-init : goal.places-init
+places-init g c =
+    record {
+      boundary = c.requires.at;
+      few = c.requires.few;
+      going = λ test place e h.
+          furthest-none c.args.state.now c.requires.run c.requires.right test place c.args.stack.now.items c.args.from h;
+    }
+
+pub unreachable-requires : goal.unreachable-requires
+unreachable-requires g c =
+    let is = g.met.Input.InputIndexer.is_text c.args.searched.now.input in
+    let offset = g.Input.Position.PositionType.offset in
+    let t = some-of (char_test_of c.args.searched.now.program.now c.args.run.body) c.requires.test in
+    key-some c.args.state.now c.requires.run c.requires.right t.0 t.1 is (offset c.places.at) c.places.invariant.boundary
+    c.key_at.result c.in_default.is c.key_at.ensures.key
+
+pub fails-requires : goal.fails-requires
+fails-requires g c =
+    let text = g.Input.InputIndexer.text c.args.searched.now.input in
+    let is = g.met.Input.InputIndexer.is_text c.args.searched.now.input in
+    let offset = g.Input.Position.PositionType.offset in
+    let m = c.args.course.now.memo in
+    let inside = boundary_inside text is (offset c.places.at) c.places.invariant.boundary in
+    subst (λ found. IfSome found (λ k. MemoKeyHasBit m.memo_analysis m.places (as_key k))) c.in-Some.is
+    (c.key_at.ensures.bit (place-kept c.args.state.now c.requires.run c.requires.right (offset c.places.at) inside))
+
+pub returns-then-fails : goal.returns-then-fails
+returns-then-fails g c = λ test place e h.
+    furthest-known c.args.state.now c.requires.run c.requires.right test e place c.args.stack.now.items c.places.stack.items c.places.at
+    c.places.count c.key_at.result c.in-Some.key c.in-Some.is c.key_at.ensures.key (c.places.invariant.going test place e h) (sym c.fails.ensures ∙ c.if-fails.true)
+
+pub insn_accepts_next_char-requires-clause-at : goal.insn_accepts_next_char-requires-clause-at
+insn_accepts_next_char-requires-clause-at g c = c.places.invariant.boundary
+
+pub returns-then-not-insn_accepts_next_char : goal.returns-then-not-insn_accepts_next_char
+returns-then-not-insn_accepts_next_char g c = λ test place e h.
+    let is = g.met.Input.InputIndexer.is_text c.args.searched.now.input in
+    furthest-all c.args.state.now c.requires.run c.requires.right test e place c.args.stack.now.items c.places.stack.items c.places.at
+    c.places.count c.key_at.result c.in-Some.key c.in-Some.is c.key_at.ensures.key (c.places.invariant.going test place e h) (sym c.fails.ensures ∙ c.if-fails.false)
+    c.in_ok-here.here c.in_ok-here.ensures c.insn_accepts_next_char.new.pos c.insn_accepts_next_char.result is c.if-not-insn_accepts_next_char.true (c.insn_accepts_next_char.ensures test e) c.push_entry.new.stack.items
+    c.in_ok-push_entry.ensures
+
+pub overflow_add-count : goal.overflow_add-count
+overflow_add-count g c =
+    let text = g.Input.InputIndexer.text c.args.searched.now.input in
+    let is = g.met.Input.InputIndexer.is_text c.args.searched.now.input in
+    let fits = g.met.Input.InputIndexer.offsets_fit c.args.searched.now.input in
+    let inside = boundary_inside text is (g.Input.Position.PositionType.offset c.places.at) c.places.invariant.boundary in
+    let few = c.places.invariant.few in
+    omega (arith, few, inside, fits)
+
+pub places-smaller : goal.places-smaller
+places-smaller g c =
+    let input = c.args.searched.now.input in
+    let on = further-by g.Input.Position.PositionType.offset (g.Input.InputIndexer.text input) (g.met.Input.InputIndexer.is_text input) c.requires.test c.places.at c.insn_accepts_next_char.new.pos
+    c.insn_accepts_next_char.result c.places.invariant.boundary c.if-not-insn_accepts_next_char.false c.insn_accepts_next_char.ensures in
+    let more = on.more in
+    let inside = on.inside in
+    omega (arith, more, inside)
+
+pub places-preserved : goal.places-preserved
+places-preserved g c =
+    let text = g.Input.InputIndexer.text c.args.searched.now.input in
+    let is = g.met.Input.InputIndexer.is_text c.args.searched.now.input in
+    let on = further-by g.Input.Position.PositionType.offset text is c.requires.test c.places.at c.insn_accepts_next_char.new.pos c.insn_accepts_next_char.result c.places.invariant.boundary
+    c.if-not-insn_accepts_next_char.false c.insn_accepts_next_char.ensures in
+    let more = on.more in
+    let few = c.places.invariant.few in
+    record {
+      boundary = on.boundary;
+      few = omega (arith, few, more);
+      going = λ test place e h.
+          furthest-more c.args.state.now c.requires.run c.requires.right test e place c.args.stack.now.items c.places.stack.items c.places.at
+          c.places.count c.key_at.result c.in-Some.key c.in-Some.is c.key_at.ensures.key (c.places.invariant.going test place e h) (sym c.fails.ensures ∙ c.if-fails.false)
+          c.in_ok-here.here c.in_ok-here.ensures c.insn_accepts_next_char.new.pos c.insn_accepts_next_char.result is c.if-not-insn_accepts_next_char.false (c.insn_accepts_next_char.ensures test e) c.push_entry-in-places.new.stack.items
+          (c.in_ok-push_entry-2.ensures ∙ ap (λ xs. xs ++ AsThread c.in_ok-here.here ∷ []) c.in_ok-push_entry.ensures);
+    }

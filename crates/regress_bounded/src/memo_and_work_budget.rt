@@ -1,0 +1,73 @@
+//! The work budget of a search: what is known to fail, and how much work may still be done.
+
+ghost use Rattle.std.specs.Prelude.{◌≡◌, ◌<◌, ◌≤◌, OnOk, IfErr, IfSome, option_map};
+ghost use Rattle.regress_memo_analysis.specs.CheckedAnalysis.{MemoKeyHasBit};
+ghost use Rattle.regress_memo.specs.MemoContents.{as_key, memo_key_at as key_of_state};
+ghost use Rattle.regress_pikevm.specs.States.{state_of};
+ghost use Rattle.regress_bounded.specs.{declared.memo_and_work_budget.AttemptAbortReason.TheVariants.{Memory, Work}, BudgetSpending.{IsTakenFromBudget, IsBudgetExhausted}};
+
+use crate::pending_stack::ThreadLoopStates;
+use regress_input::position::PositionType;
+use regress_memo::memo::{MemoTable, ThreadMemoKey};
+use regress_pikevm::pikevm::states::State;
+use std::alloc::AllocError;
+
+/// The reason why an attempt is given up.
+#[derive(Clone, Copy)]
+pub(crate) enum AttemptAbortReason {
+    /// Memory could not be allocated.
+    Memory,
+    /// The work budget is exhausted.
+    Work,
+}
+
+impl From<AllocError> for AttemptAbortReason {
+    ghost from_gives = { λ _ e. e ≡ Memory };
+
+    fn from(_: AllocError) -> Self {
+        AttemptAbortReason::Memory
+    }
+}
+
+/// The memo table of failures, and how much work may still be done.
+#[derive(Drop)]
+pub(crate) struct MemoAndWorkBudget {
+    pub(crate) memo: MemoTable,
+    pub(crate) left: u64,
+}
+
+impl MemoAndWorkBudget {
+    /// Spends `work`. If not that much is left, the rest is spent and `Err` is returned.
+    #[inline(always)]
+    pub(crate) fn spend(&mut self, work: u64) -> Result<(), AttemptAbortReason>
+        ensures memo { self.new.memo ≡ self.old.memo }
+        ensures left { self.new.left ≤ self.old.left }
+        ensures spent { OnOk result (IsTakenFromBudget work self.old.left self.new.left) }
+        ensures over { IfErr result (λ e. (e ≡ Work) × IsBudgetExhausted work self.old.left self.new.left) }
+    {
+        if self.left < work {
+            self.left = 0;
+            return Err(AttemptAbortReason::Work);
+        }
+        self.left -= work;
+        Ok(())
+    }
+
+    /// Returns the key that a state would have at this instruction and position, or `None` if the
+    /// instruction does not record.
+    #[inline(always)]
+    pub(crate) fn key_at<P: PositionType>(
+        &self,
+        ip: usize,
+        at: P,
+        state: &State<P>,
+    ) -> Option<ThreadMemoKey>
+        ensures key { option_map as_key result ≡ key_of_state self.now.memo.memo_analysis
+            (record (state_of P.offset state.now) { ip = ip; pos = P.offset at }) }
+        ensures bit { P.offset at < self.now.memo.places
+            → IfSome result (λ key. MemoKeyHasBit self.now.memo.memo_analysis self.now.memo.places (as_key key)) }
+    {
+        self.memo
+            .key_at(ip, at.to_offset(), &ThreadLoopStates { state })
+    }
+}

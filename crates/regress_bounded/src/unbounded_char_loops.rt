@@ -1,0 +1,195 @@
+//! Char loops without a maximum: each of their exits has a record.
+
+ghost use Rattle.std.specs.Prelude.{◌≡◌, ◌<◌, ◌≤◌, ◌^◌, ◌+◌, ℕ, Bool, true, false, Some, IfOk, IsSome, [], ◌∷◌, ◌++◌, map};
+ghost use Rattle.regex_meaning.specs.CodeUnitOffsets.{IsBoundary, place_at};
+ghost use Rattle.regex_pattern_front.specs.AstToSpecTree.{tree_of};
+ghost use Rattle.regress_memo_laws.specs.{CharLoopThreads.{passing}, MemoSearch.{tried}};
+ghost use Rattle.regress_machine.specs.Machine.{running};
+ghost use Rattle.regress_memo.specs.MemoContents.{has_failure};
+ghost use Rattle.regress_program.specs.{CompilationOfTreesAsFunction.{compiled}, InsnMeanings.{spec_insn_of}};
+ghost use Rattle.regress_scan.specs.InsnMatchers.{ByteInsnHasByteText, char_test_of};
+ghost use Rattle.regress_bounded.specs.SearchStateEntries.{IsMemoRightForRegex, IsRunHere, IsStanding, GoesFrom, ScansWithMemo, HasPassedOver, IsPast, IsNearest};
+ghost use Rattle.regress_bounded.specs.declared.pending_stack.StackEntry.TheVariants.{Run as AsRun};
+ghost use Rattle.regress_pikevm.specs.States.{state_of};
+
+use crate::memo_and_work_budget::{AttemptAbortReason, MemoAndWorkBudget};
+use crate::pending_stack::{StackEntry, UnboundedCharLoop, push_entry};
+use regress_exec::program_and_input::ProgramAndInput;
+use regress_input::cursor::Forward;
+use regress_input::indexing::InputIndexer;
+use regress_input::position::PositionType;
+use regress_memo::memo::ThreadMemoKey;
+use regress_pikevm::pikevm::char_loops::exit_state;
+use regress_pikevm::pikevm::insn_matchers;
+use regress_pikevm::pikevm::states::State;
+use regress_program::insn::Insn;
+use std::alloc::AllocError;
+
+// Reads the characters that a loop requires, and returns how many there were.
+fn read_minimum_chars<Input: InputIndexer>(
+    searched: &ProgramAndInput<'_, Input>,
+    run: UnboundedCharLoop,
+    pos: &mut Input::Position,
+) -> usize
+    requires test { IsSome (char_test_of searched.now.program.now run.body) }
+    requires at { IsBoundary (Input.text searched.now.input) (Input.Position.offset pos.old) }
+    requires bytes { ByteInsnHasByteText run.body (Input.text searched.now.input) Input.Units.ARE_BYTES }
+    ensures at { IsBoundary (Input.text searched.now.input) (Input.Position.offset pos.new) }
+    ensures passed { let s = searched.now in let text = Input.text s.input in (test : ℕ → Bool) (place : ℕ)
+        → char_test_of s.program.now run.body ≡ Some test → place_at text (Input.Position.offset pos.old) ≡ Some place
+        → HasPassedOver Input.Position.offset text test run.least place result pos.new }
+{
+    let mut count = 0;
+    'characters: while count < run.least {
+        let mut next = *pos;
+        if !insn_matchers::insn_accepts_next_char(searched, run.body, Forward, &mut next) {
+            break;
+        }
+        *pos = next;
+        count += 1;
+    }
+    count
+}
+
+/// Executes a char loop without a maximum.
+///
+/// A greedy loop takes the furthest exit and pushes the nearer ones. It stops at a position from
+/// which on it is known to fail. A lazy loop takes the nearest exit and pushes one entry for all
+/// others.
+pub(crate) fn loop_with_memo<Input: InputIndexer>(
+    searched: &ProgramAndInput<'_, Input>,
+    run: UnboundedCharLoop,
+    state: State<Input::Position>,
+    stack: &mut Vec<StackEntry<Input::Position>>,
+    course: &mut MemoAndWorkBudget,
+) -> Result<Option<State<Input::Position>>, AttemptAbortReason>
+    requires run { let s = searched.now in IsRunHere Input.Position.offset (compiled (tree_of s.program.now))
+        (Input.text s.input) run run.greedy (state_of Input.Position.offset state) }
+    requires bytes { ByteInsnHasByteText run.body (Input.text searched.now.input) Input.Units.ARE_BYTES }
+    requires within { state.ip + 2 < 2 ^ 64 }
+    requires stands { let s = searched.now in
+        IsStanding Input.Position.offset (compiled (tree_of s.program.now)) (Input.text s.input)
+        (tried (running (state_of Input.Position.offset state)) ∷ []) stack.old.items course.old }
+    ensures memo { course.new.memo ≡ course.old.memo }
+    ensures left { course.new.left ≤ course.old.left }
+    ensures goes { let at = Input.Position.offset in let s = searched.now in
+        GoesFrom at (compiled (tree_of s.program.now)) (Input.text s.input) (tried (running (state_of at state)) ∷ [])
+        stack.old.items course.old result stack.new.items course.new }
+{
+    let mut at = state.pos;
+    let passed = read_minimum_chars(searched, run, &mut at);
+    if passed < run.least {
+        course.spend(passed as u64 + 2)?;
+        return Ok(None);
+    }
+    if run.greedy {
+        let (next, count) = scan_with_memo(searched, run, at, &state, stack, course)?;
+        course.spend(count as u64 + 2)?;
+        return Ok(next);
+    }
+    course.spend(passed as u64 + 2)?;
+    let next = nearest(searched, run.body, at, state, stack)?;
+    Ok(Some(next))
+}
+
+// Scans a greedy loop from its nearest exit on. Returns the thread at the furthest exit, or `None`
+// if the loop is known to fail from some position on, and the number of characters read in all.
+fn scan_with_memo<Input: InputIndexer>(
+    searched: &ProgramAndInput<'_, Input>,
+    run: UnboundedCharLoop,
+    from: Input::Position,
+    state: &State<Input::Position>,
+    stack: &mut Vec<StackEntry<Input::Position>>,
+    course: &MemoAndWorkBudget,
+) -> Result<(Option<State<Input::Position>>, usize), AllocError>
+    requires right { let s = searched.now in IsMemoRightForRegex s.program.now (Input.text s.input) course.now.memo }
+    requires run { let s = searched.now in IsRunHere Input.Position.offset (compiled (tree_of s.program.now))
+        (Input.text s.input) run true (state_of Input.Position.offset state.now) }
+    requires bytes { ByteInsnHasByteText run.body (Input.text searched.now.input) Input.Units.ARE_BYTES }
+    requires within { state.now.ip + 2 < 2 ^ 64 }
+    requires test { IsSome (char_test_of searched.now.program.now run.body) }
+    requires at { IsBoundary (Input.text searched.now.input) (Input.Position.offset from) }
+    requires few { run.least ≤ Input.Position.offset from }
+    ensures { let at = Input.Position.offset in let s = searched.now in let text = Input.text s.input in
+        (test : ℕ → Bool) (place : ℕ) → char_test_of s.program.now run.body ≡ Some test
+        → IsPast at text test place run.least from
+        → IfOk result (ScansWithMemo at (compiled (tree_of s.program.now)) text course.now.memo.memo_analysis
+        (has_failure course.now.memo) test place (state_of at state.now) run.least stack.old.items stack.new.items) }
+{
+    let mut at = from;
+    let mut count = run.least;
+    'places: loop {
+        let Some(key) = course.key_at(state.ip + 1, at, state) else {
+            unreachable!()
+        };
+        if course.memo.fails(key) {
+            return Ok((None, count));
+        }
+        let here = exit_state(at, state)?;
+        push_entry(StackEntry::Record(key), stack)?;
+        if !insn_matchers::insn_accepts_next_char(searched, run.body, Forward, &mut at) {
+            return Ok((Some(here), count));
+        }
+        push_entry(StackEntry::Thread(here), stack)?;
+        count += 1;
+    }
+}
+
+// Returns the thread at an exit of a lazy loop, and pushes the loop at its next exit, if there is
+// one.
+fn nearest<Input: InputIndexer>(
+    searched: &ProgramAndInput<'_, Input>,
+    body: Insn,
+    at: Input::Position,
+    mut state: State<Input::Position>,
+    stack: &mut Vec<StackEntry<Input::Position>>,
+) -> Result<State<Input::Position>, AllocError>
+    requires test { IsSome (char_test_of searched.now.program.now body) }
+    requires at { IsBoundary (Input.text searched.now.input) (Input.Position.offset at) }
+    requires bytes { ByteInsnHasByteText body (Input.text searched.now.input) Input.Units.ARE_BYTES }
+    requires within { state.ip + 2 < 2 ^ 64 }
+    ensures { let s = searched.now in let text = Input.text s.input in (test : ℕ → Bool) (place : ℕ)
+        → char_test_of s.program.now body ≡ Some test → place_at text (Input.Position.offset at) ≡ Some place
+        → IfOk result (λ here. IsNearest Input.Position.offset text test place at state here
+        stack.old.items stack.new.items) }
+{
+    let here = exit_state(at, &state)?;
+    let mut next = at;
+    if insn_matchers::insn_accepts_next_char(searched, body, Forward, &mut next) {
+        state.pos = next;
+        push_entry(StackEntry::Run(state), stack)?;
+    }
+    Ok(here)
+}
+
+/// Continues a lazy loop at the position of its pending entry.
+pub(crate) fn resume_pending_lazy_loop<Input: InputIndexer>(
+    searched: &ProgramAndInput<'_, Input>,
+    insns: &[Insn],
+    state: State<Input::Position>,
+    stack: &mut Vec<StackEntry<Input::Position>>,
+    course: &mut MemoAndWorkBudget,
+) -> Result<Option<State<Input::Position>>, AttemptAbortReason>
+    requires code { map spec_insn_of insns.now ≡ (compiled (tree_of searched.now.program.now)).insns }
+    requires stands { let s = searched.now in
+        IsStanding Input.Position.offset (compiled (tree_of s.program.now)) (Input.text s.input)
+        [] (stack.old.items ++ AsRun state ∷ []) course.old }
+    ensures memo { course.new.memo ≡ course.old.memo }
+    ensures left { course.new.left ≤ course.old.left }
+    ensures goes { let at = Input.Position.offset in let s = searched.now in
+        GoesFrom at (compiled (tree_of s.program.now)) (Input.text s.input) []
+        (stack.old.items ++ AsRun state ∷ []) course.old result stack.new.items course.new }
+{
+    let at = state.pos;
+    let Some(key) = course.key_at(state.ip + 1, at, &state) else {
+        unreachable!()
+    };
+    if course.memo.fails(key) {
+        course.spend(1)?;
+        return Ok(None);
+    }
+    course.spend(2)?;
+    push_entry(StackEntry::Record(key), stack)?;
+    let next = nearest(searched, insns[state.ip + 1], at, state, stack)?;
+    Ok(Some(next))
+}

@@ -1,0 +1,104 @@
+//! Errors of compiling a pattern and of replacing matches.
+
+ghost use Rattle.std.specs.Prelude.{◌≡◌};
+ghost use Rattle.regress_match.specs.CompileErrors.{diagnosis_of, error_of_emit, error_of_parse};
+
+use regex_pattern_front::diagnosis::Diagnosis;
+use regex_pattern_front::parse::ParseError;
+use regress_exec::exec::SearchError;
+use regress_program::emit::EmitError;
+use std::alloc::AllocError;
+use std::fmt;
+
+/// The error of compiling a pattern.
+#[derive(Clone, Copy, Debug, PartialEq, Eq, thiserror::Error)]
+pub enum Error {
+    /// The text is not a valid pattern. It displays like `unclosed group at 3`.
+    #[error("{0}")]
+    Parse(ParseError),
+    /// The pattern exceeds a limit: it has too many groups, loops or instructions.
+    #[error("{0}")]
+    Emit(EmitError),
+    /// An allocation failed.
+    #[error("out of memory")]
+    Memory,
+}
+
+impl Error {
+    /// Returns what is wrong with a pattern that is refused as `Parse(Syntax)`, and where. The place
+    /// is in code points of the pattern.
+    pub fn diagnosis(self) -> Option<Diagnosis>
+        ensures { result ≡ diagnosis_of self }
+    {
+        match self {
+            Error::Parse(ParseError::Syntax(diagnosis)) => Some(diagnosis),
+            _ => None,
+        }
+    }
+}
+
+impl From<AllocError> for Error {
+    ghost use Rattle.regress_match.specs.declared.api.compile_and_replace_errors.Error.TheVariants.{Memory};
+
+    ghost from_gives = { λ _ e. e ≡ Memory };
+
+    fn from(_: AllocError) -> Self {
+        Error::Memory
+    }
+}
+
+impl From<ParseError> for Error {
+    ghost from_gives = { λ refused e. e ≡ error_of_parse refused };
+
+    fn from(error: ParseError) -> Self {
+        match error {
+            ParseError::Memory => Error::Memory,
+            ParseError::TooManyGroups => Error::Emit(EmitError::TooManyGroups),
+            error => Error::Parse(error),
+        }
+    }
+}
+
+impl From<EmitError> for Error {
+    ghost from_gives = { λ refused e. e ≡ error_of_emit refused };
+
+    fn from(error: EmitError) -> Self {
+        match error {
+            EmitError::Memory => Error::Memory,
+            error => Error::Emit(error),
+        }
+    }
+}
+
+/// The error of replacing matches by the results of a closure.
+#[derive(Debug, Drop, thiserror::Error)]
+#[error_bound(E: fmt::Display)]
+pub enum ReplaceError<E> {
+    /// The search failed, or an allocation for the text failed.
+    #[error("{0}")]
+    Search(SearchError),
+    /// The closure returned an error for a match.
+    #[error("{0}")]
+    Closure(E),
+}
+
+impl<E> From<SearchError> for ReplaceError<E> {
+    ghost use Rattle.regress_match.specs.declared.api.compile_and_replace_errors.ReplaceError.TheVariants.{Search};
+
+    ghost from_gives = { λ refused e. e ≡ Search refused };
+
+    fn from(error: SearchError) -> Self {
+        ReplaceError::Search(error)
+    }
+}
+
+impl<E> From<AllocError> for ReplaceError<E> {
+    ghost use Rattle.regress_exec.specs.declared.exec.SearchError.TheVariants.{Memory};
+    ghost use Rattle.regress_match.specs.declared.api.compile_and_replace_errors.ReplaceError.TheVariants.{Search};
+
+    ghost from_gives = { λ _ e. e ≡ Search Memory };
+
+    fn from(_: AllocError) -> Self {
+        ReplaceError::Search(SearchError::Memory)
+    }
+}

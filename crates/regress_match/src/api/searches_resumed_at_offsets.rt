@@ -1,0 +1,154 @@
+//! Searches that resume from an offset, for callers that cannot hold an iterator between two
+//! matches.
+
+ghost use Rattle.std.specs.Prelude.{◌≡◌, ◌<◌, IfErr, IfOk, None, Some, option_map, unwrap_or};
+ghost use Rattle.regex_meaning.specs.CodeUnitOffsets.{units};
+ghost use Rattle.regress_match.specs.{ProgramTreesAndAnswers.{IsBoundaryOrPastEnd, as_ucs2, as_utf16, as_utf8, byte_tree, unit_tree}, CompileErrors.{IsOutOfMemory}, Resuming.{ResumesFrom}};
+
+use crate::api::{Match, Regex, SearchError};
+use crate::executors::{
+    DefaultExecutor, DefaultUcs2Executor, DefaultUtf16Executor, LimitedExecutor,
+};
+use regress_exec::exec::{MatchProducer, ProducerFromProgramAndText};
+use regress_exec::search_loop::AnchoredSearch;
+use regress_input::indexing::InputIndexer;
+
+/// A match, and the offset from which the list of matches continues after it.
+#[derive(Debug, Drop)]
+pub struct Step {
+    /// The match.
+    pub found: Match,
+    /// The offset in units from which the list continues. If the list ends, it is `usize::MAX`,
+    /// which is past the end of the text.
+    pub next: usize,
+}
+
+impl Regex {
+    /// Returns a search for the matches in a UTF-8 text, which `next_from` finds one after another.
+    ///
+    /// # Errors
+    ///
+    /// `Memory` if an allocation for the search fails.
+    pub fn utf8_search<'r, 't>(
+        &'r self,
+        text: &'t str,
+    ) -> Result<DefaultExecutor<'r, 't>, SearchError>
+        ensures tree { IfOk result (λ e. ⟦<DefaultExecutor<'r, 't> as MatchProducer>⟧.tree e ≡ byte_tree self.now) }
+        ensures text { IfOk result (λ e. ⟦<DefaultExecutor<'r, 't> as MatchProducer>⟧.text e
+            ≡ as_utf8 self.now text.now) }
+        ensures budget { IfOk result (λ e. ⟦<DefaultExecutor<'r, 't> as MatchProducer>⟧.budget e ≡ None) }
+        ensures refused { IfErr result IsOutOfMemory }
+    {
+        Ok(DefaultExecutor::new(self.byte_program(), text)?)
+    }
+
+    /// Like `utf8_search`, with at most `steps` steps for all calls together. `steps_left` of the
+    /// search reports how many are left.
+    ///
+    /// # Errors
+    ///
+    /// `Memory` if an allocation for the search fails.
+    pub fn utf8_search_limited<'r, 't>(
+        &'r self,
+        text: &'t str,
+        steps: u64,
+    ) -> Result<LimitedExecutor<'r, 't>, SearchError>
+        ensures tree { IfOk result (λ e. ⟦<LimitedExecutor<'r, 't> as MatchProducer>⟧.tree e ≡ byte_tree self.now) }
+        ensures text { IfOk result (λ e. ⟦<LimitedExecutor<'r, 't> as MatchProducer>⟧.text e
+            ≡ as_utf8 self.now text.now) }
+        ensures budget { IfOk result (λ e. ⟦<LimitedExecutor<'r, 't> as MatchProducer>⟧.budget e ≡ Some steps) }
+        ensures refused { IfErr result IsOutOfMemory }
+    {
+        Ok(LimitedExecutor::new(self.byte_program(), text, steps)?)
+    }
+
+    /// Returns a search for the matches in a UTF-16 text, which `next_from` finds one after
+    /// another.
+    ///
+    /// # Errors
+    ///
+    /// `Memory` if an allocation for the search fails.
+    pub fn utf16_search<'r, 't>(
+        &'r self,
+        text: &'t [u16],
+    ) -> Result<DefaultUtf16Executor<'r, 't>, SearchError>
+        ensures tree { IfOk result (λ e. ⟦<DefaultUtf16Executor<'r, 't> as MatchProducer>⟧.tree e
+            ≡ unit_tree self.now) }
+        ensures text { IfOk result (λ e. ⟦<DefaultUtf16Executor<'r, 't> as MatchProducer>⟧.text e
+            ≡ as_utf16 self.now text.now) }
+        ensures budget { IfOk result (λ e. ⟦<DefaultUtf16Executor<'r, 't> as MatchProducer>⟧.budget e ≡ None) }
+        ensures refused { IfErr result IsOutOfMemory }
+    {
+        Ok(DefaultUtf16Executor::new_utf16(self.unit_program(), text)?)
+    }
+
+    /// Returns a search for the matches in a UCS-2 text, which `next_from` finds one after another.
+    ///
+    /// # Errors
+    ///
+    /// `Memory` if an allocation for the search fails.
+    pub fn ucs2_search<'r, 't>(
+        &'r self,
+        text: &'t [u16],
+    ) -> Result<DefaultUcs2Executor<'r, 't>, SearchError>
+        ensures tree { IfOk result (λ e. ⟦<DefaultUcs2Executor<'r, 't> as MatchProducer>⟧.tree e ≡ unit_tree self.now) }
+        ensures text { IfOk result (λ e. ⟦<DefaultUcs2Executor<'r, 't> as MatchProducer>⟧.text e
+            ≡ as_ucs2 self.now text.now) }
+        ensures budget { IfOk result (λ e. ⟦<DefaultUcs2Executor<'r, 't> as MatchProducer>⟧.budget e ≡ None) }
+        ensures refused { IfErr result IsOutOfMemory }
+    {
+        Ok(DefaultUcs2Executor::new_ucs2(self.unit_program(), text)?)
+    }
+}
+
+/// Returns the first match from an offset in units on, and the offset from which the list of
+/// matches continues. `start` is a boundary or past the end.
+///
+/// Within the steps that are left, the list of matches from `start` is this match, followed by the
+/// list from `next` within the steps that are left after the call. Returns `None` exactly if no
+/// match remains. So calls that each start at the `next` of the call before return what an iterator
+/// yields, and no iterator has to be held in between.
+///
+/// A call takes exactly the steps that the match needs, or that it needs to find that there is
+/// none. Past the end of the text it takes none.
+///
+/// # Errors
+///
+/// - `StepLimit` if more steps are needed than are left; then none is left.
+/// - `Memory` if an allocation for the search fails. The steps taken until then stay spent.
+pub fn next_from<E: AnchoredSearch>(
+    search: &mut E,
+    start: usize,
+) -> Result<Option<Step>, SearchError>
+    requires { IsBoundaryOrPastEnd (E.text search.old) start }
+    ensures goes { ResumesFrom (E.tree search.old) (E.text search.old) (E.budget search.old) start result
+        (E.budget search.new) }
+    ensures same_tree { E.tree search.new ≡ E.tree search.old }
+    ensures same_text { E.text search.new ≡ E.text search.old }
+{
+    let Some(pos) = search.initial_position(start) else {
+        return Ok(None);
+    };
+    let mut next = None;
+    let Some(found) = search.next_match(pos, &mut next)? else {
+        return Ok(None);
+    };
+    let next = offset_of_position(search, next);
+    Ok(Some(Step { found, next }))
+}
+
+// Returns the offset of a position, or `usize::MAX`, which is past the end of every text, if there
+// is none.
+fn offset_of_position<E: AnchoredSearch>(
+    search: &E,
+    position: Option<<E::Input as InputIndexer>::Position>,
+) -> usize
+    ensures offset { result ≡ unwrap_or (option_map E.Input.Position.offset position) usize.MAX }
+    ensures fits { units (E.text search.now) < usize.MAX }
+{
+    let input = search.input();
+    match position {
+        Some(position) => input.pos_to_offset(position),
+        None => usize::MAX,
+    }
+}

@@ -1,0 +1,121 @@
+//! Checks that loop states are sound, that is, of the kind that a search may reach.
+
+ghost use Rattle.std.specs.Prelude.{◌≡◌, ◌<◌, ◌+◌, ◌^◌, ◌↔◌, true, option_map, IsTrue};
+ghost use Rattle.regress_memo_laws.specs.{Liveness.{IsOffsetPassedOrCurrent}, MemoKeys.{IsSoundState}};
+ghost use Rattle.regress_machine.specs.Machine.{State};
+ghost use Rattle.regress_memo_analysis.specs.{AnalysisContents.{liveness_of, insn_direction}, LoopStateReachabilityCheck.{direction_from_forward, IsWithinCountBound, IsSoundLoopCountAndIterationStart, IsSoundEnclosingLoopState}, CheckedAnalysis.{spec_count_and_iteration_start_of}};
+
+use crate::analysis::{EnclosingLoop, LoopCountsDistinguishedUpTo, MemoAnalysis};
+use crate::key_codes::{IterationStatesOfAllLoops, LoopCountAndIterationStart};
+
+// An offset in a text of `units` code units, and the direction in which a search continues.
+#[derive(Clone, Copy)]
+struct OffsetAndDirection {
+    at: usize,
+    units: usize,
+    forward: bool,
+}
+
+impl MemoAnalysis {
+    /// Checks whether a search may reach a thread at this instruction and offset of a text of
+    /// `units` code units with these loop states.
+    ///
+    /// The current iterations began at offsets that were passed, and read a character where the
+    /// analysis states so. A loop has no more iterations than code units, apart from those that the
+    /// analysis counts.
+    pub fn is_reachable_loop_state<R: IterationStatesOfAllLoops>(
+        &self,
+        ip: usize,
+        at: usize,
+        units: usize,
+        rounds: &R,
+    ) -> bool
+        requires { units < 2 ^ 63 }
+        ensures { (s : State) → s.ip ≡ ip → s.pos ≡ at → s.loops ≡ R.rounds rounds.now
+            → IsTrue result ↔ IsSoundState (liveness_of self.now) units (insn_direction self.now ip) s }
+    {
+        if at > units {
+            return false;
+        }
+        let forward = self.insn_analysis_at(ip).forward;
+        let place = OffsetAndDirection { at, units, forward };
+        let rows = self.enclosing_loops(ip);
+        for row in rows {
+            let loop_iteration_state = rounds.iteration_state_of_loop(row.id);
+            if !self.is_sound_row(row, place, loop_iteration_state) {
+                return false;
+            }
+        }
+        true
+    }
+
+    // Checks that the state of an entry's loop is sound; a missing state is.
+    fn is_sound_row(
+        &self,
+        row: &EnclosingLoop,
+        place: OffsetAndDirection,
+        loop_iteration_state: Option<LoopCountAndIterationStart>,
+    ) -> bool
+        requires { place.units < 2 ^ 63 }
+        ensures { IsTrue result ↔ IsSoundEnclosingLoopState self.now (direction_from_forward place.forward) place.units place.at
+            (option_map spec_count_and_iteration_start_of loop_iteration_state) row.now }
+    {
+        match loop_iteration_state {
+            Some(loop_iteration_state) => is_sound_by(
+                self.count_bound_of_loop(row.id),
+                row.moved,
+                place,
+                loop_iteration_state,
+            ),
+            None => true,
+        }
+    }
+}
+
+// Checks this by what the analysis states of the loop.
+fn is_sound_by(
+    count: LoopCountsDistinguishedUpTo,
+    moved: bool,
+    place: OffsetAndDirection,
+    loop_iteration_state: LoopCountAndIterationStart,
+) -> bool
+    requires { place.units < 2 ^ 63 }
+    ensures { IsTrue result ↔ IsSoundLoopCountAndIterationStart count moved (direction_from_forward place.forward) place.units place.at (spec_count_and_iteration_start_of loop_iteration_state) }
+{
+    is_passed(place, loop_iteration_state.entry)
+        && (!moved || loop_iteration_state.entry != place.at)
+        && are_few(count, place, loop_iteration_state)
+}
+
+// Checks that an offset was passed or is the current one.
+fn is_passed(place: OffsetAndDirection, entry: usize) -> bool
+    ensures { IsTrue result ↔ IsOffsetPassedOrCurrent (direction_from_forward place.forward) entry place.at }
+{
+    if place.forward {
+        entry <= place.at
+    } else {
+        place.at <= entry
+    }
+}
+
+// Checks that there were no more iterations than possible.
+fn are_few(
+    count: LoopCountsDistinguishedUpTo,
+    place: OffsetAndDirection,
+    loop_iteration_state: LoopCountAndIterationStart,
+) -> bool
+    requires { place.units < 2 ^ 63 }
+    ensures { IsTrue result ↔ IsWithinCountBound count (direction_from_forward place.forward) place.units (spec_count_and_iteration_start_of loop_iteration_state) }
+{
+    let up_to = usize::from(count.up_to);
+    if count.counted {
+        return loop_iteration_state.iters <= up_to;
+    }
+    let left = if place.forward {
+        place.units.saturating_sub(loop_iteration_state.entry)
+    } else {
+        loop_iteration_state.entry
+    };
+    let most = place.units + up_to;
+    left <= most && loop_iteration_state.iters <= most - left
+}

@@ -1,5 +1,0 @@
-use Rattle.regress_pikevm.proofs.Turns.{resets}
-use Rattle.regress_pikevm.proofs.pikevm.execute.reset_group.Goals as goal
-
-pub returns : goal.returns
-returns g c = resets g.P.PositionType.offset c.args.state c.args.id c.requires.can

@@ -1,0 +1,42 @@
+use Rattle.std.proofs.Common.{◌≡◌, ◌+◌, Bool, ap, sym, subst, ◌∙◌, true, false}
+use Rattle.regress_input.specs.ReadsFromOffset.{end_if_matched, direction_of_forward_flag}
+use Rattle.regress_machine.specs.Machine as machine
+use Rattle.regress_machine.specs.Machine.{go_if, read_group}
+use Rattle.regress_pikevm.specs.States.{range_of, state_of}
+use Rattle.regress_machine.specs.InsnEffects.{IsNotStuck}
+use Rattle.regress_scan.proofs.Readers.{nothing-read, group-read}
+use Rattle.regress_pikevm.specs.InsnEffects.{effect_of_range_backref}
+use Rattle.regress_pikevm.proofs.pikevm.single_insn_execution.match_range_again.Given.{Over}
+use Rattle.regress_pikevm.proofs.pikevm.single_insn_execution.match_range_again.Goals.{After-backref_matches}
+use Rattle.regress_pikevm.proofs.pikevm.single_insn_execution.match_range_again.Goals as goal
+
+pub returns-in_default : goal.returns-in_default
+returns-in_default g c =
+    let text = g.Input.InputIndexer.text c.args.searched.now.input in
+    let offset = g.Input.Position.PositionType.offset in
+    let d = direction_of_forward_flag g.Dir.Direction.FORWARD in
+    let s = state_of offset c.args.state in
+    let can = subst (λ r. IsNotStuck (read_group text c.args.icase d (range_of offset r) s)) c.in_default.is c.requires.can in
+    nothing-read text (g.met.Input.InputIndexer.is_text c.args.searched.now.input) c.args.icase d s can ∙ ap (λ r. read_group text c.args.icase d (range_of offset r) s) (sym c.in_default.is)
+
+-- where it goes, by whether they stand there
+again : (g : Over) (c : After-backref_matches g) (b : Bool) → c.backref_matches.result ≡ b
+    → (let s : machine.State = state_of g.Input.Position.PositionType.offset c.args.state in
+    go_if b (record s { ip = s.ip + 1; pos = g.Input.Position.PositionType.offset c.backref_matches.new.pos })
+    ≡ effect_of_range_backref g.Input.Position.PositionType.offset (g.Input.InputIndexer.text c.args.searched.now.input) g.Dir.Direction.FORWARD c.args.icase
+    c.args.range c.args.state)
+again g c b stands =
+    let text = g.Input.InputIndexer.text c.args.searched.now.input in
+    let offset = g.Input.Position.PositionType.offset in
+    let d = direction_of_forward_flag g.Dir.Direction.FORWARD in
+    let s = state_of offset c.args.state in
+    let can = subst (λ r. IsNotStuck (read_group text c.args.icase d (range_of offset r) s)) c.in-Some.is c.requires.can in
+    let to = offset c.backref_matches.new.pos in
+    group-read text (g.met.Input.InputIndexer.is_text c.args.searched.now.input) c.args.icase d (offset c.in-Some.span.0) (offset c.in-Some.span.1) s b to can
+    (ap (λ b. end_if_matched b to) (sym stands) ∙ c.backref_matches.ensures) ∙ ap (λ r. read_group text c.args.icase d (range_of offset r) s) (sym c.in-Some.is)
+
+pub returns-then-backref_matches : goal.returns-then-backref_matches
+returns-then-backref_matches g c = again g (goal.at.returns-then-backref_matches g c).After-backref_matches true c.if-backref_matches.true
+
+pub returns-else-backref_matches : goal.returns-else-backref_matches
+returns-else-backref_matches g c = again g (goal.at.returns-else-backref_matches g c).After-backref_matches false c.if-backref_matches.false

@@ -1,0 +1,353 @@
+//! Executing one instruction in a state.
+
+ghost use Rattle.std.specs.Prelude.{◌≡◌, ◌<◌, ◌≤◌, ◌^◌, ◌+◌, IfOk, IsTrue, Some, map, [], ◌∷◌, length};
+ghost use Rattle.regex_meaning.specs.CodeUnitOffsets.{units};
+ghost use Rattle.regex_pattern_front.specs.AstToSpecTree.{tree_of};
+ghost use Rattle.regress_input.specs.ReadsFromOffset.{direction_of_forward_flag};
+ghost use Rattle.regress_program.specs.{CompilationOfTreesAsFunction.{compiled}, InsnMeanings.{spec_insn_of, spec_loop_fields_of}};
+ghost use Rattle.regress_machine.specs.Machine.{running, waiting, goes, asks, state_at_ip, state_at_next_ip, range_swapped_if_leftwards, iterate_or_leave_loop, next_iteration_unless_empty, loop_repeated};
+ghost use Rattle.regress_machine.specs.InsnEffects.{group_opened, group_closed, group_reset, iteration_entered, IsNotStuck, is_text_test};
+ghost use Rattle.regress_pikevm.specs.{InsnEffects.{effect_at, effect_of_insn, effect_of_range_backref, effect_of_backref}, States.{state_of, loop_of, next_threads}};
+ghost use Rattle.regress_scan.specs.InsnMatchers.{ByteInsnHasByteText};
+
+use super::char_loops::{CharLoopBoundsAndGreed, execute_char_loop};
+use super::insn_matchers;
+use super::states::{LoopData, NextStates, State, copy_state};
+use regress_exec::program_and_input::ProgramAndInput;
+use regress_input::cursor::Direction;
+use regress_input::front::{CaptureGroupID, LoopID};
+use regress_input::indexing::InputIndexer;
+use regress_input::position::PositionType;
+use regress_program::insn::{Insn, LoopFields};
+use regress_scan::insn_matchers::backref_matches;
+use std::alloc::AllocError;
+
+/// Executes the instruction at the state.
+#[inline(always)]
+pub fn execute_insn<Input: InputIndexer, Dir: Direction>(
+    searched: &ProgramAndInput<'_, Input>,
+    insns: &[Insn],
+    dir: Dir,
+    state: State<Input::Position>,
+) -> Result<NextStates<Input::Position>, AllocError>
+    requires code { map spec_insn_of insns.now ≡ (compiled (tree_of searched.now.program.now)).insns }
+    requires can { let s = searched.now in
+        IsNotStuck (effect_at Input.Position.offset s.program.now (Input.text s.input) Dir.FORWARD state) }
+    requires inside { Input.Position.offset state.pos ≤ units (Input.text searched.now.input) }
+    ensures { let s = searched.now in IfOk result (λ t. next_threads Input.Position.offset t
+        ≡ effect_at Input.Position.offset s.program.now (Input.text s.input) Dir.FORWARD state) }
+{
+    let insn = insns[state.ip];
+    perform(insn, searched, insns, dir, state)
+}
+
+// Executes one instruction.
+fn perform<Input: InputIndexer, Dir: Direction>(
+    insn: Insn,
+    searched: &ProgramAndInput<'_, Input>,
+    insns: &[Insn],
+    dir: Dir,
+    mut state: State<Input::Position>,
+) -> Result<NextStates<Input::Position>, AllocError>
+    requires code { map spec_insn_of insns.now ≡ (compiled (tree_of searched.now.program.now)).insns }
+    requires can { let s = searched.now in IsNotStuck (effect_of_insn Input.Position.offset
+        s.program.now (Input.text s.input) Dir.FORWARD insn state) }
+    requires bytes { ByteInsnHasByteText insn (Input.text searched.now.input) Input.Units.ARE_BYTES }
+    requires inside { Input.Position.offset state.pos ≤ units (Input.text searched.now.input) }
+    requires within { state.ip + 1 < 2 ^ 64 }
+    ensures { let s = searched.now in IfOk result (λ t. next_threads Input.Position.offset t
+        ≡ effect_of_insn Input.Position.offset s.program.now (Input.text s.input) Dir.FORWARD insn state) }
+{
+    match insn {
+        Insn::Goal => Ok(NextStates::Accept(state)),
+        Insn::Jump { target } => {
+            state.ip = target as usize;
+            Ok(NextStates::Continue(state))
+        }
+        Insn::Alt { secondary } => fork(secondary, state),
+        Insn::EnterLoop { .. } => begin_iteration(insn.loop_fields(), state.ip, 0, state),
+        Insn::LoopAgain { begin } => end_body(insns[begin as usize], begin as usize, state),
+        Insn::Loop1CharBody {
+            min_iters,
+            max_iters,
+            greedy,
+        } => {
+            let run = CharLoopBoundsAndGreed {
+                min_iters,
+                max_iters,
+                greedy,
+            };
+            let body = insns[state.ip + 1];
+            execute_char_loop(run, body, searched, dir, state)
+        }
+        Insn::BeginCaptureGroup(id) => Ok(open_group(id, state)),
+        Insn::EndCaptureGroup(id) => Ok(close_group(id, dir, state)),
+        Insn::ResetCaptureGroup(id) => Ok(reset_group(id, state)),
+        Insn::BackRef { group, icase } => Ok(execute_backref(group, icase, searched, dir, state)),
+        Insn::Lookahead {
+            negate,
+            continuation,
+            ..
+        } => fork_lookaround(true, negate, continuation, state),
+        Insn::Lookbehind {
+            negate,
+            continuation,
+            ..
+        } => fork_lookaround(false, negate, continuation, state),
+        _ => Ok(execute_test(insn, searched, dir, state)),
+    }
+}
+
+// Executes an instruction that only reads or tests the text. The thread continues at the next
+// instruction, or it fails.
+#[inline(always)]
+fn execute_test<Input: InputIndexer, Dir: Direction>(
+    insn: Insn,
+    searched: &ProgramAndInput<'_, Input>,
+    dir: Dir,
+    mut state: State<Input::Position>,
+) -> NextStates<Input::Position>
+    requires can { let s = searched.now in IsNotStuck (effect_of_insn Input.Position.offset
+        s.program.now (Input.text s.input) Dir.FORWARD insn state) }
+    requires reader { IsTrue (is_text_test (spec_insn_of insn)) }
+    requires bytes { ByteInsnHasByteText insn (Input.text searched.now.input) Input.Units.ARE_BYTES }
+    requires inside { Input.Position.offset state.pos ≤ units (Input.text searched.now.input) }
+    requires within { state.ip + 1 < 2 ^ 64 }
+    ensures { let s = searched.now in next_threads Input.Position.offset result
+        ≡ effect_of_insn Input.Position.offset s.program.now (Input.text s.input) Dir.FORWARD insn state }
+{
+    if insn_matchers::insn_matches(searched, insn, dir, &mut state.pos) {
+        state.ip += 1;
+        NextStates::Continue(state)
+    } else {
+        NextStates::Dead
+    }
+}
+
+// Forks to the next instruction, which is preferred, and to the one with index `secondary`.
+fn fork<P: PositionType>(secondary: u32, mut state: State<P>) -> Result<NextStates<P>, AllocError>
+    requires { state.ip + 1 < 2 ^ 64 }
+    ensures { let s = state_of P.offset state in IfOk result (λ t. next_threads P.offset t
+        ≡ goes (running (state_at_next_ip s) ∷ waiting (state_at_ip secondary s) ∷ [])) }
+{
+    let mut second = copy_state(&state)?;
+    second.ip = secondary as usize;
+    state.ip += 1;
+    Ok(NextStates::Fork(state, second))
+}
+
+// Starts the search of a lookaround at the next instruction. `continuation` is the instruction at
+// which the thread continues after it.
+fn fork_lookaround<P: PositionType>(
+    forward: bool,
+    negate: bool,
+    continuation: u32,
+    mut state: State<P>,
+) -> Result<NextStates<P>, AllocError>
+    requires { state.ip + 1 < 2 ^ 64 }
+    ensures { let s = state_of P.offset state in IfOk result (λ t. next_threads P.offset t
+        ≡ asks (direction_of_forward_flag forward) negate (state_at_next_ip s) (state_at_ip continuation s)) }
+{
+    let mut inner = copy_state(&state)?;
+    inner.ip += 1;
+    state.ip = continuation as usize;
+    Ok(NextStates::Lookaround {
+        forward,
+        negate,
+        inner,
+        after: state,
+    })
+}
+
+// ---- Groups
+
+fn open_group<P: PositionType>(id: CaptureGroupID, mut state: State<P>) -> NextStates<P>
+    requires can { IsNotStuck (group_opened id (state_of P.offset state)) }
+    requires within { state.ip + 1 < 2 ^ 64 }
+    ensures { next_threads P.offset result ≡ group_opened id (state_of P.offset state) }
+{
+    let id = id as usize;
+    state.ip += 1;
+    state.groups[id] = None;
+    state.starts[id] = state.pos;
+    NextStates::Continue(state)
+}
+
+fn close_group<P: PositionType, Dir: Direction>(
+    id: CaptureGroupID,
+    dir: Dir,
+    mut state: State<P>,
+) -> NextStates<P>
+    requires can { IsNotStuck (group_closed id (direction_of_forward_flag Dir.FORWARD) (state_of P.offset state)) }
+    requires within { state.ip + 1 < 2 ^ 64 }
+    ensures { next_threads P.offset result ≡ group_closed id (direction_of_forward_flag Dir.FORWARD) (state_of P.offset state) }
+{
+    let id = id as usize;
+    let start = state.starts[id];
+    state.ip += 1;
+    state.groups[id] = Some(ordered_span(dir, start, state.pos));
+    NextStates::Continue(state)
+}
+
+// Returns the ordered range of two positions, of which `to` was reached from `from`.
+#[inline(always)]
+fn ordered_span<P: PositionType, Dir: Direction>(_dir: Dir, from: P, to: P) -> (P, P)
+    ensures { (P.offset result.0, P.offset result.1)
+        ≡ range_swapped_if_leftwards (direction_of_forward_flag Dir.FORWARD) (P.offset from) (P.offset to) }
+{
+    if Dir::FORWARD { (from, to) } else { (to, from) }
+}
+
+fn reset_group<P: PositionType>(id: CaptureGroupID, mut state: State<P>) -> NextStates<P>
+    requires can { IsNotStuck (group_reset id (state_of P.offset state)) }
+    requires within { state.ip + 1 < 2 ^ 64 }
+    ensures { next_threads P.offset result ≡ group_reset id (state_of P.offset state) }
+{
+    state.ip += 1;
+    state.groups[id as usize] = None;
+    NextStates::Continue(state)
+}
+
+// ---- Backreferences
+
+// Matches the characters of a group again.
+fn execute_backref<Input: InputIndexer, Dir: Direction>(
+    group: u32,
+    icase: bool,
+    searched: &ProgramAndInput<'_, Input>,
+    dir: Dir,
+    state: State<Input::Position>,
+) -> NextStates<Input::Position>
+    requires can { IsNotStuck (effect_of_backref Input.Position.offset
+        (Input.text searched.now.input) Dir.FORWARD icase group state) }
+    requires within { state.ip + 1 < 2 ^ 64 }
+    ensures { let at = Input.Position.offset in
+        next_threads at result ≡ effect_of_backref at (Input.text searched.now.input) Dir.FORWARD icase group state }
+{
+    let range = state.groups[group as usize];
+    match_range_again(range, icase, searched, dir, state)
+}
+
+// Matches the characters of a range again. Without a range it matches the empty string.
+fn match_range_again<Input: InputIndexer, Dir: Direction>(
+    range: Option<(Input::Position, Input::Position)>,
+    icase: bool,
+    searched: &ProgramAndInput<'_, Input>,
+    dir: Dir,
+    mut state: State<Input::Position>,
+) -> NextStates<Input::Position>
+    requires can { IsNotStuck (effect_of_range_backref Input.Position.offset
+        (Input.text searched.now.input) Dir.FORWARD icase range state) }
+    requires within { state.ip + 1 < 2 ^ 64 }
+    ensures { let at = Input.Position.offset in
+        next_threads at result ≡ effect_of_range_backref at (Input.text searched.now.input) Dir.FORWARD icase range state }
+{
+    let Some(span) = range else {
+        state.ip += 1;
+        return NextStates::Continue(state);
+    };
+    if backref_matches(span.0, span.1, icase, &searched.input, dir, &mut state.pos) {
+        state.ip += 1;
+        NextStates::Continue(state)
+    } else {
+        NextStates::Dead
+    }
+}
+
+// ---- Loops
+
+// Executes the start of a loop before iteration `k`: enters the iteration, exits the loop, or forks
+// to both.
+fn begin_iteration<P: PositionType>(
+    fields: LoopFields,
+    begin: usize,
+    k: usize,
+    mut state: State<P>,
+) -> Result<NextStates<P>, AllocError>
+    requires can { IsNotStuck (iterate_or_leave_loop (spec_loop_fields_of fields) begin k (state_of P.offset state)) }
+    requires within { begin + 1 < 2 ^ 64 }
+    ensures { IfOk result (λ t. next_threads P.offset t
+        ≡ iterate_or_leave_loop (spec_loop_fields_of fields) begin k (state_of P.offset state)) }
+{
+    let may_leave = fields.min_iters <= k;
+    if k >= fields.max_iters {
+        state.ip = fields.exit as usize;
+        return Ok(if may_leave {
+            NextStates::Continue(state)
+        } else {
+            NextStates::Dead
+        });
+    }
+    if !may_leave {
+        return Ok(NextStates::Continue(enter_iteration(fields.loop_id, begin, k, state)));
+    }
+    let mut leaving = copy_state(&state)?;
+    leaving.ip = fields.exit as usize;
+    let again = enter_iteration(fields.loop_id, begin, k, state);
+    if fields.greedy {
+        Ok(NextStates::Fork(again, leaving))
+    } else {
+        Ok(NextStates::Fork(leaving, again))
+    }
+}
+
+// Returns the state at the start of iteration `k`.
+fn enter_iteration<P: PositionType>(
+    id: LoopID,
+    begin: usize,
+    k: usize,
+    mut state: State<P>,
+) -> State<P>
+    requires known { id < length state.loops.items }
+    requires within { begin + 1 < 2 ^ 64 }
+    ensures { state_of P.offset result ≡ iteration_entered id begin k (state_of P.offset state) }
+{
+    state.ip = begin + 1;
+    state.loops[id as usize] = LoopData {
+        iters: k,
+        entry: state.pos,
+    };
+    state
+}
+
+// Executes the end of an iteration. `head` is the first instruction of the loop.
+fn end_body<P: PositionType>(
+    head: Insn,
+    begin: usize,
+    state: State<P>,
+) -> Result<NextStates<P>, AllocError>
+    requires can { IsNotStuck (loop_repeated (Some (spec_insn_of head)) begin (state_of P.offset state)) }
+    requires within { begin + 1 < 2 ^ 64 }
+    ensures { IfOk result (λ t. next_threads P.offset t
+        ≡ loop_repeated (Some (spec_insn_of head)) begin (state_of P.offset state)) }
+{
+    match head {
+        Insn::EnterLoop { .. } => {
+            let fields = head.loop_fields();
+            let last = state.loops[fields.loop_id as usize];
+            end_iteration(fields, begin, last, state)
+        }
+        _ => unreachable!(),
+    }
+}
+
+// Executes the end of an iteration with the loop's state `last`. An iteration that is empty and
+// past the minimum fails.
+fn end_iteration<P: PositionType>(
+    fields: LoopFields,
+    begin: usize,
+    last: LoopData<P>,
+    state: State<P>,
+) -> Result<NextStates<P>, AllocError>
+    requires can { IsNotStuck
+        (next_iteration_unless_empty (spec_loop_fields_of fields) begin (loop_of P.offset last) (state_of P.offset state)) }
+    requires within { begin + 1 < 2 ^ 64 }
+    ensures { IfOk result (λ t. next_threads P.offset t
+        ≡ next_iteration_unless_empty (spec_loop_fields_of fields) begin (loop_of P.offset last) (state_of P.offset state)) }
+{
+    if last.entry == state.pos && fields.min_iters < last.iters + 1 {
+        Ok(NextStates::Dead)
+    } else {
+        begin_iteration(fields, begin, last.iters + 1, state)
+    }
+}

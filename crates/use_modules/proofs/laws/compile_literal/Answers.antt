@@ -1,0 +1,19 @@
+use Rattle.std.proofs.Common.{[], ◌∙◌, subst, sym}
+use Rattle.std.proofs.lemmas.Str.{is_utf8-from_IsUtf8}
+use Rattle.std.specs.Prelude.{chars}
+use Rattle.regex_meaning.specs.FlagLettersAndEscaping.{flags_from_letters}
+use Rattle.regex_grammar.specs.Grammar.{Parses}
+use Rattle.regex_grammar.specs.Laws.{literal_tree}
+use Rattle.regress_match.specs.ProgramTreesAndAnswers.{IsCompiledWith, unit_tree}
+use Rattle.regress_match.proofs.FlagLemmas.{IfOk-map}
+use Rattle.use_modules.proofs.laws.compile_literal.Goals as goal
+
+pub returns : goal.returns
+returns c =
+    let flags = flags_from_letters [] in
+    let text = c.args.text.now in
+    let pattern = c.as_str.result.now in
+    IfOk-map c.new.result (IsCompiledWith flags (chars pattern)) _
+    (λ re is. c.one_tree.ensures flags (chars pattern) (unit_tree re) (literal_tree flags (chars text)) is.parsed
+    (subst (λ p. Parses flags (chars p) (literal_tree flags (chars text))) (sym (c.as_str.ensures.value ∙ c.in_ok-pattern.ensures))
+    (c.escaped_bytes_are_read.ensures flags text (is_utf8-from_IsUtf8 text c.utf8.text)))) c.new.ensures.compiled

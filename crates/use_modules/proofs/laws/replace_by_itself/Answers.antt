@@ -1,0 +1,7 @@
+use Rattle.std.proofs.Common.{◌∙◌}
+use Rattle.regress_match.proofs.FlagLemmas.{IfOk-map}
+use Rattle.use_modules.proofs.laws.replace_by_itself.Goals as goal
+
+pub returns : goal.returns
+returns c =
+    IfOk-map c.replace_all.result _ _ (λ s made. made ∙ (c.whole_matches_give_back.ensures c.args.re.now c.args.text.now).1) c.replace_all.ensures.made

@@ -1,0 +1,88 @@
+//! The patterns of a schema.
+
+ghost use Rattle.std.specs.Prelude.{◌≡◌, IfOk, IfSome, codes, string_bytes};
+ghost use Rattle.regex_meaning.specs.FlagLettersAndEscaping.{flags_from_letters};
+ghost use Rattle.regress_match.specs.PublicFlagsAsSpecFlags.{spec_flags_of};
+ghost use Rattle.use_validator.specs.Patterns.{AreOfTheirTexts, IsPatternOf, IsProgramOf};
+
+use anyhow::{Result, bail};
+use regress_match::{Error, Flags, Regex};
+use std::alloc::Global;
+use std::collections::BTreeMap;
+
+/// Each pattern of a schema as a program, by its text.
+#[derive(Drop)]
+pub struct Patterns {
+    compiled: BTreeMap<String, Regex>,
+    ghost of_their_texts: { AreOfTheirTexts compiled.entries },
+}
+
+impl Patterns {
+    /// Returns the patterns of a schema that has none.
+    pub fn none(alloc: Global) -> Self {
+        let compiled = BTreeMap::new(alloc);
+        Patterns { compiled }
+    }
+
+    /// Returns the program of a pattern, or `None` if the schema does not have it.
+    pub fn get(&self, pattern: &str) -> Option<&Regex>
+        ensures { IfSome result (λ re. IsPatternOf pattern.now re.now) }
+    {
+        self.compiled.get(pattern)
+    }
+
+    /// Compiles a pattern that stands at a place of the schema, with the flag `u`.
+    ///
+    /// # Errors
+    ///
+    /// If the pattern is refused, the error says where it stands and why. Allocation failure is an
+    /// error too.
+    pub fn compile(&mut self, alloc: Global, place: &str, pattern: &str) -> Result<()> {
+        if self.compiled.get(pattern).is_some() {
+            return Ok(());
+        }
+        let re = compile(alloc, place, pattern)?;
+        self.insert(String::from_str(alloc, pattern)?, re)
+    }
+
+    // Adds the program of a pattern.
+    fn insert(&mut self, pattern: String, re: Regex) -> Result<()>
+        requires { IsProgramOf (string_bytes pattern) re }
+    {
+        self.compiled.insert(pattern, re)?;
+        Ok(())
+    }
+}
+
+// Compiles a pattern. If it is refused, the error says where it stands and why.
+fn compile(alloc: Global, place: &str, pattern: &str) -> Result<Regex>
+    ensures { IfOk result (IsProgramOf pattern.now) }
+{
+    let why = match read(alloc, pattern) {
+        Ok(re) => return Ok(re),
+        Err(why) => why,
+    };
+    if let Error::Parse(_) = why {
+        if let Some(told) = Regex::diagnose(alloc, pattern, flags())? {
+            bail!(
+                "the schema's #{place} is refused: {told}\n{}",
+                told.below_text(pattern)
+            );
+        }
+    }
+    bail!("the schema's #{place} is refused: {why}")
+}
+
+// Compiles a pattern, with the error of the constructor.
+fn read(alloc: Global, pattern: &str) -> Result<Regex, Error>
+    ensures { IfOk result (IsProgramOf pattern.now) }
+{
+    Regex::with_flags(alloc, pattern, flags())
+}
+
+// Returns the flags of a schema's patterns.
+fn flags() -> Flags
+    ensures { spec_flags_of result ≡ flags_from_letters (codes "u") }
+{
+    Flags::from("u")
+}

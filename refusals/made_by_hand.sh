@@ -3,7 +3,8 @@
 # from a growth that was refused, by `?`, and nothing else may be told so. No contract can say that.
 #
 # Left out are `impl From<..>` blocks, by which `?` turns one such error into another, patterns, tests (`*_rows`, `*_checks`
-# and the programs that only try the engine), and the files below, each of which says the same of a refusal that it met.
+# and the programs that only try the engine), programs that use the engine (`use_*`), and the files below, each of which
+# says the same of a refusal that it met.
 set -eu
 cd "$(dirname "$0")/.."
 
@@ -14,21 +15,23 @@ cd "$(dirname "$0")/.."
 # What goes on behind a search in a search stopped, which is handed on.
 # A bounded search was refused: whether for want of work is kept beside, since this error is of memory alone; or it would need
 # more memory than there can be.
-# A bounded search was refused, and not for want of work: then memory was.
+# A refusal of the parser is handed on as an error of another type.
+# An error of a regex is handed to C as a refusal.
 allowed='crates/regress_tool/src/main.rt
 crates/regress_backtrack/src/attempts.rt
 crates/regress_backtrack/src/interpreter.rt
 crates/regress_bounded/src/executor.rt
 crates/regress_exec/src/exec/work_matches.rt
 crates/regress_backtrack/src/step_and_work_budgets.rt
-crates/use_validator/src/judge.rt'
+crates/regex_pattern_front/src/parse.rt
+crates/regress_c/src/refusal.rt'
 
 # The errors, and where one stands as a value.
-errors='(AllocError|Stop|([A-Za-z]*Error|Failure|Fault)::Memory)'
+errors='(AllocError|SearchStoppedWithoutResult|([A-Za-z]*Error|Failure|Fault|Refusal|[A-Za-z]*Reason)::Memory)'
 values="(Err\\(|ok_or\\(|[|] |=> |return |^ *)$errors( *[,;)}]|\$)"
 
 made=$(find crates -path '*/src/*.rt' | sort |
-    grep -vE '^crates/(regex|regress)_[a-z_]*(rows|checks)/|^crates/regress_(trees|trials)/' |
+    grep -vE '^crates/(regex|regress)_[a-z_]*(rows|checks)/|^crates/(regress_(trees|trials)|use_[a-z]*)/' |
     grep -vxF "$allowed" |
     while read -r file; do
         awk -v file="$file" -v values="$values" '

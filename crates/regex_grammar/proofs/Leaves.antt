@@ -7,8 +7,10 @@ use Rattle.std.specs.Char.{is_digit, is_ascii_alphanumeric}
 use Rattle.std.proofs.lemmas.Bool.{or_cases, and_parts, eqb-true}
 use Rattle.regex_meaning.specs.NumberListHelpers.{contains}
 use Rattle.regex_grammar.specs.ReadingStatesAndDigits.{RemainingCodePoints, ◌∈◌, begins_with_characters, Digits, digits_from, leading_digits, value_of_digits}
-use Rattle.regex_grammar.specs.EscapesNamesQuantifiers.{FixedHexDigits, hex, SurrogatePair, pair, UnicodeEscape, surrogates, four_digits, code_point, CharacterEscape, control_escape_code_point}
-use Rattle.regex_grammar.specs.EscapesNamesQuantifiers.{control_escape, null, hex_escape, unicode_escape, identity_escape, GroupName, group_name, is_ascii_identifier_start, is_ascii_identifier_part}
+use Rattle.regex_grammar.specs.EscapesNamesQuantifiers.{FixedHexDigits, hex, SurrogatePair, pair, UnicodeEscape, surrogates, four_digits, code_point, CharacterEscape}
+use Rattle.regex_grammar.specs.EscapesNamesQuantifiers.{control_escape_code_point}
+use Rattle.regex_grammar.specs.EscapesNamesQuantifiers.{control_escape, null, hex_escape, unicode_escape, identity_escape, GroupName, group_name}
+use Rattle.regex_grammar.specs.EscapesNamesQuantifiers.{is_ascii_identifier_start, is_ascii_identifier_part}
 use Rattle.regex_grammar.specs.EscapesNamesQuantifiers.{is_name, saturated_count, QuantifierPrefix, star, plus, question, exactly, at_least, between, greedy, lazy}
 use Rattle.regex_grammar.proofs.OneTree.{first, rest_of, unlike, QuantifiersAgree}
 
@@ -129,7 +131,7 @@ no_brace (hex (d ∷ ds) e l t) f = apart (λ c. is_digit c 16) (and_parts (is_d
 pub no_brace_pair : {here a rest : RemainingCodePoints} {n : ℕ} → SurrogatePair here a n → here ≡ 123 ∷ rest → ⊥
 no_brace_pair (pair h l e k t) f = no_brace h f
 
-one_unicode : {unicode : Bool} {here there a b : RemainingCodePoints} {n m : ℕ} → here ≡ there → UnicodeEscape unicode here a n → UnicodeEscape unicode there b m → Same a b n m
+pub one_unicode : {unicode : Bool} {here there a b : RemainingCodePoints} {n m : ℕ} → here ≡ there → UnicodeEscape unicode here a n → UnicodeEscape unicode there b m → Same a b n m
 one_unicode {unicode} {here} {there} {b = b} {m = m} same d e = go d (subst (λ x. UnicodeEscape unicode x b m) (sym same) e)
   where
     go : {unicode : Bool} {here a b : RemainingCodePoints} {n m : ℕ} → UnicodeEscape unicode here a n → UnicodeEscape unicode here b m → Same a b n m

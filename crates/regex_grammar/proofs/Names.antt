@@ -7,20 +7,20 @@ use Rattle.std.proofs.lemmas.Bool.{eqb-true, eq-eqb, ne_eqb, and_parts, and_from
 use Rattle.std.proofs.lemmas.List.{length-map, ext_get_or, map-append}
 use Rattle.std.proofs.Math.Seq.{get_or-append_seam}
 use Rattle.regex_meaning.specs.NumberListHelpers.{contains, numbers_from}
-use Rattle.regex_meaning.specs.Tree.{Node, cat, alt, capture_group, lookaround, loop, loop_1_char_body, group_ids}
-use Rattle.regex_meaning.specs.GroupsByNumberAndName.{capturing_group_ids_and_names, group_name_of_id}
+use Rattle.regex_meaning.specs.Tree.{Node, goal, cat, end_of_cat, alt, capture_group, lookaround, loop, loop_1_char_body, group_ids}
+use Rattle.regex_meaning.specs.MatchGroupsByNumberAndName.{capturing_group_ids_and_names, group_name_of_id, group_names_by_id}
 use Rattle.regex_meaning.specs.Laws.{Each}
 use Rattle.regex_meaning.proofs.Each.{Each-append, Each-reverse}
 use Rattle.regex_meaning.proofs.Booleans.{same-truth}
 use Rattle.regex_meaning.proofs.Lists.{length-numbers_from}
-use Rattle.regex_grammar.specs.ReadingStatesAndDigits.{RemainingCodePoints, ParseState, PatternContext, groups_at, state_with_text_left, with_opened_group, arm, sequence_node}
-use Rattle.regex_grammar.specs.Grammar.{Syntax, profile, Disjunction, Alternative, Term, Assertion, Atom, last_alternative, alternatives, no_terms}
+use Rattle.regex_grammar.specs.ReadingStatesAndDigits.{RemainingCodePoints, ParseState, PatternContext, groups_at, state_with_text_left, with_opened_group, arm}
+use Rattle.regex_grammar.specs.ReadingStatesAndDigits.{sequence_node}
+use Rattle.regex_grammar.specs.Grammar.{PatternDialect, profile, Disjunction, Alternative, Term, Assertion, Atom, last_alternative, alternatives, no_terms}
 use Rattle.regex_grammar.specs.Grammar.{terms, assertion, repeated_assertion, atom, quantified, start, end, boundary, look}
 use Rattle.regex_grammar.specs.Grammar.{leaf, group, named_group, plain_group, pattern_is}
-use Rattle.regex_grammar.specs.GroupNameScan.{scanned_group_names}
-use Rattle.regex_grammar.specs.Laws.{NamesAreFound}
+use Rattle.regex_grammar.specs.Laws.{ScanFindsGroupNames}
 use Rattle.regex_grammar.proofs.Parts.{contains-counted, once-inside}
-use Rattle.regex_grammar.proofs.Found.{groups_are_found}
+use Rattle.regex_grammar.proofs.Found.{scan_finds_opened_group_names}
 use Rattle.regex_grammar.proofs.Trees.{AtomsAreSound, atoms-are-sound, part-disjunction}
 
 abbrev Names : Type 0
@@ -45,27 +45,27 @@ back : {p q : ParseState} → p.opened ≡ q.opened → Later p q
 back e = stays (sym e)
 
 mutual
-  later-disjunction : {S : Syntax} {w : PatternContext} {behind : Bool} {p q : ParseState} {n : Node} → Disjunction S w behind p q n → Later p q
+  later-disjunction : {S : PatternDialect} {w : PatternContext} {behind : Bool} {p q : ParseState} {n : Node} → Disjunction S w behind p q n → Later p q
   later-disjunction (last_alternative a) = later-alternative a
   later-disjunction (alternatives a bar d) = then-later (later-alternative a) (then-later (back (ap (λ x. x.opened) bar)) (later-disjunction d))
 
-  later-alternative : {S : Syntax} {w : PatternContext} {behind : Bool} {p q : ParseState} {ns : List Node} → Alternative S w behind p q ns → Later p q
+  later-alternative : {S : PatternDialect} {w : PatternContext} {behind : Bool} {p q : ParseState} {ns : List Node} → Alternative S w behind p q ns → Later p q
   later-alternative no_terms = stays refl
   later-alternative (terms t a) = then-later (later-term t) (later-alternative a)
 
-  later-term : {S : Syntax} {w : PatternContext} {behind : Bool} {p q : ParseState} {n : Node} → Term S w behind p q n → Later p q
+  later-term : {S : PatternDialect} {w : PatternContext} {behind : Bool} {p q : ParseState} {n : Node} → Term S w behind p q n → Later p q
   later-term (assertion a k) = later-assertion a
   later-term (repeated_assertion a may k) = then-later (later-assertion a) (stays refl)
   later-term (atom a k) = later-atom a
   later-term (quantified a k) = then-later (later-atom a) (stays refl)
 
-  later-assertion : {S : Syntax} {w : PatternContext} {p q : ParseState} {n : Node} → Assertion S w p q n → Later p q
+  later-assertion : {S : PatternDialect} {w : PatternContext} {p q : ParseState} {n : Node} → Assertion S w p q n → Later p q
   later-assertion (start e) = back (ap (λ x. x.opened) e)
   later-assertion (end e) = back (ap (λ x. x.opened) e)
   later-assertion (boundary invert e) = back (ap (λ x. x.opened) e)
   later-assertion (look negate backwards e d f) = then-later (back (ap (λ x. x.opened) e)) (then-later (later-disjunction d) (back (ap (λ x. x.opened) f)))
 
-  later-atom : {S : Syntax} {w : PatternContext} {behind : Bool} {p q : ParseState} {n : Node} → Atom S w behind p q n → Later p q
+  later-atom : {S : PatternDialect} {w : PatternContext} {behind : Bool} {p q : ParseState} {n : Node} → Atom S w behind p q n → Later p q
   later-atom (leaf a) = stays refl
   later-atom (group e o d f) = then-later (opens [] (ap (λ x. x.opened ++ [] ∷ []) (sym e))) (then-later (later-disjunction d) (back (ap (λ x. x.opened) f)))
   later-atom (named_group {name = name} e g d f) = then-later (opens name (ap (λ x. x.opened ++ name ∷ []) (sym e))) (then-later (later-disjunction d) (back (ap (λ x. x.opened) f)))
@@ -129,7 +129,7 @@ opened-here names q id name e l g = record {
 same-groups : {names a b : Names} → a ≡ b → GoesOn names b → GoesOn names a
 same-groups {names} e g = (g.0, g.1 ∙ ap (λ x. x ++ g.0) (sym e))
 
-module _ (S : Syntax) (sound : AtomsAreSound S) where
+module _ (S : PatternDialect) (sound : AtomsAreSound S) where
   mutual
     named-disjunction : {names : Names} {w : PatternContext} {behind : Bool} {p q : ParseState} {n : Node} → Disjunction S w behind p q n → GoesOn names q.opened → AreNamed names n
     named-disjunction {names} (last_alternative {behind = behind} a) g = arm-named names behind _ (named-alternative a g)
@@ -182,7 +182,7 @@ name-is names (n ∷ named) id h k = by (n.0 == id) refl (name-is names named id
 
 -- ---- Where no group has a name
 
-abbrev is_empty : RemainingCodePoints → Bool
+abbrev pub is_empty : RemainingCodePoints → Bool
 is_empty name = length name == 0
 
 empty-is : (name : RemainingCodePoints) → is_empty name ≡ true → name ≡ []
@@ -228,15 +228,21 @@ module _ (names : Names) (named : List (ℕ × RemainingCodePoints)) (are : Each
     names-are : (if list_all (λ p. is_empty p.1) named then [] else map (group_name_of_id named) (numbers_from 0 (length named))) ≡ (if list_all is_empty names then [] else names)
     names-are = rw (test, in-place) refl
 
-pub names_are_found : NamesAreFound
-names_are_found flags pattern t (pattern_is {n = n} groups d distinct) =
-    let p = part-disjunction profile atoms-are-sound d in
-    let root : capturing_group_ids_and_names t.root ≡ capturing_group_ids_and_names n = append-nil (capturing_group_ids_and_names n) in
-    let found : groups ≡ scanned_group_names false pattern = groups_are_found (record { flags = flags; groups = groups }) pattern groups n d in
-    let many : length (capturing_group_ids_and_names n) ≡ length groups = sym (length-map (capturing_group_ids_and_names n) (λ p. p.0)) ∙ ap length (named_ids-ids n) ∙ omega (arith, p.count) in
-    let inside : (id : ℕ) → id < length groups → contains (ids_of (capturing_group_ids_and_names n)) id ≡ true =
-    λ id h. let once = p.ids id ∙ once-inside 0 (length groups) id (omega arith) h in
+-- in any such dialect the names are those of the groups that have opened
+pub names-by : (S : PatternDialect) (sound : AtomsAreSound S) (w : PatternContext) (pattern : RemainingCodePoints) (n : Node)
+    → Disjunction S w false (record { text = pattern; opened = [] }) (record { text = []; opened = w.groups }) n
+    → group_names_by_id (cat n (cat goal end_of_cat)) ≡ (if list_all is_empty w.groups then [] else w.groups)
+names-by S sound w pattern n d =
+    let p = part-disjunction S sound d in
+    let root : capturing_group_ids_and_names (cat n (cat goal end_of_cat)) ≡ capturing_group_ids_and_names n = append-nil (capturing_group_ids_and_names n) in
+    let many : length (capturing_group_ids_and_names n) ≡ length w.groups = sym (length-map (capturing_group_ids_and_names n) (λ p. p.0)) ∙ ap length (named_ids-ids n) ∙ omega (arith, p.count) in
+    let inside : (id : ℕ) → id < length w.groups → contains (ids_of (capturing_group_ids_and_names n)) id ≡ true =
+    λ id h. let once = p.ids id ∙ once-inside 0 (length w.groups) id (omega arith) h in
     ap (λ ids. contains ids id) (named_ids-ids n) ∙ contains-counted (group_ids n) id (omega (arith, once)) in
     ap (λ named. if list_all (λ p. is_empty p.1) named then [] else map (group_name_of_id named) (numbers_from 0 (length named))) root
-    ∙ names-are groups (capturing_group_ids_and_names n) (named-disjunction profile atoms-are-sound d ([], sym (append-nil groups))) many inside
-    ∙ ap (λ names. if list_all is_empty names then [] else names) found
+    ∙ names-are w.groups (capturing_group_ids_and_names n) (named-disjunction S sound d ([], sym (append-nil w.groups))) many inside
+
+pub scan_finds_group_names : ScanFindsGroupNames
+scan_finds_group_names flags pattern t (pattern_is {n = n} groups d distinct) =
+    let w : PatternContext = record { flags = flags; groups = groups } in
+    names-by profile atoms-are-sound w pattern n d ∙ ap (λ names. if list_all is_empty names then [] else names) (scan_finds_opened_group_names w pattern groups n d)

@@ -2,10 +2,14 @@
 use Rattle.std.specs.Prelude.{IsTrue}
 use Rattle.std.proofs.Common.{◌≡◌, ℕ, Bool, true, false, List, [], ◌∷◌, nat_eq, true≢false, refl, sym, ap, ap₂, subst, ◌∙◌, ◌↔◌}
 use Rattle.regex_meaning.specs.Tree.{Node, lookaround, loop, capture_group}
-use Rattle.regex_grammar.specs.ReadingStatesAndDigits.{RemainingCodePoints, ParseState, PatternContext, groups_at, ◌▸◌, state_with_text_left, with_opened_group, begins_with_characters, ◌∈◌}
-use Rattle.regex_grammar.specs.Grammar.{Syntax, Disjunction, Term, Assertion, Atom, lookaround_opener, assertion, repeated_assertion, atom, quantified, start, end, boundary, look, leaf}
+use Rattle.regex_grammar.specs.ReadingStatesAndDigits.{RemainingCodePoints, ParseState, PatternContext, groups_at, ◌▸◌, state_with_text_left, with_opened_group}
+use Rattle.regex_grammar.specs.ReadingStatesAndDigits.{begins_with_characters, ◌∈◌}
+use Rattle.regex_grammar.specs.Grammar.{PatternDialect, Disjunction, Term, Assertion, Atom, lookaround_opener, assertion, repeated_assertion, atom, quantified, start}
+use Rattle.regex_grammar.specs.Grammar.{end}
+use Rattle.regex_grammar.specs.Grammar.{boundary, look, leaf}
 use Rattle.regex_grammar.specs.Grammar.{group, named_group, plain_group}
-use Rattle.regex_grammar.specs.ParseStack.{PartialDisjunction, empty_disjunction, OpenGroup, OpenGroupKind, captures, plain, looks, IsTerm, once, repeated, ClosesGroup, looked, looked_repeatedly, captured}
+use Rattle.regex_grammar.specs.ParseStack.{PartialDisjunction, empty_disjunction, OpenGroup, OpenGroupKind, captures, plain, looks, IsTerm, once, repeated, ClosesGroup}
+use Rattle.regex_grammar.specs.ParseStack.{looked, looked_repeatedly, captured}
 use Rattle.regex_grammar.specs.ParseStack.{enclosed, CompletesAll, lookaround_up_to}
 use Rattle.regex_grammar.proofs.OneTree.{IsReadInOneWay, ends_here, behind_word, places_differ, unlike, first, third, rest_of, leaf_begins, name_from, of_look}
 use Rattle.regex_grammar.proofs.OneTree.{look_word, meant}
@@ -74,7 +78,7 @@ opener_goes_on true false q e = ap (λ x. ends_here x.text) e
 opener_goes_on false true q e = ap (λ x. ends_here x.text) e
 opener_goes_on true true q e = ap (λ x. ends_here x.text) e
 
-module _ (S : Syntax) (one : IsReadInOneWay S) where
+module _ (S : PatternDialect) (one : IsReadInOneWay S) where
   -- Where a parenthesis opens, a level begins: it is enough that its contents make a term, and that each term is made of them.
   module _ (w : PatternContext) (gs : List RemainingCodePoints) (l : PartialDisjunction) (around : List OpenGroup) (t : Node) {p inner : ParseState} (b : Bool) (o : OpenGroupKind) (more : ends_here p.text ≡ false)
       (make : (x r s : ParseState) (c n : Node) → Disjunction S w b inner x c → x ≡ ")" ▸ r → ClosesGroup S w (opens_here l o p) c r s n → Term S w l.behind p s n)

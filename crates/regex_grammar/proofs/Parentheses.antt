@@ -2,14 +2,17 @@
 use Rattle.std.proofs.Common.{◌≡◌, ℕ, Bool, true, false, List, [], ◌∷◌, ◌++◌, true≢false, nat_eq, refl, sym, ap, ap₂, subst, ◌∙◌, append-nil, ◌↔◌}
 use Rattle.regex_meaning.specs.Tree.{Node, capture_group}
 use Rattle.regex_grammar.specs.ReadingStatesAndDigits.{RemainingCodePoints, ParseState, PatternContext, groups_at, ◌▸◌, with_opened_group, begins_with_characters, arm}
-use Rattle.regex_grammar.specs.Grammar.{Syntax, Disjunction, Alternative, Term, Assertion, Atom, no_terms, terms, assertion, repeated_assertion, atom, quantified, start, end, boundary}
+use Rattle.regex_grammar.specs.Grammar.{PatternDialect, Disjunction, Alternative, Term, Assertion, Atom, no_terms, terms, assertion, repeated_assertion, atom}
+use Rattle.regex_grammar.specs.Grammar.{quantified, start}
+use Rattle.regex_grammar.specs.Grammar.{end, boundary}
 use Rattle.regex_grammar.specs.Grammar.{look, leaf, group, named_group, plain_group}
-use Rattle.regex_grammar.specs.ParseStack.{PartialDisjunction, empty_disjunction, push_term, nest_alternatives, Completes, last_arm, further_arms, OpenGroup, OpenGroupKind, captures, plain, looks}
+use Rattle.regex_grammar.specs.ParseStack.{PartialDisjunction, empty_disjunction, push_term, nest_alternatives, Completes, last_arm, further_arms, OpenGroup}
+use Rattle.regex_grammar.specs.ParseStack.{OpenGroupKind, captures, plain, looks}
 use Rattle.regex_grammar.specs.ParseStack.{IsTerm, once, repeated, ClosesGroup, looked, looked_repeatedly, captured, enclosed, CompletesAll}
 use Rattle.regex_grammar.proofs.OneTree.{IsReadInOneWay, closes, closes_here, ends_here, close_ends, no_close, behind_word, unlike, first, rest_of, leaf_begins}
 use Rattle.regex_grammar.proofs.Stack.{begin, no_term, pushed, unpushed}
 
-pub make_term : {S : Syntax} {w : PatternContext} {behind : Bool} {p r s : ParseState} {n m : Node} → Atom S w behind p r n → IsTerm (groups_at p) n r s m → Term S w behind p s m
+pub make_term : {S : PatternDialect} {w : PatternContext} {behind : Bool} {p r s : ParseState} {n m : Node} → Atom S w behind p r n → IsTerm (groups_at p) n r s m → Term S w behind p s m
 make_term a (once k) = atom a k
 make_term a (repeated k) = quantified a k
 
@@ -28,7 +31,7 @@ is_capture (captures id name) = true
 is_capture plain = false
 is_capture (looks x y z) = false
 
-module _ (S : Syntax) (one : IsReadInOneWay S) where
+module _ (S : PatternDialect) (one : IsReadInOneWay S) where
   -- at a closing parenthesis: the level is done
   module _ (w : PatternContext) (l : PartialDisjunction) {p r : ParseState} (close : p ≡ ")" ▸ r) where
     abbrev pub done : Node

@@ -9,12 +9,12 @@ use Rattle.regex_meaning.specs.Tree.{Node, group_ids, every_node_passes, empty, 
 use Rattle.regex_meaning.specs.Tree.{string_set, match_any, match_any_except_line_terminator, anchor, word_boundary, capture_group, back_ref}
 use Rattle.regex_meaning.specs.Tree.{lookaround, loop, loop_1_char_body, Quantifier}
 use Rattle.regex_meaning.specs.WellFormedTrees.{number_of_goal_nodes, encloses, is_min_at_most_max, names_the_groups_inside, refers_to_a_group, has_order_in_quantifier}
-use Rattle.regex_meaning.specs.WellFormedTrees.{has_one_character_body, has_text_in_sequence, sets_and_strings_fit_instructions, is_well_formed}
+use Rattle.regex_meaning.specs.WellFormedTrees.{has_one_character_body, has_text_in_sequence, set_sizes_and_characters_fit_instructions, is_well_formed}
 use Rattle.regex_meaning.specs.CompilationRelation.{tree_contains_byte_nodes}
 use Rattle.regex_meaning.proofs.WellFormedLemmas.{by_clauses}
 use Rattle.regex_meaning.proofs.Booleans.{and-left, and-right}
 use Rattle.regex_meaning.proofs.Lists.{list_all-members}
-use Rattle.regex_grammar.specs.SubtreeInvariants.{is_of_pattern, is_sound, occurrences_of_id, once_within, IsSoundSubtree, IsSoundGrouplessTree}
+use Rattle.regex_grammar.specs.SubtreeInvariants.{is_of_pattern, is_sound, occurrences_of_id, once_within, IsSoundSubtreeWithGroupIds, IsWellFormedGrouplessSubtree}
 use Rattle.regex_grammar.specs.TreesWithoutCharLoops.{is_not_char_loop, has_no_char_loops}
 
 -- ---- Tests
@@ -54,7 +54,7 @@ pub record Sound (greatest : ℕ) (n : Node) : Type 0 where
   pub order : has_order_in_quantifier n ≡ true
   pub body : has_one_character_body n ≡ true
   pub characters : is_of_pattern n ≡ true
-  pub fits : sets_and_strings_fit_instructions n ≡ true
+  pub fits : set_sizes_and_characters_fit_instructions n ≡ true
 
 six : (a b c d e f : Bool) → (a && b && c && d && e && f) ≡ true
     → (a ≡ true) × (b ≡ true) × (c ≡ true) × (d ≡ true) × (e ≡ true) × (f ≡ true)
@@ -132,7 +132,7 @@ count_by-append p xs ys = sum_by-append (λ y. if p y then 1 else 0) xs ys
 
 -- ---- Leaves
 
-pub part-leaf : (first greatest : ℕ) (n : Node) → IsSoundGrouplessTree greatest n → IsSoundSubtree first first greatest n
+pub part-leaf : (first greatest : ℕ) (n : Node) → IsWellFormedGrouplessSubtree greatest n → IsSoundSubtreeWithGroupIds first first greatest n
 part-leaf first greatest n l = record {
   goals = l.goals;
   count = rw l.ids (omega arith);
@@ -149,7 +149,7 @@ pub record IsJoined (n x y : Node) : Type 0 where
   pub ids : (id : ℕ) → occurrences_of_id id n ≡ occurrences_of_id id x + occurrences_of_id id y
   pub sound : (greatest : ℕ) → IsTrue (every_node_passes (is_sound greatest) x) → IsTrue (every_node_passes (is_sound greatest) y) → IsTrue (every_node_passes (is_sound greatest) n)
 
-pub part-joined : (first middle end greatest : ℕ) (n x y : Node) → IsJoined n x y → IsSoundSubtree first middle greatest x → IsSoundSubtree middle end greatest y → IsSoundSubtree first end greatest n
+pub part-joined : (first middle end greatest : ℕ) (n x y : Node) → IsJoined n x y → IsSoundSubtreeWithGroupIds first middle greatest x → IsSoundSubtreeWithGroupIds middle end greatest y → IsSoundSubtreeWithGroupIds first end greatest n
 part-joined first middle end greatest n x y j p q = record {
   goals = j.goals ∙ omega (arith, p.goals, q.goals);
   count = rw j.count (omega (arith, p.count, q.count));
@@ -178,7 +178,7 @@ joined-alt x y = joined-by (alt x y) x y (omega arith) refl (λ greatest h k. an
 
 -- ---- Nodes round parts
 
-pub part-group : (first end greatest : ℕ) (name : List ℕ) (n : Node) → IsSoundSubtree (first + 1) end greatest n → IsSoundSubtree first end greatest (capture_group first name n)
+pub part-group : (first end greatest : ℕ) (name : List ℕ) (n : Node) → IsSoundSubtreeWithGroupIds (first + 1) end greatest n → IsSoundSubtreeWithGroupIds first end greatest (capture_group first name n)
 part-group first end greatest name n p = record {
   goals = omega (arith, p.goals);
   count = let g = p.count in omega arith;
@@ -234,7 +234,7 @@ inside-once first end id h =
           ]
     ]
 
-part-encloses : (first end greatest : ℕ) (n : Node) → IsSoundSubtree first end greatest n → encloses first end n ≡ true
+part-encloses : (first end greatest : ℕ) (n : Node) → IsSoundSubtreeWithGroupIds first end greatest n → encloses first end n ≡ true
 part-encloses first end greatest n p =
     let length_is : first + (end - first) ≡ end = omega (arith, p.count) in
     and_from _ _ (and_from _ _ (le-leb first end (omega (arith, p.count)))
@@ -247,8 +247,8 @@ part-encloses first end greatest n p =
     let o = once-inside first end id r.0 (omega arith) in
     contains-counted (group_ids n) id (rw (p.ids id, o) (omega arith))))
 
-pub part-lookaround : (first end greatest : ℕ) (negate backwards : Bool) (n : Node) → IsSoundSubtree first end greatest n
-    → IsSoundSubtree first end greatest (lookaround (record { negate = negate; backwards = backwards; start_group = first; end_group = end }) n)
+pub part-lookaround : (first end greatest : ℕ) (negate backwards : Bool) (n : Node) → IsSoundSubtreeWithGroupIds first end greatest n
+    → IsSoundSubtreeWithGroupIds first end greatest (lookaround (record { negate = negate; backwards = backwards; start_group = first; end_group = end }) n)
 part-lookaround first end greatest negate backwards n p = record {
   goals = omega (arith, p.goals);
   count = p.count;
@@ -256,8 +256,8 @@ part-lookaround first end greatest negate backwards n p = record {
   sound = and_from _ _ (sound-from greatest (lookaround (record { negate = negate; backwards = backwards; start_group = first; end_group = end }) n) (record { names = part-encloses first end greatest n p; refers = refl; order = refl; body = refl; characters = refl; fits = refl })) p.sound;
 }
 
-pub part-loop : (first end greatest : ℕ) (q : Quantifier) (n : Node) → is_min_at_most_max q ≡ true → IsSoundSubtree first end greatest n
-    → IsSoundSubtree first end greatest (loop q first end n)
+pub part-loop : (first end greatest : ℕ) (q : Quantifier) (n : Node) → is_min_at_most_max q ≡ true → IsSoundSubtreeWithGroupIds first end greatest n
+    → IsSoundSubtreeWithGroupIds first end greatest (loop q first end n)
 part-loop first end greatest q n order p = record {
   goals = omega (arith, p.goals);
   count = p.count;
@@ -305,7 +305,7 @@ plain-node _ h = refl
 pub whole-plain : (greatest : ℕ) (n : Node) → every_node_passes (is_sound greatest) n ≡ true → IsTrue (has_no_char_loops (cat n (cat goal end_of_cat)))
 whole-plain greatest n h = whole-every greatest n is_not_char_loop (λ m k. plain-node m (Sound-from greatest m k).characters) h
 
-pub whole : (groups greatest : ℕ) (n : Node) → greatest ≤ groups → IsSoundSubtree 0 groups greatest n → IsTrue (is_well_formed (cat n (cat goal end_of_cat)))
+pub whole : (groups greatest : ℕ) (n : Node) → greatest ≤ groups → IsSoundSubtreeWithGroupIds 0 groups greatest n → IsTrue (is_well_formed (cat n (cat goal end_of_cat)))
 whole groups greatest n within p =
     let ids_are : group_ids (cat n (cat goal end_of_cat)) ≡ group_ids n = append-nil (group_ids n) in
     let count_is : length (group_ids n) ≡ groups = omega (arith, p.count) in
@@ -321,5 +321,5 @@ whole groups greatest n within p =
       quantifiers = whole-every greatest n has_order_in_quantifier (λ m k. (Sound-from greatest m k).order) p.sound;
       bodies = whole-every greatest n has_one_character_body (λ m k. (Sound-from greatest m k).body) p.sound;
       sequences = whole-every greatest n has_text_in_sequence (λ m k. text-from m (Sound-from greatest m k).characters) p.sound;
-      sets = whole-every greatest n sets_and_strings_fit_instructions (λ m k. (Sound-from greatest m k).fits) p.sound;
+      sets = whole-every greatest n set_sizes_and_characters_fit_instructions (λ m k. (Sound-from greatest m k).fits) p.sound;
     })

@@ -10,7 +10,7 @@ use Rattle.std.proofs.lemmas.Str.Parse.{digit_from_value}
 use lib.Pointwise.{pointwise}
 use Rattle.regex_grammar.specs.ReadingStatesAndDigits.{RemainingCodePoints, begins_with_characters, Digits, digits_from, leading_digits, value_of_digits, group_number_of}
 use Rattle.regex_grammar.proofs.Leaves.{Some_inj}
-use Rattle.regex_grammar.proofs.Members.{digit_begins}
+use Rattle.regex_grammar.proofs.Digits.{digit_begins}
 
 -- ---- Numbers
 

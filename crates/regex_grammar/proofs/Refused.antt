@@ -5,7 +5,8 @@ use Rattle.regex_grammar.specs.ReadingStatesAndDigits.{RemainingCodePoints, Pars
 use Rattle.regex_grammar.specs.EscapesNamesQuantifiers.{BeginsQuantifier, ValidQuantifier}
 use Rattle.regex_grammar.specs.Grammar.{SimpleAtom, profile, Term, Assertion, assertion, repeated_assertion, atom, quantified, start, end}
 use Rattle.regex_grammar.specs.Grammar.{boundary, look, leaf, group, named_group, plain_group}
-use Rattle.regex_grammar.specs.ParseStack.{PartialDisjunction, OpenGroup, OpenGroupKind, captures, plain, looks, IsTerm, once, repeated, ClosesGroup, looked, looked_repeatedly, captured, enclosed}
+use Rattle.regex_grammar.specs.ParseStack.{PartialDisjunction, OpenGroup, OpenGroupKind, captures, plain, looks, IsTerm, once, repeated, ClosesGroup, looked}
+use Rattle.regex_grammar.specs.ParseStack.{looked_repeatedly, captured, enclosed}
 use Rattle.regex_grammar.specs.ParseStack.{CompletesAll}
 use Rattle.regex_grammar.proofs.OneTree.{leaf_begins, ends_here, one_assertion, assertion_or_atom}
 use Rattle.regex_grammar.proofs.Leaves.{one_quantifier}

@@ -2,8 +2,9 @@
 use Rattle.std.proofs.Common.{◌≡◌, Bool, true, false, List, [], ◌∷◌, ◌++◌, true≢false, refl, sym, ap, subst, ◌∙◌, append-nil, ◌↔◌}
 use Rattle.regex_meaning.specs.Tree.{Node, Tree, Flags, goal, cat, end_of_cat}
 use Rattle.regex_grammar.specs.ReadingStatesAndDigits.{RemainingCodePoints, ParseState, PatternContext, ◌▸◌, arm}
-use Rattle.regex_grammar.specs.Grammar.{Syntax, Alternative, Parses, profile, pattern_is, AreDistinct, no_terms, terms}
-use Rattle.regex_grammar.specs.ParseStack.{PartialDisjunction, empty_disjunction, end_alternative, nest_alternatives, Completes, last_arm, further_arms, OpenGroup, CompletesAll}
+use Rattle.regex_grammar.specs.Grammar.{PatternDialect, Alternative, Parses, profile, pattern_is, AreDistinct, no_terms, terms}
+use Rattle.regex_grammar.specs.ParseStack.{PartialDisjunction, empty_disjunction, end_alternative, nest_alternatives, Completes, last_arm, further_arms, OpenGroup}
+use Rattle.regex_grammar.specs.ParseStack.{CompletesAll}
 use Rattle.regex_grammar.proofs.OneTree.{IsReadInOneWay, closes, no_close}
 use Rattle.regex_grammar.proofs.Members.{reads}
 use Rattle.regex_grammar.proofs.Stack.{begin, no_term, barred, unbarred}
@@ -26,7 +27,7 @@ abbrev is_empty : RemainingCodePoints → Bool
 is_empty [] = true
 is_empty (c ∷ cs) = false
 
-module _ (S : Syntax) (one : IsReadInOneWay S) where
+module _ (S : PatternDialect) (one : IsReadInOneWay S) where
   -- behind a bar
   pub bar_all : (w : PatternContext) (gs : List RemainingCodePoints) (around : List OpenGroup) (l : PartialDisjunction) (t : Node) {p r : ParseState} → p ≡ "|" ▸ r → CompletesAll S w gs around (end_alternative l) r t ↔ CompletesAll S w gs around l p t
   bar_all w gs [] l t bar = (λ h. barred S one w l bar h, λ h. unbarred S one w l bar refl h)

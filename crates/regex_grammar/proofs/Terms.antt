@@ -5,7 +5,8 @@ use Rattle.regex_grammar.specs.ReadingStatesAndDigits.{RemainingCodePoints, Pars
 use Rattle.regex_grammar.specs.EscapesNamesQuantifiers.{BeginsQuantifier, ValidQuantifier}
 use Rattle.regex_grammar.specs.Grammar.{SimpleAtom, profile, Term, assertion, atom, quantified, Assertion, leaf}
 use Rattle.regex_grammar.specs.ParseStack.{PartialDisjunction, push_term, OpenGroup, IsTerm, once, repeated}
-use Rattle.regex_grammar.specs.ParserInvariants.{HasNoTreeWithinLimit, group_names_of, AreWithinGroupLimit, with_groups, parse_state, CompletesTo, IsParserInvariant}
+use Rattle.regex_grammar.specs.ParserInvariants.{HasNoTreeWithinLimit, group_names_found_by_scan, AreWithinGroupLimit, with_groups, parse_state, CompletesTo}
+use Rattle.regex_grammar.specs.ParserInvariants.{IsParserInvariant}
 use Rattle.regex_grammar.proofs.OneTree.{ends_here}
 use Rattle.regex_grammar.proofs.Found.{Ahead, past_quantifier}
 use Rattle.regex_grammar.proofs.Refused.{no_term_here, no_quantified, no_repeated}
@@ -28,13 +29,13 @@ ahead_term (repeated k) = past_quantifier false k
 either : (a b : ℕ) → (a ≤ b) ⊎ (b < a)
 either a b = grind arith
 
-module _ {flags : Flags} {pattern : RemainingCodePoints} {old groups : ℕ} {around : List OpenGroup} {level : PartialDisjunction} {here : RemainingCodePoints} (s : IsParserInvariant flags pattern old groups around level here) (new : ℕ) (mid : RemainingCodePoints) (t : Node) (ahead : Ahead false here mid) (grows : old ≤ new) (more : ends_here here ≡ false) (none : AreWithinGroupLimit (group_names_of pattern) → length (group_names_of pattern) < new → (length (group_names_of pattern) < old) ⊎ NoTermAt (with_groups flags (group_names_of pattern)) here) where
-  vain : AreWithinGroupLimit (group_names_of pattern) → length (group_names_of pattern) < new → (length (group_names_of pattern) < old) ⊎ ((n : Node) → CompletesTo flags (group_names_of pattern) around level (parse_state here s.opened) n → ⊥)
+module _ {flags : Flags} {pattern : RemainingCodePoints} {old groups : ℕ} {around : List OpenGroup} {level : PartialDisjunction} {here : RemainingCodePoints} (s : IsParserInvariant flags pattern old groups around level here) (new : ℕ) (mid : RemainingCodePoints) (t : Node) (ahead : Ahead false here mid) (grows : old ≤ new) (more : ends_here here ≡ false) (none : AreWithinGroupLimit (group_names_found_by_scan pattern) → length (group_names_found_by_scan pattern) < new → (length (group_names_found_by_scan pattern) < old) ⊎ NoTermAt (with_groups flags (group_names_found_by_scan pattern)) here) where
+  vain : AreWithinGroupLimit (group_names_found_by_scan pattern) → length (group_names_found_by_scan pattern) < new → (length (group_names_found_by_scan pattern) < old) ⊎ ((n : Node) → CompletesTo flags (group_names_found_by_scan pattern) around level (parse_state here s.opened) n → ⊥)
   vain few past =
       ⊎_elim (λ k. inl k)
-      (λ k. inr (λ n h. no_term_here (with_groups flags (group_names_of pattern)) (group_names_of pattern) around level n more (λ q m. k level.behind s.opened q m) h)) (none few past)
+      (λ k. inr (λ n h. no_term_here (with_groups flags (group_names_found_by_scan pattern)) (group_names_found_by_scan pattern) around level n more (λ q m. k level.behind s.opened q m) h)) (none few past)
 
-  module _ (is : AreWithinGroupLimit (group_names_of pattern) → new ≤ length (group_names_of pattern) → SimpleAtom (with_groups flags (group_names_of pattern)) here mid t) where
+  module _ (is : AreWithinGroupLimit (group_names_found_by_scan pattern) → new ≤ length (group_names_found_by_scan pattern) → SimpleAtom (with_groups flags (group_names_found_by_scan pattern)) here mid t) where
     pub stands-atom : {there : RemainingCodePoints} {n : Node} → ((opened : List RemainingCodePoints) → length opened ≡ groups → IsTerm groups t (parse_state mid opened) (parse_state there opened) n)
         → IsParserInvariant flags pattern new groups around (push_term n level) there
     stands-atom {there} {n} k =
@@ -43,15 +44,15 @@ module _ {flags : Flags} {pattern : RemainingCodePoints} {old groups : ℕ} {aro
     pub atom-refused : BeginsQuantifier mid → ((end : RemainingCodePoints) (x : Quantifier) → ValidQuantifier mid end x → ⊥) → HasNoTreeWithinLimit flags pattern
     atom-refused k lacks =
         refused s (λ few less distinct n h.
-        ⊎_elim (λ within. no_term_here (with_groups flags (group_names_of pattern)) (group_names_of pattern) around level n more (λ q m x. no_quantified (with_groups flags (group_names_of pattern)) (is few within) k lacks x) h)
-        (λ past. ⊎_elim (λ e. omega (arith, e, less)) (λ e. e n h) (vain few past)) (either new (length (group_names_of pattern))))
+        ⊎_elim (λ within. no_term_here (with_groups flags (group_names_found_by_scan pattern)) (group_names_found_by_scan pattern) around level n more (λ q m x. no_quantified (with_groups flags (group_names_found_by_scan pattern)) (is few within) k lacks x) h)
+        (λ past. ⊎_elim (λ e. omega (arith, e, less)) (λ e. e n h) (vain few past)) (either new (length (group_names_found_by_scan pattern))))
 
-  module _ (is : AreWithinGroupLimit (group_names_of pattern) → new ≤ length (group_names_of pattern) → (opened : List RemainingCodePoints) → Assertion profile (with_groups flags (group_names_of pattern)) (parse_state here opened) (parse_state mid opened) t) where
+  module _ (is : AreWithinGroupLimit (group_names_found_by_scan pattern) → new ≤ length (group_names_found_by_scan pattern) → (opened : List RemainingCodePoints) → Assertion profile (with_groups flags (group_names_found_by_scan pattern)) (parse_state here opened) (parse_state mid opened) t) where
     pub stands-assertion : ¬ (BeginsQuantifier mid) → IsParserInvariant flags pattern new groups around (push_term t level) mid
     stands-assertion alone = stands-term s new mid t ahead grows (λ few less. assertion (is few less s.opened) alone) vain
 
     pub assertion-refused : BeginsQuantifier mid → HasNoTreeWithinLimit flags pattern
     assertion-refused k =
         refused s (λ few less distinct n h.
-        ⊎_elim (λ within. no_term_here (with_groups flags (group_names_of pattern)) (group_names_of pattern) around level n more (λ q m x. no_repeated (with_groups flags (group_names_of pattern)) (is few within s.opened) k x) h)
-        (λ past. ⊎_elim (λ e. omega (arith, e, less)) (λ e. e n h) (vain few past)) (either new (length (group_names_of pattern))))
+        ⊎_elim (λ within. no_term_here (with_groups flags (group_names_found_by_scan pattern)) (group_names_found_by_scan pattern) around level n more (λ q m x. no_repeated (with_groups flags (group_names_found_by_scan pattern)) (is few within s.opened) k x) h)
+        (λ past. ⊎_elim (λ e. omega (arith, e, less)) (λ e. e n h) (vain few past)) (either new (length (group_names_found_by_scan pattern))))

@@ -4,32 +4,37 @@ use Rattle.std.proofs.Common.{arith, length-append, append-nil, reverse}
 use Rattle.std.specs.Prelude.{if◌then◌else◌, nat_le, nat_lt, nat_eq, ◌==◌, IsTrue}
 use Rattle.std.proofs.lemmas.Bool.{le-leb}
 use Rattle.std.proofs.lemmas.List.{reverse-append}
-use Rattle.regex_meaning.specs.Tree.{Node, Flags, Quantifier, group_ids, every_node_passes, char, char_set, cat, end_of_cat, back_ref, match_any}
+use Rattle.regex_meaning.specs.Tree.{Node, Flags, Quantifier, group_ids, every_node_passes, goal, char, char_set, cat, end_of_cat, back_ref, match_any}
 use Rattle.regex_meaning.specs.Tree.{match_any_except_line_terminator, capture_group, lookaround}
-use Rattle.regex_meaning.specs.Text.{expand_code_point, fold_code_point, all_with_fold, to_ascii_uppercase, to_ascii_lowercase}
+use Rattle.regex_meaning.specs.Text.{expand_code_point, fold_code_point, code_points_with_fold, to_ascii_uppercase, to_ascii_lowercase}
 use Rattle.regex_meaning.specs.WellFormedTrees.{is_min_at_most_max, number_of_goal_nodes}
 use Rattle.regex_grammar.specs.ReadingStatesAndDigits.{RemainingCodePoints, ParseState, PatternContext, groups_at, arm, sequence_node}
 use Rattle.regex_grammar.specs.EscapesNamesQuantifiers.{ValidQuantifier, greedy, lazy}
 use Rattle.regex_grammar.specs.Grammar.{character_node, SimpleAtom, pattern_character, extended_character, any_character, decimal_escape, named_reference}
 use Rattle.regex_grammar.specs.Grammar.{character_escape, character_class_escape, character_class, Disjunction, Alternative, Term, Assertion, Atom}
-use Rattle.regex_grammar.specs.Grammar.{Syntax, profile, last_alternative, alternatives, no_terms, terms, assertion, repeated_assertion, atom, quantified, start, end, boundary, look}
+use Rattle.regex_grammar.specs.Grammar.{PatternDialect, profile, last_alternative, alternatives, no_terms, terms, assertion, repeated_assertion, atom, quantified, start}
+use Rattle.regex_grammar.specs.Grammar.{end}
+use Rattle.regex_grammar.specs.Grammar.{boundary, look}
 use Rattle.regex_grammar.specs.Grammar.{leaf, group, named_group, plain_group, pattern_is}
-use Rattle.regex_grammar.specs.SubtreeInvariants.{is_sound, occurrences_of_id, once_within, IsSoundSubtree, IsSoundGrouplessTree}
-use Rattle.regex_grammar.specs.GroupNameScan.{scanned_group_names}
+use Rattle.regex_grammar.specs.SubtreeInvariants.{is_sound, occurrences_of_id, once_within, IsSoundSubtreeWithGroupIds, IsWellFormedGrouplessSubtree}
+use Rattle.regex_grammar.specs.GroupNameScan.{scanned_names_per_capturing_group}
 use Rattle.regex_meaning.proofs.Booleans.{and-left, and-right}
-use Rattle.regex_grammar.proofs.Found.{groups_are_found}
-use Rattle.regex_grammar.specs.Laws.{GroupsAreCounted, TreesAreWellFormed}
+use Rattle.regex_grammar.proofs.Found.{scan_finds_opened_group_names}
+use Rattle.regex_grammar.specs.Laws.{ScanCountsPatternGroups, TreesAreWellFormed}
+use Rattle.regex_meaning.specs.WellFormedTrees.{IsWellFormed}
+use Rattle.regex_meaning.specs.CompilationRelation.{tree_contains_byte_nodes}
+use Rattle.regex_grammar.specs.TreesWithoutCharLoops.{has_no_char_loops}
 use Rattle.regex_grammar.proofs.Parts.{part-leaf, IsJoined, part-joined, joined-cat, joined-alt, part-group, part-lookaround, part-loop}
 use Rattle.regex_grammar.proofs.Parts.{count_by-append, whole, whole-reads_none, whole-plain}
 use Rattle.regex_grammar.proofs.References.{number-positive, number_of-bounds}
 
 -- ---- Atoms without groups
 
-leaf-if : (greatest : ℕ) (b : Bool) (x y : Node) → IsSoundGrouplessTree greatest x → IsSoundGrouplessTree greatest y → IsSoundGrouplessTree greatest (if b then x else y)
+leaf-if : (greatest : ℕ) (b : Bool) (x y : Node) → IsWellFormedGrouplessSubtree greatest x → IsWellFormedGrouplessSubtree greatest y → IsWellFormedGrouplessSubtree greatest (if b then x else y)
 leaf-if greatest true x y h k = h
 leaf-if greatest false x y h k = k
 
--- a code point has at most three spellings
+-- a code point has at most three case variants
 pub few_members : (c : ℕ) (icase unicode : Bool) → length (expand_code_point c icase unicode) ≤ 4
 unfolding expand_code_point
 few_members c false unicode = omega arith
@@ -47,20 +52,20 @@ few_members c true unicode = few_with_fold unicode (fold_code_point unicode c)
     plain true x y z = omega arith
     plain false x y z = omega arith
 
-    few_with_fold : (unicode : Bool) (folded : ℕ) → length (all_with_fold unicode folded) ≤ 4
+    few_with_fold : (unicode : Bool) (folded : ℕ) → length (code_points_with_fold unicode folded) ≤ 4
     few_with_fold false folded = plain (to_ascii_uppercase folded == to_ascii_lowercase folded) folded (to_ascii_uppercase folded) (to_ascii_lowercase folded)
     few_with_fold true folded =
         cases (to_ascii_uppercase folded == to_ascii_lowercase folded) (folded == 115) (folded == 107) folded (to_ascii_uppercase folded) (to_ascii_lowercase folded) 0x017F 0x212A
 
 module _ (greatest : ℕ) where
-  leaf-character : (flags : Flags) (c : ℕ) → IsSoundGrouplessTree greatest (character_node flags c)
+  leaf-character : (flags : Flags) (c : ℕ) → IsWellFormedGrouplessSubtree greatest (character_node flags c)
   leaf-character flags c =
       let members = expand_code_point c flags.icase flags.unicode in
       leaf-if greatest (nat_lt 1 (length members)) (char_set members) (char c)
       (record { goals = refl; ids = refl; sound = le-leb (length members) 4 (few_members c flags.icase flags.unicode) })
       (record { goals = refl; ids = refl; sound = refl })
 
-  pub leaf-reference : (id : ℕ) (icase : Bool) → 0 < id → id ≤ greatest → IsSoundGrouplessTree greatest (back_ref id icase)
+  pub leaf-reference : (id : ℕ) (icase : Bool) → 0 < id → id ≤ greatest → IsWellFormedGrouplessSubtree greatest (back_ref id icase)
   leaf-reference id icase h k = record {
     goals = refl;
     ids = refl;
@@ -72,10 +77,10 @@ module _ (greatest : ℕ) where
       sound true false h k = k
       sound false b h k = grind arith
 
-abbrev groups_in : PatternContext → ℕ
+abbrev pub groups_in : PatternContext → ℕ
 groups_in w = length w.groups
 
-leaf-is : (w : PatternContext) {here there : RemainingCodePoints} {n : Node} → SimpleAtom w here there n → IsSoundGrouplessTree (groups_in w) n
+leaf-is : (w : PatternContext) {here there : RemainingCodePoints} {n : Node} → SimpleAtom w here there n → IsWellFormedGrouplessSubtree (groups_in w) n
 leaf-is w (pattern_character {c = c} e f) = leaf-character (groups_in w) w.flags c
 leaf-is w (extended_character {c = c} e f k l) = leaf-character (groups_in w) w.flags c
 leaf-is w (any_character e) =
@@ -87,9 +92,9 @@ leaf-is w (character_escape {c = c} e d) = leaf-character (groups_in w) w.flags 
 leaf-is w (character_class_escape e f s) = record { goals = refl; ids = refl; sound = refl }
 leaf-is w (character_class e d) = record { goals = refl; ids = refl; sound = refl }
 
--- by a syntax each atom without groups is a sound tree
-abbrev pub AtomsAreSound : (S : Syntax) → Type 0
-AtomsAreSound S = (w : PatternContext) (here there : RemainingCodePoints) (n : Node) → S.simple_atom w here there n → IsSoundGrouplessTree (groups_in w) n
+-- in a dialect each atom without groups is a sound tree
+abbrev pub AtomsAreSound : (S : PatternDialect) → Type 0
+AtomsAreSound S = (w : PatternContext) (here there : RemainingCodePoints) (n : Node) → S.simple_atom w here there n → IsWellFormedGrouplessSubtree (groups_in w) n
 
 pub atoms-are-sound : AtomsAreSound profile
 atoms-are-sound w here there n a = leaf-is w a
@@ -120,15 +125,15 @@ snoc-sound greatest (x ∷ xs) y h k =
 joined-snoc : (xs : List Node) (y : Node) → IsJoined (sequence_node (xs ++ y ∷ [])) y (sequence_node xs)
 joined-snoc xs y = record { goals = snoc-goals xs y; count = snoc-count xs y; ids = λ id. snoc-ids id xs y; sound = λ greatest. snoc-sound greatest xs y }
 
-arm-none : (behind : Bool) (first greatest : ℕ) → IsSoundSubtree first first greatest (arm behind [])
+arm-none : (behind : Bool) (first greatest : ℕ) → IsSoundSubtreeWithGroupIds first first greatest (arm behind [])
 arm-none true first greatest = part-leaf first greatest end_of_cat (record { goals = refl; ids = refl; sound = refl })
 arm-none false first greatest = part-leaf first greatest end_of_cat (record { goals = refl; ids = refl; sound = refl })
 
-arm-more : (behind : Bool) (first middle last greatest : ℕ) (n : Node) (ns : List Node) → IsSoundSubtree first middle greatest n → IsSoundSubtree middle last greatest (arm behind ns)
-    → IsSoundSubtree first last greatest (arm behind (n ∷ ns))
+arm-more : (behind : Bool) (first middle last greatest : ℕ) (n : Node) (ns : List Node) → IsSoundSubtreeWithGroupIds first middle greatest n → IsSoundSubtreeWithGroupIds middle last greatest (arm behind ns)
+    → IsSoundSubtreeWithGroupIds first last greatest (arm behind (n ∷ ns))
 arm-more false first middle last greatest n ns h k = part-joined first middle last greatest (cat n (sequence_node ns)) n (sequence_node ns) (joined-cat n (sequence_node ns)) h k
 arm-more true first middle last greatest n ns h k =
-    subst (λ x. IsSoundSubtree first last greatest (sequence_node x)) (sym (reverse-append (n ∷ []) ns))
+    subst (λ x. IsSoundSubtreeWithGroupIds first last greatest (sequence_node x)) (sym (reverse-append (n ∷ []) ns))
     (part-joined first middle last greatest (sequence_node (reverse ns ++ n ∷ [])) n (sequence_node (reverse ns)) (joined-snoc (reverse ns) n) h k)
 
 -- ---- From one place to another
@@ -139,20 +144,20 @@ in-order (lazy h e o) = o
 
 -- the part of a tree that is read from one place to another
 abbrev pub Reads : PatternContext → ParseState → ParseState → Node → Type 0
-Reads w p q n = IsSoundSubtree (groups_at p) (groups_at q) (groups_in w) n
+Reads w p q n = IsSoundSubtreeWithGroupIds (groups_at p) (groups_at q) (groups_in w) n
 
-between : (greatest : ℕ) {a b c d : ℕ} {n : Node} → a ≡ b → c ≡ d → IsSoundSubtree b c greatest n → IsSoundSubtree a d greatest n
-between greatest {b = b} {d = d} {n = n} e f h = subst (λ x. IsSoundSubtree x d greatest n) (sym e) (subst (λ x. IsSoundSubtree b x greatest n) f h)
+between : (greatest : ℕ) {a b c d : ℕ} {n : Node} → a ≡ b → c ≡ d → IsSoundSubtreeWithGroupIds b c greatest n → IsSoundSubtreeWithGroupIds a d greatest n
+between greatest {b = b} {d = d} {n = n} e f h = subst (λ x. IsSoundSubtreeWithGroupIds x d greatest n) (sym e) (subst (λ x. IsSoundSubtreeWithGroupIds b x greatest n) f h)
 
-leaf-between : (greatest : ℕ) {a b : ℕ} {n : Node} → a ≡ b → IsSoundGrouplessTree greatest n → IsSoundSubtree a b greatest n
+leaf-between : (greatest : ℕ) {a b : ℕ} {n : Node} → a ≡ b → IsWellFormedGrouplessSubtree greatest n → IsSoundSubtreeWithGroupIds a b greatest n
 leaf-between greatest {a = a} {n = n} e h = between greatest refl e (part-leaf a greatest n h)
 
-group-between : (greatest : ℕ) (before : List RemainingCodePoints) {a b c : ℕ} {n : Node} (name : RemainingCodePoints) → a ≡ length before → b ≡ c → IsSoundSubtree (length (before ++ name ∷ [])) b greatest n
-    → IsSoundSubtree a c greatest (capture_group a name n)
+group-between : (greatest : ℕ) (before : List RemainingCodePoints) {a b c : ℕ} {n : Node} (name : RemainingCodePoints) → a ≡ length before → b ≡ c → IsSoundSubtreeWithGroupIds (length (before ++ name ∷ [])) b greatest n
+    → IsSoundSubtreeWithGroupIds a c greatest (capture_group a name n)
 group-between greatest before {a = a} {c = c} {n = n} name e f h =
     part-group a c greatest name n (between greatest (ap (λ x. x + 1) e ∙ sym (length-append before (name ∷ []))) f h)
 
-module _ (S : Syntax) (sound : AtomsAreSound S) where
+module _ (S : PatternDialect) (sound : AtomsAreSound S) where
   mutual
     pub part-disjunction : {w : PatternContext} {behind : Bool} {p q : ParseState} {n : Node} → Disjunction S w behind p q n → Reads w p q n
     part-disjunction (last_alternative a) = part-alternative a
@@ -187,19 +192,34 @@ module _ (S : Syntax) (sound : AtomsAreSound S) where
 
 -- ---- The whole pattern
 
-ids-within : (id groups : ℕ) → once_within 0 groups id ≡ (if nat_lt id groups then 1 else 0)
+pub ids-within : (id groups : ℕ) → once_within 0 groups id ≡ (if nat_lt id groups then 1 else 0)
 ids-within id groups = rw (le-leb 0 id (omega arith)) refl
 
-pub groups_are_counted : GroupsAreCounted
-groups_are_counted flags pattern t (pattern_is {n = n} groups d distinct) =
-    let p = part-disjunction profile atoms-are-sound d in
-    let found : length groups ≡ length (scanned_group_names false pattern) = ap length (groups_are_found (record { flags = flags; groups = groups }) pattern groups n d) in
-    let ids : group_ids t.root ≡ group_ids n = append-nil (group_ids n) in (
-      ap length ids ∙ omega (arith, p.count, found),
-      λ id. ap (λ x. count_by (nat_eq id) x) ids ∙ p.ids id ∙ ids-within id (length groups) ∙ ap (λ m. if nat_lt id m then 1 else 0) found,
-    )
+-- in any such dialect the tree has as many groups as have opened, and each number below that once
+pub counted-by : (S : PatternDialect) (sound : AtomsAreSound S) (w : PatternContext) (pattern : RemainingCodePoints) (n : Node)
+    → Disjunction S w false (record { text = pattern; opened = [] }) (record { text = []; opened = w.groups }) n
+    → (length (group_ids (cat n (cat goal end_of_cat))) ≡ length w.groups)
+    × ((id : ℕ) → count_by (nat_eq id) (group_ids (cat n (cat goal end_of_cat))) ≡ (if nat_lt id (length w.groups) then 1 else 0))
+counted-by S sound w pattern n d =
+    let p = part-disjunction S sound d in
+    let ids : group_ids (cat n (cat goal end_of_cat)) ≡ group_ids n = append-nil (group_ids n) in
+    (ap length ids ∙ omega (arith, p.count), λ id. ap (λ x. count_by (nat_eq id) x) ids ∙ p.ids id ∙ ids-within id (length w.groups))
+
+pub scan_counts_pattern_groups : ScanCountsPatternGroups
+scan_counts_pattern_groups flags pattern t (pattern_is {n = n} groups d distinct) =
+    let w : PatternContext = record { flags = flags; groups = groups } in
+    let c = counted-by profile atoms-are-sound w pattern n d in
+    let found : length groups ≡ length (scanned_names_per_capturing_group false pattern) = ap length (scan_finds_opened_group_names w pattern groups n d) in
+    (c.0 ∙ found, λ id. c.1 id ∙ ap (λ m. if nat_lt id m then 1 else 0) found)
+
+-- in any such dialect the tree is well formed
+pub well-formed-by : (S : PatternDialect) (sound : AtomsAreSound S) (w : PatternContext) (pattern : RemainingCodePoints) (n : Node)
+    → Disjunction S w false (record { text = pattern; opened = [] }) (record { text = []; opened = w.groups }) n
+    → IsWellFormed (cat n (cat goal end_of_cat)) × (tree_contains_byte_nodes (cat n (cat goal end_of_cat)) ≡ false) × IsTrue (has_no_char_loops (cat n (cat goal end_of_cat)))
+well-formed-by S sound w pattern n d =
+    let p = part-disjunction S sound d in
+    (whole (groups_in w) (groups_in w) n (omega arith) p, whole-reads_none (groups_in w) n p.sound, whole-plain (groups_in w) n p.sound)
 
 pub trees_are_well_formed : TreesAreWellFormed
 trees_are_well_formed flags pattern t (pattern_is {n = n} groups d distinct) =
-    let p = part-disjunction profile atoms-are-sound d in
-    (refl, whole (length groups) (length groups) n (omega arith) p, whole-reads_none (length groups) n p.sound, whole-plain (length groups) n p.sound)
+    let h = well-formed-by profile atoms-are-sound (record { flags = flags; groups = groups }) pattern n d in (refl, h.0, h.1, h.2)

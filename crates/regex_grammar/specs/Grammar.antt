@@ -2,14 +2,15 @@
 -- each. Each relation is a production and each constructor a right-hand side: premises read its
 -- symbols in order, from the state before to the state after. Lookaheads and early errors
 -- (21.2.1.1) are premises too. `w` is what is known of the whole pattern.
--- The productions with groups have a parameter, the syntax: what differs between this profile and
--- another language of patterns.
+-- The productions with groups have a parameter, the dialect (`PatternDialect`): what differs between
+-- this profile and another language of patterns.
 use Rattle.std.specs.Prelude.{◌≡◌, ℕ, ◌≤◌, Bool, true, false, ◌&&◌, List, [], ◌∷◌, ◌++◌, AllPairs, nat_lt, length, codes, Some, if◌then◌else◌, IsTrue}
 use Rattle.regex_meaning.specs.Tree.{Node, Tree, Flags, Quantifier, Lookaround, BracketContents, Intervals, goal, char, char_set, cat, end_of_cat, alt, bracket}
 use Rattle.regex_meaning.specs.Tree.{match_any, match_any_except_line_terminator, anchor, start_of_line, end_of_line, word_boundary, capture_group}
 use Rattle.regex_meaning.specs.Tree.{back_ref, lookaround, loop}
 use Rattle.regex_meaning.specs.Text.{expand_code_point}
-use Rattle.regex_grammar.specs.ReadingStatesAndDigits.{RemainingCodePoints, ParseState, PatternContext, groups_at, ◌▸◌, state_with_text_left, with_opened_group, ◌∈◌, begins_with_characters, Digits, group_number_of, arm}
+use Rattle.regex_grammar.specs.ReadingStatesAndDigits.{RemainingCodePoints, ParseState, PatternContext, groups_at, ◌▸◌, state_with_text_left, with_opened_group, ◌∈◌}
+use Rattle.regex_grammar.specs.ReadingStatesAndDigits.{begins_with_characters, Digits, group_number_of, arm}
 use Rattle.regex_grammar.specs.EscapesNamesQuantifiers.{CharacterEscape, GroupName, BeginsQuantifier, ValidQuantifier}
 use Prim.Native.String.{String}
 use Rattle.regex_grammar.specs.CharacterClasses.{class, class_escape, CharacterClass, IsSetOf}
@@ -65,7 +66,7 @@ lookaround_opener false true = "(?<="
 lookaround_opener true true = "(?<!"
 
 -- what differs between languages of patterns
-pub record Syntax : Type 1 where
+pub record PatternDialect : Type 1 where
   -- Atom, as far as it contains no group
   pub simple_atom : PatternContext → (here there : RemainingCodePoints) → Node → Type 0
   -- GroupName, after the `<`
@@ -75,7 +76,7 @@ pub record Syntax : Type 1 where
 
 mutual
   -- Disjunction, from one state to another; `behind` says whether it is inside a lookbehind
-  pub data Disjunction (s : Syntax) (w : PatternContext) : (behind : Bool) → ParseState → ParseState → Node → Type 0 where
+  pub data Disjunction (s : PatternDialect) (w : PatternContext) : (behind : Bool) → ParseState → ParseState → Node → Type 0 where
     last_alternative : {behind : Bool} {p q : ParseState} {terms : List Node}
         → Alternative s w behind p q terms
         → Disjunction s w behind p q (arm behind terms)
@@ -84,20 +85,20 @@ mutual
         → Disjunction s w behind p t (alt (arm behind terms) right)
 
   -- Alternative, with the nodes of its terms in the order of the text
-  pub data Alternative (s : Syntax) (w : PatternContext) : (behind : Bool) → ParseState → ParseState → List Node → Type 0 where
+  pub data Alternative (s : PatternDialect) (w : PatternContext) : (behind : Bool) → ParseState → ParseState → List Node → Type 0 where
     no_terms : {behind : Bool} {p : ParseState} → Alternative s w behind p p []
     terms : {behind : Bool} {p q r : ParseState} {n : Node} {ns : List Node}
         → Term s w behind p q n → Alternative s w behind q r ns
         → Alternative s w behind p r (n ∷ ns)
 
   -- Term
-  pub data Term (s : Syntax) (w : PatternContext) : (behind : Bool) → ParseState → ParseState → Node → Type 0 where
+  pub data Term (s : PatternDialect) (w : PatternContext) : (behind : Bool) → ParseState → ParseState → Node → Type 0 where
     -- Assertion, where no quantifier follows; the standard has this since no Term begins with a
     -- quantifier
     assertion : {behind : Bool} {p q : ParseState} {n : Node}
         → Assertion s w p q n → ¬ (BeginsQuantifier q.text)
         → Term s w behind p q n
-    -- `QuantifiableAssertion Quantifier` (B.1.4): a lookaround, if the syntax allows it
+    -- `QuantifiableAssertion Quantifier` (B.1.4): a lookaround, if the dialect allows it
     repeated_assertion : {behind : Bool} {p q : ParseState} {there : RemainingCodePoints} {l : Lookaround} {n : Node} {quantifier : Quantifier}
         → Assertion s w p q (lookaround l n) → IsTrue (s.may_repeat w.flags l.backwards) → ValidQuantifier q.text there quantifier
         → Term s w behind p (state_with_text_left there q) (loop quantifier (groups_at p) (groups_at q) (lookaround l n))
@@ -111,7 +112,7 @@ mutual
         → Term s w behind p (state_with_text_left there q) (loop quantifier (groups_at p) (groups_at q) n)
 
   -- Assertion: `^`, `$`, `\b`, `\B`, and the lookarounds
-  pub data Assertion (s : Syntax) (w : PatternContext) : ParseState → ParseState → Node → Type 0 where
+  pub data Assertion (s : PatternDialect) (w : PatternContext) : ParseState → ParseState → Node → Type 0 where
     start : {p q : ParseState} → p ≡ "^" ▸ q → Assertion s w p q (anchor start_of_line w.flags.multiline)
     end : {p q : ParseState} → p ≡ "$" ▸ q → Assertion s w p q (anchor end_of_line w.flags.multiline)
     boundary : {p q : ParseState} (invert : Bool)
@@ -124,7 +125,7 @@ mutual
         (record { negate = negate; backwards = backwards; start_group = groups_at p; end_group = groups_at t }) n)
 
   -- Atom
-  pub data Atom (s : Syntax) (w : PatternContext) : (behind : Bool) → ParseState → ParseState → Node → Type 0 where
+  pub data Atom (s : PatternDialect) (w : PatternContext) : (behind : Bool) → ParseState → ParseState → Node → Type 0 where
     -- an atom that contains no group
     leaf : {behind : Bool} {p : ParseState} {there : RemainingCodePoints} {n : Node}
         → s.simple_atom w p.text there n
@@ -149,15 +150,15 @@ abbrev pub AreDistinct : List RemainingCodePoints → Type 0
 AreDistinct names = AllPairs (λ a b. a ≡ b → a ≡ []) names
 
 -- Pattern, with the flags given: the groups of the whole are those that have opened at its end
-pub data ParsesBy (s : Syntax) (flags : Flags) (pattern : RemainingCodePoints) : Tree → Type 0 where
+pub data ParsesBy (s : PatternDialect) (flags : Flags) (pattern : RemainingCodePoints) : Tree → Type 0 where
   pattern_is : {n : Node} (groups : List RemainingCodePoints)
       → Disjunction s (record { flags = flags; groups = groups }) false
       (record { text = pattern; opened = [] }) (record { text = []; opened = groups }) n
       → AreDistinct groups
       → ParsesBy s flags pattern (record { root = cat n (cat goal end_of_cat); flags = flags })
 
--- the syntax of this profile: no lookaround has a quantifier
-abbrev pub profile : Syntax
+-- the dialect of this profile: no lookaround has a quantifier
+abbrev pub profile : PatternDialect
 profile =
     record {
       simple_atom = SimpleAtom;

@@ -20,12 +20,12 @@ name_of_opened_group here =
 
 -- the names of the capturing groups that open from here on, in order; `in_class` says whether a
 -- class is open
-unfoldable pub scanned_group_names : (in_class : Bool) → RemainingCodePoints → List RemainingCodePoints
-scanned_group_names in_class [] = []
-scanned_group_names in_class (c ∷ []) = if c ∈ "(" && not in_class then [] ∷ [] else []
-scanned_group_names in_class (c ∷ d ∷ rest) =
-    if c ∈ "\\" then scanned_group_names in_class rest
-    else if c ∈ "[" then scanned_group_names true (d ∷ rest)
-    else if c ∈ "]" then scanned_group_names false (d ∷ rest)
-    else if c ∈ "(" && not in_class then name_of_opened_group (d ∷ rest) ++ scanned_group_names in_class (d ∷ rest)
-    else scanned_group_names in_class (d ∷ rest)
+unfoldable pub scanned_names_per_capturing_group : (in_class : Bool) → RemainingCodePoints → List RemainingCodePoints
+scanned_names_per_capturing_group in_class [] = []
+scanned_names_per_capturing_group in_class (c ∷ []) = if c ∈ "(" && not in_class then [] ∷ [] else []
+scanned_names_per_capturing_group in_class (c ∷ d ∷ rest) =
+    if c ∈ "\\" then scanned_names_per_capturing_group in_class rest
+    else if c ∈ "[" then scanned_names_per_capturing_group true (d ∷ rest)
+    else if c ∈ "]" then scanned_names_per_capturing_group false (d ∷ rest)
+    else if c ∈ "(" && not in_class then name_of_opened_group (d ∷ rest) ++ scanned_names_per_capturing_group in_class (d ∷ rest)
+    else scanned_names_per_capturing_group in_class (d ∷ rest)

@@ -3,13 +3,13 @@ use Rattle.std.specs.Prelude.{◌≡◌, List, [], false, codes}
 use Rattle.regex_meaning.specs.Tree.{Node, Tree, Flags, goal, char, cat, end_of_cat, alt}
 use Rattle.regex_grammar.specs.ReadingStatesAndDigits.{RemainingCodePoints, PatternContext}
 use Rattle.regex_grammar.specs.Grammar.{Disjunction, Parses, profile}
-use Rattle.regex_grammar.specs.GroupNameScan.{scanned_group_names}
+use Rattle.regex_grammar.specs.GroupNameScan.{scanned_names_per_capturing_group}
 use Rattle.std.specs.Prelude.{ℕ, ◌==◌, IsTrue, length, map, chars, count_by, nat_eq, nat_lt, if◌then◌else◌}
 use Rattle.std.specs.List.{list_all}
 use Rattle.std.specs.Str.{is_utf8}
 use Rattle.regex_meaning.specs.Tree.{group_ids}
 use Rattle.regex_meaning.specs.FlagLettersAndEscaping.{escape}
-use Rattle.regex_meaning.specs.GroupsByNumberAndName.{group_names_by_id}
+use Rattle.regex_meaning.specs.MatchGroupsByNumberAndName.{group_names_by_id}
 use Rattle.regex_meaning.specs.WellFormedTrees.{IsWellFormed}
 use Rattle.regex_meaning.specs.CompilationRelation.{tree_contains_byte_nodes}
 use Rattle.regex_grammar.specs.ReadingStatesAndDigits.{sequence_node}
@@ -35,17 +35,17 @@ OneTree =
     (flags : Flags) (pattern : RemainingCodePoints) (t u : Tree) → Parses flags pattern t → Parses flags pattern u → t ≡ u
 
 -- the names of the groups that have opened at the end of a pattern are those that the scan finds
-abbrev pub GroupsAreFound : Type 0
-GroupsAreFound =
+abbrev pub ScanFindsOpenedGroupNames : Type 0
+ScanFindsOpenedGroupNames =
     (w : PatternContext) (pattern : RemainingCodePoints) (groups : List RemainingCodePoints) (n : Node)
     → Disjunction profile w false (record { text = pattern; opened = [] }) (record { text = []; opened = groups }) n
-    → groups ≡ scanned_group_names false pattern
+    → groups ≡ scanned_names_per_capturing_group false pattern
 
 -- a tree has as many groups as the scan finds, and each number below that is the id of exactly one
-abbrev pub GroupsAreCounted : Type 0
-GroupsAreCounted =
+abbrev pub ScanCountsPatternGroups : Type 0
+ScanCountsPatternGroups =
     (flags : Flags) (pattern : RemainingCodePoints) (t : Tree) → Parses flags pattern t →
-    let groups = length (scanned_group_names false pattern) in
+    let groups = length (scanned_names_per_capturing_group false pattern) in
     (length (group_ids t.root) ≡ groups)
     × ((id : ℕ) → count_by (nat_eq id) (group_ids t.root) ≡ (if nat_lt id groups then 1 else 0))
 
@@ -73,8 +73,8 @@ EscapedBytesAreRead =
 
 -- the names by id of a tree's groups are those that the scan finds; the list is empty if no group
 -- has a name
-abbrev pub NamesAreFound : Type 0
-NamesAreFound =
+abbrev pub ScanFindsGroupNames : Type 0
+ScanFindsGroupNames =
     (flags : Flags) (pattern : RemainingCodePoints) (t : Tree) → Parses flags pattern t →
-    let names = scanned_group_names false pattern in
+    let names = scanned_names_per_capturing_group false pattern in
     group_names_by_id t.root ≡ (if list_all (λ name. length name == 0) names then [] else names)

@@ -4,7 +4,7 @@ use Rattle.std.specs.Prelude.{◌≡◌, ℕ, Bool, List, [], ◌∷◌, ◌++�
 use Rattle.regex_meaning.specs.Tree.{Node, Lookaround, Quantifier, alt, loop, lookaround, capture_group}
 use Rattle.regex_grammar.specs.ReadingStatesAndDigits.{RemainingCodePoints, ParseState, PatternContext, groups_at, ◌▸◌, state_with_text_left, arm}
 use Rattle.regex_grammar.specs.EscapesNamesQuantifiers.{BeginsQuantifier, ValidQuantifier}
-use Rattle.regex_grammar.specs.Grammar.{Syntax, Disjunction, Alternative}
+use Rattle.regex_grammar.specs.Grammar.{PatternDialect, Disjunction, Alternative}
 
 -- a disjunction as far as it is read: the alternatives that have ended, and the terms of the
 -- current one
@@ -31,7 +31,7 @@ nest_alternatives [] last = last
 nest_alternatives (n ∷ ns) last = alt n (nest_alternatives ns last)
 
 -- reading from p to q completes the partial disjunction to this node
-pub data Completes (s : Syntax) (w : PatternContext) (l : PartialDisjunction) (p : ParseState) : (q : ParseState) → Node → Type 0 where
+pub data Completes (s : PatternDialect) (w : PatternContext) (l : PartialDisjunction) (p : ParseState) : (q : ParseState) → Node → Type 0 where
   last_arm : {q : ParseState} {ns : List Node}
       → Alternative s w l.behind p q ns
       → Completes s w l p q (nest_alternatives l.arms (arm l.behind (l.terms ++ ns)))
@@ -65,7 +65,7 @@ lookaround_up_to negate backwards start p =
     record { negate = negate; backwards = backwards; start_group = start; end_group = groups_at p }
 
 -- the term that a group becomes after its `)`, with its quantifier if it has one
-pub data ClosesGroup (s : Syntax) (w : PatternContext) (o : OpenGroup) (contents : Node) (p : ParseState) : (q : ParseState) → Node → Type 0 where
+pub data ClosesGroup (s : PatternDialect) (w : PatternContext) (o : OpenGroup) (contents : Node) (p : ParseState) : (q : ParseState) → Node → Type 0 where
   looked : (negate backwards : Bool) (start : ℕ)
       → o.opened ≡ looks negate backwards start → ¬ (BeginsQuantifier p.text)
       → ClosesGroup s w o contents p p (lookaround (lookaround_up_to negate backwards start p) contents)
@@ -83,7 +83,7 @@ pub data ClosesGroup (s : Syntax) (w : PatternContext) (o : OpenGroup) (contents
 
 -- reading the rest of the pattern completes all disjunctions, the innermost first; at the end
 -- exactly these groups have opened
-abbrev pub CompletesAll : Syntax → PatternContext → (groups : List RemainingCodePoints) → List OpenGroup → PartialDisjunction → ParseState → Node → Type 0
+abbrev pub CompletesAll : PatternDialect → PatternContext → (groups : List RemainingCodePoints) → List OpenGroup → PartialDisjunction → ParseState → Node → Type 0
 CompletesAll s w groups [] l p t = Completes s w l p (record { text = []; opened = groups }) t
 CompletesAll s w groups (o ∷ around) l p t =
     (q r end : ParseState) × (contents n : Node) × Completes s w l p q contents × (q ≡ ")" ▸ r) × ClosesGroup s w o contents r end n

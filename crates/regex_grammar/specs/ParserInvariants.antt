@@ -3,7 +3,7 @@ use Rattle.std.specs.Prelude.{◌≡◌, ◌⊎◌, ◌↔◌, ℕ, ◌+◌, ◌
 use Rattle.regex_meaning.specs.Tree.{Node, Tree, Flags}
 use Rattle.regex_grammar.specs.ReadingStatesAndDigits.{RemainingCodePoints, ParseState, PatternContext, group_number_of}
 use Rattle.regex_grammar.specs.Grammar.{Parses, profile}
-use Rattle.regex_grammar.specs.GroupNameScan.{scanned_group_names}
+use Rattle.regex_grammar.specs.GroupNameScan.{scanned_names_per_capturing_group}
 use Rattle.regex_grammar.specs.ParseStack.{PartialDisjunction, empty_disjunction, OpenGroup, CompletesAll}
 
 -- the pattern has no tree
@@ -11,8 +11,8 @@ abbrev pub HasNoTree : Flags → (pattern : RemainingCodePoints) → Type 0
 HasNoTree flags pattern = (t : Tree) → Parses flags pattern t → ⊥
 
 -- the names of the pattern's groups, found by the scan
-abbrev pub group_names_of : (pattern : RemainingCodePoints) → List RemainingCodePoints
-group_names_of pattern = scanned_group_names false pattern
+abbrev pub group_names_found_by_scan : (pattern : RemainingCodePoints) → List RemainingCodePoints
+group_names_found_by_scan pattern = scanned_names_per_capturing_group false pattern
 
 -- there are at most 65,535 groups, the limit of the parser
 abbrev pub AreWithinGroupLimit : List RemainingCodePoints → Type 0
@@ -20,11 +20,11 @@ AreWithinGroupLimit names = length names ≤ 65535
 
 -- the pattern opens more groups, as the scan counts them; so each tree that it has has more
 abbrev pub OpensTooManyGroups : (pattern : RemainingCodePoints) → Type 0
-OpensTooManyGroups pattern = 65535 < length (group_names_of pattern)
+OpensTooManyGroups pattern = 65535 < length (group_names_found_by_scan pattern)
 
 -- the pattern has no tree, unless it opens too many groups
 abbrev pub HasNoTreeWithinLimit : Flags → (pattern : RemainingCodePoints) → Type 0
-HasNoTreeWithinLimit flags pattern = AreWithinGroupLimit (group_names_of pattern) → HasNoTree flags pattern
+HasNoTreeWithinLimit flags pattern = AreWithinGroupLimit (group_names_found_by_scan pattern) → HasNoTree flags pattern
 
 -- the context of a pattern with these flags and groups
 abbrev pub with_groups : Flags → List RemainingCodePoints → PatternContext
@@ -40,7 +40,7 @@ CompletesTo flags names around level here n = CompletesAll profile (with_groups 
 
 -- the whole pattern is this node
 abbrev pub ParsesTo : Flags → (pattern : RemainingCodePoints) → Node → Type 0
-ParsesTo flags pattern n = CompletesTo flags (group_names_of pattern) [] (empty_disjunction false) (parse_state pattern []) n
+ParsesTo flags pattern n = CompletesTo flags (group_names_found_by_scan pattern) [] (empty_disjunction false) (parse_state pattern []) n
 
 -- each group that has opened has no name, or its name is numbered as that group
 abbrev pub AreNumbered : (opened names : List RemainingCodePoints) → Type 0
@@ -55,8 +55,8 @@ pub record IsParserInvariant
     : Type 0 where
   pub opened : List RemainingCodePoints
   pub count : length opened ≡ groups
-  pub found : group_names_of pattern ≡ opened ++ group_names_of here
-  pub numbered : AreWithinGroupLimit (group_names_of pattern) → AreNumbered opened (group_names_of pattern)
-  pub same : AreWithinGroupLimit (group_names_of pattern) → references ≤ length (group_names_of pattern) → (n : Node)
-      → ParsesTo flags pattern n ↔ CompletesTo flags (group_names_of pattern) around level (parse_state here opened) n
-  pub none : AreWithinGroupLimit (group_names_of pattern) → length (group_names_of pattern) < references → (n : Node) → ParsesTo flags pattern n → ⊥
+  pub found : group_names_found_by_scan pattern ≡ opened ++ group_names_found_by_scan here
+  pub numbered : AreWithinGroupLimit (group_names_found_by_scan pattern) → AreNumbered opened (group_names_found_by_scan pattern)
+  pub same : AreWithinGroupLimit (group_names_found_by_scan pattern) → references ≤ length (group_names_found_by_scan pattern) → (n : Node)
+      → ParsesTo flags pattern n ↔ CompletesTo flags (group_names_found_by_scan pattern) around level (parse_state here opened) n
+  pub none : AreWithinGroupLimit (group_names_found_by_scan pattern) → length (group_names_found_by_scan pattern) < references → (n : Node) → ParsesTo flags pattern n → ⊥

@@ -4,7 +4,7 @@ use Rattle.regex_meaning.specs.Tree.{Node}
 use Rattle.regex_meaning.specs.Text.{Text, last_place}
 use Rattle.regex_meaning.specs.CodeUnitOffsets.{HasRisingPlaceOffsets, offset, place_at, IsBoundary}
 use Rattle.regex_meaning.specs.FirstAndAllMatches.{Found, first_match, place_behind, match_list}
-use Rattle.regex_meaning.specs.GroupsByNumberAndName.{Answer, answer, answers_from}
+use Rattle.regex_meaning.specs.MatchGroupsByNumberAndName.{Answer, answer, answers_from}
 use Rattle.regex_meaning.specs.SearchAnswers.{first_answer, next_start, answers_on, answer_then_list}
 use Rattle.regex_meaning.specs.Laws.{list_from, match_then_list, IsRange}
 use Rattle.regex_meaning.proofs.Matches.{StandsFrom, stands-first, match_list-unfolds, GoesOnInside, goes-inside}

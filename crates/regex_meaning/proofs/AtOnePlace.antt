@@ -8,7 +8,7 @@ use Rattle.regex_meaning.specs.Text.{Text, rightwards}
 use Rattle.regex_meaning.specs.CodeUnitOffsets.{HasRisingPlaceOffsets, offset, place_at}
 use Rattle.regex_meaning.specs.Outcomes.{Outcome, outcomes}
 use Rattle.regex_meaning.specs.FirstAndAllMatches.{Found, first_outcome, first_match, match_at, no_groups}
-use Rattle.regex_meaning.specs.GroupsByNumberAndName.{Answer, answer}
+use Rattle.regex_meaning.specs.MatchGroupsByNumberAndName.{Answer, answer}
 use Rattle.regex_meaning.specs.Laws.{MatchAtIsFirstAnswerIfThere}
 use Rattle.regex_meaning.proofs.Matches.{StandsFrom, first-unfolds, stands-first}
 use Rattle.regex_meaning.proofs.TextLemmas.{offset-less, offset-place_at}

@@ -12,11 +12,14 @@ use Rattle.regex_meaning.specs.NumberListHelpers.{contains, numbers_from}
 use Rattle.regex_meaning.specs.Tree.{Intervals, Node, char_set, byte_set, byte_sequence, cat, alt, bracket, capture_group, loop, loop_1_char_body}
 use Rattle.regex_meaning.specs.Tree.{every_node_passes, Tree}
 use Rattle.regex_meaning.specs.Text.{is_scalar}
-use Rattle.regex_meaning.specs.WellFormedTrees.{has_text_in_sequence, sets_and_strings_fit_instructions, IsWellFormed}
+use Rattle.regex_meaning.specs.WellFormedTrees.{has_text_in_sequence, set_sizes_and_characters_fit_instructions, IsWellFormed}
 use Rattle.regex_meaning.proofs.WellFormedLemmas.{clauses}
-use Rattle.regex_meaning.specs.StartPredicate.{AbstractStartPredicate, open_ended, arbitrary, sequence, one_of, byte_sequence_predicate, common_prefix_or_first_bytes, common_prefix}
-use Rattle.regex_meaning.specs.StartPredicate.{first_byte_as_set, union_of_byte_sets, first_decided, join, abstract_start_predicate, bytes_that_pass, chars_with_first_byte, intersects, first_bytes, code_points_of_class}
-use Rattle.regex_meaning.specs.StartPredicate.{IsSoundStartPredicateOf, begins_characters, is_filled, is_anchored, resolved_start_predicate, start_anchored, start_predicate}
+use Rattle.regex_meaning.specs.StartPredicate.{AbstractStartPredicate, open_ended, arbitrary, sequence, one_of, byte_sequence_predicate, common_prefix_or_first_bytes}
+use Rattle.regex_meaning.specs.StartPredicate.{common_prefix}
+use Rattle.regex_meaning.specs.StartPredicate.{first_byte_as_set, union_of_byte_sets, first_decided, join, abstract_start_predicate, bytes_that_pass}
+use Rattle.regex_meaning.specs.StartPredicate.{chars_with_first_byte, intersects, first_bytes, code_points_of_class}
+use Rattle.regex_meaning.specs.StartPredicate.{IsSoundStartPredicateOf, begins_characters, is_filled, is_anchored, resolved_start_predicate, start_anchored}
+use Rattle.regex_meaning.specs.StartPredicate.{start_predicate}
 use Rattle.regex_meaning.proofs.FirstBytes.{in_range-below, in_range-true, true-in_range, first_of_char}
 use Rattle.regex_meaning.proofs.Sound.{all-contains, predicate-holds}
 use Rattle.std.proofs.lemmas.Bool.{or_cases, and_from, or_left, or_right, ltb-true, le-ltb, ne_eqb}
@@ -129,7 +132,7 @@ clean-byte_set members h =
     all-filter begins_one (contains members) (numbers_from 0 256)
     (λ b t. let low = ltb-true b 128 (all-contains (λ c. nat_lt c 128) members b h t) in rw (in_range-below 0x80 0xBF b low))
 
-clean : (node : Node) → IsTrue (every_node_passes has_text_in_sequence node) → IsTrue (every_node_passes sets_and_strings_fit_instructions node) → Clean (abstract_start_predicate node)
+clean : (node : Node) → IsTrue (every_node_passes has_text_in_sequence node) → IsTrue (every_node_passes set_sizes_and_characters_fit_instructions node) → Clean (abstract_start_predicate node)
 unfolding abstract_start_predicate
 clean (byte_sequence bytes) h k = clean-text bytes (and-right (nat_lt 0 (length bytes)) _ h)
 clean (byte_set members) h k = clean-byte_set members (and-right (nat_le (length members) 4) _ k)

@@ -12,7 +12,7 @@ use Rattle.regex_meaning.specs.Text.{Text, is_scalar, is_lowercase, is_uppercase
 use Rattle.regex_meaning.specs.Text.{offsets_from, one_unit, utf16_width, utf16_characters, utf8_text, ascii_text, utf16_text}
 use Rattle.regex_meaning.specs.CodeUnitOffsets.{place_at}
 use Rattle.regex_meaning.specs.FirstAndAllMatches.{match_list}
-use Rattle.regex_meaning.specs.GroupsByNumberAndName.{answer, answers_from}
+use Rattle.regex_meaning.specs.MatchGroupsByNumberAndName.{answer, answers_from}
 use Rattle.regex_meaning.proofs.Each.{Each, Each-all}
 use Rattle.regex_meaning.proofs.SameTexts.{match_list-same}
 

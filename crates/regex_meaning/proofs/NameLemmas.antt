@@ -2,7 +2,7 @@
 use Rattle.std.proofs.Common.{◌≡◌, ℕ, List, [], ◌∷◌, refl, bytes_eq}
 use Rattle.std.specs.List.{list_any}
 use Rattle.regex_meaning.specs.Laws.{Each}
-use Rattle.regex_meaning.specs.GroupsByNumberAndName.{Answer, named_group, named_groups, first_appearances, first_range, ids_named}
+use Rattle.regex_meaning.specs.MatchGroupsByNumberAndName.{Answer, named_group, named_groups, first_appearances, first_range, ids_named}
 use Rattle.regex_meaning.proofs.Each.{Each-if, Each-image}
 
 module _ (m : Answer) where

@@ -9,9 +9,9 @@ use Rattle.regex_meaning.specs.Text.{Text, Direction, rightwards, leftwards, las
 use Rattle.regex_meaning.specs.CodeUnitOffsets.{HasRisingPlaceOffsets, offset, place_at}
 use Rattle.regex_meaning.specs.Outcomes.{Groups, Outcome, outcomes}
 use Rattle.regex_meaning.specs.FirstAndAllMatches.{Found, no_groups, first_outcome, match_at, first_match, first_match_among, place_behind, matches_from, match_list}
-use Rattle.regex_meaning.specs.GroupsByNumberAndName.{Answer, answer, answers_from}
+use Rattle.regex_meaning.specs.MatchGroupsByNumberAndName.{Answer, answer, answers_from}
 use Rattle.regex_meaning.specs.SearchAnswers.{first_answer, next_start, answers_on, answer_then_list}
-use Rattle.regex_meaning.specs.Laws.{IsOnward, IsWithinText, IsRange, IsAnswerOf, StandInOrder}
+use Rattle.regex_meaning.specs.Laws.{IsOnward, IsWithinText, IsRange, IsAnswerOf, AreAscendingDisjointAnswersFrom}
 use Rattle.regex_meaning.proofs.Each.{Each, Each-map, Each-image, Each-set, Each-replicate}
 use Rattle.regex_meaning.proofs.Matches.{StandsFrom, stands-first, if-cases}
 use Rattle.regex_meaning.proofs.States.{AreKept, outcomes-states}
@@ -162,7 +162,7 @@ module _ (root : Node) (text : Text) (is : HasRisingPlaceOffsets text) where
   answers-are from (m ∷ ms) h = (answer-IsAnswerOf m h.1 h.2 h.3, answers-are (max (m.start + 1) m.end) ms h.4)
 
   answers-in_order : (from low : ℕ) (ms : List Found) → InOrder root text from ms
-      → ((p : ℕ) → from ≤ p → p ≤ last_place text → low ≤ offset text p) → StandInOrder low (map (answer root text) ms)
+      → ((p : ℕ) → from ≤ p → p ≤ last_place text → low ≤ offset text p) → AreAscendingDisjointAnswersFrom low (map (answer root text) ms)
   answers-in_order from low [] h up = tt
   answers-in_order from low (m ∷ ms) h up = (
     up m.start h.0 (omega arith),
@@ -186,9 +186,9 @@ module _ (root : Node) (text : Text) (is : HasRisingPlaceOffsets text) where
       from-lists (λ ms. Each (IsAnswerOf root text) ms) tt start
       (λ p o inside. answers-are p (match_list root text p) (match_list-order root text p)) (place_at text start) refl
 
-  pub answers-StandInOrder : (start : ℕ) → StandInOrder start (answers_from root text start)
+  pub answers-StandInOrder : (start : ℕ) → AreAscendingDisjointAnswersFrom start (answers_from root text start)
   answers-StandInOrder start =
-      from-lists (λ ms. StandInOrder start ms) tt start
+      from-lists (λ ms. AreAscendingDisjointAnswersFrom start ms) tt start
       (λ p o inside. answers-in_order p start (match_list root text p) (match_list-order root text p)
       (λ q le at_q. let l = offset-le text p q is le at_q in omega arith)) (place_at text start) refl
 

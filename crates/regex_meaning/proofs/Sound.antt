@@ -15,9 +15,10 @@ use Rattle.regex_meaning.specs.Tree.{back_ref, lookaround, loop, loop_1_char_bod
 use Rattle.regex_meaning.specs.Text.{Text, rightwards, is_scalar, character_before, last_place}
 use Rattle.regex_meaning.specs.Outcomes.{Outcome, Groups, Repetition, repetition, bounded_repeat, passes_empty_check, preferred, captured, cleared, accepts}
 use Rattle.regex_meaning.specs.Outcomes.{one_character, spelled, lookaround_outcomes, is_line_boundary, outcomes}
-use Rattle.regex_meaning.specs.WellFormedTrees.{has_text_in_sequence, sets_and_strings_fit_instructions, IsWellFormed}
+use Rattle.regex_meaning.specs.WellFormedTrees.{has_text_in_sequence, set_sizes_and_characters_fit_instructions, IsWellFormed}
 use Rattle.regex_meaning.proofs.WellFormedLemmas.{clauses}
-use Rattle.regex_meaning.specs.StartPredicate.{AbstractStartPredicate, open_ended, arbitrary, sequence, one_of, byte_sequence_predicate, first_decided, join, abstract_start_predicate, text_bytes_from_place}
+use Rattle.regex_meaning.specs.StartPredicate.{AbstractStartPredicate, open_ended, arbitrary, sequence, one_of, byte_sequence_predicate, first_decided, join}
+use Rattle.regex_meaning.specs.StartPredicate.{abstract_start_predicate, utf8_bytes_of_text_from_place}
 use Rattle.regex_meaning.specs.StartPredicate.{bytes_that_pass, first_bytes, code_points_of_class, is_anchored, resolved_start_predicate, start_anchored, start_predicate}
 use Rattle.regex_meaning.specs.StartPredicate.{may_start}
 use Rattle.regex_meaning.specs.FirstAndAllMatches.{no_groups}
@@ -74,10 +75,10 @@ rounds-stay r h (suc turns) k p g =
 
 module _ (text : Text) (of_chars : OfChars text) where
   abbrev Begins : AbstractStartPredicate → ℕ → List Outcome → Type 0
-  Begins b p os = Each (λ o. Says b (text_bytes_from_place text p) p o.end) os
+  Begins b p os = Each (λ o. Says b (utf8_bytes_of_text_from_place text p) p o.end) os
 
   -- what follows an outcome that began so begins so
-  carried : (b : AbstractStartPredicate) (p : ℕ) (o : Outcome) (later : List Outcome) → Says b (text_bytes_from_place text p) p o.end
+  carried : (b : AbstractStartPredicate) (p : ℕ) (o : Outcome) (later : List Outcome) → Says b (utf8_bytes_of_text_from_place text p) p o.end
       → (b ≡ open_ended → Each (λ q. q.end ≡ o.end) later) → Begins b p later
   carried open_ended p o later h k = Each-map (λ q. q.end ≡ o.end) (λ q. q.end ≡ p) (λ q f. f ∙ h) later (k refl)
   carried arbitrary p o later h k = Each-any (Unit {0}) tt later
@@ -89,7 +90,7 @@ module _ (text : Text) (of_chars : OfChars text) where
   unfolding bounded_repeat
   rounds-begin b r l h zero p g = tt
   rounds-begin b r l h (suc turns) p g =
-      let Begun = λ (o : Outcome). Says b (text_bytes_from_place text p) p o.end in
+      let Begun = λ (o : Outcome). Says b (utf8_bytes_of_text_from_place text p) p o.end in
       let later = λ (o : Outcome). bounded_repeat r turns 1 o.end o.groups in
       let bodies = filter (passes_empty_check r 0 p) (r.body p g) in
       let leave : List Outcome = record { end = p; groups = g } ∷ [] in
@@ -120,7 +121,7 @@ module _ (text : Text) (of_chars : OfChars text) where
   unfolding is_utf8
   sequence-begins [] u p g = Each-any (Unit {0}) tt (spelled text nat_eq (chars []) rightwards p g)
   sequence-begins (b ∷ bs) u p g =
-      Each-when (λ (o : Outcome). Says (sequence (b ∷ bs)) (text_bytes_from_place text p) p o.end) _ _
+      Each-when (λ (o : Outcome). Says (sequence (b ∷ bs)) (utf8_bytes_of_text_from_place text p) p o.end) _ _
       (λ t.
       let n = length (chars (b ∷ bs)) in
       let e : p + n - p ≡ n = omega arith in
@@ -130,11 +131,11 @@ module _ (text : Text) (of_chars : OfChars text) where
       (and-right (scalars (chars (b ∷ bs))) (bytes_eq (encode_utf8_all (chars (b ∷ bs))) (b ∷ bs)) u) in
       (omega arith, rw spelt at found))
 
-  then-begin : (a b : AbstractStartPredicate) (p : ℕ) (o : Outcome) (later : List Outcome) → Says a (text_bytes_from_place text p) p o.end
+  then-begin : (a b : AbstractStartPredicate) (p : ℕ) (o : Outcome) (later : List Outcome) → Says a (utf8_bytes_of_text_from_place text p) p o.end
       → Begins b o.end later → Begins (first_decided a b) p later
   then-begin open_ended b p o later h k =
-      Each-map (λ q. Says b (text_bytes_from_place text o.end) o.end q.end) (λ q. Says b (text_bytes_from_place text p) p q.end)
-      (λ q s. subst (λ (n : ℕ). Says b (text_bytes_from_place text n) n q.end) h s) later k
+      Each-map (λ q. Says b (utf8_bytes_of_text_from_place text o.end) o.end q.end) (λ q. Says b (utf8_bytes_of_text_from_place text p) p q.end)
+      (λ q s. subst (λ (n : ℕ). Says b (utf8_bytes_of_text_from_place text n) n q.end) h s) later k
   then-begin arbitrary b p o later h k = Each-any (Unit {0}) tt later
   then-begin (sequence bs) b p o later h k = Each-any _ h later
   then-begin (one_of members) b p o later h k = Each-any _ h later
@@ -143,10 +144,10 @@ module _ (text : Text) (of_chars : OfChars text) where
       → ((c : ℕ) (f : FirstOf c) → is_scalar c ≡ true → accepts node c ≡ true → contains members f.byte ≡ true)
       → Begins (one_of members) p (one_character text (accepts node) rightwards p g)
   character-begins node members p g h =
-      Each-when (λ (o : Outcome). Says (one_of members) (text_bytes_from_place text p) p o.end) _ _
+      Each-when (λ (o : Outcome). Says (one_of members) (utf8_bytes_of_text_from_place text p) p o.end) _ _
       (λ t. next-says (accepts node) members h text.characters p of_chars t)
 
-  begins : (node : Node) → IsTrue (every_node_passes has_text_in_sequence node) → IsTrue (every_node_passes sets_and_strings_fit_instructions node)
+  begins : (node : Node) → IsTrue (every_node_passes has_text_in_sequence node) → IsTrue (every_node_passes set_sizes_and_characters_fit_instructions node)
       → (p : ℕ) (g : Groups) → Begins (abstract_start_predicate node) p (outcomes text node rightwards p g)
   unfolding abstract_start_predicate outcomes
   begins empty h k p g = Each-any (Unit {0}) tt (outcomes text empty rightwards p g)
@@ -170,16 +171,16 @@ module _ (text : Text) (of_chars : OfChars text) where
       (λ c f s t. first-byte-in (code_points_of_class contents) c f (in-bracket contents c s t))
   begins (byte_sequence bytes) h k p g = sequence-begins bytes (and-right (nat_lt 0 (length bytes)) _ h) p g
   begins (cat first rest) h k p g =
-      Each-flat_map (λ o. Says (abstract_start_predicate first) (text_bytes_from_place text p) p o.end) (λ o. Says (first_decided (abstract_start_predicate first) (abstract_start_predicate rest)) (text_bytes_from_place text p) p o.end)
+      Each-flat_map (λ o. Says (abstract_start_predicate first) (utf8_bytes_of_text_from_place text p) p o.end) (λ o. Says (first_decided (abstract_start_predicate first) (abstract_start_predicate rest)) (utf8_bytes_of_text_from_place text p) p o.end)
       (λ o. outcomes text rest rightwards o.end o.groups)
       (λ o s. then-begin (abstract_start_predicate first) (abstract_start_predicate rest) p o (outcomes text rest rightwards o.end o.groups) s
       (begins rest (and-right _ _ h) (and-right _ _ k) o.end o.groups))
       (outcomes text first rightwards p g) (begins first (and-left _ _ h) (and-left _ _ k) p g)
   begins (alt left right) h k p g =
-      Each-append (λ o. Says (join (abstract_start_predicate left) (abstract_start_predicate right)) (text_bytes_from_place text p) p o.end) _ _
-      (Each-map _ _ (λ o s. join-left (abstract_start_predicate left) (abstract_start_predicate right) (text_bytes_from_place text p) p o.end (from-byte text of_chars p) s) _
+      Each-append (λ o. Says (join (abstract_start_predicate left) (abstract_start_predicate right)) (utf8_bytes_of_text_from_place text p) p o.end) _ _
+      (Each-map _ _ (λ o s. join-left (abstract_start_predicate left) (abstract_start_predicate right) (utf8_bytes_of_text_from_place text p) p o.end (from-byte text of_chars p) s) _
       (begins left (and-left _ _ h) (and-left _ _ k) p g))
-      (Each-map _ _ (λ o s. join-right (abstract_start_predicate left) (abstract_start_predicate right) (text_bytes_from_place text p) p o.end (from-byte text of_chars p) s) _
+      (Each-map _ _ (λ o s. join-right (abstract_start_predicate left) (abstract_start_predicate right) (utf8_bytes_of_text_from_place text p) p o.end (from-byte text of_chars p) s) _
       (begins right (and-right _ _ h) (and-right _ _ k) p g))
   begins (capture_group id name contents) h k p g =
       Each-image _ _ (captured id p) (λ o s. s) _ (begins contents h k p (cleared id 1 g))
@@ -220,12 +221,12 @@ some-of : (X : Outcome → Type 0) (Y : Type 0) (os : List Outcome) → os ≢ [
 some-of X Y [] ne h k = absurd (ne refl)
 some-of X Y (o ∷ os) ne h k = k o h.0
 
-start-holds : (b : AbstractStartPredicate) (text : Text) (p e : ℕ) → Says b (text_bytes_from_place text p) p e → IsTrue (may_start (resolved_start_predicate b) text p)
+start-holds : (b : AbstractStartPredicate) (text : Text) (p e : ℕ) → Says b (utf8_bytes_of_text_from_place text p) p e → IsTrue (may_start (resolved_start_predicate b) text p)
 unfolding may_start
 start-holds open_ended text p e s = refl
 start-holds arbitrary text p e s = refl
 start-holds (sequence []) text p e s = refl
-start-holds (sequence (b ∷ [])) text p e s = starts-first (text_bytes_from_place text p) (b ∷ []) s.0 s.1
+start-holds (sequence (b ∷ [])) text p e s = starts-first (utf8_bytes_of_text_from_place text p) (b ∷ []) s.0 s.1
 start-holds (sequence (b ∷ c ∷ bs)) text p e s = s.1
 start-holds (one_of []) text p e s = refl
 start-holds (one_of (b ∷ bs)) text p e s = s
@@ -240,5 +241,5 @@ predicate-holds tree w text p c l ne = go (not tree.flags.multiline && is_anchor
     go true e =
         some-of (λ o. p ≡ 0) ((p == 0) ≡ true) _ ne (anchored text tree.root (and-right _ _ e) p (no_groups tree.root) l) (λ o z. eq-eqb p 0 z)
     go false e =
-        some-of (λ o. Says (abstract_start_predicate tree.root) (text_bytes_from_place text p) p o.end) (IsTrue (may_start (resolved_start_predicate (abstract_start_predicate tree.root)) text p)) _ ne
+        some-of (λ o. Says (abstract_start_predicate tree.root) (utf8_bytes_of_text_from_place text p) p o.end) (IsTrue (may_start (resolved_start_predicate (abstract_start_predicate tree.root)) text p)) _ ne
         (begins text c tree.root (clauses tree.root w).sequences (clauses tree.root w).sets p (no_groups tree.root)) (λ o s. start-holds (abstract_start_predicate tree.root) text p o.end s)

@@ -11,8 +11,11 @@ use Rattle.std.specs.Prelude.{min, max}
 use Rattle.regex_meaning.specs.Tree.{Intervals, BracketContents, bracket}
 use Rattle.regex_meaning.specs.Text.{Text, is_scalar}
 use Rattle.regex_meaning.specs.Outcomes.{is_some_and, in_intervals, accepts}
-use Rattle.regex_meaning.specs.StartPredicate.{AbstractStartPredicate, open_ended, arbitrary, sequence, one_of, join, common_prefix_or_first_bytes, common_prefix, union_of_byte_sets}
-use Rattle.regex_meaning.specs.StartPredicate.{first_byte_as_set, begins_with_one_of, text_bytes_from_place, interval_minus, intervals_minus, code_points_of_class, first_bytes, chars_with_first_byte}
+use Rattle.regex_meaning.specs.StartPredicate.{AbstractStartPredicate, open_ended, arbitrary, sequence, one_of, join, common_prefix_or_first_bytes, common_prefix}
+use Rattle.regex_meaning.specs.StartPredicate.{union_of_byte_sets}
+use Rattle.regex_meaning.specs.StartPredicate.{first_byte_as_set, first_byte_is_one_of, utf8_bytes_of_text_from_place, interval_minus, intervals_minus}
+use Rattle.regex_meaning.specs.StartPredicate.{code_points_of_class}
+use Rattle.regex_meaning.specs.StartPredicate.{first_bytes, chars_with_first_byte}
 use Rattle.regex_meaning.specs.StartPredicate.{intersects}
 use Rattle.regex_meaning.specs.NumberListHelpers.{contains}
 use Rattle.regex_meaning.proofs.FirstBytes.{in_range-true, true-in_range, scalar-below, contains-bytes_where, first_of_char, FirstOf}
@@ -24,7 +27,7 @@ abbrev pub Says : AbstractStartPredicate → List ℕ → (place end : ℕ) → 
 Says open_ended bytes place end = end ≡ place
 Says arbitrary bytes place end = Unit {0}
 Says (sequence bs) bytes place end = (0 < length bs) × (starts_with nat_eq bytes bs ≡ true)
-Says (one_of members) bytes place end = begins_with_one_of members bytes ≡ true
+Says (one_of members) bytes place end = first_byte_is_one_of members bytes ≡ true
 
 -- the first number, if any, is a byte
 abbrev pub BeginsInByte : List ℕ → Type 0
@@ -59,20 +62,20 @@ starts-shared-right (b ∷ bytes) (x ∷ xs) (y ∷ ys) h = go (x == y) refl (st
     go false e k = refl
 
 -- a sequence's first byte stands first
-pub starts-first : (bytes xs : List ℕ) → 0 < length xs → starts_with nat_eq bytes xs ≡ true → begins_with_one_of (first_byte_as_set xs) bytes ≡ true
+pub starts-first : (bytes xs : List ℕ) → 0 < length xs → starts_with nat_eq bytes xs ≡ true → first_byte_is_one_of (first_byte_as_set xs) bytes ≡ true
 starts-first bytes [] l h = absurd (omega arith)
 starts-first [] (x ∷ xs) l h = grind arith
 starts-first (b ∷ bytes) (x ∷ xs) l h = or_left _ _ (eq-eqb b x (sym (eqb-true x b (and-left (nat_eq x b) _ h))))
 
-begins-union-left : (bytes xs ys : List ℕ) → BeginsInByte bytes → begins_with_one_of xs bytes ≡ true → begins_with_one_of (union_of_byte_sets xs ys) bytes ≡ true
+begins-union-left : (bytes xs ys : List ℕ) → BeginsInByte bytes → first_byte_is_one_of xs bytes ≡ true → first_byte_is_one_of (union_of_byte_sets xs ys) bytes ≡ true
 begins-union-left [] xs ys i h = h
 begins-union-left (b ∷ bytes) xs ys i h = contains-bytes_where (λ c. contains xs c || contains ys c) b i (or_left _ (contains ys b) h)
 
-begins-union-right : (bytes xs ys : List ℕ) → BeginsInByte bytes → begins_with_one_of ys bytes ≡ true → begins_with_one_of (union_of_byte_sets xs ys) bytes ≡ true
+begins-union-right : (bytes xs ys : List ℕ) → BeginsInByte bytes → first_byte_is_one_of ys bytes ≡ true → first_byte_is_one_of (union_of_byte_sets xs ys) bytes ≡ true
 begins-union-right [] xs ys i h = h
 begins-union-right (b ∷ bytes) xs ys i h = contains-bytes_where (λ c. contains xs c || contains ys c) b i (or_right (contains xs b) _ h)
 
-says-sequence_or : (front firsts bytes : List ℕ) (p e : ℕ) → starts_with nat_eq bytes front ≡ true → begins_with_one_of firsts bytes ≡ true
+says-sequence_or : (front firsts bytes : List ℕ) (p e : ℕ) → starts_with nat_eq bytes front ≡ true → first_byte_is_one_of firsts bytes ≡ true
     → Says (common_prefix_or_first_bytes front firsts) bytes p e
 says-sequence_or [] firsts bytes p e h k = k
 says-sequence_or (b ∷ bs) firsts bytes p e h k = (omega arith, h)
@@ -110,14 +113,14 @@ byte-first : (cs : List ℕ) → list_all is_scalar cs ≡ true → BeginsInByte
 byte-first [] h = tt
 byte-first (c ∷ cs) h = let f = first_of_char c (and-left (is_scalar c) _ h) in rw f.is f.lead.is_byte
 
-pub from-byte : (text : Text) → OfChars text → (place : ℕ) → BeginsInByte (text_bytes_from_place text place)
+pub from-byte : (text : Text) → OfChars text → (place : ℕ) → BeginsInByte (utf8_bytes_of_text_from_place text place)
 from-byte text h place = byte-first (drop place text.characters) (drop-chars place text.characters h)
 
 -- where a character stands that passes the test, the text goes on with its bytes
 pub next-says : (test : ℕ → Bool) (members : List ℕ)
     → ((c : ℕ) (f : FirstOf c) → is_scalar c ≡ true → test c ≡ true → contains members f.byte ≡ true)
     → (cs : List ℕ) (place : ℕ) → list_all is_scalar cs ≡ true → is_some_and (slice_get cs place) test ≡ true
-    → begins_with_one_of members (encode_utf8_all (drop place cs)) ≡ true
+    → first_byte_is_one_of members (encode_utf8_all (drop place cs)) ≡ true
 next-says test members h [] place s t = grind arith
 next-says test members h (c ∷ cs) zero s t =
     let scalar = and-left (is_scalar c) _ s in

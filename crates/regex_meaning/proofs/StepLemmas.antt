@@ -9,7 +9,7 @@ use Rattle.regex_meaning.specs.Tree.{Tree}
 use Rattle.regex_meaning.specs.Text.{Text, last_place}
 use Rattle.regex_meaning.specs.CodeUnitOffsets.{HasRisingPlaceOffsets, IsBoundary, offset, place_at}
 use Rattle.regex_meaning.specs.FirstAndAllMatches.{Found, first_match, place_behind}
-use Rattle.regex_meaning.specs.GroupsByNumberAndName.{Answer, answer, answers_from}
+use Rattle.regex_meaning.specs.MatchGroupsByNumberAndName.{Answer, answer, answers_from}
 use Rattle.regex_meaning.specs.SearchAnswers.{first_answer, first_found, next_start, answers_on, answer_then_list}
 use Rattle.regex_meaning.specs.OutcomesWithStepTicks.{need, needs, needs_from}
 use Rattle.regex_meaning.specs.Laws.{needs_on, needs_behind}

@@ -7,14 +7,14 @@ use Rattle.std.proofs.lemmas.Bool.{cases_Bool}
 use mathlib.Core.Logic.{inl, inr}
 use Rattle.regex_meaning.specs.NumberListHelpers.{contains}
 use Rattle.regex_meaning.specs.Tree.{Flags}
-use Rattle.regex_meaning.specs.GroupsByNumberAndName.{Answer}
+use Rattle.regex_meaning.specs.MatchGroupsByNumberAndName.{Answer}
 use Rattle.regex_meaning.specs.Replace.{expansion, replaced}
 use Rattle.regex_meaning.specs.FlagLettersAndEscaping.{flags_text, flags_from_letters, syntax_characters, with_backslash_if_syntax, escape}
-use Rattle.regex_meaning.specs.Laws.{StandInOrder}
+use Rattle.regex_meaning.specs.Laws.{AreAscendingDisjointAnswersFrom}
 
 -- ---- Replaced texts
 
-order-lower : (low from : ℕ) (ms : List Answer) → low ≤ from → StandInOrder from ms → StandInOrder low ms
+order-lower : (low from : ℕ) (ms : List Answer) → low ≤ from → AreAscendingDisjointAnswersFrom from ms → AreAscendingDisjointAnswersFrom low ms
 order-lower low from [] le h = tt
 order-lower low from (m ∷ ms) le h = (omega arith, h.1, h.2)
 
@@ -28,7 +28,7 @@ whole : (text : List ℕ) (m : Answer) → expansion text m (codes "$0") ≡ sli
 unfolding expansion
 whole text m = append-nil (slice_range text m.range.0 m.range.1)
 
-pub replaced-whole : (text : List ℕ) (from : ℕ) (ms : List Answer) → StandInOrder from ms
+pub replaced-whole : (text : List ℕ) (from : ℕ) (ms : List Answer) → AreAscendingDisjointAnswersFrom from ms
     → replaced text from (map (λ m. (m, expansion text m (codes "$0"))) ms) ≡ drop from text
 unfolding replaced
 replaced-whole text from [] h = refl

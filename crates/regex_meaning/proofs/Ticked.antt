@@ -5,9 +5,11 @@ use Rattle.regex_meaning.specs.Tree.{Quantifier, Node, empty, goal, char, char_s
 use Rattle.regex_meaning.specs.Tree.{string_set, match_any, match_any_except_line_terminator, anchor, word_boundary, capture_group, back_ref}
 use Rattle.regex_meaning.specs.Tree.{lookaround, loop, loop_1_char_body}
 use Rattle.regex_meaning.specs.Text.{Text, Direction}
-use Rattle.regex_meaning.specs.Outcomes.{Groups, Outcome, repetition, bounded_repeat, passes_empty_check, preferred, captured, cleared, lookaround_outcomes, direction_of, spelled}
+use Rattle.regex_meaning.specs.Outcomes.{Groups, Outcome, repetition, bounded_repeat, passes_empty_check, preferred, captured, cleared, lookaround_outcomes}
+use Rattle.regex_meaning.specs.Outcomes.{direction_of, spelled}
 use Rattle.regex_meaning.specs.Outcomes.{is_case_variant, outcomes, max_iterations}
-use Rattle.regex_meaning.specs.OutcomesWithStepTicks.{TickOrOutcome, tick, pair, outcomes_without_ticks, ticks, outcomes_replaced_by_lists, ticks_before_outcomes, with_ticks_between, ticked_alt, ticked_preferred, ticked_bounded_repeat}
+use Rattle.regex_meaning.specs.OutcomesWithStepTicks.{TickOrOutcome, tick, pair, outcomes_without_ticks, ticks, outcomes_replaced_by_lists, ticks_before_outcomes}
+use Rattle.regex_meaning.specs.OutcomesWithStepTicks.{with_ticks_between, ticked_alt, ticked_preferred, ticked_bounded_repeat}
 use Rattle.regex_meaning.specs.OutcomesWithStepTicks.{ticked_string, ticked_strings, ticked}
 use Rattle.std.proofs.lemmas.List.{append-nil, map-id}
 use Rattle.std.proofs.lemmas.List.Concat.{flat_map_single}

@@ -2,21 +2,21 @@
 use Rattle.std.proofs.Common.{Bool, ◌&&◌, length}
 use Rattle.std.specs.Prelude.{IsTrue}
 use Rattle.regex_meaning.specs.Tree.{Node, group_ids, every_node_passes}
-use Rattle.regex_meaning.specs.WellFormedTrees.{IsWellFormed, is_well_formed, goal_is_last, each_id_stands_once, names_the_groups_inside}
+use Rattle.regex_meaning.specs.WellFormedTrees.{IsWellFormed, is_well_formed, only_goal_node_is_last, each_id_stands_once, names_the_groups_inside}
 use Rattle.regex_meaning.specs.WellFormedTrees.{refers_to_a_group, has_order_in_quantifier, has_one_character_body, has_text_in_sequence}
-use Rattle.regex_meaning.specs.WellFormedTrees.{sets_and_strings_fit_instructions}
+use Rattle.regex_meaning.specs.WellFormedTrees.{set_sizes_and_characters_fit_instructions}
 use Rattle.std.proofs.lemmas.Bool.{and_from}
 use Rattle.regex_meaning.proofs.Booleans.{and-left, and-right}
 
 pub record Clauses (root : Node) : Type 0 where
-  pub goal_last : IsTrue (goal_is_last root)
+  pub goal_last : IsTrue (only_goal_node_is_last root)
   pub ids : IsTrue (each_id_stands_once root)
   pub enclosed : IsTrue (every_node_passes names_the_groups_inside root)
   pub references : IsTrue (every_node_passes (refers_to_a_group (length (group_ids root))) root)
   pub quantifiers : IsTrue (every_node_passes has_order_in_quantifier root)
   pub bodies : IsTrue (every_node_passes has_one_character_body root)
   pub sequences : IsTrue (every_node_passes has_text_in_sequence root)
-  pub sets : IsTrue (every_node_passes sets_and_strings_fit_instructions root)
+  pub sets : IsTrue (every_node_passes set_sizes_and_characters_fit_instructions root)
 
 eight : (a b c d e f g h : Bool) → IsTrue (a && b && c && d && e && f && g && h)
     → IsTrue a × IsTrue b × IsTrue c × IsTrue d × IsTrue e × IsTrue f × IsTrue g × IsTrue h

@@ -9,7 +9,7 @@ use Rattle.regex_meaning.specs.Text.{utf8_text, ascii_text, utf16_text, ucs2_tex
 use Rattle.regex_meaning.specs.CodeUnitOffsets.{HasRisingPlaceOffsets, offset, place_at, IsBoundary}
 use Rattle.regex_meaning.specs.Outcomes.{Groups, repetition, repeat, passes_empty_check, preferred, max_iterations, outcomes}
 use Rattle.regex_meaning.specs.FirstAndAllMatches.{Found, match_at, first_match, place_behind, match_list}
-use Rattle.regex_meaning.specs.GroupsByNumberAndName.{Answer, answers_from, named_group, named_groups}
+use Rattle.regex_meaning.specs.MatchGroupsByNumberAndName.{Answer, answers_from, named_group, named_groups}
 use Rattle.regex_meaning.specs.SearchAnswers.{first_answer, answer_at, next_start, answer_then_list}
 use Rattle.regex_meaning.specs.Replace.{expansion, replaced}
 use Rattle.regex_meaning.specs.FlagLettersAndEscaping.{flags_text, flags_from_letters, escape}
@@ -20,8 +20,8 @@ use Rattle.regex_meaning.specs.OutcomesWithStepTicks.{outcomes_without_ticks, ti
 -- ---- Outcomes
 
 -- the list of ticks and outcomes of a node contains exactly its outcomes, in order
-abbrev pub TicksChangeNothing : Type 0
-TicksChangeNothing = (text : Text) (node : Node) (d : Direction) (place : ℕ) (groups : Groups)
+abbrev pub CountingTicksKeepsOutcomes : Type 0
+CountingTicksKeepsOutcomes = (text : Text) (node : Node) (d : Direction) (place : ℕ) (groups : Groups)
     → outcomes_without_ticks (ticked text node d place groups) ≡ outcomes text node d place groups
 
 -- After k iterations of a loop, `repeat` gives two kinds of outcomes: if k is below the maximum,
@@ -97,8 +97,8 @@ pub record HasOffsets (text : Text) : Type 0 where
   pub offset_of_place : (at p : ℕ) → place_at text at ≡ Some p → (offset text p ≡ at) × (p ≤ last_place text)
 
 -- in every text each place has one offset and each boundary one place, in the same order
-abbrev pub PlacesHaveOffsets : Type 0
-PlacesHaveOffsets = (text : Text) → HasRisingPlaceOffsets text → HasOffsets text
+abbrev pub PlacesCorrespondToBoundaries : Type 0
+PlacesCorrespondToBoundaries = (text : Text) → HasRisingPlaceOffsets text → HasOffsets text
 
 -- the texts of the four encodings satisfy `HasRisingPlaceOffsets`
 abbrev pub EncodedTextsHaveRisingOffsets : Type 0
@@ -112,8 +112,8 @@ is_within_pair units (suc i) = is_high_surrogate (slice_index units i) && is_low
 
 -- a unit boundary is a boundary of the text; of 16-bit units it is an offset within the text that
 -- cuts no surrogate pair
-abbrev pub UnitBoundariesAreBoundaries : Type 0
-UnitBoundariesAreBoundaries = (units : List ℕ) (unicode : Bool) (i : ℕ)
+abbrev pub Utf16BoundariesCutNoPair : Type 0
+Utf16BoundariesCutNoPair = (units : List ℕ) (unicode : Bool) (i : ℕ)
     → (is_unit_boundary units i ≡ is_some (place_at (utf16_text units unicode) i))
     × (((k : ℕ) → k < length units → slice_index units k < 0x1_0000)
     → is_unit_boundary units i ≡ (nat_le i (length units) && not (is_within_pair units i)))
@@ -155,14 +155,14 @@ AnswersSatisfyIsAnswerOf = (root : Node) (text : Text) → HasRisingPlaceOffsets
 
 -- the first answer begins at `from` or after it, and each next one begins after the start of the
 -- one before and not before its end
-abbrev pub StandInOrder : (from : ℕ) → List Answer → Type 0
-StandInOrder from [] = Unit {0}
-StandInOrder from (m ∷ ms) =
-    (from ≤ m.range.0) × (m.range.0 ≤ m.range.1) × StandInOrder (max (m.range.0 + 1) m.range.1) ms
+abbrev pub AreAscendingDisjointAnswersFrom : (from : ℕ) → List Answer → Type 0
+AreAscendingDisjointAnswersFrom from [] = Unit {0}
+AreAscendingDisjointAnswersFrom from (m ∷ ms) =
+    (from ≤ m.range.0) × (m.range.0 ≤ m.range.1) × AreAscendingDisjointAnswersFrom (max (m.range.0 + 1) m.range.1) ms
 
 -- the starts of answers increase, and no two answers overlap
 abbrev pub AnswersAreOrderedWithoutOverlap : Type 0
-AnswersAreOrderedWithoutOverlap = (root : Node) (text : Text) → HasRisingPlaceOffsets text → (start : ℕ) → StandInOrder start (answers_from root text start)
+AnswersAreOrderedWithoutOverlap = (root : Node) (text : Text) → HasRisingPlaceOffsets text → (start : ℕ) → AreAscendingDisjointAnswersFrom start (answers_from root text start)
 
 -- there is at most one answer more than there are characters from the start on
 abbrev pub AnswerCountIsBounded : Type 0
@@ -170,32 +170,32 @@ AnswerCountIsBounded = (root : Node) (text : Text) → HasRisingPlaceOffsets tex
     → place_at text start ≡ Some place → length (answers_from root text start) ≤ last_place text - place + 1
 
 -- a search from the end of a nonempty match yields the rest of the list
-abbrev pub ResumedSearchYieldsRest : Type 0
-ResumedSearchYieldsRest = (root : Node) (text : Text) → HasRisingPlaceOffsets text → (start : ℕ) (before : List Answer) (m : Answer) (after : List Answer)
+abbrev pub ResumingAfterNonemptyMatchYieldsRest : Type 0
+ResumingAfterNonemptyMatchYieldsRest = (root : Node) (text : Text) → HasRisingPlaceOffsets text → (start : ℕ) (before : List Answer) (m : Answer) (after : List Answer)
     → answers_from root text start ≡ before ++ m ∷ after → m.range.0 < m.range.1 → answers_from root text m.range.1 ≡ after
 
 -- ---- One text in two encodings
 
 -- a text has its matches at the same places in UTF-8 and in UTF-16
-abbrev pub SameMatchesInUtf16 : Type 0
-SameMatchesInUtf16 = (root : Node) (bytes units : List ℕ) (unicode : Bool) (place : ℕ) → chars bytes ≡ utf16_characters units
+abbrev pub SameMatchesInUtf8AndUtf16 : Type 0
+SameMatchesInUtf8AndUtf16 = (root : Node) (bytes units : List ℕ) (unicode : Bool) (place : ℕ) → chars bytes ≡ utf16_characters units
     → match_list root (utf8_text bytes unicode) place ≡ match_list root (utf16_text units unicode) place
 
 -- an ASCII text has the same answers when read as ASCII and as UTF-8
-abbrev pub SameAnswersInAscii : Type 0
-SameAnswersInAscii = (root : Node) (bytes : List ℕ) (unicode : Bool) (start : ℕ) → IsAscii bytes
+abbrev pub AsciiAndUtf8AnswersAgree : Type 0
+AsciiAndUtf8AnswersAgree = (root : Node) (bytes : List ℕ) (unicode : Bool) (start : ℕ) → IsAscii bytes
     → answers_from root (ascii_text bytes unicode) start ≡ answers_from root (utf8_text bytes unicode) start
 
 -- ---- Replaced texts, flags and escaped texts
 
 -- replacing each match by itself gives the original text
 abbrev pub ReplacingMatchesByThemselvesChangesNothing : Type 0
-ReplacingMatchesByThemselvesChangesNothing = (text : List ℕ) (ms : List Answer) → StandInOrder 0 ms
+ReplacingMatchesByThemselvesChangesNothing = (text : List ℕ) (ms : List Answer) → AreAscendingDisjointAnswersFrom 0 ms
     → replaced text 0 (map (λ m. (m, expansion text m (codes "$0"))) ms) ≡ text
 
 -- parsing displayed flags gives the same flags, with `no_opt` cleared
-abbrev pub FlagsParseDisplayRoundTrip : Type 0
-FlagsParseDisplayRoundTrip = (flags : Flags) → flags_from_letters (flags_text flags) ≡ record flags { no_opt = false }
+abbrev pub FlagsRoundTripExceptNoOpt : Type 0
+FlagsRoundTripExceptNoOpt = (flags : Flags) → flags_from_letters (flags_text flags) ≡ record flags { no_opt = false }
 
 -- different texts have different escaped texts
 abbrev pub EscapeIsInjective : Type 0

@@ -1,6 +1,8 @@
 pub mod NumberListHelpers
 pub mod Tree
 pub mod Text
+pub mod Canonical
+pub mod CaseLaws
 pub mod CodeUnits
 pub mod CodeUnitOffsets
 pub mod Outcomes
@@ -10,7 +12,7 @@ pub mod OutcomesWithStepTicks
 pub mod WellFormedTrees
 pub mod CompilationRelation
 pub mod Laws
-pub mod GroupsByNumberAndName
+pub mod MatchGroupsByNumberAndName
 pub mod SearchAnswers
 pub mod Replace
 pub mod FlagLettersAndEscaping

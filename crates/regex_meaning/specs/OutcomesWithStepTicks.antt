@@ -8,7 +8,8 @@ use Rattle.regex_meaning.specs.NumberListHelpers.{numbers_from}
 use Rattle.regex_meaning.specs.Tree.{Quantifier, Node, empty, byte_sequence, cat, end_of_cat, alt, string_set, capture_group, lookaround, loop}
 use Rattle.regex_meaning.specs.Tree.{loop_1_char_body, Tree}
 use Rattle.regex_meaning.specs.Text.{Text, Direction, rightwards, leftwards, last_place, characters_ahead}
-use Rattle.regex_meaning.specs.Outcomes.{Groups, Outcome, accepts, cleared, captured, max_iterations, Repetition, repetition, passes_empty_check, is_case_variant, spelled}
+use Rattle.regex_meaning.specs.Outcomes.{Groups, Outcome, accepts, cleared, captured, max_iterations, Repetition, repetition, passes_empty_check, is_case_variant}
+use Rattle.regex_meaning.specs.Outcomes.{spelled}
 use Rattle.regex_meaning.specs.Outcomes.{lookaround_outcomes, direction_of, outcomes}
 use Rattle.regex_meaning.specs.StartPredicate.{StartPredicate, start_anchored, start_predicate, may_start}
 use Rattle.regex_meaning.specs.FirstAndAllMatches.{no_groups, first_match, place_behind}

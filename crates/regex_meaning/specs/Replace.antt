@@ -3,7 +3,7 @@ use Rattle.std.specs.Prelude.{ℕ, zero, suc, ◌+◌, ◌*◌, Bool, ◌&&◌, 
 use Rattle.std.specs.Prelude.{map, slice_range}
 use Rattle.std.specs.List.{before_first, after_first, list_any}
 use Rattle.std.specs.Char.{is_ascii_digit, digit_value}
-use Rattle.regex_meaning.specs.GroupsByNumberAndName.{Answer, group, named_group}
+use Rattle.regex_meaning.specs.MatchGroupsByNumberAndName.{Answer, group, named_group}
 
 -- a part of a replacement: a byte, or the text of a group by number or by name
 pub data ReplacementPart : Type 0 where
@@ -21,22 +21,22 @@ pub record ParsedPart : Type 0 where
   pub rest : List ℕ
 
 -- a single part and the bytes that are left
-abbrev pub single_replacement_part_and_rest : ReplacementPart → List ℕ → ParsedPart
-single_replacement_part_and_rest part rest = record { parts = part ∷ []; rest = rest }
+abbrev pub parsed_part_from_single_replacement_part : ReplacementPart → List ℕ → ParsedPart
+parsed_part_from_single_replacement_part part rest = record { parts = part ∷ []; rest = rest }
 
 -- reads the remaining digits of a group number after `$`; `value` is that of the digits read so
 -- far, and reading stops once it exceeds `max_capture_groups`
 abbrev pub parse_digits_of_group_number : (value : ℕ) → List ℕ → ParsedPart
-parse_digits_of_group_number value [] = single_replacement_part_and_rest (group_part value) []
+parse_digits_of_group_number value [] = parsed_part_from_single_replacement_part (group_part value) []
 parse_digits_of_group_number value (b ∷ bytes) =
     let more = parse_digits_of_group_number (value * 10 + digit_value b) bytes in
-    let stop = single_replacement_part_and_rest (group_part value) (b ∷ bytes) in
+    let stop = parsed_part_from_single_replacement_part (group_part value) (b ∷ bytes) in
     if is_ascii_digit b && nat_le value max_capture_groups then more else stop
 
 -- reads what follows `${`: a name up to `}`; if no `}` follows, everything stands for itself
 abbrev pub parse_braced_name : List ℕ → ParsedPart
 parse_braced_name bytes =
-    let name = single_replacement_part_and_rest (named_part (before_first is_brace bytes)) (after_first is_brace bytes) in
+    let name = parsed_part_from_single_replacement_part (named_part (before_first is_brace bytes)) (after_first is_brace bytes) in
     let unclosed : ParsedPart = record { parts = literal 36 ∷ literal 123 ∷ map literal bytes; rest = [] } in
     if list_any is_brace bytes then name else unclosed
   where
@@ -46,19 +46,19 @@ parse_braced_name bytes =
 -- reads what follows `$`: `$$` is one `$`, digits and `{name}` are groups, and any other `$` stands
 -- for itself
 abbrev pub parse_after_dollar : List ℕ → ParsedPart
-parse_after_dollar [] = single_replacement_part_and_rest (literal 36) []
+parse_after_dollar [] = parsed_part_from_single_replacement_part (literal 36) []
 parse_after_dollar (b ∷ bytes) =
-    if b == 36 then single_replacement_part_and_rest (literal 36) bytes
+    if b == 36 then parsed_part_from_single_replacement_part (literal 36) bytes
     else if is_ascii_digit b then parse_digits_of_group_number 0 (b ∷ bytes)
     else if b == 123 then parse_braced_name bytes
-    else single_replacement_part_and_rest (literal 36) (b ∷ bytes)
+    else parsed_part_from_single_replacement_part (literal 36) (b ∷ bytes)
 
 -- the parts of a replacement of at most `left` bytes
 abbrev pub parse_replacement : (left : ℕ) → List ℕ → List ReplacementPart
 parse_replacement zero bytes = []
 parse_replacement (suc left) [] = []
 parse_replacement (suc left) (b ∷ bytes) =
-    let begun = if b == 36 then parse_after_dollar bytes else single_replacement_part_and_rest (literal b) bytes in
+    let begun = if b == 36 then parse_after_dollar bytes else parsed_part_from_single_replacement_part (literal b) bytes in
     begun.parts ++ parse_replacement left begun.rest
 
 module _ (text : List ℕ) (m : Answer) where

@@ -5,7 +5,7 @@ use Rattle.regex_meaning.specs.Tree.{Node}
 use Rattle.regex_meaning.specs.Text.{Text}
 use Rattle.regex_meaning.specs.CodeUnitOffsets.{offset, place_at}
 use Rattle.regex_meaning.specs.FirstAndAllMatches.{Found, first_match, match_at, place_behind}
-use Rattle.regex_meaning.specs.GroupsByNumberAndName.{Answer, answer, answers_from}
+use Rattle.regex_meaning.specs.MatchGroupsByNumberAndName.{Answer, answer, answers_from}
 
 module _ (root : Node) (text : Text) where
   -- the first match from an offset on; none if the offset is no boundary or is past the end

@@ -114,7 +114,8 @@ abstract_start_predicate (alt left right) = join (abstract_start_predicate left)
 abstract_start_predicate (lookaround l contents) = open_ended
 abstract_start_predicate _ = arbitrary
 
--- whether the node matches at the left end of the text only
+-- whether each alternative of the node begins with a `^` that is not multiline, so that the node matches
+-- only at the left end of the text
 abbrev pub is_anchored : Node → Bool
 is_anchored (anchor start_of_line multiline) = not multiline
 is_anchored (cat first rest) = is_anchored first
@@ -149,19 +150,19 @@ start_predicate tree =
 -- ---- Meaning of the predicate
 
 -- the bytes of the text from a place on
-abbrev pub text_bytes_from_place : Text → ℕ → List ℕ
-text_bytes_from_place text place = encode_utf8_all (drop place text.characters)
+abbrev pub utf8_bytes_of_text_from_place : Text → ℕ → List ℕ
+utf8_bytes_of_text_from_place text place = encode_utf8_all (drop place text.characters)
 
 -- whether the bytes begin with one of these members
-abbrev pub begins_with_one_of : List ℕ → List ℕ → Bool
-begins_with_one_of members [] = false
-begins_with_one_of members (b ∷ bs) = contains members b
+abbrev pub first_byte_is_one_of : List ℕ → List ℕ → Bool
+first_byte_is_one_of members [] = false
+first_byte_is_one_of members (b ∷ bs) = contains members b
 
 -- whether the predicate allows a match to start at the place
 unfoldable pub may_start : StartPredicate → Text → ℕ → Bool
 may_start start_arbitrary text place = true
-may_start (start_byte_set members) text place = begins_with_one_of members (text_bytes_from_place text place)
-may_start (start_byte_sequence bytes) text place = starts_with nat_eq (text_bytes_from_place text place) bytes
+may_start (start_byte_set members) text place = first_byte_is_one_of members (utf8_bytes_of_text_from_place text place)
+may_start (start_byte_sequence bytes) text place = starts_with nat_eq (utf8_bytes_of_text_from_place text place) bytes
 may_start start_anchored text place = place == 0
 
 -- whether no byte of the set, and not the first byte of the sequence, is a UTF-8 continuation byte

@@ -6,7 +6,7 @@ use Rattle.regex_meaning.specs.Tree.{Tree}
 use Rattle.regex_meaning.specs.Text.{Text}
 use Rattle.regex_meaning.specs.CodeUnitOffsets.{place_at}
 use Rattle.regex_meaning.specs.OutcomesWithStepTicks.{need, needs}
-use Rattle.regex_meaning.specs.GroupsByNumberAndName.{Answer, answers_from}
+use Rattle.regex_meaning.specs.MatchGroupsByNumberAndName.{Answer, answers_from}
 
 -- ---- A budget: a number of steps, or no limit
 

@@ -40,8 +40,8 @@ nonascii_with_fold false folded = []
 nonascii_with_fold true folded = if folded == 115 then 0x017F ∷ [] else if folded == 107 then 0x212A ∷ [] else []
 
 -- all code points with this fold, in increasing order
-abbrev pub all_with_fold : (unicode : Bool) → ℕ → List ℕ
-all_with_fold unicode folded =
+abbrev pub code_points_with_fold : (unicode : Bool) → ℕ → List ℕ
+code_points_with_fold unicode folded =
     let upper = to_ascii_uppercase folded in
     let lower = to_ascii_lowercase folded in
     (if upper == lower then folded ∷ [] else upper ∷ lower ∷ []) ++ nonascii_with_fold unicode folded
@@ -49,7 +49,7 @@ all_with_fold unicode folded =
 -- the code points that c matches: c alone, or with `icase` all code points that fold as c does
 unfoldable pub expand_code_point : ℕ → (icase unicode : Bool) → List ℕ
 expand_code_point c false unicode = c ∷ []
-expand_code_point c true unicode = all_with_fold unicode (fold_code_point unicode c)
+expand_code_point c true unicode = code_points_with_fold unicode (fold_code_point unicode c)
 
 -- LineTerminator (11.3)
 abbrev pub is_line_terminator : ℕ → Bool

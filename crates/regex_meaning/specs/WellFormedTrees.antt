@@ -29,8 +29,8 @@ ends_in_goal (cat first rest) = if is_end_of_cat rest then ends_in_goal first el
 ends_in_goal _ = false
 
 -- there is exactly one `Goal`, and it is last
-abbrev pub goal_is_last : Node → Bool
-goal_is_last root = number_of_goal_nodes root == 1 && ends_in_goal root
+abbrev pub only_goal_node_is_last : Node → Bool
+only_goal_node_is_last root = number_of_goal_nodes root == 1 && ends_in_goal root
 
 -- each number below the number of groups is the id of exactly one group
 abbrev pub each_id_stands_once : Node → Bool
@@ -89,23 +89,23 @@ has_text_in_sequence _ = true
 
 -- sets have at most four members, sets of bytes only ASCII, and code points of strings are at most
 -- U+10FFFF
-abbrev pub sets_and_strings_fit_instructions : Node → Bool
-sets_and_strings_fit_instructions (byte_set members) = nat_le (length members) 4 && list_all (λ b. nat_lt b 128) members
-sets_and_strings_fit_instructions (char_set members) = nat_le (length members) 4
-sets_and_strings_fit_instructions (string_set strings icase) = list_all (list_all (λ c. nat_le c 0x10_FFFF)) strings
-sets_and_strings_fit_instructions _ = true
+abbrev pub set_sizes_and_characters_fit_instructions : Node → Bool
+set_sizes_and_characters_fit_instructions (byte_set members) = nat_le (length members) 4 && list_all (λ b. nat_lt b 128) members
+set_sizes_and_characters_fit_instructions (char_set members) = nat_le (length members) 4
+set_sizes_and_characters_fit_instructions (string_set strings icase) = list_all (list_all (λ c. nat_le c 0x10_FFFF)) strings
+set_sizes_and_characters_fit_instructions _ = true
 
 -- the tree satisfies all of these conditions
 unfoldable pub is_well_formed : Node → Bool
 is_well_formed root =
-    goal_is_last root
+    only_goal_node_is_last root
     && each_id_stands_once root
     && every_node_passes names_the_groups_inside root
     && every_node_passes (refers_to_a_group (length (group_ids root))) root
     && every_node_passes has_order_in_quantifier root
     && every_node_passes has_one_character_body root
     && every_node_passes has_text_in_sequence root
-    && every_node_passes sets_and_strings_fit_instructions root
+    && every_node_passes set_sizes_and_characters_fit_instructions root
 
 -- `is_well_formed` as a proposition
 abbrev pub IsWellFormed : Node → Type 0

@@ -1,15 +1,22 @@
 // Meaning of patterns: the definitions that contracts refer to, and proofs of their laws.
 #![tactic(auto)]
 
-ghost use Rattle.regex_meaning.specs.Laws.{TicksChangeNothing, LoopRepetitionUnfolds, OutcomesEndAheadOfPlace, OutcomesKeepNumberOfGroups, OutcomesStayInText, FirstMatchUnfolds};
-ghost use Rattle.regex_meaning.specs.Laws.{MatchListUnfolds, NeededStepsUnfoldMatchByMatch, PlacesHaveOffsets, EncodedTextsHaveRisingOffsets, UnitBoundariesAreBoundaries};
-ghost use Rattle.regex_meaning.specs.Laws.{SameMatchesInUtf16, SameAnswersInAscii, AnswersFromOffsetUnfold, NextStartIsAhead, FirstAnswerLiesOnBoundaries, MatchAtIsFirstAnswerIfThere};
-ghost use Rattle.regex_meaning.specs.Laws.{AnswersSatisfyIsAnswerOf, AnswersAreOrderedWithoutOverlap, AnswerCountIsBounded, ResumedSearchYieldsRest, NamedGroupAgreesWithNamedGroups};
-ghost use Rattle.regex_meaning.specs.Laws.{ReplacingMatchesByThemselvesChangesNothing, FlagsParseDisplayRoundTrip, EscapeIsInjective, StartPredicateIsSound};
+ghost use Rattle.regex_meaning.specs.Laws.{CountingTicksKeepsOutcomes, LoopRepetitionUnfolds, OutcomesEndAheadOfPlace, OutcomesKeepNumberOfGroups, OutcomesStayInText};
+ghost use Rattle.regex_meaning.specs.Laws.{FirstMatchUnfolds};
+ghost use Rattle.regex_meaning.specs.Laws.{MatchListUnfolds, NeededStepsUnfoldMatchByMatch, PlacesCorrespondToBoundaries, EncodedTextsHaveRisingOffsets};
+ghost use Rattle.regex_meaning.specs.Laws.{Utf16BoundariesCutNoPair};
+ghost use Rattle.regex_meaning.specs.Laws.{SameMatchesInUtf8AndUtf16, AsciiAndUtf8AnswersAgree, AnswersFromOffsetUnfold, NextStartIsAhead, FirstAnswerLiesOnBoundaries};
+ghost use Rattle.regex_meaning.specs.Laws.{MatchAtIsFirstAnswerIfThere};
+ghost use Rattle.regex_meaning.specs.Laws.{AnswersSatisfyIsAnswerOf, AnswersAreOrderedWithoutOverlap, AnswerCountIsBounded, ResumingAfterNonemptyMatchYieldsRest};
+ghost use Rattle.regex_meaning.specs.Laws.{NamedGroupAgreesWithNamedGroups};
+ghost use Rattle.regex_meaning.specs.Laws.{ReplacingMatchesByThemselvesChangesNothing, FlagsRoundTripExceptNoOpt, EscapeIsInjective, StartPredicateIsSound};
+ghost use Rattle.regex_meaning.specs.CaseLaws.{AlikeWithoutUnicodeIsAlikeWithUnicode, OnlyTwoCharactersFoldIntoAscii, ProfileFoldsTableAsUnicodeDoes};
+ghost use Rattle.regex_meaning.specs.CaseLaws.{WordCharacterIffAsciiWordFold};
+ghost use Rattle.regex_meaning.specs.CaseLaws.{EachCharacterHasCaseVariants, CaseVariantsAreFew};
 
 /// Proves that the list of ticks and outcomes of a node contains exactly its outcomes, in order.
 pub fn ticks_change_nothing()
-    ensures { TicksChangeNothing }
+    ensures { CountingTicksKeepsOutcomes }
 {}
 
 /// Proves that a loop's outcomes are those of one iteration followed by the rest of the loop.
@@ -24,7 +31,7 @@ pub fn outcomes_end_ahead_of_place()
 
 /// Proves that a unit boundary is a boundary of the text: it cuts no surrogate pair.
 pub fn unit_boundaries_are_boundaries()
-    ensures { UnitBoundariesAreBoundaries }
+    ensures { Utf16BoundariesCutNoPair }
 {}
 
 /// Proves that every outcome has as many groups as there were before.
@@ -50,11 +57,11 @@ pub fn first_matches_unfold()
 
 /// Proves that places and their offsets correspond one to one, in the same order.
 pub fn places_have_offsets()
-    ensures { PlacesHaveOffsets }
+    ensures { PlacesCorrespondToBoundaries }
 {}
 
 /// Proves that the texts of the four encodings satisfy `HasRisingPlaceOffsets`.
-pub fn encodings_are_texts()
+pub fn encoded_texts_have_rising_offsets()
     ensures { EncodedTextsHaveRisingOffsets }
 {}
 
@@ -95,8 +102,8 @@ pub fn answer_count_is_bounded()
 {}
 
 /// Proves that a search from the end of a nonempty match yields the rest of the list.
-pub fn resumed_search_yields_rest()
-    ensures { ResumedSearchYieldsRest }
+pub fn resuming_after_nonempty_match_yields_rest()
+    ensures { ResumingAfterNonemptyMatchYieldsRest }
 {}
 
 /// Proves that needs add up along the list of matches.
@@ -110,13 +117,13 @@ pub fn named_group_agrees_with_named_groups()
 {}
 
 /// Proves that a text has its matches at the same places in UTF-8 and in UTF-16.
-pub fn same_matches_in_utf16()
-    ensures { SameMatchesInUtf16 }
+pub fn same_matches_in_utf8_and_utf16()
+    ensures { SameMatchesInUtf8AndUtf16 }
 {}
 
 /// Proves that an ASCII text has the same answers when read as ASCII and as UTF-8.
-pub fn same_answers_in_ascii()
-    ensures { SameAnswersInAscii }
+pub fn ascii_and_utf8_answers_agree()
+    ensures { AsciiAndUtf8AnswersAgree }
 {}
 
 /// Proves that replacing each match by itself gives the original text.
@@ -126,7 +133,7 @@ pub fn replacing_matches_by_themselves_changes_nothing()
 
 /// Proves that parsing displayed flags gives the same flags, with `no_opt` cleared.
 pub fn flags_parse_display_round_trip()
-    ensures { FlagsParseDisplayRoundTrip }
+    ensures { FlagsRoundTripExceptNoOpt }
 {}
 
 /// Proves that different texts have different escaped texts.
@@ -137,4 +144,35 @@ pub fn escape_is_injective()
 /// Proves that the start predicate of a well-formed tree is sound.
 pub fn start_predicate_is_sound()
     ensures { StartPredicateIsSound }
+{}
+
+/// Proves that two characters that match each other without `u` match each other with it.
+pub fn alike_without_unicode_is_alike_with_unicode()
+    ensures { AlikeWithoutUnicodeIsAlikeWithUnicode }
+{}
+
+/// Proves that of the characters beyond ASCII, only U+017F and U+212A fold into ASCII, and only with `u`.
+pub fn only_two_characters_fold_into_ascii()
+    ensures { OnlyTwoCharactersFoldIntoAscii }
+{}
+
+/// Proves that the characters of the profile's table fold as in all of Unicode.
+pub fn profile_folds_table_as_unicode_does()
+    ensures { ProfileFoldsTableAsUnicodeDoes }
+{}
+
+/// Proves that a character is a word character if and only if its canonical form is one of the 63 word
+/// characters of ASCII.
+pub fn word_character_iff_ascii_word_fold()
+    ensures { WordCharacterIffAsciiWordFold }
+{}
+
+/// Proves that each character has a list of case variants.
+pub fn each_character_has_case_variants()
+    ensures { EachCharacterHasCaseVariants }
+{}
+
+/// Proves that a character has at most four case variants.
+pub fn case_variants_are_few()
+    ensures { CaseVariantsAreFew }
 {}

@@ -7,7 +7,7 @@ use Rattle.regex_meaning.specs.Tree.{Intervals, BracketContents, Quantifier, Loo
 use Rattle.regex_meaning.specs.Text.{Text, utf8_text, rightwards, fold_code_point, expand_code_point}
 use Rattle.regex_meaning.specs.Outcomes.{Outcome, outcomes, bounded_repeat, Groups}
 use Rattle.regex_meaning.specs.FirstAndAllMatches.{Found, no_groups, match_list, first_match_among, matches_from}
-use Rattle.regex_meaning.specs.GroupsByNumberAndName.{Answer, answers_from, named_group}
+use Rattle.regex_meaning.specs.MatchGroupsByNumberAndName.{Answer, answers_from, named_group}
 use Rattle.regex_meaning.specs.SearchAnswers.{answer_at, next_start}
 use Rattle.regex_meaning.specs.Replace.{expansion, replaced}
 use Rattle.regex_meaning.specs.StartPredicate.{StartPredicate, start_predicate, abstract_start_predicate, bytes_that_pass, may_start}

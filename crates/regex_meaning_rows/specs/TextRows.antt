@@ -3,7 +3,7 @@ use Rattle.std.specs.Prelude.{◌≡◌, ◌++◌, ◌==◌, Bool, filter, map, 
 use Rattle.regex_meaning.specs.NumberListHelpers.{numbers_from}
 use Rattle.regex_meaning.specs.Text.{is_unit_boundary, expand_code_point, fold_code_point}
 use Rattle.regex_meaning.specs.Outcomes.{Groups}
-use Rattle.regex_meaning.specs.GroupsByNumberAndName.{Answer, group, named_group, named_groups}
+use Rattle.regex_meaning.specs.MatchGroupsByNumberAndName.{Answer, group, named_group, named_groups}
 use Rattle.regex_meaning.specs.Replace.{expansion, replaced}
 use Rattle.regex_meaning.specs.FlagLettersAndEscaping.{flags_text, flags_from_letters, escape, syntax_characters}
 

@@ -13,7 +13,8 @@ use Rattle.regex_meaning.specs.Outcomes.{in_intervals}
 use Rattle.regex_meaning.specs.Text.{expand_code_point, is_scalar}
 use Rattle.regex_grammar.specs.ReadingStatesAndDigits.{RemainingCodePoints, ◌∈◌}
 use Rattle.regex_grammar.specs.EscapesNamesQuantifiers.{CharacterEscape}
-use Rattle.regex_grammar.specs.CharacterClasses.{ClassMember, character, range, class, class_escape, closed_under_case_folding, class_member_contains, AreCanonicalIntervals, IsSetOf, ClassAtom, verbatim}
+use Rattle.regex_grammar.specs.CharacterClasses.{ClassMember, character, range, class, class_escape, closed_under_case_folding, class_member_contains}
+use Rattle.regex_grammar.specs.CharacterClasses.{AreCanonicalIntervals, IsSetOf, ClassAtom, verbatim}
 use Rattle.regex_grammar.specs.CharacterClasses.{of_class, backspace, escaped, are_characters, IsRangeDash, ClassMembers, alone, from_to, no_range, ClassRanges}
 use Rattle.regex_grammar.specs.CharacterClasses.{no_more, more, CharacterClass, plain, inverted, has_set_operation}
 use Rattle.regex_grammar.proofs.OneTree.{first, rest_of}
@@ -21,9 +22,10 @@ use Rattle.regex_grammar.proofs.Leaves.{behind}
 use Rattle.regex_grammar.proofs.Members.{class_letter, one_class_atom, atom_starts, is_range, atom_from, character_inj, one_member, member_starts}
 use Rattle.regex_pattern_front.specs.declared.codepointset.Interval.{Interval}
 use Rattle.regex_pattern_front.specs.Intervals.{interval_of}
-use Rattle.regex_pattern_front.specs.declared.parser_error.ParseFault.{ParseFault}
-use Rattle.regex_pattern_front.specs.CodePointReaderContracts.{is_syntax_error, peeked, IsEaten, IsNext, IsUnescapedRead, IsReadAndErrorMeansUnreadable}
-use Rattle.regex_pattern_front.specs.ClassReaderContracts.{is_in_any_interval, escape_of, begins_nested_class_or_operation, IsCaseClosureOfTest, AddsMembers, IsClassMemberRead, AreClassRangesRead}
+use Rattle.regex_pattern_front.specs.declared.parser_error.ParseStopReason.{ParseStopReason}
+use Rattle.regex_pattern_front.specs.CodePointAndQuantifierReaderContracts.{is_syntax_error, peeked, IsEaten, IsNext, IsUnescapedRead, IsReadAndErrorMeansUnreadable}
+use Rattle.regex_pattern_front.specs.ClassReaderContracts.{is_in_any_interval, escape_of, begins_nested_class_or_operation, IsCaseClosureOfTest, AddsMembers}
+use Rattle.regex_pattern_front.specs.ClassReaderContracts.{IsClassMemberRead, AreClassRangesRead}
 use Rattle.regex_pattern_front.proofs.ClosingLemmas.{closed-twice}
 use Rattle.regex_pattern_front.proofs.ReadLemmas.{no_sign}
 
@@ -302,7 +304,7 @@ sets-by here there c next told b read ne peek is test =
 
 -- ---- Answers that tell of one another
 
-pub err-member : {flags : Flags} {here : RemainingCodePoints} (old new : List Interval) (there : RemainingCodePoints) (r : Result (Unit {0}) ParseFault) → IsErr r
+pub err-member : {flags : Flags} {here : RemainingCodePoints} (old new : List Interval) (there : RemainingCodePoints) (r : Result (Unit {0}) ParseStopReason) → IsErr r
     → ((end : RemainingCodePoints) (ms : List ClassMember) → ClassMembers flags here end ms → ⊥) → IsClassMemberRead flags here old r new there
 err-member old new there (Ok u) e none = absurd (true≢false (sym e))
 err-member old new there (Err e) f none = λ r. none
@@ -312,7 +314,7 @@ pub err-atom : {A E : Type 0} (of : A → ClassMember) {flags : Flags} {here : R
 err-atom of there (Ok u) e none = absurd (true≢false (sym e))
 err-atom of there (Err e) f none = none
 
-pub err-ranges : {P : ParseFault → Type 0} {flags : Flags} {here : RemainingCodePoints} (there : RemainingCodePoints) (r : Result Intervals ParseFault) (e : ParseFault) → IsErrAnd r P → ((x : ParseFault) → P x → x ≡ e)
+pub err-ranges : {P : ParseStopReason → Type 0} {flags : Flags} {here : RemainingCodePoints} (there : RemainingCodePoints) (r : Result Intervals ParseStopReason) (e : ParseStopReason) → IsErrAnd r P → ((x : ParseStopReason) → P x → x ≡ e)
     → (IsTrue (is_syntax_error e) → (end : RemainingCodePoints) (ms : List ClassMember) → ClassRanges flags here end ms → ⊥) → AreClassRangesRead flags here r there
 err-ranges there (Ok s) e h same none = absurd h
 err-ranges there (Err x) e h same none = λ r. none (sym (ap is_syntax_error (same x h)) ∙ r)

@@ -9,9 +9,9 @@ use Rattle.std.proofs.lemmas.List.Folds.{list_any-append}
 use Rattle.regex_meaning.specs.NumberListHelpers.{contains}
 use Rattle.regex_meaning.specs.Tree.{Intervals, Flags}
 use Rattle.regex_meaning.specs.Outcomes.{in_intervals}
-use Rattle.regex_meaning.specs.Text.{to_ascii_lowercase, to_ascii_uppercase, fold_code_point, nonascii_with_fold, all_with_fold, expand_code_point}
+use Rattle.regex_meaning.specs.Text.{to_ascii_lowercase, to_ascii_uppercase, fold_code_point, nonascii_with_fold, code_points_with_fold, expand_code_point}
 use Rattle.regex_grammar.specs.CharacterClasses.{single_code_point_interval, closed_under_case_folding}
-use Rattle.regex_pattern_front.specs.ClassReaderContracts.{case_variants_if_one_passes, some_case_variant_passes}
+use Rattle.regex_pattern_front.specs.ClassReaderContracts.{letter_case_variants_if_any_passes, some_case_variant_passes}
 
 -- ---- Letters
 
@@ -103,7 +103,7 @@ has_both f = by (to_ascii_uppercase f == to_ascii_lowercase f) refl
       or_right (nat_eq (to_ascii_lowercase f) (to_ascii_uppercase f)) _ (or_left (nat_eq (to_ascii_lowercase f) (to_ascii_lowercase f)) _ (eq-eqb (to_ascii_lowercase f) _ refl)),
     )
 
-with_fold : (unicode : Bool) (f : ℕ) → all_with_fold unicode f ≡ cases_of f ++ nonascii_with_fold unicode f
+with_fold : (unicode : Bool) (f : ℕ) → code_points_with_fold unicode f ≡ cases_of f ++ nonascii_with_fold unicode f
 unfolding cases_of
 with_fold unicode f = refl
 
@@ -201,7 +201,7 @@ same_fold true c d e =
     ⊎_elim (λ h. lower_of_case f d (a_lower c) (in_cases f d h)) (λ h. beyond_fold f d h) (either (cases_of f) (nonascii_with_fold true f) d (sym (ap (λ x. contains x d) (with_fold true f)) ∙ e))
 same_fold false c d e = at_false c d e
   where
-    at_false : (c d : ℕ) → contains (all_with_fold false (fold_code_point false c)) d ≡ true → fold_code_point false d ≡ fold_code_point false c
+    at_false : (c d : ℕ) → contains (code_points_with_fold false (fold_code_point false c)) d ≡ true → fold_code_point false d ≡ fold_code_point false c
     at_false c d e =
         let f = to_ascii_uppercase c in
         ⊎_elim (λ h. upper_of_case f d (an_upper c) (in_cases f d h)) (λ h. absurd (true≢false (sym h)))
@@ -211,14 +211,14 @@ same_fold false c d e = at_false c d e
 pub same_class : (unicode : Bool) (c d : ℕ) → contains (expand_code_point c true unicode) d ≡ true
     → expand_code_point d true unicode ≡ expand_code_point c true unicode
 unfolding expand_code_point
-same_class unicode c d e = ap (all_with_fold unicode) (same_fold unicode c d e)
+same_class unicode c d e = ap (code_points_with_fold unicode) (same_fold unicode c d e)
 
 -- each has its own fold
 pub own_class : (unicode : Bool) (d : ℕ) → contains (expand_code_point d true unicode) d ≡ true
 unfolding expand_code_point fold_code_point
 own_class unicode d = in_all unicode (fold_code_point unicode d) d (has_own unicode d)
   where
-    in_all : (unicode : Bool) (f d : ℕ) → (contains (cases_of f) d ≡ true) ⊎ (contains (nonascii_with_fold unicode f) d ≡ true) → contains (all_with_fold unicode f) d ≡ true
+    in_all : (unicode : Bool) (f d : ℕ) → (contains (cases_of f) d ≡ true) ⊎ (contains (nonascii_with_fold unicode f) d ≡ true) → contains (code_points_with_fold unicode f) d ≡ true
     in_all unicode f d (inl h) = ap (λ x. contains x d) (with_fold unicode f) ∙ list_any-append (nat_eq d) (cases_of f) (nonascii_with_fold unicode f) ∙ or_left _ _ h
     in_all unicode f d (inr h) = ap (λ x. contains x d) (with_fold unicode f) ∙ list_any-append (nat_eq d) (cases_of f) (nonascii_with_fold unicode f) ∙ or_right (contains (cases_of f) d) _ h
 
@@ -279,7 +279,7 @@ unfolding expand_code_point fold_code_point
 letter_or_alone false d = at_false d
   where
     by_fold : (u d : ℕ) → fold_code_point false u ≡ fold_code_point false d → contains (expand_code_point u true false) d ≡ true
-    by_fold u d e = ap (λ x. contains (all_with_fold false x) d) e ∙ own_class false d
+    by_fold u d e = ap (λ x. contains (code_points_with_fold false x) d) e ∙ own_class false d
 
     at_false : (d : ℕ) → (expand_code_point d true false ≡ d ∷ []) ⊎ ((upper : ℕ) × (65 ≤ upper) × (upper ≤ 90) × (contains (expand_code_point upper true false) d ≡ true))
     at_false d =
@@ -300,7 +300,7 @@ letter_or_alone false d = at_false d
 letter_or_alone true d = at_true d
   where
     by_fold : (u d : ℕ) → fold_code_point true u ≡ fold_code_point true d → contains (expand_code_point u true true) d ≡ true
-    by_fold u d e = ap (λ x. contains (all_with_fold true x) d) e ∙ own_class true d
+    by_fold u d e = ap (λ x. contains (code_points_with_fold true x) d) e ∙ own_class true d
 
     is_letter : (d f : ℕ) → f ≡ fold_code_point true d → 97 ≤ f → f ≤ 122 → (upper : ℕ) × (65 ≤ upper) × (upper ≤ 90) × (contains (expand_code_point upper true true) d ≡ true)
     is_letter d f e a b =
@@ -322,7 +322,7 @@ letter_or_alone true d = at_true d
           | inr h ↦
               elim (upper_cases d) [
                 | inl k ↦ inr (is_letter d d (sym (plain ∙ h.1)) k.0 k.1)
-                | inr k ↦ inl (ap (all_with_fold true) (plain ∙ h.1) ∙ with_fold true d ∙ ap (λ x. x ++ nonascii_with_fold true d) (alone d k.1 h.1) ∙ ap (λ x. d ∷ x) (nothing k.0))
+                | inr k ↦ inl (ap (code_points_with_fold true) (plain ∙ h.1) ∙ with_fold true d ∙ ap (λ x. x ++ nonascii_with_fold true d) (alone d k.1 h.1) ∙ ap (λ x. d ∷ x) (nothing k.0))
               ]
         ]
       where
@@ -423,7 +423,7 @@ closing-none test unicode set same = record {
   complete = λ upper d low high h k. absurd (omega arith);
 }
 
-in_closing : (test : ℕ → Bool) (unicode : Bool) (next d : ℕ) → in_intervals (case_variants_if_one_passes test next unicode) d ≡ (some_case_variant_passes unicode test next && contains (expand_code_point next true unicode) d)
+in_closing : (test : ℕ → Bool) (unicode : Bool) (next d : ℕ) → in_intervals (letter_case_variants_if_any_passes test next unicode) d ≡ (some_case_variant_passes unicode test next && contains (expand_code_point next true unicode) d)
 in_closing test unicode next d = by (some_case_variant_passes unicode test next)
   where
     by : (b : Bool) → in_intervals (if b then map single_code_point_interval (expand_code_point next true unicode) else []) d ≡ (b && contains (expand_code_point next true unicode) d)
@@ -431,7 +431,7 @@ in_closing test unicode next d = by (some_case_variant_passes unicode test next)
     by false = refl
 
 pub closing-more : (test : ℕ → Bool) (unicode : Bool) (set new : Intervals) (next : ℕ) → ClosingSoFar test unicode set next
-    → new ≡ set ++ case_variants_if_one_passes test next unicode → ClosingSoFar test unicode new (next + 1)
+    → new ≡ set ++ letter_case_variants_if_any_passes test next unicode → ClosingSoFar test unicode new (next + 1)
 closing-more test unicode set new next s e = record {
   sound = λ d h. ⊎_elim (λ k. s.sound d k)
       (λ k. let both = and_parts (some_case_variant_passes unicode test next) _ (sym (in_closing test unicode next d) ∙ k) in
@@ -447,8 +447,8 @@ closing-more test unicode set new next s e = record {
       ];
 }
   where
-    is : (d : ℕ) → in_intervals new d ≡ (in_intervals set d || in_intervals (case_variants_if_one_passes test next unicode) d)
-    is d = ap (λ x. in_intervals x d) e ∙ in_append set (case_variants_if_one_passes test next unicode) d
+    is : (d : ℕ) → in_intervals new d ≡ (in_intervals set d || in_intervals (letter_case_variants_if_any_passes test next unicode) d)
+    is d = ap (λ x. in_intervals x d) e ∙ in_append set (letter_case_variants_if_any_passes test next unicode) d
 
 pub closing-all : (test : ℕ → Bool) (unicode : Bool) (set : Intervals) (next : ℕ) → ClosingSoFar test unicode set next → 91 ≤ next
     → (d : ℕ) → in_intervals set d ≡ some_case_variant_passes unicode test d
@@ -462,6 +462,6 @@ closing-all test unicode set next s done d = iff _ _ (s.sound d) (λ h. by h (le
 
 -- what one letter adds, where its kind is these letters
 pub closing-as : (test : ℕ → Bool) (upper : ℕ) (unicode : Bool) (letters : List ℕ) (passes : Bool) → letters ≡ expand_code_point upper true unicode
-    → passes ≡ list_any test letters → (if passes then map single_code_point_interval letters else []) ≡ case_variants_if_one_passes test upper unicode
+    → passes ≡ list_any test letters → (if passes then map single_code_point_interval letters else []) ≡ letter_case_variants_if_any_passes test upper unicode
 closing-as test upper unicode letters passes e f =
     ap (λ b. if b then map single_code_point_interval letters else []) f ∙ ap (λ x. if list_any test x then map single_code_point_interval x else []) e

@@ -5,12 +5,14 @@ use Rattle.std.specs.Option.{SomeIff, ok_or}
 use Rattle.std.specs.Char.{IsScalar, OutOfScalarRange, is_ascii_digit, is_ascii_alphanumeric}
 use Rattle.regex_meaning.specs.Text.{is_scalar}
 use Rattle.regex_grammar.specs.ReadingStatesAndDigits.{RemainingCodePoints, Digits}
-use Rattle.regex_grammar.specs.EscapesNamesQuantifiers.{FixedHexDigits, SurrogatePair, pair, is_lead_surrogate, is_trail_surrogate, UnicodeEscape, surrogates, four_digits, code_point, CharacterEscape}
+use Rattle.regex_grammar.specs.EscapesNamesQuantifiers.{FixedHexDigits, SurrogatePair, pair, is_lead_surrogate, is_trail_surrogate, UnicodeEscape, surrogates}
+use Rattle.regex_grammar.specs.EscapesNamesQuantifiers.{four_digits, code_point, CharacterEscape}
 use Rattle.regex_grammar.specs.EscapesNamesQuantifiers.{control_escape_code_point, control_escape, null, hex_escape, unicode_escape, identity_escape}
 use Rattle.regex_grammar.proofs.OneTree.{first, rest_of, unlike}
 use Rattle.regex_grammar.proofs.Leaves.{behind, one_hex, no_brace, no_brace_pair}
 use Rattle.regex_grammar.proofs.Members.{may_escape, escape_begins}
-use Rattle.regex_pattern_front.specs.CodePointReaderContracts.{peeked, IsReadOrNothingCanBeRead, IsTrail, IsPairedWithTrailSurrogate, IsBracedCodePointEscape}
+use Rattle.regex_pattern_front.specs.CodePointAndQuantifierReaderContracts.{peeked, IsReadOrNothingCanBeRead, IsTrail, PairsWithTrailSurrogateIfAny}
+use Rattle.regex_pattern_front.specs.CodePointAndQuantifierReaderContracts.{IsCodePointAndClosingBrace}
 
 -- the number that was asked whether it is a `char`
 pub scalar-same : {o : Option ℕ} {c x : ℕ} → SomeIff o (IsScalar c) c → o ≡ Some x → x ≡ c
@@ -52,10 +54,10 @@ unicode-plain_none none end c (surrogates u p) = true≢false (sym u)
 unicode-plain_none none end c (four_digits h k) = none _ _ h
 unicode-plain_none none end c (code_point u e d f l) = true≢false (sym u)
 
-pub unicode-brace : {here a there : RemainingCodePoints} {c : ℕ} → here ≡ 123 ∷ a → IsBracedCodePointEscape a there c → UnicodeEscape true here there c
+pub unicode-brace : {here a there : RemainingCodePoints} {c : ℕ} → here ≡ 123 ∷ a → IsCodePointAndClosingBrace a there c → UnicodeEscape true here there c
 unicode-brace e p = code_point refl e p.1 p.2 p.3
 
-pub unicode-brace_none : {here a : RemainingCodePoints} → here ≡ 123 ∷ a → ((end : RemainingCodePoints) (c : ℕ) → IsBracedCodePointEscape a end c → ⊥)
+pub unicode-brace_none : {here a : RemainingCodePoints} → here ≡ 123 ∷ a → ((end : RemainingCodePoints) (c : ℕ) → IsCodePointAndClosingBrace a end c → ⊥)
     → (end : RemainingCodePoints) (c : ℕ) → UnicodeEscape true here end c → ⊥
 unicode-brace_none e none end c (surrogates u p) = no_brace_pair p e
 unicode-brace_none e none end c (four_digits h k) = no_brace h e
@@ -67,7 +69,7 @@ unicode-none no_brace none end c (surrogates u (pair h l e k t)) = none _ _ h
 unicode-none no_brace none end c (four_digits h k) = none _ _ h
 unicode-none no_brace none end c (code_point u e d f l) = no_brace _ e
 
-pub unicode-paired : {here middle there : RemainingCodePoints} {lead c : ℕ} → FixedHexDigits 4 here middle lead → IsPairedWithTrailSurrogate lead middle c there → UnicodeEscape true here there c
+pub unicode-paired : {here middle there : RemainingCodePoints} {lead c : ℕ} → FixedHexDigits 4 here middle lead → PairsWithTrailSurrogateIfAny lead middle c there → UnicodeEscape true here there c
 unicode-paired {here} {middle} {there} {lead} {c} h (inl p) =
     let s : UnicodeEscape true here there (0x1_0000 + (lead - 0xD800) * 0x400 + (p.0 - 0xDC00)) = surrogates refl (pair h p.2 p.1.1 p.1.2 p.1.3) in
     rw p.3 s

@@ -12,7 +12,7 @@ use Rattle.std.proofs.lemmas.Bool.Decides.{nat_tests}
 use Rattle.std.proofs.lemmas.List.Recursion.{or_at, or_from_places}
 use Rattle.regex_meaning.specs.Outcomes.{in_intervals}
 use Rattle.regex_grammar.specs.CharacterClasses.{AreCanonicalIntervals}
-use Rattle.regex_pattern_front.specs.Intervals.{interval_of, IntervalsAreInOrder, is_nonempty, merged_intervals, gaps_between_intervals}
+use Rattle.regex_pattern_front.specs.Intervals.{interval_of, IntervalsAreInOrder, is_interval_nonempty, merged_intervals, gaps_between_intervals}
 use Rattle.regex_pattern_front.specs.declared.codepointset.Interval.{Interval}
 
 -- the number is in one of the intervals
@@ -288,7 +288,7 @@ empty_range a b c m h =
     nothing false = refl
 
 -- an empty interval has no number
-pub member-filter : (xs : List Interval) (c : ℕ) → member (filter is_nonempty xs) c ≡ member xs c
+pub member-filter : (xs : List Interval) (c : ℕ) → member (filter is_interval_nonempty xs) c ≡ member xs c
 member-filter [] c = refl
 member-filter (i ∷ is) c =
     elim (cases_lt i.last i.first) [
@@ -308,12 +308,12 @@ Rises-from n (i ∷ is) low all rise = (
       (λ j k d h l. rise (suc j) (suc k) d (omega arith) (omega arith)),
 )
 
-pub All-holding : (xs : List Interval) → All (λ i. i.first ≤ i.last) (filter is_nonempty xs)
+pub All-holding : (xs : List Interval) → All (λ i. i.first ≤ i.last) (filter is_interval_nonempty xs)
 All-holding [] = λ k d h. absurd (omega arith)
 All-holding (i ∷ is) =
     elim (cases_lt i.last i.first) [
       | inl none ↦ rw (lt-leb i.first i.last none) (All-holding is)
-      | inr some ↦ rw (le-leb i.first i.last some) (All-cons (λ (j : Interval). j.first ≤ j.last) i (filter is_nonempty is) some (All-holding is))
+      | inr some ↦ rw (le-leb i.first i.last some) (All-cons (λ (j : Interval). j.first ≤ j.last) i (filter is_interval_nonempty is) some (All-holding is))
     ]
 
 Rises-rest : (first : Interval) (others : List Interval) → All (λ i. i.first ≤ i.last) (first ∷ others)

@@ -23,3 +23,8 @@ pub mod ScanLemmas
 pub mod TermLemmas
 pub mod ReferenceLemmas
 mod ParsedLemmas
+mod CanonicalLemmas
+pub mod EcmaEscapeLemmas
+pub mod EcmaNameLemmas
+pub mod CaseVariantLemmas
+pub mod VariantClosureLemmas

@@ -7,7 +7,7 @@ use Rattle.regex_meaning.specs.Tree.{Node, group_ids}
 use Rattle.regex_meaning.specs.Text.{Text, last_place}
 use Rattle.regex_meaning.specs.Outcomes.{outcomes}
 use Rattle.regex_meaning.specs.FirstAndAllMatches.{Found, match_at, first_match, first_match_among, place_behind, matches_from, match_list}
-use Rattle.regex_meaning.specs.GroupsByNumberAndName.{Answer, group_names_by_id, answer, answers_from}
+use Rattle.regex_meaning.specs.MatchGroupsByNumberAndName.{Answer, group_names_by_id, answer, answers_from}
 use Rattle.regex_meaning.specs.CodeUnitOffsets.{offset, place_at}
 
 module _ (a b : Node) (text : Text) (outcomes_same : outcomes text a ≡ outcomes text b) (ids_same : group_ids a ≡ group_ids b) where

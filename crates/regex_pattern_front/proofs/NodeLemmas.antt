@@ -3,7 +3,9 @@ use Rattle.std.proofs.Common.{◌≡◌, Bool, false, List, [], ◌∷◌, ℕ, 
 use Rattle.std.proofs.Common.{Box, Option, String}
 use Rattle.regex_meaning.specs.Tree as tree
 use Rattle.regex_pattern_front.specs.AstToSpecTree.{node_of, nodes_of, cat_of}
-use Rattle.regex_pattern_front.specs.OptimizedTrees.{reads_one_character, optimized, loop_turned_into_char_loop, rest_of_alternatives, first_alternative_before_chain, alternatives_with_links_unreversed}
+use Rattle.regex_pattern_front.specs.OptimizedTrees.{reads_one_character, optimized, loop_turned_into_char_loop, rest_of_alternatives}
+use Rattle.regex_pattern_front.specs.OptimizedTrees.{first_alternative_prepended_to_chain}
+use Rattle.regex_pattern_front.specs.OptimizedTrees.{alternatives_with_links_unreversed}
 use Rattle.regex_pattern_front.specs.declared.ir.Node.{Node, Row_of-Node, end_of-Node, more_of-Node, items-the_row-Node, items_hidden-the_row-Node-0}
 use Rattle.regex_pattern_front.specs.declared.ir.Node.{Cat'}
 use Rattle.regex_pattern_front.specs.declared.ir.Node.TheVariants.{Char, CharSet, ByteSet, Cat, Alt, Bracket, MatchAny, MatchAnyExceptLineTerminator}
@@ -105,7 +107,7 @@ narrowed-other = ind-Node (λ n. ((l : Box Node Global) (q : Quantifier) (groups
 abbrev pub HasNoFirst : (node rest : tree.Node) → Type 0
 HasNoFirst node rest = record {
   from : node ≡ rest_of_alternatives node;
-  to : rest ≡ first_alternative_before_chain node rest;
+  to : rest ≡ first_alternative_prepended_to_chain node rest;
 }
 
 unturned-Cat : (rest : tree.Node) (v : Vec Node Global) → HasNoFirst (node_of (Cat v)) rest
@@ -127,11 +129,11 @@ unturned rest = ind-Node (λ n. ((l r : Box Node Global) → n ≡ Alt l r → �
 -- ---- Alternatives that were turned
 
 pub turned-step : (count : ℕ) (done rest : tree.Node) → 0 < count
-    → alternatives_with_links_unreversed (count - 1) (rest_of_alternatives done) (first_alternative_before_chain done rest) ≡ alternatives_with_links_unreversed count done rest
+    → alternatives_with_links_unreversed (count - 1) (rest_of_alternatives done) (first_alternative_prepended_to_chain done rest) ≡ alternatives_with_links_unreversed count done rest
 turned-step zero done rest h = absurd (omega (arith, h))
 turned-step (suc count) done rest h =
     let less : suc count - 1 ≡ count = omega arith in
-    ap (λ n. alternatives_with_links_unreversed n (rest_of_alternatives done) (first_alternative_before_chain done rest)) less
+    ap (λ n. alternatives_with_links_unreversed n (rest_of_alternatives done) (first_alternative_prepended_to_chain done rest)) less
 
 pub turned-all : (count : ℕ) (done rest : tree.Node) → count ≡ 0 → alternatives_with_links_unreversed count done rest ≡ tree.alt done rest
 turned-all count done rest h = rw h refl

@@ -8,13 +8,13 @@ use Rattle.regex_meaning.specs.NumberListHelpers.{contains, numbers_from}
 use Rattle.regex_meaning.specs.Tree.{Quantifier, Node, char, char_set, byte_set, byte_sequence, cat, alt, bracket, string_set, match_any}
 use Rattle.regex_meaning.specs.Tree.{match_any_except_line_terminator, capture_group, back_ref, lookaround, loop, loop_1_char_body, group_ids}
 use Rattle.regex_meaning.specs.Tree.{own_id, fold_nodes, every_node_passes}
-use Rattle.regex_meaning.specs.GroupsByNumberAndName.{group_name_of_id, capturing_group_ids_and_names, group_names_by_id, own_name}
+use Rattle.regex_meaning.specs.MatchGroupsByNumberAndName.{group_name_of_id, capturing_group_ids_and_names, group_names_by_id, own_name}
 use Rattle.regex_meaning.specs.Text.{Text, Direction}
 use Rattle.regex_meaning.specs.Outcomes.{Groups, Outcome, outcomes}
 use Rattle.regex_meaning.specs.CompilationRelation.{tree_contains_byte_nodes, is_byte_node}
 use Rattle.regex_meaning.specs.WellFormedTrees.{number_of_goal_nodes, own_goals, is_end_of_cat, ends_in_goal, encloses, names_the_groups_inside, refers_to_a_group}
 use Rattle.regex_meaning.specs.WellFormedTrees.{has_order_in_quantifier, is_one_character, has_one_character_body, has_text_in_sequence}
-use Rattle.regex_meaning.specs.WellFormedTrees.{sets_and_strings_fit_instructions}
+use Rattle.regex_meaning.specs.WellFormedTrees.{set_sizes_and_characters_fit_instructions}
 use Rattle.regex_meaning.proofs.WellFormedLemmas.{clauses, by_clauses}
 use Rattle.regex_pattern_front.specs.OptimizedTrees.{reads_one_character, optimized, OptimizedIsWellFormed, OptimizedHasSameOutcomes}
 use Rattle.regex_pattern_front.specs.OptimizedTrees.{OptimizedHasSameAnswers}
@@ -184,9 +184,9 @@ sequences-optimized (loop q s e loopee) h = of_loop has_text_in_sequence q s e l
 sequences-optimized (byte_sequence bytes) h = h
 sequences-optimized _ h = refl
 
-sets-optimized : (n : Node) → sets_and_strings_fit_instructions n ≡ true → sets_and_strings_fit_instructions (optimized n) ≡ true
+sets-optimized : (n : Node) → set_sizes_and_characters_fit_instructions n ≡ true → set_sizes_and_characters_fit_instructions (optimized n) ≡ true
 unfolding optimized
-sets-optimized (loop q s e loopee) h = of_loop sets_and_strings_fit_instructions q s e loopee (reads_one_character loopee) (λ _. refl) refl
+sets-optimized (loop q s e loopee) h = of_loop set_sizes_and_characters_fit_instructions q s e loopee (reads_one_character loopee) (λ _. refl) refl
 sets-optimized (byte_set members) h = h
 sets-optimized (char_set members) h = h
 sets-optimized (string_set strings icase) h = h
@@ -203,7 +203,7 @@ well_formed-optimized root h =
       quantifiers = every-optimized has_order_in_quantifier quantifiers-optimized root w.quantifiers;
       bodies = every-optimized has_one_character_body bodies-optimized root w.bodies;
       sequences = every-optimized has_text_in_sequence sequences-optimized root w.sequences;
-      sets = every-optimized sets_and_strings_fit_instructions sets-optimized root w.sets;
+      sets = every-optimized set_sizes_and_characters_fit_instructions sets-optimized root w.sets;
     })
 
 -- ---- Outcomes

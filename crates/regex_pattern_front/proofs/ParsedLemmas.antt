@@ -10,41 +10,43 @@ use Rattle.regex_grammar.specs.ReadingStatesAndDigits.{RemainingCodePoints, Pars
 use Rattle.regex_grammar.specs.EscapesNamesQuantifiers.{BeginsQuantifier, ValidQuantifier, GroupName, group_name, is_name}
 use Rattle.regex_grammar.specs.ParseStack.{IsTerm, once, repeated, push_term, empty_disjunction}
 use Rattle.regex_grammar.specs.ParseStack as grammar
-use Rattle.regex_grammar.specs.ParserInvariants.{HasNoTreeWithinLimit, group_names_of, AreWithinGroupLimit, with_groups, parse_state, IsParserInvariant}
+use Rattle.regex_grammar.specs.ParserInvariants.{HasNoTreeWithinLimit, group_names_found_by_scan, AreWithinGroupLimit, with_groups, parse_state, IsParserInvariant}
 use Rattle.regex_grammar.proofs.OneTree.{ends_here}
 use Rattle.regex_grammar.proofs.Leaves.{one_name}
 use Rattle.regex_grammar.proofs.Found.{Ahead}
 use Rattle.regex_grammar.proofs.Standing.{stands-group, stands-named, stands-plain, stands-look, stands-leave, shape, is_look, of_term, of_look}
 use Rattle.regex_grammar.proofs.Standing.{contents_of, wrong-name, group-repeated, look-repeated, stands-begin, still-open, no-opening}
 use Rattle.regex_grammar.proofs.Terms.{NoTermAt, ahead_term, stands-atom, atom-refused, stands-assertion, assertion-refused}
-use Rattle.regex_pattern_front.specs.declared.parser_error.ParseFault.{ParseFault}
+use Rattle.regex_pattern_front.specs.declared.parser_error.ParseStopReason.{ParseStopReason}
 use Rattle.regex_pattern_front.specs.declared.group_openings_and_names.GroupKind.{GroupKind}
 use Rattle.regex_pattern_front.specs.declared.group_openings_and_names.GroupKind.TheVariants.{Capture, Named, Plain, Look}
 use Rattle.regex_pattern_front.specs.declared.ir.Node.{Node}
 use Rattle.regex_pattern_front.specs.declared.ir.Quantifier.{Quantifier}
-use Rattle.regex_pattern_front.specs.declared.group_stack.OpenGroup.{OpenGroup}
+use Rattle.regex_pattern_front.specs.declared.open_groups_and_partial_disjunctions.OpenGroup.{OpenGroup}
 use Rattle.regex_pattern_front.specs.declared.parse.Parser.{Parser}
-use Rattle.regex_pattern_front.specs.GroupReaderContracts.{AreGroupNumbers, IsOpeningRead, NoneBegins, is_reversed_in, takes_quantifier}
+use Rattle.regex_pattern_front.specs.GroupReaderContracts.{MapsNamesToGroupNumbers, IsOpeningRead, NoneBegins, is_reversed_in, takes_quantifier}
 use Rattle.regex_pattern_front.specs.GrouplessTermContracts.{IsAtomOr}
-use Rattle.regex_pattern_front.specs.GroupIdsWhileParsing.{OpenDisjunctionsHaveAllGroups, captures_opened_by_group_kind}
+use Rattle.regex_pattern_front.specs.ParserGroupIdInvariant.{OpenDisjunctionsHaveAllGroups, captures_opened_by_group_kind}
 use Rattle.regex_pattern_front.specs.PartialDisjunctionModel.{disjunction_of}
-use Rattle.regex_pattern_front.specs.ParserContracts.{IsTermWithQuantifier, IsGroupNameRead, is_named_group, around_from, open_group_of, group_kind_of, group_node_around, HasReadPatternUpTo, AdvancesOrHasNoTree}
+use Rattle.regex_pattern_front.specs.ParserContracts.{IsTermWithOptionalQuantifierRead, IsOptionalGroupNameRead, is_named_group, around_from, open_group_of}
+use Rattle.regex_pattern_front.specs.ParserContracts.{group_kind_of}
+use Rattle.regex_pattern_front.specs.ParserContracts.{group_node_around, HasReadPatternUpTo, AdvancesOrHasNoTree}
 use Rattle.regex_pattern_front.specs.ParserContracts.{IsParseResult}
-use Rattle.regex_pattern_front.specs.CodePointReaderContracts.{IsFound, is_syntax_error}
+use Rattle.regex_pattern_front.specs.CodePointAndQuantifierReaderContracts.{IsFound, is_syntax_error}
 use Rattle.regex_pattern_front.specs.AstToSpecTree.{node_of, group_name_bytes, spec_quantifier_of, spec_flags_of}
 
 pub stands-once : (is_atom : Bool) (here there : RemainingCodePoints) (start end : ℕ) (n : Node) (found : Option Quantifier) → is_atom ≡ true → found ≡ None
-    → IsFound here found there → IsTermWithQuantifier is_atom here start end (node_of n) (Ok n) there
+    → IsFound here found there → IsTermWithOptionalQuantifierRead is_atom here start end (node_of n) (Ok n) there
 stands-once true here there start end n None e f h = λ opened count. rw h.0 (once h.1)
 stands-once true here there start end n (Some q) e f h = cc
 stands-once false here there start end n found e f h = absurd (true≢false (sym e))
 
-pub stands-alone : (is_atom : Bool) (here : RemainingCodePoints) (start end : ℕ) (n : Node) → is_atom ≡ false → ¬ (BeginsQuantifier here) → IsTermWithQuantifier is_atom here start end (node_of n) (Ok n) here
+pub stands-alone : (is_atom : Bool) (here : RemainingCodePoints) (start end : ℕ) (n : Node) → is_atom ≡ false → ¬ (BeginsQuantifier here) → IsTermWithOptionalQuantifierRead is_atom here start end (node_of n) (Ok n) here
 stands-alone false here start end n e none = (refl, refl, none)
 stands-alone true here start end n e none = absurd (true≢false e)
 
 pub is-loop : (is_atom : Bool) (here there : RemainingCodePoints) (start end : ℕ) (term : tree.Node) (m : Node) (found : Option Quantifier) (q : Quantifier) → is_atom ≡ true → found ≡ Some q
-    → IsFound here found there → node_of m ≡ tree.loop (spec_quantifier_of q) start end term → IsTermWithQuantifier is_atom here start end term (Ok m) there
+    → IsFound here found there → node_of m ≡ tree.loop (spec_quantifier_of q) start end term → IsTermWithOptionalQuantifierRead is_atom here start end term (Ok m) there
 is-loop false here there start end term m found q e f h is = absurd (true≢false (sym e))
 is-loop true here there start end term m found q e f h is =
     λ opened count.
@@ -70,14 +72,14 @@ at-last {flags} {pattern} {references} {groups} {level} {here} all os o e s =
 
 -- ---- Refusals are handed on
 
-pub err-reads : {P : ParseFault → Type 0} {A : Type 0} (here : RemainingCodePoints) (old new : Parser) (r : Result A ParseFault) (e : ParseFault) → IsErrAnd r P → ((x : ParseFault) → P x → x ≡ e)
+pub err-reads : {P : ParseStopReason → Type 0} {A : Type 0} (here : RemainingCodePoints) (old new : Parser) (r : Result A ParseStopReason) (e : ParseStopReason) → IsErrAnd r P → ((x : ParseStopReason) → P x → x ≡ e)
     → (IsTrue (is_syntax_error e) → (pattern : RemainingCodePoints) → HasReadPatternUpTo pattern here old → HasNoTreeWithinLimit (spec_flags_of old.leaves.flags) pattern)
     → AdvancesOrHasNoTree here old r new
 err-reads here old new (Ok a) e h same none = absurd h
 err-reads here old new (Err x) e h same none = λ r. none (sym (ap is_syntax_error (same x h)) ∙ r)
 
-pub err-parsed : {P : ParseFault → Type 0} {A : Type 0} (of : A → tree.Tree) (flags : tree.Flags) (pattern : RemainingCodePoints) (r : Result A ParseFault) (e : ParseFault) → IsErrAnd r P
-    → ((x : ParseFault) → P x → x ≡ e) → (IsTrue (is_syntax_error e) → HasNoTreeWithinLimit flags pattern) → IsParseResult of flags pattern r
+pub err-parsed : {P : ParseStopReason → Type 0} {A : Type 0} (of : A → tree.Tree) (flags : tree.Flags) (pattern : RemainingCodePoints) (r : Result A ParseStopReason) (e : ParseStopReason) → IsErrAnd r P
+    → ((x : ParseStopReason) → P x → x ≡ e) → (IsTrue (is_syntax_error e) → HasNoTreeWithinLimit flags pattern) → IsParseResult of flags pattern r
 err-parsed of flags pattern (Ok a) e h same none = absurd h
 err-parsed of flags pattern (Err x) e h same none = λ r. none (sym (ap is_syntax_error (same x h)) ∙ r)
 
@@ -90,7 +92,7 @@ pub record GoesOn (here : RemainingCodePoints) (old new : Parser) : Type 0 where
   pub text : (pattern : RemainingCodePoints) → HasReadPatternUpTo pattern here old → HasReadPatternUpTo pattern new.leaves.reader.rest.now new
 
 -- nothing is read
-pub begun : (pattern : RemainingCodePoints) (p : Parser) → (AreWithinGroupLimit (group_names_of pattern) → AreGroupNumbers p.leaves.numbers (group_names_of pattern)) → p.leaves.references ≡ 0 → p.groups ≡ 0 → p.around.items ≡ []
+pub begun : (pattern : RemainingCodePoints) (p : Parser) → (AreWithinGroupLimit (group_names_found_by_scan pattern) → MapsNamesToGroupNumbers p.leaves.numbers (group_names_found_by_scan pattern)) → p.leaves.references ≡ 0 → p.groups ≡ 0 → p.around.items ≡ []
     → disjunction_of p.level ≡ empty_disjunction false → HasReadPatternUpTo pattern pattern p
 begun pattern p numbers references groups around level = record {
   numbers = numbers;
@@ -131,17 +133,17 @@ not-ended false false false e = refl
 
 module _ {flags : tree.Flags} {pattern : RemainingCodePoints} {old groups : ℕ} {around : List grammar.OpenGroup} {level : grammar.PartialDisjunction} {here : RemainingCodePoints} (s : IsParserInvariant flags pattern old groups around level here) (new : ℕ) (mid : RemainingCodePoints) (t : tree.Node) (ahead : Ahead false here mid) (grows : old ≤ new) (more : ends_here here ≡ false) where
   pub term-refused : (is_atom : Bool)
-      → (AreWithinGroupLimit (group_names_of pattern) → (new ≤ length (group_names_of pattern) → IsAtomOr is_atom (with_groups flags (group_names_of pattern)) here mid t)
-      × (length (group_names_of pattern) < new → (length (group_names_of pattern) < old) ⊎ NoTermAt (with_groups flags (group_names_of pattern)) here))
-      → (e : ParseFault) (start end : ℕ) (there : RemainingCodePoints) → IsTrue (is_syntax_error e) → IsTermWithQuantifier is_atom mid start end t (Err e) there → HasNoTreeWithinLimit flags pattern
+      → (AreWithinGroupLimit (group_names_found_by_scan pattern) → (new ≤ length (group_names_found_by_scan pattern) → IsAtomOr is_atom (with_groups flags (group_names_found_by_scan pattern)) here mid t)
+      × (length (group_names_found_by_scan pattern) < new → (length (group_names_found_by_scan pattern) < old) ⊎ NoTermAt (with_groups flags (group_names_found_by_scan pattern)) here))
+      → (e : ParseStopReason) (start end : ℕ) (there : RemainingCodePoints) → IsTrue (is_syntax_error e) → IsTermWithOptionalQuantifierRead is_atom mid start end t (Err e) there → HasNoTreeWithinLimit flags pattern
   term-refused true leaf e start end there r k =
       atom-refused s new mid t ahead grows more (λ few. (leaf few).1) (λ few. (leaf few).0) (k r).0 (k r).1
   term-refused false leaf e start end there r k = assertion-refused s new mid t ahead grows more (λ few. (leaf few).1) (λ few. (leaf few).0) k
 
   pub term-repeated : (is_atom : Bool)
-      → (AreWithinGroupLimit (group_names_of pattern) → (new ≤ length (group_names_of pattern) → IsAtomOr is_atom (with_groups flags (group_names_of pattern)) here mid t)
-      × (length (group_names_of pattern) < new → (length (group_names_of pattern) < old) ⊎ NoTermAt (with_groups flags (group_names_of pattern)) here))
-      → (n : Node) (there : RemainingCodePoints) → IsTermWithQuantifier is_atom mid groups groups t (Ok n) there → IsParserInvariant flags pattern new groups around (push_term (node_of n) level) there
+      → (AreWithinGroupLimit (group_names_found_by_scan pattern) → (new ≤ length (group_names_found_by_scan pattern) → IsAtomOr is_atom (with_groups flags (group_names_found_by_scan pattern)) here mid t)
+      × (length (group_names_found_by_scan pattern) < new → (length (group_names_found_by_scan pattern) < old) ⊎ NoTermAt (with_groups flags (group_names_found_by_scan pattern)) here))
+      → (n : Node) (there : RemainingCodePoints) → IsTermWithOptionalQuantifierRead is_atom mid groups groups t (Ok n) there → IsParserInvariant flags pattern new groups around (push_term (node_of n) level) there
   term-repeated true leaf n there k = stands-atom s new mid t ahead grows more (λ few. (leaf few).1) (λ few. (leaf few).0) k
   term-repeated false leaf n there k =
       rw (k.0, k.1) (stands-assertion s new mid t ahead grows more (λ few. (leaf few).1) (λ few. (leaf few).0) k.2)
@@ -155,13 +157,13 @@ eq-some (Some m) n e = ap Some (eqb-true m n e)
 -- the name that was read has the number of this group
 pub name-found : {R : Type 0} (numbers : RemainingCodePoints → Option ℕ) (groups n : ℕ) (opening : GroupKind) (here there : RemainingCodePoints) (name : String R) (o : Option ℕ) → opening ≡ Named
     → GroupName here there (string_bytes name) → o ≡ numbers (string_bytes name) → n ≡ groups → option_eq nat_eq o (Some (n + 1)) ≡ true
-    → IsGroupNameRead numbers groups (is_named_group opening) here (Ok (Some name)) there
+    → IsOptionalGroupNameRead numbers groups (is_named_group opening) here (Ok (Some name)) there
 name-found numbers groups n opening here there name o f is e g h = rw f (is, sym e ∙ eq-some o (n + 1) h ∙ ap (λ x. Some (x + 1)) g)
 
 -- it has another
-pub name-other : {R : Type 0} (numbers : RemainingCodePoints → Option ℕ) (groups n : ℕ) (opening : GroupKind) (here there : RemainingCodePoints) (name : String R) (o : Option ℕ) (x : ParseFault) → opening ≡ Named
+pub name-other : {R : Type 0} (numbers : RemainingCodePoints → Option ℕ) (groups n : ℕ) (opening : GroupKind) (here there : RemainingCodePoints) (name : String R) (o : Option ℕ) (x : ParseStopReason) → opening ≡ Named
     → GroupName here there (string_bytes name) → o ≡ numbers (string_bytes name) → n ≡ groups → option_eq nat_eq o (Some (n + 1)) ≡ false
-    → IsGroupNameRead {R = R} numbers groups (is_named_group opening) here (Err x) there
+    → IsOptionalGroupNameRead {R = R} numbers groups (is_named_group opening) here (Err x) there
 name-other numbers groups n opening here there name o x f is e g h =
     rw f (λ refused rest other k number.
     let same : o ≡ Some (n + 1) = e ∙ ap numbers (one_name _ _ _ _ _ is k).1 ∙ number ∙ ap (λ y. Some (y + 1)) (sym g) in
@@ -180,8 +182,8 @@ none-begins (c ∷ cs) h = by (nat_eq 63 c) refl
 
 module _ {flags : tree.Flags} {pattern : RemainingCodePoints} {references groups : ℕ} {around : List grammar.OpenGroup} {level : grammar.PartialDisjunction} {here : RemainingCodePoints} (s : IsParserInvariant flags pattern references groups around level (40 ∷ here)) (mid : RemainingCodePoints) where
   pub name-refused : (R : Type 0) (opening : GroupKind) → IsOpeningRead here (Ok opening) mid → (numbers : RemainingCodePoints → Option ℕ)
-      → (AreWithinGroupLimit (group_names_of pattern) → (x : RemainingCodePoints) → is_name x ≡ true → numbers x ≡ group_number_of x (group_names_of pattern))
-      → (e : ParseFault) (there : RemainingCodePoints) → IsTrue (is_syntax_error e) → IsGroupNameRead {R = R} numbers groups (is_named_group opening) mid (Err e) there → HasNoTreeWithinLimit flags pattern
+      → (AreWithinGroupLimit (group_names_found_by_scan pattern) → (x : RemainingCodePoints) → is_name x ≡ true → numbers x ≡ group_number_of x (group_names_found_by_scan pattern))
+      → (e : ParseStopReason) (there : RemainingCodePoints) → IsTrue (is_syntax_error e) → IsOptionalGroupNameRead {R = R} numbers groups (is_named_group opening) mid (Err e) there → HasNoTreeWithinLimit flags pattern
   name-refused R Named o numbers are e there r k =
       wrong-name (subst (λ x. IsParserInvariant flags pattern references groups around level (40 ∷ x)) o.0 s) o.1 o.2 numbers are (k r)
   name-refused R Capture o numbers are e there r k = absurd (k r)
@@ -193,8 +195,8 @@ module _ {flags : tree.Flags} {pattern : RemainingCodePoints} {references groups
       no-opening (subst (λ x. IsParserInvariant flags pattern references groups around level (40 ∷ x)) k.1 s) k.2 k.3 k.4 k.5
 
   pub entered : {R : Type 0} (opening : GroupKind) → IsOpeningRead here (Ok opening) mid → (numbers : RemainingCodePoints → Option ℕ)
-      → (AreWithinGroupLimit (group_names_of pattern) → (x : RemainingCodePoints) → is_name x ≡ true → numbers x ≡ group_number_of x (group_names_of pattern))
-      → (name : Option (String R)) (there : RemainingCodePoints) → IsGroupNameRead {R = R} numbers groups (is_named_group opening) mid (Ok name) there
+      → (AreWithinGroupLimit (group_names_found_by_scan pattern) → (x : RemainingCodePoints) → is_name x ≡ true → numbers x ≡ group_number_of x (group_names_found_by_scan pattern))
+      → (name : Option (String R)) (there : RemainingCodePoints) → IsOptionalGroupNameRead {R = R} numbers groups (is_named_group opening) mid (Ok name) there
       → IsParserInvariant flags pattern references (groups + captures_opened_by_group_kind opening)
       (record { outer = level; opened = group_kind_of opening (group_name_bytes name) groups; start = groups } ∷ around)
       (empty_disjunction (is_reversed_in opening level.behind)) there
@@ -211,7 +213,7 @@ module _ {flags : tree.Flags} {pattern : RemainingCodePoints} {references groups
 pub past-most : {flags : tree.Flags} {pattern : RemainingCodePoints} {references groups : ℕ} {around : List grammar.OpenGroup} {level : grammar.PartialDisjunction} {here : RemainingCodePoints}
     → IsParserInvariant flags pattern references groups around level here → 65535 < groups → HasNoTreeWithinLimit flags pattern
 past-most {pattern = pattern} {groups = groups} {here = here} s many few =
-    let l : length (group_names_of pattern) ≡ length s.opened + length (group_names_of here) = ap length s.found ∙ length-append s.opened (group_names_of here) in
+    let l : length (group_names_found_by_scan pattern) ≡ length s.opened + length (group_names_found_by_scan here) = ap length s.found ∙ length-append s.opened (group_names_found_by_scan here) in
     let c : length s.opened ≡ groups = s.count in
     absurd (omega (arith, l, c, many, few))
 
@@ -229,13 +231,13 @@ looks-at Plain name start b e = ap not e
 looks-at (Look negate backwards) name start b e = ap not e
 
 module _ {flags : tree.Flags} {pattern : RemainingCodePoints} {references groups : ℕ} {around : List grammar.OpenGroup} {level outer : grammar.PartialDisjunction} {here : RemainingCodePoints} (opening : GroupKind) (name : RemainingCodePoints) (start : ℕ) (s : IsParserInvariant flags pattern references groups (record { outer = outer; opened = group_kind_of opening name start; start = start } ∷ around) level (41 ∷ here)) where
-  pub leave-refused : (is_atom : Bool) → is_atom ≡ takes_quantifier opening → (t : tree.Node) (e : ParseFault) (from end : ℕ) (there : RemainingCodePoints) → IsTrue (is_syntax_error e)
-      → IsTermWithQuantifier is_atom here from end t (Err e) there → HasNoTreeWithinLimit flags pattern
+  pub leave-refused : (is_atom : Bool) → is_atom ≡ takes_quantifier opening → (t : tree.Node) (e : ParseStopReason) (from end : ℕ) (there : RemainingCodePoints) → IsTrue (is_syntax_error e)
+      → IsTermWithOptionalQuantifierRead is_atom here from end t (Err e) there → HasNoTreeWithinLimit flags pattern
   leave-refused true f t e from end there r k = group-repeated s (looks-at opening name start true (sym f)) (k r).0 (k r).1
   leave-refused false f t e from end there r k = look-repeated s (looks-at opening name start false (sym f)) k
 
   pub left : (is_atom : Bool) → is_atom ≡ takes_quantifier opening → (n : Node) (there : RemainingCodePoints)
-      → IsTermWithQuantifier is_atom here start groups (group_node_around opening name start groups (contents_of level)) (Ok n) there
+      → IsTermWithOptionalQuantifierRead is_atom here start groups (group_node_around opening name start groups (contents_of level)) (Ok n) there
       → IsParserInvariant flags pattern references groups around (push_term (node_of n) outer) there
   left true f n there k =
       stands-leave s there (node_of n) (ahead_term (k s.opened s.count))

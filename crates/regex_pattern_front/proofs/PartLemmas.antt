@@ -17,7 +17,8 @@ use Rattle.regex_meaning.specs.Tree.{lookaround, loop, loop_1_char_body, Lookaro
 use Rattle.regex_meaning.specs.WellFormedTrees.{number_of_goal_nodes, is_min_at_most_max}
 use Rattle.regex_pattern_front.specs.declared.ir.Node.{Node}
 use Rattle.regex_pattern_front.specs.AstToSpecTree.{node_of, cat_of}
-use Rattle.regex_pattern_front.specs.SubtreeListInvariants.{is_sound, occurrences_of_id, IsSoundSubtree, AreSoundSubtrees, HasGroupsAndGoalsOfNodes, KeepsSubtrees}
+use Rattle.regex_pattern_front.specs.SubtreeListInvariants.{is_sound, occurrences_of_id, IsSoundSubtreeWithGroupIds, AreSoundSubtrees, CombinesGroupsAndGoalsOfNodes}
+use Rattle.regex_pattern_front.specs.SubtreeListInvariants.{KeepsSubtrees}
 use Rattle.regex_grammar.proofs.Parts.{every-more, within-none, within-join, sum_by-cons, count_by-append}
 pub use Rattle.regex_grammar.proofs.Parts.{part-leaf, part-group, part-lookaround, part-loop, whole, whole-plain, whole-reads_none}
 
@@ -33,7 +34,7 @@ pub parts-more : (first end greatest more : ℕ) (xs : List Node) → greatest �
 parts-more first end greatest more xs h a = record { goals = a.goals; count = a.count; ids = a.ids; sound = All-more greatest more xs h a.sound }
 
 pub parts-push : (first middle end greatest more : ℕ) (xs : List Node) (n : Node) → greatest ≤ more
-    → AreSoundSubtrees first middle greatest xs → IsSoundSubtree middle end more (node_of n) → AreSoundSubtrees first end more (xs ++ n ∷ [])
+    → AreSoundSubtrees first middle greatest xs → IsSoundSubtreeWithGroupIds middle end more (node_of n) → AreSoundSubtrees first end more (xs ++ n ∷ [])
 parts-push first middle end greatest more xs n h a p = record {
   goals = sum_by-append (λ n. number_of_goal_nodes (node_of n)) xs (n ∷ []) ∙ (let g = p.goals in let s = a.goals in omega arith);
   count = rw (sum_by-append (λ n. length (group_ids (node_of n))) xs (n ∷ [])) (let g = p.count in let s = a.count in omega arith);
@@ -54,7 +55,7 @@ All-split P (x ∷ xs) ys all =
     let r = All-split P xs ys (λ k d h. all (suc k) d (omega arith)) in
     (All-cons P x xs (all 0 x (omega arith)) r.0, r.1)
 
-pub parts-one : (first end greatest : ℕ) (n : Node) → AreSoundSubtrees first end greatest (n ∷ []) → IsSoundSubtree first end greatest (node_of n)
+pub parts-one : (first end greatest : ℕ) (n : Node) → AreSoundSubtrees first end greatest (n ∷ []) → IsSoundSubtreeWithGroupIds first end greatest (node_of n)
 parts-one first end greatest n a = record {
   goals = let g = a.goals in omega arith;
   count = let g = a.count in omega arith;
@@ -64,7 +65,7 @@ parts-one first end greatest n a = record {
 
 -- ---- Several nodes made one
 
-pub part-made : (first end greatest : ℕ) (xs : List Node) (n : tree.Node) → HasGroupsAndGoalsOfNodes xs n → AreSoundSubtrees first end greatest xs → IsSoundSubtree first end greatest n
+pub part-made : (first end greatest : ℕ) (xs : List Node) (n : tree.Node) → CombinesGroupsAndGoalsOfNodes xs n → AreSoundSubtrees first end greatest xs → IsSoundSubtreeWithGroupIds first end greatest n
 part-made first end greatest xs n m a = record {
   goals = m.goals ∙ a.goals;
   count = rw m.count a.count;
@@ -72,7 +73,7 @@ part-made first end greatest xs n m a = record {
   sound = m.sound greatest a.sound;
 }
 
-pub parts-made : (xs ys : List Node) (n : Node) → HasGroupsAndGoalsOfNodes ys (node_of n) → KeepsSubtrees (xs ++ ys) (xs ++ n ∷ [])
+pub parts-made : (xs ys : List Node) (n : Node) → CombinesGroupsAndGoalsOfNodes ys (node_of n) → KeepsSubtrees (xs ++ ys) (xs ++ n ∷ [])
 parts-made xs ys n m = λ first end greatest a. record {
   goals = same (λ m. number_of_goal_nodes m) m.goals ∙ a.goals;
   count = rw (same (λ m. length (group_ids m)) m.count) a.count;
@@ -90,7 +91,7 @@ parts-made xs ys n m = λ first end greatest a. record {
         let e1 = sum_by-append (λ m. f (node_of m)) xs ys in
         omega arith
 
-pub made-permuted : (xs ys : List Node) (n : tree.Node) → IsPermutation xs ys → HasGroupsAndGoalsOfNodes ys n → HasGroupsAndGoalsOfNodes xs n
+pub made-permuted : (xs ys : List Node) (n : tree.Node) → IsPermutation xs ys → CombinesGroupsAndGoalsOfNodes ys n → CombinesGroupsAndGoalsOfNodes xs n
 made-permuted xs ys n h m = record {
   goals = m.goals ∙ sum_by-IsPermutation (λ n. number_of_goal_nodes (node_of n)) xs ys h;
   count = m.count ∙ sum_by-IsPermutation (λ n. length (group_ids (node_of n))) xs ys h;
@@ -98,7 +99,7 @@ made-permuted xs ys n h m = record {
   sound = λ greatest all. m.sound greatest (All-permutation (λ n. IsTrue (every_node_passes (is_sound greatest) (node_of n))) xs ys h all);
 }
 
-pub made-alt : (l r : Node) → HasGroupsAndGoalsOfNodes (l ∷ r ∷ []) (alt (node_of l) (node_of r))
+pub made-alt : (l r : Node) → CombinesGroupsAndGoalsOfNodes (l ∷ r ∷ []) (alt (node_of l) (node_of r))
 made-alt l r = record {
   goals = omega arith;
   count = let e = length-append (group_ids (node_of l)) (group_ids (node_of r)) in omega arith;
@@ -132,7 +133,7 @@ cat-sound greatest [] all = refl
 cat-sound greatest (x ∷ xs) all =
     and_from _ _ (and_from _ _ refl (all 0 x (omega arith))) (cat-sound greatest xs (λ k d h. all (suc k) d (omega arith)))
 
-pub made-cat : (xs : List Node) → HasGroupsAndGoalsOfNodes xs (cat_of xs)
+pub made-cat : (xs : List Node) → CombinesGroupsAndGoalsOfNodes xs (cat_of xs)
 made-cat xs = record { goals = cat-goals xs; count = cat-count xs; ids = λ id. cat-ids id xs; sound = λ greatest all. cat-sound greatest xs all }
 
 -- ---- Empty lists, and counts

@@ -5,11 +5,12 @@ use Rattle.std.specs.Prelude.{Option, not}
 use Rattle.regex_meaning.specs.Tree.{Quantifier}
 use Rattle.regex_meaning.specs.WellFormedTrees.{is_min_at_most_max}
 use Rattle.regex_grammar.specs.ReadingStatesAndDigits.{RemainingCodePoints, Digits, digits_from, leading_digits}
-use Rattle.regex_grammar.specs.EscapesNamesQuantifiers.{saturated_count, QuantifierPrefix, star, plus, question, exactly, at_least, between, BeginsQuantifier, ValidQuantifier}
+use Rattle.regex_grammar.specs.EscapesNamesQuantifiers.{saturated_count, QuantifierPrefix, star, plus, question, exactly, at_least, between, BeginsQuantifier}
+use Rattle.regex_grammar.specs.EscapesNamesQuantifiers.{ValidQuantifier}
 use Rattle.regex_grammar.specs.EscapesNamesQuantifiers.{greedy, lazy}
 use Rattle.regex_grammar.proofs.OneTree.{unlike}
 use Rattle.regex_grammar.proofs.Leaves.{behind, firsts, digits_on, one_prefix, no_digit}
-use Rattle.regex_pattern_front.specs.CodePointReaderContracts.{IsEaten, IsNumberRead, IsQuantifierMaximumRead}
+use Rattle.regex_pattern_front.specs.CodePointAndQuantifierReaderContracts.{IsEaten, IsNumberRead, IsQuantifierMaximumRead}
 use Rattle.regex_pattern_front.proofs.ReadLemmas.{no_sign}
 
 no_digits_here : {here there : RemainingCodePoints} {n : ℕ} → Digits 10 here there n → leading_digits 10 here ≡ [] → ⊥

@@ -14,7 +14,7 @@ use Rattle.std.proofs.lemmas.List.{length-append}
 use Rattle.regex_grammar.specs.ReadingStatesAndDigits.{RemainingCodePoints, Digits, digits_from, leading_digits, value_of_digits, begins_with_characters}
 use Rattle.regex_grammar.specs.EscapesNamesQuantifiers.{FixedHexDigits, hex}
 use Rattle.regex_grammar.proofs.OneTree.{rest_of}
-use Rattle.regex_pattern_front.specs.CodePointReaderContracts.{IsDigitRead, IsNumberRead}
+use Rattle.regex_pattern_front.specs.CodePointAndQuantifierReaderContracts.{IsDigitRead, IsNumberRead}
 
 -- the text begins with these digits
 pub record HasDigits (base : ℕ) (here there ds : RemainingCodePoints) : Type 0 where

@@ -11,7 +11,8 @@ use Rattle.std.proofs.lemmas.Str.Parse.{digit_from_value}
 use lib.Pointwise.{pointwise}
 use Rattle.regex_meaning.specs.Text.{is_scalar}
 use Rattle.regex_meaning.specs.Tree.{Node, back_ref, bracket}
-use Rattle.regex_grammar.specs.ReadingStatesAndDigits.{RemainingCodePoints, PatternContext, ◌∈◌, begins_with_characters, Digits, digits_from, leading_digits, group_number_of}
+use Rattle.regex_grammar.specs.ReadingStatesAndDigits.{RemainingCodePoints, PatternContext, ◌∈◌, begins_with_characters, Digits, digits_from, leading_digits}
+use Rattle.regex_grammar.specs.ReadingStatesAndDigits.{group_number_of}
 use Rattle.regex_grammar.specs.EscapesNamesQuantifiers.{CharacterEscape, GroupName, group_name}
 use Rattle.regex_grammar.specs.CharacterClasses.{ClassMember, class, class_escape, IsSetOf}
 use Rattle.regex_grammar.specs.Grammar.{SimpleAtom, pattern_character, extended_character, any_character, decimal_escape, named_reference}
@@ -22,15 +23,16 @@ use Rattle.regex_grammar.proofs.Leaves.{inside, firsts, behind, one_digits, one_
 use Rattle.regex_grammar.proofs.Members.{escape_begins, may_escape, class_letter, digit_begins}
 use Rattle.regex_grammar.proofs.Found.{past_leaf}
 use Rattle.regex_grammar.proofs.References.{number-positive, number_of-bounds}
-use Rattle.regex_pattern_front.specs.declared.classes.ClassEscape.{ClassEscape}
+use Rattle.regex_pattern_front.specs.declared.character_class_parser.DigitWordOrSpaceEscape.{DigitWordOrSpaceEscape}
 use Rattle.regex_pattern_front.specs.declared.flags.Flags.{Flags}
 use Rattle.regex_pattern_front.specs.declared.groupless_terms.GrouplessTerm.{GrouplessTerm as TheLeaf}
 use Rattle.regex_pattern_front.specs.declared.types.BracketContents.{BracketContents as TheContents}
-use Rattle.regex_pattern_front.specs.ClassReaderContracts.{digit_word_or_space_set, class_member_of_escape, escape_of}
-use Rattle.regex_pattern_front.specs.CodePointReaderContracts.{peeked, IsNext, is_syntax_error, IsNumberRead}
-use Rattle.regex_pattern_front.specs.declared.parser_error.ParseFault.{ParseFault}
+use Rattle.regex_pattern_front.specs.ClassReaderContracts.{uninverted_digit_word_or_space_set, class_member_of_character_class_escape, escape_of}
+use Rattle.regex_pattern_front.specs.CodePointAndQuantifierReaderContracts.{peeked, IsNext, is_syntax_error, IsNumberRead}
+use Rattle.regex_pattern_front.specs.declared.parser_error.ParseStopReason.{ParseStopReason}
 use Rattle.regex_pattern_front.specs.AstToSpecTree.{node_of, spec_flags_of, class_as_spec}
-use Rattle.regex_pattern_front.specs.GrouplessTermContracts.{NoSimpleAtom, pattern_context, AreGroupNumbersAndWithinLimit, IsReadOrNot, TextBetweenOpensNoGroup, begins_backreference, IsReference, IsReferencedGroupNumberRead}
+use Rattle.regex_pattern_front.specs.GrouplessTermContracts.{NoSimpleAtom, pattern_context, NamesAreNumberedWithinGroupLimit, IsReadOrNot, TextBetweenOpensNoGroup}
+use Rattle.regex_pattern_front.specs.GrouplessTermContracts.{begins_backreference, IsReference, IsReferencedGroupNumberRead}
 use Rattle.regex_pattern_front.specs.GrouplessTermContracts.{IsNamed, IsReferencedNameNumberRead, IsNumberUnlessMissingOrZero, IsDecimalReadIfItFitsU32}
 use Rattle.regex_pattern_front.proofs.TermLemmas.{leaf-of}
 
@@ -51,13 +53,13 @@ peeked-next (d ∷ ds) there c (Some x) e n =
     let g : d ∷ ds ≡ x ∷ there = n in
     g ∙ ap (λ (y : ℕ). y ∷ there) (sym (ap first g) ∙ sym f)
 
-pub class-escaped : (flags : Flags) (groups : List RemainingCodePoints) (rest there : RemainingCodePoints) (letter r : Option ℕ) (e : ClassEscape) (b : TheContents) → letter ≡ peeked rest → IsNext rest r there
-    → option_map class_member_of_escape (Some e) ≡ escape_of letter → IsSetOf (spec_flags_of flags) (class (digit_word_or_space_set e.base) false ∷ []) b.cps → b.invert ≡ e.invert
+pub class-escaped : (flags : Flags) (groups : List RemainingCodePoints) (rest there : RemainingCodePoints) (letter r : Option ℕ) (e : DigitWordOrSpaceEscape) (b : TheContents) → letter ≡ peeked rest → IsNext rest r there
+    → option_map class_member_of_character_class_escape (Some e) ≡ escape_of letter → IsSetOf (spec_flags_of flags) (class (uninverted_digit_word_or_space_set e.base) false ∷ []) b.cps → b.invert ≡ e.invert
     → SimpleAtom (pattern_context flags groups) (92 ∷ rest) there (bracket (class_as_spec b))
 class-escaped flags groups rest there None r e b p n m s i = absurd cc
 class-escaped flags groups rest there (Some c) r e b p n m s i =
     let f : rest ≡ c ∷ there = peeked-next rest there c r p n in
-    let is : class_escape c ≡ Some (class (digit_word_or_space_set e.base) b.invert) = sym m ∙ ap (λ x. Some (class (digit_word_or_space_set e.base) x)) (sym i) in
+    let is : class_escape c ≡ Some (class (uninverted_digit_word_or_space_set e.base) b.invert) = sym m ∙ ap (λ x. Some (class (uninverted_digit_word_or_space_set e.base) x)) (sym i) in
     character_class_escape (ap (λ (x : RemainingCodePoints). 92 ∷ x) f) is s
 
 -- ---- Where no escape stands
@@ -144,7 +146,7 @@ same_text : (name : RemainingCodePoints) → pointwise nat_eq name name ≡ true
 same_text [] = refl
 same_text (c ∷ cs) = rw (eq-eqb c c refl, same_text cs) refl
 
-module _ {R : Type 0} (numbers : BTreeMap (String R) ℕ) (groups : List RemainingCodePoints) (known : AreGroupNumbersAndWithinLimit numbers groups) where
+module _ {R : Type 0} (numbers : BTreeMap (String R) ℕ) (groups : List RemainingCodePoints) (known : NamesAreNumberedWithinGroupLimit numbers groups) where
   pub named : {a there name : RemainingCodePoints} {n : ℕ} → GroupName a there name → get_by_text numbers name ≡ Some n → group_number_of name groups ≡ Some n
   named (group_name e f) g = sym (known.0 _ f) ∙ g
 
@@ -254,7 +256,7 @@ decimal-big here there v h k = λ end n d l. let same : h.0 ≡ n = (one_digits 
 pub decimal-fits : (here there : RemainingCodePoints) (v : ℕ) → IsNumberRead 10 (2 ^ 64 - 1) here (Some v) there → v < 2 ^ 32 → Digits 10 here there v
 decimal-fits here there v h k = let same : h.0 ≡ v = omega (arith, h.2, k) in subst (λ x. Digits 10 here there x) same h.1
 
-pub by-decimal : (numbers : RemainingCodePoints → Option ℕ) (here middle there : RemainingCodePoints) (o : Option ℕ) (r : Result ℕ ParseFault) → (middle ≡ here) × ((a : RemainingCodePoints) → here ≡ 107 ∷ a → ⊥) → IsDecimalReadIfItFitsU32 middle o there
+pub by-decimal : (numbers : RemainingCodePoints → Option ℕ) (here middle there : RemainingCodePoints) (o : Option ℕ) (r : Result ℕ ParseStopReason) → (middle ≡ here) × ((a : RemainingCodePoints) → here ≡ 107 ∷ a → ⊥) → IsDecimalReadIfItFitsU32 middle o there
     → IsNumberUnlessMissingOrZero o r → IsReferencedGroupNumberRead numbers here r there
 by-decimal numbers here middle there o (Ok n) e d k =
     inl (subst (λ x. Digits 10 x there n) e.0 (subst (λ x. IsDecimalReadIfItFitsU32 middle x there) k.0 d))
@@ -263,7 +265,7 @@ by-decimal numbers here middle there None (Err x) e d k = λ refused end n refer
 by-decimal numbers here middle there (Some m) (Err x) e d k = λ refused end n reference some small. ⊎_elim
     (λ f. k n (ap (λ (y : ℕ). Some y) (one_digits d (subst (λ x. Digits 10 x end n) (sym e.0) f)).1) some) (λ f. e.1 _ f.2) reference
 
-pub by-name : (numbers : RemainingCodePoints → Option ℕ) (here middle there : RemainingCodePoints) (r : Result ℕ ParseFault) → here ≡ 107 ∷ middle → IsReferencedNameNumberRead numbers middle r there → IsReferencedGroupNumberRead numbers here r there
+pub by-name : (numbers : RemainingCodePoints → Option ℕ) (here middle there : RemainingCodePoints) (r : Result ℕ ParseStopReason) → here ≡ 107 ∷ middle → IsReferencedNameNumberRead numbers middle r there → IsReferencedGroupNumberRead numbers here r there
 by-name numbers here middle there (Ok n) e h = inr (h.0, h.1, e ∙ ap (λ (x : RemainingCodePoints). 107 ∷ x) h.2, h.3, h.4)
 by-name numbers here middle there (Err x) e h = λ refused end n reference some small. ⊎_elim
     (λ d. true≢false (sym (digit_begins d) ∙ ap (λ y. is_digit (first y) 10) e)) (λ f. h refused end n (f.0, f.1, behind e f.2, f.3, f.4) some) reference
@@ -271,14 +273,14 @@ by-name numbers here middle there (Err x) e h = λ refused end n reference some 
 pub named-none : (numbers : RemainingCodePoints → Option ℕ) (here : RemainingCodePoints) → ((a : RemainingCodePoints) → here ≡ 60 ∷ a → ⊥) → (end : RemainingCodePoints) (n : ℕ) → IsNamed numbers here end n → ⊥
 named-none numbers here none end n f = none _ f.2
 
-pub named-read : (numbers : RemainingCodePoints → Option ℕ) (here middle there name : RemainingCodePoints) (o : Option ℕ) (r : Result ℕ ParseFault) → here ≡ 60 ∷ middle → GroupName middle there name → o ≡ numbers name
+pub named-read : (numbers : RemainingCodePoints → Option ℕ) (here middle there name : RemainingCodePoints) (o : Option ℕ) (r : Result ℕ ParseStopReason) → here ≡ 60 ∷ middle → GroupName middle there name → o ≡ numbers name
     → IsNumberUnlessMissingOrZero o r → IsReferencedNameNumberRead numbers here r there
 named-read numbers here middle there name o (Ok n) e g f k = (middle, name, e, g, sym f ∙ k.0)
 named-read numbers here middle there name o (Err x) e g f k = λ refused end n h some.
     let other : GroupName middle end h.1 = subst (λ y. GroupName y end h.1) (behind h.2 e) h.3 in
     k n (f ∙ ap numbers (one_name _ _ _ _ _ g other).1 ∙ h.4) some
 
-pub named-err : {P : ParseFault → Type 0} (numbers : RemainingCodePoints → Option ℕ) (here middle there : RemainingCodePoints) (r : Result ℕ ParseFault) (e : ParseFault) → IsErrAnd r P → ((x : ParseFault) → P x → x ≡ e) → here ≡ 60 ∷ middle
+pub named-err : {P : ParseStopReason → Type 0} (numbers : RemainingCodePoints → Option ℕ) (here middle there : RemainingCodePoints) (r : Result ℕ ParseStopReason) (e : ParseStopReason) → IsErrAnd r P → ((x : ParseStopReason) → P x → x ≡ e) → here ≡ 60 ∷ middle
     → (IsTrue (is_syntax_error e) → (end name : RemainingCodePoints) → GroupName middle end name → ⊥) → IsReferencedNameNumberRead numbers here r there
 named-err numbers here middle there (Ok n) e h same f none = absurd h
 named-err numbers here middle there (Err x) e h same f none = λ refused end n k some.

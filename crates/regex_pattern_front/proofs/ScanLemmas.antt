@@ -15,30 +15,31 @@ use Rattle.std.proofs.lemmas.Map.Text.{btree_map_updates_text}
 use Rattle.regex_grammar.specs.ReadingStatesAndDigits.{RemainingCodePoints, group_number_of}
 use Rattle.regex_grammar.specs.EscapesNamesQuantifiers.{GroupName, is_name}
 use Rattle.regex_grammar.specs.Grammar.{lookaround_opener}
-use Rattle.regex_grammar.specs.GroupNameScan.{name_of_opened_group, group_name_at, scanned_group_names}
+use Rattle.regex_grammar.specs.GroupNameScan.{name_of_opened_group, group_name_at, scanned_names_per_capturing_group}
 use Rattle.regex_grammar.proofs.OneTree.{rest_of}
 use Rattle.regex_grammar.proofs.Found.{name-found, none-found}
-use Rattle.regex_pattern_front.specs.declared.group_openings_and_names.GroupNameScanState.{GroupNameScanState}
-use Rattle.regex_pattern_front.specs.CodePointReaderContracts.{IsEaten, IsUnescapedRead}
-use Rattle.regex_pattern_front.specs.GroupReaderContracts.{IsLookaroundPolaritySignRead, NoneBegins, in_class_after, names_opened_by, group_numbers_adding_absent_name, AreScanned, RecordsFurtherGroupsInScan, ScansCodePointAndGroupName}
+use Rattle.regex_pattern_front.specs.declared.group_openings_and_names.GroupAndNameScanState.{GroupAndNameScanState}
+use Rattle.regex_pattern_front.specs.CodePointAndQuantifierReaderContracts.{IsEaten, IsUnescapedRead}
+use Rattle.regex_pattern_front.specs.GroupReaderContracts.{IsLookaroundPolaritySignRead, NoneBegins, in_class_after, names_opened_by, group_numbers_adding_absent_name}
+use Rattle.regex_pattern_front.specs.GroupReaderContracts.{AreScanned, RecordsFurtherGroupsInScan, GroupNameScanProcessesCodePoint}
 
 -- ---- One code point
 
-ahead-step : (k : Bool) (c : ℕ) (rest : RemainingCodePoints) → c ≢ 92 → scanned_group_names k (c ∷ rest) ≡ names_opened_by k c rest ++ scanned_group_names (in_class_after k c) rest
-unfolding scanned_group_names
+ahead-step : (k : Bool) (c : ℕ) (rest : RemainingCodePoints) → c ≢ 92 → scanned_names_per_capturing_group k (c ∷ rest) ≡ names_opened_by k c rest ++ scanned_names_per_capturing_group (in_class_after k c) rest
+unfolding scanned_names_per_capturing_group
 ahead-step k c [] ne = by (nat_eq c 40) (nat_eq c 91) (nat_eq c 93) k
   where
     by : (p o e k : Bool) → (if (p || false) && not k then [] ∷ [] else [])
-        ≡ (if p && not k then name_of_opened_group [] else []) ++ scanned_group_names (if o then true else if e then false else k) []
+        ≡ (if p && not k then name_of_opened_group [] else []) ++ scanned_names_per_capturing_group (if o then true else if e then false else k) []
     by true o e true = refl
     by true o e false = refl
     by false o e k = refl
 ahead-step k c (d ∷ rest) ne = rw (ne_eqb c 92 ne) (by (nat_eq c 40) (nat_eq c 91) (nat_eq c 93) k refl refl refl)
   where
     by : (p o e k : Bool) → nat_eq c 40 ≡ p → nat_eq c 91 ≡ o → nat_eq c 93 ≡ e
-        → (if o || false then scanned_group_names true (d ∷ rest) else if e || false then scanned_group_names false (d ∷ rest)
-        else if (p || false) && not k then name_of_opened_group (d ∷ rest) ++ scanned_group_names k (d ∷ rest) else scanned_group_names k (d ∷ rest))
-        ≡ (if p && not k then name_of_opened_group (d ∷ rest) else []) ++ scanned_group_names (if o then true else if e then false else k) (d ∷ rest)
+        → (if o || false then scanned_names_per_capturing_group true (d ∷ rest) else if e || false then scanned_names_per_capturing_group false (d ∷ rest)
+        else if (p || false) && not k then name_of_opened_group (d ∷ rest) ++ scanned_names_per_capturing_group k (d ∷ rest) else scanned_names_per_capturing_group k (d ∷ rest))
+        ≡ (if p && not k then name_of_opened_group (d ∷ rest) else []) ++ scanned_names_per_capturing_group (if o then true else if e then false else k) (d ∷ rest)
     by true true e k f g h = absurd (no f g)
       where
         no : nat_eq c 40 ≡ true → nat_eq c 91 ≡ true → ⊥
@@ -56,16 +57,16 @@ ahead-step k c (d ∷ rest) ne = rw (ne_eqb c 92 ne) (by (nat_eq c 40) (nat_eq c
     by false false false true f g h = refl
     by false false false false f g h = refl
 
-ahead-escape : (k : Bool) (d : ℕ) (rest : RemainingCodePoints) → scanned_group_names k (92 ∷ d ∷ rest) ≡ scanned_group_names k rest
-unfolding scanned_group_names
+ahead-escape : (k : Bool) (d : ℕ) (rest : RemainingCodePoints) → scanned_names_per_capturing_group k (92 ∷ d ∷ rest) ≡ scanned_names_per_capturing_group k rest
+unfolding scanned_names_per_capturing_group
 ahead-escape k d rest = refl
 
-ahead-slash : (k : Bool) → scanned_group_names k (92 ∷ []) ≡ []
-unfolding scanned_group_names
+ahead-slash : (k : Bool) → scanned_names_per_capturing_group k (92 ∷ []) ≡ []
+unfolding scanned_names_per_capturing_group
 ahead-slash k = refl
 
-ahead-none : (k : Bool) → scanned_group_names k [] ≡ []
-unfolding scanned_group_names
+ahead-none : (k : Bool) → scanned_names_per_capturing_group k [] ≡ []
+unfolding scanned_names_per_capturing_group
 ahead-none k = refl
 
 -- ---- How a parenthesis opens
@@ -114,19 +115,19 @@ number-append name (x ∷ names) other = by (pointwise nat_eq name x) (group_num
 
 -- ---- The whole text
 
-pub record ScanSoFar (pattern : RemainingCodePoints) (scan : GroupNameScanState) (rest : RemainingCodePoints) : Type 0 where
+pub record ScanSoFar (pattern : RemainingCodePoints) (scan : GroupAndNameScanState) (rest : RemainingCodePoints) : Type 0 where
   pub names : List RemainingCodePoints
-  pub found : scanned_group_names false pattern ≡ names ++ scanned_group_names scan.in_class rest
+  pub found : scanned_names_per_capturing_group false pattern ≡ names ++ scanned_names_per_capturing_group scan.in_class rest
   pub noted : AreScanned scan names
 
-pub scan-next : (pattern here there : RemainingCodePoints) (old new : GroupNameScanState) (c : ℕ) → ScanSoFar pattern old here → IsUnescapedRead here (Some c) there → ScansCodePointAndGroupName old new c there
+pub scan-next : (pattern here there : RemainingCodePoints) (old new : GroupAndNameScanState) (c : ℕ) → ScanSoFar pattern old here → IsUnescapedRead here (Some c) there → GroupNameScanProcessesCodePoint old new c there
     → ScanSoFar pattern new there
 scan-next pattern here there old new c s (inl u) m =
     let same : in_class_after old.in_class c ≡ old.in_class = rw u.0 refl in
     let none : names_opened_by old.in_class c there ≡ [] = rw u.0 refl in
     record {
       names = s.names;
-      found = s.found ∙ ap (λ x. s.names ++ x) (ap (scanned_group_names old.in_class) u.1.0 ∙ ahead-slash old.in_class ∙ sym (ahead-none new.in_class) ∙ ap (scanned_group_names new.in_class) (sym u.1.1));
+      found = s.found ∙ ap (λ x. s.names ++ x) (ap (scanned_names_per_capturing_group old.in_class) u.1.0 ∙ ahead-slash old.in_class ∙ sym (ahead-none new.in_class) ∙ ap (scanned_names_per_capturing_group new.in_class) (sym u.1.1));
       noted = subst (λ x. AreScanned new x) (append-nil s.names) (subst (λ x. AreScanned new (s.names ++ x)) none (m.1 s.names s.noted));
     }
 scan-next pattern here there old new c s (inr (inl u)) m =
@@ -134,22 +135,22 @@ scan-next pattern here there old new c s (inr (inl u)) m =
     let none : names_opened_by old.in_class c there ≡ [] = rw u.0 refl in
     record {
       names = s.names;
-      found = s.found ∙ ap (λ x. s.names ++ x) (ap (scanned_group_names old.in_class) u.2 ∙ ahead-escape old.in_class u.1 there ∙ ap (λ k. scanned_group_names k there) (sym (m.0 ∙ same)));
+      found = s.found ∙ ap (λ x. s.names ++ x) (ap (scanned_names_per_capturing_group old.in_class) u.2 ∙ ahead-escape old.in_class u.1 there ∙ ap (λ k. scanned_names_per_capturing_group k there) (sym (m.0 ∙ same)));
       noted = subst (λ x. AreScanned new x) (append-nil s.names) (subst (λ x. AreScanned new (s.names ++ x)) none (m.1 s.names s.noted));
     }
 scan-next pattern here there old new c s (inr (inr u)) m =
     record {
       names = s.names ++ names_opened_by old.in_class c there;
-      found = s.found ∙ ap (λ x. s.names ++ x) (ap (scanned_group_names old.in_class) u.1 ∙ ahead-step old.in_class c there u.0)
-          ∙ sym (append_assoc s.names (names_opened_by old.in_class c there) (scanned_group_names (in_class_after old.in_class c) there))
-          ∙ ap (λ k. (s.names ++ names_opened_by old.in_class c there) ++ scanned_group_names k there) (sym m.0);
+      found = s.found ∙ ap (λ x. s.names ++ x) (ap (scanned_names_per_capturing_group old.in_class) u.1 ∙ ahead-step old.in_class c there u.0)
+          ∙ sym (append_assoc s.names (names_opened_by old.in_class c there) (scanned_names_per_capturing_group (in_class_after old.in_class c) there))
+          ∙ ap (λ k. (s.names ++ names_opened_by old.in_class c there) ++ scanned_names_per_capturing_group k there) (sym m.0);
       noted = m.1 s.names s.noted;
     }
 
-pub scan-end : (pattern here : RemainingCodePoints) (scan : GroupNameScanState) → ScanSoFar pattern scan here → here ≡ [] → AreScanned scan (scanned_group_names false pattern)
+pub scan-end : (pattern here : RemainingCodePoints) (scan : GroupAndNameScanState) → ScanSoFar pattern scan here → here ≡ [] → AreScanned scan (scanned_names_per_capturing_group false pattern)
 scan-end pattern here scan s e =
     subst (λ x. AreScanned scan x)
-    (sym (s.found ∙ ap (λ x. s.names ++ scanned_group_names scan.in_class x) e ∙ ap (λ x. s.names ++ x) (ahead-none scan.in_class) ∙ append-nil s.names)) s.noted
+    (sym (s.found ∙ ap (λ x. s.names ++ scanned_names_per_capturing_group scan.in_class x) e ∙ ap (λ x. s.names ++ x) (ahead-none scan.in_class) ∙ append-nil s.names)) s.noted
 
 -- the words that open a lookaround
 pub look-is : {here a b : RemainingCodePoints} (d there : RemainingCodePoints) (negate backwards : Bool) → here ≡ 63 ∷ a → b ≡ a → IsEaten 60 b backwards d → IsLookaroundPolaritySignRead d (Some negate) there
@@ -161,10 +162,10 @@ look-is d there true true e f g h = ap (λ x. 40 ∷ x) (e ∙ ap (λ x. 63 ∷ 
 
 -- ---- What one step notes
 
-noted-same : (old new : GroupNameScanState) (names : List RemainingCodePoints) → new.numbers ≡ old.numbers → new.groups ≡ old.groups → AreScanned old names → AreScanned new names
+noted-same : (old new : GroupAndNameScanState) (names : List RemainingCodePoints) → new.numbers ≡ old.numbers → new.groups ≡ old.groups → AreScanned old names → AreScanned new names
 noted-same old new names e f h = (f ∙ h.0, λ few name is. ap (λ m. get_by_text m name) e ∙ h.1 few name is)
 
-pub notes-none : (old new : GroupNameScanState) (more : List RemainingCodePoints) → more ≡ [] → new.numbers ≡ old.numbers → new.groups ≡ old.groups → new.in_class ≡ old.in_class → RecordsFurtherGroupsInScan old new more
+pub notes-none : (old new : GroupAndNameScanState) (more : List RemainingCodePoints) → more ≡ [] → new.numbers ≡ old.numbers → new.groups ≡ old.groups → new.in_class ≡ old.in_class → RecordsFurtherGroupsInScan old new more
 notes-none old new more none e f g = (
   g,
   λ names h. subst (λ x. AreScanned new (names ++ x)) (sym none) (subst (λ x. AreScanned new x) (sym (append-nil names)) (noted-same old new names e f h)),
@@ -177,7 +178,7 @@ abbrev last : ℕ → Option ℕ → Bool → Option ℕ
 last before o p = elim o [ Some n ↦ Some n | None ↦ if p then Some (before + 1) else None ]
 
 -- a group more, by its name or none
-module _ (old new : GroupNameScanState) (name : RemainingCodePoints) (groups : new.groups ≡ min (old.groups + 1) (2 ^ 32 - 1)) (in_class : new.in_class ≡ old.in_class)
+module _ (old new : GroupAndNameScanState) (name : RemainingCodePoints) (groups : new.groups ≡ min (old.groups + 1) (2 ^ 32 - 1)) (in_class : new.in_class ≡ old.in_class)
     (numbers : (other : RemainingCodePoints) → is_name other ≡ true → get_by_text new.numbers other
     ≡ (if is_some (get_by_text old.numbers name) then get_by_text old.numbers other else if pointwise nat_eq name other then Some new.groups else get_by_text old.numbers other))
   where
@@ -222,7 +223,7 @@ module _ (old new : GroupNameScanState) (name : RemainingCodePoints) (groups : n
                     ap₂ (λ x b. choice new.groups (get_by_text old.numbers name) x b) (are other is) f
                     ∙ kept (get_by_text old.numbers name) (group_number_of other names) (pointwise nat_eq other name) differs ∙ sym (number-append other names name)
 
-pub notes-nameless : (old new : GroupNameScanState) → new.groups ≡ min (old.groups + 1) (2 ^ 32 - 1) → new.in_class ≡ old.in_class → new.numbers ≡ old.numbers → RecordsFurtherGroupsInScan old new ([] ∷ [])
+pub notes-nameless : (old new : GroupAndNameScanState) → new.groups ≡ min (old.groups + 1) (2 ^ 32 - 1) → new.in_class ≡ old.in_class → new.numbers ≡ old.numbers → RecordsFurtherGroupsInScan old new ([] ∷ [])
 notes-nameless old new e f g =
     notes-one old new [] e f (λ other is. ap (λ m. get_by_text m other) g ∙ by (is_some (get_by_text old.numbers [])) (get_by_text old.numbers other) other is)
   where
@@ -231,12 +232,12 @@ notes-nameless old new e f g =
     by true o (c ∷ cs) is = refl
     by false o (c ∷ cs) is = refl
 
-pub notes-as : (old new : GroupNameScanState) {more other : List RemainingCodePoints} → more ≡ other → RecordsFurtherGroupsInScan old new other → RecordsFurtherGroupsInScan old new more
+pub notes-as : (old new : GroupAndNameScanState) {more other : List RemainingCodePoints} → more ≡ other → RecordsFurtherGroupsInScan old new other → RecordsFurtherGroupsInScan old new more
 notes-as old new e h = subst (λ x. RecordsFurtherGroupsInScan old new x) (sym e) h
 
 -- a parenthesis that opens a group
-pub notes-opened : (old new : GroupNameScanState) (c : ℕ) (rest : RemainingCodePoints) → c ≢ 91 → c ≢ 93 → (nat_eq c 40 && not old.in_class) ≡ true → RecordsFurtherGroupsInScan old new (name_of_opened_group rest)
-    → ScansCodePointAndGroupName old new c rest
+pub notes-opened : (old new : GroupAndNameScanState) (c : ℕ) (rest : RemainingCodePoints) → c ≢ 91 → c ≢ 93 → (nat_eq c 40 && not old.in_class) ≡ true → RecordsFurtherGroupsInScan old new (name_of_opened_group rest)
+    → GroupNameScanProcessesCodePoint old new c rest
 notes-opened old new c rest other_open other_close opens h = (
   h.0 ∙ sym same,
   λ names k. subst (λ x. AreScanned new (names ++ x)) (sym opened) (h.1 names k),
@@ -249,7 +250,7 @@ notes-opened old new c rest other_open other_close opens h = (
     opened = rw opens refl
 
 -- a group with the name that stands here
-pub notes-named : (old new : GroupNameScanState) (here there name : RemainingCodePoints) (group : ℕ) → GroupName here there name → group ≡ min (old.groups + 1) (2 ^ 32 - 1) → new.groups ≡ group
+pub notes-named : (old new : GroupAndNameScanState) (here there name : RemainingCodePoints) (group : ℕ) → GroupName here there name → group ≡ min (old.groups + 1) (2 ^ 32 - 1) → new.groups ≡ group
     → new.in_class ≡ old.in_class → ((other : RemainingCodePoints) → get_by_text new.numbers other ≡ group_numbers_adding_absent_name name group (λ x. get_by_text old.numbers x) other)
     → RecordsFurtherGroupsInScan old new (group_name_at here ∷ [])
 notes-named old new here there name group g e is f numbers =
@@ -257,7 +258,7 @@ notes-named old new here there name group g e is f numbers =
     (notes-one old new name (is ∙ e) f (λ other named. numbers other ∙ ap (λ n. group_numbers_adding_absent_name name n (λ x. get_by_text old.numbers x) other) (sym is)))
 
 -- a group where no name stands
-pub notes-no_name : (old new : GroupNameScanState) (here : RemainingCodePoints) → ((there name : RemainingCodePoints) → GroupName here there name → ⊥) → new.groups ≡ min (old.groups + 1) (2 ^ 32 - 1)
+pub notes-no_name : (old new : GroupAndNameScanState) (here : RemainingCodePoints) → ((there name : RemainingCodePoints) → GroupName here there name → ⊥) → new.groups ≡ min (old.groups + 1) (2 ^ 32 - 1)
     → new.in_class ≡ old.in_class → new.numbers ≡ old.numbers → RecordsFurtherGroupsInScan old new (group_name_at here ∷ [])
 notes-no_name old new here none e f g = notes-as old new (ap (λ x. x ∷ []) (none-found here none)) (notes-nameless old new e f g)
 

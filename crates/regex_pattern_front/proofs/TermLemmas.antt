@@ -17,11 +17,11 @@ use Rattle.regex_grammar.specs.Grammar.{repeated_assertion}
 use Rattle.regex_grammar.specs.Grammar.{start, end, boundary, look, Atom, leaf, group, named_group, plain_group}
 use Rattle.regex_grammar.proofs.OneTree.{first, rest_of}
 use Rattle.regex_grammar.proofs.Leaves.{inside, firsts, behind}
-use Rattle.regex_grammar.specs.GroupNameScan.{scanned_group_names}
+use Rattle.regex_grammar.specs.GroupNameScan.{scanned_names_per_capturing_group}
 use Rattle.regex_grammar.proofs.Members.{leaf_apart}
 use Rattle.regex_grammar.proofs.Found.{past_leaf}
-use Rattle.regex_pattern_front.specs.declared.parser_error.ParseFault.{ParseFault}
-use Rattle.regex_pattern_front.specs.CodePointReaderContracts.{is_syntax_error}
+use Rattle.regex_pattern_front.specs.declared.parser_error.ParseStopReason.{ParseStopReason}
+use Rattle.regex_pattern_front.specs.CodePointAndQuantifierReaderContracts.{is_syntax_error}
 use Rattle.regex_pattern_front.specs.declared.flags.Flags.{Flags}
 use Rattle.regex_pattern_front.specs.declared.ir.AnchorType.{AnchorType}
 use Rattle.regex_pattern_front.specs.declared.ir.AnchorType.TheVariants.{StartOfLine, EndOfLine}
@@ -31,8 +31,11 @@ use Rattle.regex_pattern_front.specs.declared.ir.Node.TheVariants.{WordBoundary,
 use Rattle.regex_pattern_front.specs.declared.groupless_terms.GrouplessTerm.{GrouplessTerm as TheLeaf}
 use Rattle.regex_pattern_front.specs.declared.types.BracketContents.{BracketContents as TheContents}
 use Rattle.regex_pattern_front.specs.AstToSpecTree.{node_of, spec_flags_of, class_as_spec}
-use Rattle.regex_pattern_front.specs.GrouplessTermContracts.{NoSimpleAtom, NoTerm, parse_state_at, pattern_context, IsGrouplessTerm, IsAtomOr, IsReadOrNot, IsAtomRead, IsGrouplessTermRead, TextBetweenOpensNoGroup}
-use Rattle.regex_pattern_front.specs.GrouplessTermContracts.{IsAssertion, anchor_sign, boundary_letter, is_paren_or_bar, is_star_plus_or_question, is_brace_or_closing_bracket}
+use Rattle.regex_pattern_front.specs.GrouplessTermContracts.{NoSimpleAtom, NoTerm, parse_state_at, pattern_context, TextBetweenIsGrouplessTerm, IsAtomOr, IsReadOrNot}
+use Rattle.regex_pattern_front.specs.GrouplessTermContracts.{IsAtomReadIfPresent}
+use Rattle.regex_pattern_front.specs.GrouplessTermContracts.{IsGrouplessTermReadIfPresent, TextBetweenOpensNoGroup}
+use Rattle.regex_pattern_front.specs.GrouplessTermContracts.{IsAssertion, anchor_sign, boundary_letter, is_paren_or_bar, is_star_plus_or_question}
+use Rattle.regex_pattern_front.specs.GrouplessTermContracts.{is_brace_or_closing_bracket}
 
 -- another character stands first
 other : (test : ℕ → Bool) {c d : ℕ} {cs ds : RemainingCodePoints} → test c ≡ false → test d ≡ true → c ∷ cs ≡ d ∷ ds → ⊥
@@ -151,11 +154,11 @@ no_leaf-class w rest none _ n a = by refl a
 
 -- ---- What was read
 
-pub leaf-of : (w : PatternContext) (here there : RemainingCodePoints) (l : TheLeaf) (m : Node) → l.is_atom ≡ true → node_of l.node ≡ m → SimpleAtom w here there m → IsGrouplessTerm w here l there
+pub leaf-of : (w : PatternContext) (here there : RemainingCodePoints) (l : TheLeaf) (m : Node) → l.is_atom ≡ true → node_of l.node ≡ m → SimpleAtom w here there m → TextBetweenIsGrouplessTerm w here l there
 leaf-of w here there l m e f d = subst (λ b. IsAtomOr b w here there (node_of l.node)) (sym e) (subst (λ x. SimpleAtom w here there x) (sym f) d)
 
 -- with no reference more
-pub read-leaf : (none : Type 0) (w : PatternContext) (here there : RemainingCodePoints) (l : TheLeaf) (references : ℕ) → IsGrouplessTerm w here l there
+pub read-leaf : (none : Type 0) (w : PatternContext) (here there : RemainingCodePoints) (l : TheLeaf) (references : ℕ) → TextBetweenIsGrouplessTerm w here l there
     → IsReadOrNot none w here (Ok l) references references there
 read-leaf none w here there l references d = (λ h. d, λ h. inl h)
 
@@ -171,12 +174,12 @@ bounded flags groups there true unicode_icase e = λ opened. rw e (boundary true
 bounded flags groups there false unicode_icase e = λ opened. rw e (boundary false refl)
 
 pub dot-all : (flags : Flags) (groups : List RemainingCodePoints) (there : RemainingCodePoints) (l : TheLeaf) → flags.dot_all ≡ true → l.is_atom ≡ true → l.node ≡ MatchAny
-    → IsGrouplessTerm (pattern_context flags groups) (46 ∷ there) l there
+    → TextBetweenIsGrouplessTerm (pattern_context flags groups) (46 ∷ there) l there
 unfolding node_of
 dot-all flags groups there l e f g = leaf-of _ _ _ l _ f (rw (g, e) refl) (any_character refl)
 
 pub dot-other : (flags : Flags) (groups : List RemainingCodePoints) (there : RemainingCodePoints) (l : TheLeaf) → flags.dot_all ≡ false → l.is_atom ≡ true → l.node ≡ MatchAnyExceptLineTerminator
-    → IsGrouplessTerm (pattern_context flags groups) (46 ∷ there) l there
+    → TextBetweenIsGrouplessTerm (pattern_context flags groups) (46 ∷ there) l there
 unfolding node_of
 dot-other flags groups there l e f g = leaf-of _ _ _ l _ f (rw (g, e) refl) (any_character refl)
 
@@ -198,59 +201,59 @@ pub node-Bracket : (contents : TheContents) → node_of (Bracket contents) ≡ b
 unfolding node_of
 node-Bracket contents = refl
 
-pub read-err : {P : ParseFault → Type 0} (none : Type 0) (w : PatternContext) (here there : RemainingCodePoints) (r : Result TheLeaf ParseFault) (e : ParseFault) (old new : ℕ) → IsErrAnd r P → ((x : ParseFault) → P x → x ≡ e)
+pub read-err : {P : ParseStopReason → Type 0} (none : Type 0) (w : PatternContext) (here there : RemainingCodePoints) (r : Result TheLeaf ParseStopReason) (e : ParseStopReason) (old new : ℕ) → IsErrAnd r P → ((x : ParseStopReason) → P x → x ≡ e)
     → (IsTrue (is_syntax_error e) → none) → IsReadOrNot none w here r old new there
 read-err N w here there (Ok l) e old new h same none = absurd h
 read-err N w here there (Err x) e old new h same none = λ r. none (sym (ap is_syntax_error (same x h)) ∙ r)
 
-pub character-read : (none : Type 0) (w : PatternContext) (here there : RemainingCodePoints) (m : Node) (r : Result TheLeaf ParseFault) (references : ℕ) → IfOk r (λ l. l.is_atom ≡ true)
+pub character-read : (none : Type 0) (w : PatternContext) (here there : RemainingCodePoints) (m : Node) (r : Result TheLeaf ParseStopReason) (references : ℕ) → IfOk r (λ l. l.is_atom ≡ true)
     → IfOk r (λ l. node_of l.node ≡ m) → IfErr r (λ e. is_syntax_error e ≡ false) → SimpleAtom w here there m → IsReadOrNot none w here r references references there
 character-read none w here there m (Ok l) references a n e d = read-leaf none w here there l references (leaf-of w here there l m a n d)
 character-read none w here there m (Err x) references a n e d = λ r. absurd (true≢false (sym r ∙ e))
 
-pub in-all : (r : Result TheLeaf ParseFault) {P : Type 0} → P → IfOk r (λ l. P)
+pub in-all : (r : Result TheLeaf ParseStopReason) {P : Type 0} → P → IfOk r (λ l. P)
 in-all (Ok l) p = p
 in-all (Err e) p = tt
 
 -- ---- Behind a backslash
 
-weaken : (none other : Type 0) (w : PatternContext) (here there : RemainingCodePoints) (r : Result TheLeaf ParseFault) (old new : ℕ) → (none → other) → IsReadOrNot none w here r old new there → IsReadOrNot other w here r old new there
+weaken : (none other : Type 0) (w : PatternContext) (here there : RemainingCodePoints) (r : Result TheLeaf ParseStopReason) (old new : ℕ) → (none → other) → IsReadOrNot none w here r old new there → IsReadOrNot other w here r old new there
 weaken N O w here there (Ok l) old new f h = (h.0, λ k. ⊎_elim (λ x. inl x) (λ x. inr (f x)) (h.1 k))
 weaken N O w here there (Err e) old new f h = λ r. f (h r)
 
-pub escape-read : (w : PatternContext) (rest middle last there : RemainingCodePoints) (r : Result TheLeaf ParseFault) (old new : ℕ) → (middle ≡ rest) × ((a : RemainingCodePoints) → rest ≡ 98 ∷ a → ⊥)
-    → (last ≡ middle) × ((a : RemainingCodePoints) → middle ≡ 66 ∷ a → ⊥) → IsAtomRead w (92 ∷ last) r old new there → IsGrouplessTermRead w (92 ∷ rest) r old new there
+pub escape-read : (w : PatternContext) (rest middle last there : RemainingCodePoints) (r : Result TheLeaf ParseStopReason) (old new : ℕ) → (middle ≡ rest) × ((a : RemainingCodePoints) → rest ≡ 98 ∷ a → ⊥)
+    → (last ≡ middle) × ((a : RemainingCodePoints) → middle ≡ 66 ∷ a → ⊥) → IsAtomReadIfPresent w (92 ∷ last) r old new there → IsGrouplessTermReadIfPresent w (92 ∷ rest) r old new there
 escape-read w rest middle last there r old new b c d =
-    weaken (NoSimpleAtom w (92 ∷ rest)) (NoTerm w (92 ∷ rest)) w (92 ∷ rest) there r old new (no_term-escape w rest b.1 (λ a e. c.1 a (b.0 ∙ e))) (subst (λ x. IsAtomRead w (92 ∷ x) r old new there) (c.0 ∙ b.0) d)
+    weaken (NoSimpleAtom w (92 ∷ rest)) (NoTerm w (92 ∷ rest)) w (92 ∷ rest) there r old new (no_term-escape w rest b.1 (λ a e. c.1 a (b.0 ∙ e))) (subst (λ x. IsAtomReadIfPresent w (92 ∷ x) r old new there) (c.0 ∙ b.0) d)
 
 past-start : (t : RemainingCodePoints) → TextBetweenOpensNoGroup (94 ∷ t) t
-unfolding scanned_group_names
+unfolding scanned_names_per_capturing_group
 past-start [] = refl
 past-start (d ∷ ds) = refl
 
 past-end : (t : RemainingCodePoints) → TextBetweenOpensNoGroup (36 ∷ t) t
-unfolding scanned_group_names
+unfolding scanned_names_per_capturing_group
 past-end [] = refl
 past-end (d ∷ ds) = refl
 
 past-escape : (c : ℕ) (t : RemainingCodePoints) → TextBetweenOpensNoGroup (92 ∷ c ∷ t) t
-unfolding scanned_group_names
+unfolding scanned_names_per_capturing_group
 past-escape c t = refl
 
 pub escape-passed : (c : ℕ) (rest there : RemainingCodePoints) → rest ≡ c ∷ there → TextBetweenOpensNoGroup (92 ∷ rest) there
-escape-passed c rest there e = ap (λ x. scanned_group_names false (92 ∷ x)) e ∙ past-escape c there
+escape-passed c rest there e = ap (λ x. scanned_names_per_capturing_group false (92 ∷ x)) e ∙ past-escape c there
 
-pub passed-of : (w : PatternContext) (c : ℕ) (rest there : RemainingCodePoints) (l : TheLeaf) → is_paren_or_bar c ≡ false → IsGrouplessTerm w (c ∷ rest) l there → TextBetweenOpensNoGroup (c ∷ rest) there
+pub passed-of : (w : PatternContext) (c : ℕ) (rest there : RemainingCodePoints) (l : TheLeaf) → is_paren_or_bar c ≡ false → TextBetweenIsGrouplessTerm w (c ∷ rest) l there → TextBetweenOpensNoGroup (c ∷ rest) there
 passed-of w c rest there l e h = by l.is_atom h
   where
     opens : {ds : RemainingCodePoints} → c ∷ rest ≡ 40 ∷ ds → ⊥
     opens f = let g : is_paren_or_bar c ≡ true = ap (λ x. is_paren_or_bar (first x)) f in true≢false (sym g ∙ e)
 
     in_assertion : {q : ParseState} {n : Node} → Assertion profile w (parse_state_at (c ∷ rest) []) q n → TextBetweenOpensNoGroup (c ∷ rest) q.text
-    in_assertion {q} (start f) = ap (λ x. scanned_group_names false x.text) f ∙ past-start q.text
-    in_assertion {q} (end f) = ap (λ x. scanned_group_names false x.text) f ∙ past-end q.text
-    in_assertion {q} (boundary true f) = ap (λ x. scanned_group_names false x.text) f ∙ past-escape 66 q.text
-    in_assertion {q} (boundary false f) = ap (λ x. scanned_group_names false x.text) f ∙ past-escape 98 q.text
+    in_assertion {q} (start f) = ap (λ x. scanned_names_per_capturing_group false x.text) f ∙ past-start q.text
+    in_assertion {q} (end f) = ap (λ x. scanned_names_per_capturing_group false x.text) f ∙ past-end q.text
+    in_assertion {q} (boundary true f) = ap (λ x. scanned_names_per_capturing_group false x.text) f ∙ past-escape 66 q.text
+    in_assertion {q} (boundary false f) = ap (λ x. scanned_names_per_capturing_group false x.text) f ∙ past-escape 98 q.text
     in_assertion (look false false f d g) = absurd (opens (ap (λ x. x.text) f))
     in_assertion (look true false f d g) = absurd (opens (ap (λ x. x.text) f))
     in_assertion (look false true f d g) = absurd (opens (ap (λ x. x.text) f))
@@ -294,5 +297,5 @@ pub bracket-none : (w : PatternContext) (c : ℕ) (rest : RemainingCodePoints) �
 bracket-none w c rest e none = subst (λ x. NoTerm w (x ∷ rest)) (sym e) (no_term-plain w 91 rest refl (no_leaf-class w rest none))
 
 pub bracket-read : (flags : Flags) (groups : List RemainingCodePoints) (c : ℕ) (rest there : RemainingCodePoints) (l : TheLeaf) (b : BracketContents) → c ≡ 91 → CharacterClass (spec_flags_of flags) rest there b → l.is_atom ≡ true
-    → node_of l.node ≡ bracket b → IsGrouplessTerm (pattern_context flags groups) (c ∷ rest) l there
+    → node_of l.node ≡ bracket b → TextBetweenIsGrouplessTerm (pattern_context flags groups) (c ∷ rest) l there
 bracket-read flags groups c rest there l b e d f g = leaf-of _ _ _ l _ f g (character_class (ap (λ (x : ℕ). x ∷ rest) e) d)

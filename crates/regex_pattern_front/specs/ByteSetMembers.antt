@@ -10,9 +10,9 @@ abbrev pub is_bit_set : List ℕ → ℕ → Bool
 is_bit_set bits byte = nat_lt byte 128 && bit_at (slice_index bits (byte / 64)) (byte % 64) == 1
 
 -- the bytes of the set, in increasing order
-abbrev pub ascii_bitmap_bytes : AsciiBitmap → List ℕ
-ascii_bitmap_bytes bitmap = bytes_that_pass (is_bit_set bitmap.bits)
+abbrev pub member_bytes_of_ascii_bitmap : AsciiBitmap → List ℕ
+member_bytes_of_ascii_bitmap bitmap = bytes_that_pass (is_bit_set bitmap.bits)
 
 -- the bytes of the set, in increasing order
-abbrev pub byte_bitmap_bytes : ByteBitmap → List ℕ
-byte_bitmap_bytes bitmap = bytes_that_pass (λ b. slice_index_or bitmap.table b false)
+abbrev pub member_bytes_of_byte_bitmap : ByteBitmap → List ℕ
+member_bytes_of_byte_bitmap bitmap = bytes_that_pass (λ b. slice_index_or bitmap.table b false)

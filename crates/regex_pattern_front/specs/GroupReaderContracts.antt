@@ -9,9 +9,9 @@ use Rattle.regex_grammar.specs.EscapesNamesQuantifiers.{is_name}
 use Rattle.regex_grammar.specs.Grammar.{lookaround_opener}
 use Rattle.regex_grammar.specs.GroupNameScan.{name_of_opened_group}
 use Rattle.regex_grammar.specs.ParserInvariants.{AreWithinGroupLimit}
-use Rattle.regex_pattern_front.specs.declared.parser_error.ParseFault.{ParseFault}
+use Rattle.regex_pattern_front.specs.declared.parser_error.ParseStopReason.{ParseStopReason}
 use Rattle.regex_pattern_front.specs.declared.group_openings_and_names.GroupKind.{GroupKind}
-use Rattle.regex_pattern_front.specs.declared.group_openings_and_names.GroupNameScanState.{GroupNameScanState}
+use Rattle.regex_pattern_front.specs.declared.group_openings_and_names.GroupAndNameScanState.{GroupAndNameScanState}
 use Rattle.regex_pattern_front.specs.declared.group_openings_and_names.GroupKind.TheVariants.{Capture, Named, Plain, Look}
 
 -- the text does not begin with this code point
@@ -26,7 +26,7 @@ IsLookaroundPolaritySignRead here None there = (there ≡ here) × NoneBegins 33
 
 -- the rest of what opens a group is read after its parenthesis, or what follows the parenthesis
 -- begins no kind of group
-abbrev pub IsOpeningRead : (here : RemainingCodePoints) → Result GroupKind ParseFault → (there : RemainingCodePoints) → Type 0
+abbrev pub IsOpeningRead : (here : RemainingCodePoints) → Result GroupKind ParseStopReason → (there : RemainingCodePoints) → Type 0
 IsOpeningRead here (Ok Capture) there = (there ≡ here) × NoneBegins 63 here
 IsOpeningRead here (Ok Named) there = (here ≡ 63 ∷ 60 ∷ there) × NoneBegins 33 there × NoneBegins 61 there
 IsOpeningRead here (Ok Plain) there = here ≡ 63 ∷ 58 ∷ there
@@ -60,8 +60,8 @@ abbrev pub names_opened_by : (in_class : Bool) → ℕ → (rest : RemainingCode
 names_opened_by in_class c rest = if c == 40 && not in_class then name_of_opened_group rest else []
 
 -- the map has the number of each name
-abbrev pub AreGroupNumbers : {R : Type 0} → BTreeMap (String R) ℕ → List RemainingCodePoints → Type 0
-AreGroupNumbers numbers names = (name : RemainingCodePoints) → IsTrue (is_name name) → get_by_text numbers name ≡ group_number_of name names
+abbrev pub MapsNamesToGroupNumbers : {R : Type 0} → BTreeMap (String R) ℕ → List RemainingCodePoints → Type 0
+MapsNamesToGroupNumbers numbers names = (name : RemainingCodePoints) → IsTrue (is_name name) → get_by_text numbers name ≡ group_number_of name names
 
 -- the numbers with one more name, unless another group has it
 abbrev pub group_numbers_adding_absent_name : (name : RemainingCodePoints) (group : ℕ) (numbers : RemainingCodePoints → Option ℕ) → RemainingCodePoints → Option ℕ
@@ -74,20 +74,20 @@ group_numbers_adding_absent_name name group numbers other =
 -- each name, if there are no more groups than allowed
 abbrev pub AreCountedAndNumbered : {R : Type 0} → (count : ℕ) → BTreeMap (String R) ℕ → List RemainingCodePoints → Type 0
 AreCountedAndNumbered count numbers names =
-    (count ≡ min (length names) (2 ^ 32 - 1)) × (AreWithinGroupLimit names → AreGroupNumbers numbers names)
+    (count ≡ min (length names) (2 ^ 32 - 1)) × (AreWithinGroupLimit names → MapsNamesToGroupNumbers numbers names)
 
 -- the scan has counted these groups and has the numbers of their names
-abbrev pub AreScanned : GroupNameScanState → List RemainingCodePoints → Type 0
+abbrev pub AreScanned : GroupAndNameScanState → List RemainingCodePoints → Type 0
 AreScanned scan names = AreCountedAndNumbered scan.groups scan.numbers names
 
 -- the scan has processed these further groups and left `in_class` unchanged
-abbrev pub RecordsFurtherGroupsInScan : (old new : GroupNameScanState) → List RemainingCodePoints → Type 0
+abbrev pub RecordsFurtherGroupsInScan : (old new : GroupAndNameScanState) → List RemainingCodePoints → Type 0
 RecordsFurtherGroupsInScan old new more =
     (new.in_class ≡ old.in_class)
     × ((names : List RemainingCodePoints) → AreScanned old names → AreScanned new (names ++ more))
 
 -- the scan has processed one code point, and the name after it if it opens a group
-abbrev pub ScansCodePointAndGroupName : (old new : GroupNameScanState) (c : ℕ) (rest : RemainingCodePoints) → Type 0
-ScansCodePointAndGroupName old new c rest =
+abbrev pub GroupNameScanProcessesCodePoint : (old new : GroupAndNameScanState) (c : ℕ) (rest : RemainingCodePoints) → Type 0
+GroupNameScanProcessesCodePoint old new c rest =
     (new.in_class ≡ in_class_after old.in_class c)
     × ((names : List RemainingCodePoints) → AreScanned old names → AreScanned new (names ++ names_opened_by old.in_class c rest))

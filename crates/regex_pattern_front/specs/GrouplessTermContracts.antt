@@ -8,15 +8,15 @@ use Rattle.regex_meaning.specs.Tree as tree
 use Rattle.regex_grammar.specs.ReadingStatesAndDigits.{RemainingCodePoints, ParseState, PatternContext, ◌∈◌, Digits}
 use Rattle.regex_grammar.specs.EscapesNamesQuantifiers.{GroupName, BeginsQuantifier}
 use Rattle.regex_grammar.specs.Grammar.{SimpleAtom as AtomLeaf, profile, Term, Assertion}
-use Rattle.regex_grammar.specs.GroupNameScan.{scanned_group_names}
+use Rattle.regex_grammar.specs.GroupNameScan.{scanned_names_per_capturing_group}
 use Rattle.regex_pattern_front.specs.declared.diagnosis.Cause.{Cause}
-use Rattle.regex_pattern_front.specs.declared.parser_error.ParseFault.{ParseFault}
+use Rattle.regex_pattern_front.specs.declared.parser_error.ParseStopReason.{ParseStopReason}
 use Rattle.regex_pattern_front.specs.declared.flags.Flags.{Flags}
 use Rattle.regex_pattern_front.specs.declared.ir.AnchorType.{AnchorType}
 use Rattle.regex_pattern_front.specs.declared.ir.AnchorType.TheVariants.{StartOfLine, EndOfLine}
 use Rattle.regex_pattern_front.specs.declared.groupless_terms.GrouplessTerm.{GrouplessTerm}
-use Rattle.regex_pattern_front.specs.GroupReaderContracts.{AreGroupNumbers}
-use Rattle.regex_pattern_front.specs.CodePointReaderContracts.{is_syntax_error}
+use Rattle.regex_pattern_front.specs.GroupReaderContracts.{MapsNamesToGroupNumbers}
+use Rattle.regex_pattern_front.specs.CodePointAndQuantifierReaderContracts.{is_syntax_error}
 use Rattle.regex_pattern_front.specs.AstToSpecTree.{node_of, spec_flags_of}
 
 -- the context of a pattern with these flags and groups
@@ -24,8 +24,8 @@ abbrev pub pattern_context : Flags → List RemainingCodePoints → PatternConte
 pattern_context flags groups = record { flags = spec_flags_of flags; groups = groups }
 
 -- what the parser can know of the groups: the map has their numbers, and there are not too many
-abbrev pub AreGroupNumbersAndWithinLimit : {R : Type 0} → BTreeMap (String R) ℕ → List RemainingCodePoints → Type 0
-AreGroupNumbersAndWithinLimit numbers groups = AreGroupNumbers numbers groups × (length groups ≤ 65535)
+abbrev pub NamesAreNumberedWithinGroupLimit : {R : Type 0} → BTreeMap (String R) ℕ → List RemainingCodePoints → Type 0
+NamesAreNumberedWithinGroupLimit numbers groups = MapsNamesToGroupNumbers numbers groups × (length groups ≤ 65535)
 
 -- the state with this text left and these groups opened
 abbrev pub parse_state_at : RemainingCodePoints → List RemainingCodePoints → ParseState
@@ -50,29 +50,29 @@ IsAtomOr true w here there n = AtomLeaf w here there n
 IsAtomOr false w here there n = IsAssertion w here there n
 
 -- a term without groups, from here to there
-abbrev pub IsGrouplessTerm : PatternContext → (here : RemainingCodePoints) → GrouplessTerm → (there : RemainingCodePoints) → Type 0
-IsGrouplessTerm w here l there = IsAtomOr l.is_atom w here there (node_of l.node)
+abbrev pub TextBetweenIsGrouplessTerm : PatternContext → (here : RemainingCodePoints) → GrouplessTerm → (there : RemainingCodePoints) → Type 0
+TextBetweenIsGrouplessTerm w here l there = IsAtomOr l.is_atom w here there (node_of l.node)
 
 -- The term is read. If a reference read so far exceeds the number of groups, then an earlier one
 -- did already, or `none` holds. `none` also holds after a syntax error. Nothing is claimed on
 -- allocation failure.
 abbrev pub IsReadOrNot :
-    (none : Type 0) → PatternContext → (here : RemainingCodePoints) → Result GrouplessTerm ParseFault → (old new : ℕ) → (there : RemainingCodePoints) → Type 0
+    (none : Type 0) → PatternContext → (here : RemainingCodePoints) → Result GrouplessTerm ParseStopReason → (old new : ℕ) → (there : RemainingCodePoints) → Type 0
 IsReadOrNot none w here (Ok l) old new there =
-    (new ≤ length w.groups → IsGrouplessTerm w here l there) × (length w.groups < new → (length w.groups < old) ⊎ none)
+    (new ≤ length w.groups → TextBetweenIsGrouplessTerm w here l there) × (length w.groups < new → (length w.groups < old) ⊎ none)
 IsReadOrNot none w here (Err e) old new there = IsTrue (is_syntax_error e) → none
 
 -- an atom is read, or no atom is here
-abbrev pub IsAtomRead : PatternContext → (here : RemainingCodePoints) → Result GrouplessTerm ParseFault → (old new : ℕ) → (there : RemainingCodePoints) → Type 0
-IsAtomRead w here r old new there = IsReadOrNot (NoSimpleAtom w here) w here r old new there
+abbrev pub IsAtomReadIfPresent : PatternContext → (here : RemainingCodePoints) → Result GrouplessTerm ParseStopReason → (old new : ℕ) → (there : RemainingCodePoints) → Type 0
+IsAtomReadIfPresent w here r old new there = IsReadOrNot (NoSimpleAtom w here) w here r old new there
 
 -- a term is read, or no term is here
-abbrev pub IsGrouplessTermRead : PatternContext → (here : RemainingCodePoints) → Result GrouplessTerm ParseFault → (old new : ℕ) → (there : RemainingCodePoints) → Type 0
-IsGrouplessTermRead w here r old new there = IsReadOrNot (NoTerm w here) w here r old new there
+abbrev pub IsGrouplessTermReadIfPresent : PatternContext → (here : RemainingCodePoints) → Result GrouplessTerm ParseStopReason → (old new : ℕ) → (there : RemainingCodePoints) → Type 0
+IsGrouplessTermReadIfPresent w here r old new there = IsReadOrNot (NoTerm w here) w here r old new there
 
 -- the text between the two opens no group
 abbrev pub TextBetweenOpensNoGroup : (here there : RemainingCodePoints) → Type 0
-TextBetweenOpensNoGroup here there = scanned_group_names false here ≡ scanned_group_names false there
+TextBetweenOpensNoGroup here there = scanned_names_per_capturing_group false here ≡ scanned_names_per_capturing_group false there
 
 -- a parenthesis or a `|`, with which no simple term begins
 abbrev pub is_paren_or_bar : ℕ → Bool
@@ -96,9 +96,9 @@ abbrev pub is_brace_or_closing_bracket : ℕ → Bool
 is_brace_or_closing_bracket c = c ∈ "{}]"
 
 -- the term of `^`, `$` or `.`, or the code point is none of them
-abbrev pub IsAnchorOrDotTermIfAny : PatternContext → (c : ℕ) → (there : RemainingCodePoints) → Option GrouplessTerm → Type 0
-IsAnchorOrDotTermIfAny w c there (Some l) = IsGrouplessTerm w (c ∷ there) l there
-IsAnchorOrDotTermIfAny w c there None = c ∈ "^$." ≡ false
+abbrev pub AnchorOrDotReadIfPresent : PatternContext → (c : ℕ) → (there : RemainingCodePoints) → Option GrouplessTerm → Type 0
+AnchorOrDotReadIfPresent w c there (Some l) = TextBetweenIsGrouplessTerm w (c ∷ there) l there
+AnchorOrDotReadIfPresent w c there None = c ∈ "^$." ≡ false
 
 -- the code point cannot be a term: it belongs to a quantifier, or it is a brace or bracket that is
 -- refused; or it can be a term
@@ -120,13 +120,13 @@ IsNamed numbers here there n =
 
 -- the number of `<name>` is read; after a syntax error no name here has the number of a group.
 -- Nothing is claimed on allocation failure.
-abbrev pub IsReferencedNameNumberRead : (numbers : RemainingCodePoints → Option ℕ) → (here : RemainingCodePoints) → Result ℕ ParseFault → (there : RemainingCodePoints) → Type 0
+abbrev pub IsReferencedNameNumberRead : (numbers : RemainingCodePoints → Option ℕ) → (here : RemainingCodePoints) → Result ℕ ParseStopReason → (there : RemainingCodePoints) → Type 0
 IsReferencedNameNumberRead numbers here (Ok n) there = IsNamed numbers here there n
 IsReferencedNameNumberRead numbers here (Err e) there =
     IsTrue (is_syntax_error e) → (end : RemainingCodePoints) (n : ℕ) → IsNamed numbers here end n → 0 < n → ⊥
 
 -- the number, if there is one and it is not 0
-abbrev pub IsNumberUnlessMissingOrZero : Option ℕ → Result ℕ ParseFault → Type 0
+abbrev pub IsNumberUnlessMissingOrZero : Option ℕ → Result ℕ ParseStopReason → Type 0
 IsNumberUnlessMissingOrZero number (Ok n) = (number ≡ Some n) × (0 < n)
 IsNumberUnlessMissingOrZero number (Err e) = (n : ℕ) → number ≡ Some n → 0 < n → ⊥
 
@@ -143,7 +143,7 @@ IsReference numbers here there n =
 
 -- the number of a reference is read; after a syntax error no reference here is to a group.
 -- Nothing is claimed on allocation failure.
-abbrev pub IsReferencedGroupNumberRead : (numbers : RemainingCodePoints → Option ℕ) → (here : RemainingCodePoints) → Result ℕ ParseFault → (there : RemainingCodePoints) → Type 0
+abbrev pub IsReferencedGroupNumberRead : (numbers : RemainingCodePoints → Option ℕ) → (here : RemainingCodePoints) → Result ℕ ParseStopReason → (there : RemainingCodePoints) → Type 0
 IsReferencedGroupNumberRead numbers here (Ok n) there = IsReference numbers here there n
 IsReferencedGroupNumberRead numbers here (Err e) there =
     IsTrue (is_syntax_error e) → (end : RemainingCodePoints) (n : ℕ) → IsReference numbers here end n → 0 < n → n < 2 ^ 32 → ⊥

@@ -18,8 +18,8 @@ optional_interval_as_list None = []
 optional_interval_as_list (Some i) = interval_of i ∷ []
 
 -- whether the interval has a member
-abbrev pub is_nonempty : Interval → Bool
-is_nonempty i = nat_le i.first i.last
+abbrev pub is_interval_nonempty : Interval → Bool
+is_interval_nonempty i = nat_le i.first i.last
 
 -- the intervals with those that overlap or touch merged; each must begin at or after the one before
 abbrev pub merged_intervals : Interval → List Interval → List Interval

@@ -5,7 +5,7 @@ use Rattle.regex_meaning.specs.Tree.{capture_group, lookaround, loop, loop_1_cha
 use Rattle.regex_meaning.specs.Text.{Text, Direction}
 use Rattle.regex_meaning.specs.Outcomes.{Groups, outcomes}
 use Rattle.regex_meaning.specs.WellFormedTrees.{is_well_formed}
-use Rattle.regex_meaning.specs.GroupsByNumberAndName.{answers_from, capturing_group_ids_and_names}
+use Rattle.regex_meaning.specs.MatchGroupsByNumberAndName.{answers_from, capturing_group_ids_and_names}
 pub use Rattle.regex_grammar.specs.TreesWithoutCharLoops.{has_no_char_loops}
 
 -- whether the node reads one character and accepts it or not
@@ -40,15 +40,15 @@ rest_of_alternatives (alt left right) = right
 rest_of_alternatives node = node
 
 -- the first alternative of one chain before another chain
-abbrev pub first_alternative_before_chain : (row rest : Node) → Node
-first_alternative_before_chain (alt left right) rest = alt left rest
-first_alternative_before_chain _ rest = rest
+abbrev pub first_alternative_prepended_to_chain : (row rest : Node) → Node
+first_alternative_prepended_to_chain (alt left right) rest = alt left rest
+first_alternative_prepended_to_chain _ rest = rest
 
 -- `count` alternatives whose links were reversed, the last of them first, in their original order
 -- before the rest
 abbrev pub alternatives_with_links_unreversed : (count : ℕ) (done rest : Node) → Node
 alternatives_with_links_unreversed zero done rest = alt done rest
-alternatives_with_links_unreversed (suc count) done rest = alternatives_with_links_unreversed count (rest_of_alternatives done) (first_alternative_before_chain done rest)
+alternatives_with_links_unreversed (suc count) done rest = alternatives_with_links_unreversed count (rest_of_alternatives done) (first_alternative_prepended_to_chain done rest)
 
 -- optimization keeps a tree well formed
 abbrev pub OptimizedIsWellFormed : Type 0

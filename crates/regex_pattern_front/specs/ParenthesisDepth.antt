@@ -1,21 +1,21 @@
 -- The nesting depth of a pattern: the greatest number of parentheses that are open at once.
 use Rattle.std.specs.Prelude.{ℕ, ◌+◌, ◌-◌, true, false, List, if◌then◌else◌, ◌==◌, max}
 use Rattle.std.specs.List.{fold}
-use Rattle.regex_pattern_front.specs.declared.parenthesis_depth.ParenthesisDepthScan.{ParenthesisDepthScan}
+use Rattle.regex_pattern_front.specs.declared.greatest_parenthesis_depth_of_pattern.ParenthesisDepthScan.{ParenthesisDepthScan}
 
 -- the state before anything is read
 abbrev pub scan_start : ParenthesisDepthScan
 scan_start = record { depth = 0; deepest = 0; in_class = false; escaped = false }
 
 -- the state after an opening parenthesis
-abbrev pub after_opening_parenthesis : ParenthesisDepthScan → ParenthesisDepthScan
-after_opening_parenthesis r = record r { depth = r.depth + 1; deepest = max r.deepest (r.depth + 1) }
+abbrev pub depth_scan_after_opening_parenthesis : ParenthesisDepthScan → ParenthesisDepthScan
+depth_scan_after_opening_parenthesis r = record r { depth = r.depth + 1; deepest = max r.deepest (r.depth + 1) }
 
 -- the state after a code point that is not escaped, outside classes: `[` is 91, `(` is 40, `)` is
 -- 41
 abbrev pub after_unescaped : ParenthesisDepthScan → (c : ℕ) → ParenthesisDepthScan
 after_unescaped r c = if c == 91 then record r { in_class = true }
-    else if c == 40 then after_opening_parenthesis r
+    else if c == 40 then depth_scan_after_opening_parenthesis r
     else if c == 41 then record r { depth = r.depth - 1 }
     else r
 

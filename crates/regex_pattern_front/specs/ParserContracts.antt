@@ -5,18 +5,19 @@ use Rattle.regex_grammar.specs.ReadingStatesAndDigits.{RemainingCodePoints}
 use Rattle.regex_grammar.specs.EscapesNamesQuantifiers.{GroupName, BeginsQuantifier, ValidQuantifier}
 use Rattle.regex_grammar.specs.Grammar.{Parses}
 use Rattle.regex_grammar.specs.ParseStack as grammar
-use Rattle.regex_grammar.specs.ParserInvariants.{HasNoTree, HasNoTreeWithinLimit, OpensTooManyGroups, group_names_of, AreWithinGroupLimit, parse_state, IsParserInvariant}
-use Rattle.regex_pattern_front.specs.declared.parser_error.ParseFault.{ParseFault}
+use Rattle.regex_grammar.specs.ParserInvariants.{HasNoTree, HasNoTreeWithinLimit, OpensTooManyGroups, group_names_found_by_scan, AreWithinGroupLimit, parse_state}
+use Rattle.regex_grammar.specs.ParserInvariants.{IsParserInvariant}
+use Rattle.regex_pattern_front.specs.declared.parser_error.ParseStopReason.{ParseStopReason}
 use Rattle.regex_pattern_front.specs.declared.group_openings_and_names.GroupKind.{GroupKind}
 use Rattle.regex_pattern_front.specs.declared.group_openings_and_names.GroupKind.TheVariants.{Capture, Named, Plain, Look}
 use Rattle.regex_pattern_front.specs.declared.ir.Node.{Node}
-use Rattle.regex_pattern_front.specs.declared.group_stack.OpenGroup.{OpenGroup}
+use Rattle.regex_pattern_front.specs.declared.open_groups_and_partial_disjunctions.OpenGroup.{OpenGroup}
 use Rattle.regex_pattern_front.specs.declared.parse.Parser.{Parser}
 use Rattle.regex_pattern_front.specs.declared.parse.Refusal.{Refusal}
 use Rattle.regex_pattern_front.specs.declared.parse.Refusal.TheVariants.{Syntax, TooManyGroups, Memory}
-use Rattle.regex_pattern_front.specs.GroupReaderContracts.{AreGroupNumbers}
+use Rattle.regex_pattern_front.specs.GroupReaderContracts.{MapsNamesToGroupNumbers}
 use Rattle.regex_pattern_front.specs.PartialDisjunctionModel.{disjunction_of}
-use Rattle.regex_pattern_front.specs.CodePointReaderContracts.{is_syntax_error}
+use Rattle.regex_pattern_front.specs.CodePointAndQuantifierReaderContracts.{is_syntax_error}
 use Rattle.regex_pattern_front.specs.AstToSpecTree.{node_of, group_name_bytes, spec_flags_of}
 
 -- ---- Open groups
@@ -49,15 +50,15 @@ group_node_around (Look negate backwards) name start end contents =
 
 -- The result is the term or, if it is an atom with a quantifier, a loop over it. A quantifier is
 -- refused if it is out of order or does not follow an atom; so none follows another term.
-abbrev pub IsTermWithQuantifier :
-    (is_atom : Bool) → (here : RemainingCodePoints) → (start end : ℕ) → tree.Node → Result Node ParseFault → (there : RemainingCodePoints) → Type 0
-IsTermWithQuantifier true here start end term (Ok n) there =
+abbrev pub IsTermWithOptionalQuantifierRead :
+    (is_atom : Bool) → (here : RemainingCodePoints) → (start end : ℕ) → tree.Node → Result Node ParseStopReason → (there : RemainingCodePoints) → Type 0
+IsTermWithOptionalQuantifierRead true here start end term (Ok n) there =
     (opened : List RemainingCodePoints) → length opened ≡ end
     → grammar.IsTerm start term (parse_state here opened) (parse_state there opened) (node_of n)
-IsTermWithQuantifier false here start end term (Ok n) there = (there ≡ here) × (node_of n ≡ term) × ¬ (BeginsQuantifier here)
-IsTermWithQuantifier true here start end term (Err e) there =
+IsTermWithOptionalQuantifierRead false here start end term (Ok n) there = (there ≡ here) × (node_of n ≡ term) × ¬ (BeginsQuantifier here)
+IsTermWithOptionalQuantifierRead true here start end term (Err e) there =
     IsTrue (is_syntax_error e) → BeginsQuantifier here × ((rest : RemainingCodePoints) (q : tree.Quantifier) → ValidQuantifier here rest q → ⊥)
-IsTermWithQuantifier false here start end term (Err e) there = BeginsQuantifier here
+IsTermWithOptionalQuantifierRead false here start end term (Err e) there = BeginsQuantifier here
 
 -- whether the group has a name
 abbrev pub is_named_group : GroupKind → Bool
@@ -68,21 +69,21 @@ is_named_group (Look negate backwards) = false
 
 -- the name of a named group is read and has the number of this group; after a syntax error there is
 -- no such name
-abbrev pub IsGroupNameRead :
+abbrev pub IsOptionalGroupNameRead :
     {R : Type 0} → (numbers : RemainingCodePoints → Option ℕ) → (groups : ℕ) → (named : Bool) → (here : RemainingCodePoints)
-    → Result (Option (String R)) ParseFault → (there : RemainingCodePoints) → Type 0
-IsGroupNameRead numbers groups true here (Ok name) there =
+    → Result (Option (String R)) ParseStopReason → (there : RemainingCodePoints) → Type 0
+IsOptionalGroupNameRead numbers groups true here (Ok name) there =
     GroupName here there (group_name_bytes name) × (numbers (group_name_bytes name) ≡ Some (groups + 1))
-IsGroupNameRead numbers groups false here (Ok name) there = (there ≡ here) × (group_name_bytes name ≡ [])
-IsGroupNameRead numbers groups true here (Err e) there =
+IsOptionalGroupNameRead numbers groups false here (Ok name) there = (there ≡ here) × (group_name_bytes name ≡ [])
+IsOptionalGroupNameRead numbers groups true here (Err e) there =
     IsTrue (is_syntax_error e) → (rest name : RemainingCodePoints) → GroupName here rest name → numbers name ≡ Some (groups + 1) → ⊥
-IsGroupNameRead numbers groups false here (Err e) there = IsTrue (is_syntax_error e) → ⊥
+IsOptionalGroupNameRead numbers groups false here (Err e) there = IsTrue (is_syntax_error e) → ⊥
 
 -- ---- The parser
 
 -- the parser has read the pattern up to `here`
 pub record HasReadPatternUpTo (pattern here : RemainingCodePoints) (p : Parser) : Type 0 where
-  pub numbers : AreWithinGroupLimit (group_names_of pattern) → AreGroupNumbers p.leaves.numbers (group_names_of pattern)
+  pub numbers : AreWithinGroupLimit (group_names_found_by_scan pattern) → MapsNamesToGroupNumbers p.leaves.numbers (group_names_found_by_scan pattern)
   pub few : p.groups ≤ 65535
   pub stands :
       let around = around_from [] p.around.items in
@@ -90,7 +91,7 @@ pub record HasReadPatternUpTo (pattern here : RemainingCodePoints) (p : Parser) 
 
 -- The parser has advanced from `here`; after a syntax error the pattern has no tree, unless it
 -- opens too many groups. Nothing is claimed on allocation failure.
-abbrev pub AdvancesOrHasNoTree : (here : RemainingCodePoints) → (old : Parser) → {A : Type 0} → Result A ParseFault → (new : Parser) → Type 0
+abbrev pub AdvancesOrHasNoTree : (here : RemainingCodePoints) → (old : Parser) → {A : Type 0} → Result A ParseStopReason → (new : Parser) → Type 0
 AdvancesOrHasNoTree here old (Ok u) new =
     (pattern : RemainingCodePoints) → HasReadPatternUpTo pattern here old → HasReadPatternUpTo pattern new.leaves.reader.rest.now new
 AdvancesOrHasNoTree here old (Err e) new =
@@ -98,21 +99,21 @@ AdvancesOrHasNoTree here old (Err e) new =
 
 -- the result is the tree of the pattern; after a syntax error it has none, unless it opens too many
 -- groups. Allocation failure says nothing.
-abbrev pub IsParseResult : {A : Type 0} → (of : A → tree.Tree) → tree.Flags → (pattern : RemainingCodePoints) → Result A ParseFault → Type 0
+abbrev pub IsParseResult : {A : Type 0} → (of : A → tree.Tree) → tree.Flags → (pattern : RemainingCodePoints) → Result A ParseStopReason → Type 0
 IsParseResult of flags pattern (Ok a) = Parses flags pattern (of a)
 IsParseResult of flags pattern (Err e) = IsTrue (is_syntax_error e) → HasNoTreeWithinLimit flags pattern
 
 -- what a refusal says of the pattern; allocation failure says nothing
-abbrev pub Refuses : tree.Flags → (pattern : RemainingCodePoints) → Refusal → Type 0
-Refuses flags pattern (Syntax d) = HasNoTree flags pattern
-Refuses flags pattern (TooManyGroups d) = OpensTooManyGroups pattern
-Refuses flags pattern (Memory e) = Unit {0}
+abbrev pub IsJustifiedRefusal : tree.Flags → (pattern : RemainingCodePoints) → Refusal → Type 0
+IsJustifiedRefusal flags pattern (Syntax d) = HasNoTree flags pattern
+IsJustifiedRefusal flags pattern (TooManyGroups d) = OpensTooManyGroups pattern
+IsJustifiedRefusal flags pattern (Memory e) = Unit {0}
 
 -- the place that a refusal reports is one of the pattern
-abbrev pub IsPlacedIn : (pattern : RemainingCodePoints) → Refusal → Type 0
-IsPlacedIn pattern (Syntax d) = d.at ≤ length pattern
-IsPlacedIn pattern (TooManyGroups d) = d.at ≤ length pattern
-IsPlacedIn pattern (Memory e) = Unit {0}
+abbrev pub RefusalPlaceLiesInPattern : (pattern : RemainingCodePoints) → Refusal → Type 0
+RefusalPlaceLiesInPattern pattern (Syntax d) = d.at ≤ length pattern
+RefusalPlaceLiesInPattern pattern (TooManyGroups d) = d.at ≤ length pattern
+RefusalPlaceLiesInPattern pattern (Memory e) = Unit {0}
 
 -- the pattern has no tree, or it opens too many groups
 abbrev pub IsTextRefused : tree.Flags → (pattern : RemainingCodePoints) → Type 0

@@ -2,7 +2,7 @@
 use Rattle.std.specs.Prelude.{List, [], ◌∷◌, map}
 use Rattle.regex_meaning.specs.Tree as tree
 use Rattle.regex_grammar.specs.ParseStack as grammar
-use Rattle.regex_pattern_front.specs.declared.group_stack.PartialDisjunction.{PartialDisjunction}
+use Rattle.regex_pattern_front.specs.declared.open_groups_and_partial_disjunctions.PartialDisjunction.{PartialDisjunction}
 use Rattle.regex_pattern_front.specs.AstToSpecTree.{node_of}
 
 -- the partial disjunction of the grammar

@@ -4,7 +4,7 @@ use Rattle.std.specs.List.{All}
 use Rattle.regex_meaning.specs.Tree as tree
 use Rattle.regex_meaning.specs.Tree.{group_ids, every_node_passes}
 use Rattle.regex_meaning.specs.WellFormedTrees.{number_of_goal_nodes}
-pub use Rattle.regex_grammar.specs.SubtreeInvariants.{is_sound, occurrences_of_id, once_within, IsSoundSubtree, IsSoundGrouplessTree}
+pub use Rattle.regex_grammar.specs.SubtreeInvariants.{is_sound, occurrences_of_id, once_within, IsSoundSubtreeWithGroupIds, IsWellFormedGrouplessSubtree}
 use Rattle.regex_pattern_front.specs.declared.ir.Node.{Node}
 use Rattle.regex_pattern_front.specs.AstToSpecTree.{node_of}
 
@@ -22,10 +22,10 @@ KeepsSubtrees old new = (first end greatest : ℕ) → AreSoundSubtrees first en
 
 -- what is known of the nodes together is known of the one node
 abbrev pub SoundSubtreesMakeSoundNode : List Node → tree.Node → Type 0
-SoundSubtreesMakeSoundNode nodes n = (first end greatest : ℕ) → AreSoundSubtrees first end greatest nodes → IsSoundSubtree first end greatest n
+SoundSubtreesMakeSoundNode nodes n = (first end greatest : ℕ) → AreSoundSubtrees first end greatest nodes → IsSoundSubtreeWithGroupIds first end greatest n
 
 -- one node that has the groups and the `Goal`s of these nodes together
-pub record HasGroupsAndGoalsOfNodes (nodes : List Node) (n : tree.Node) : Type 0 where
+pub record CombinesGroupsAndGoalsOfNodes (nodes : List Node) (n : tree.Node) : Type 0 where
   pub goals : number_of_goal_nodes n ≡ sum_by (λ m. number_of_goal_nodes (node_of m)) nodes
   pub count : length (group_ids n) ≡ sum_by (λ m. length (group_ids (node_of m))) nodes
   pub ids : (id : ℕ) → occurrences_of_id id n ≡ sum_by (λ m. occurrences_of_id id (node_of m)) nodes

@@ -38,23 +38,23 @@ pub struct AsciiBitmap {
 }
 
 impl Default for AsciiBitmap {
-    ghost use Rattle.regex_pattern_front.specs.ByteSetMembers.{ascii_bitmap_bytes};
+    ghost use Rattle.regex_pattern_front.specs.ByteSetMembers.{member_bytes_of_ascii_bitmap};
 
     fn default() -> Self
-        ensures { ascii_bitmap_bytes result ≡ [] }
+        ensures { member_bytes_of_ascii_bitmap result ≡ [] }
     {
         AsciiBitmap { bits: [0; 2] }
     }
 }
 
 impl AsciiBitmap {
-    ghost use Rattle.regex_pattern_front.specs.ByteSetMembers.{ascii_bitmap_bytes};
+    ghost use Rattle.regex_pattern_front.specs.ByteSetMembers.{member_bytes_of_ascii_bitmap};
 
     /// Adds a byte. A byte from 128 on is not ASCII and leaves the set as it is.
     pub fn set(&mut self, byte: u8)
-        ensures added { byte < 128 → ascii_bitmap_bytes self.new
-            ≡ bytes_that_pass (λ b. b == byte || contains (ascii_bitmap_bytes self.old) b) }
-        ensures kept { 128 ≤ byte → ascii_bitmap_bytes self.new ≡ ascii_bitmap_bytes self.old }
+        ensures added { byte < 128 → member_bytes_of_ascii_bitmap self.new
+            ≡ bytes_that_pass (λ b. b == byte || contains (member_bytes_of_ascii_bitmap self.old) b) }
+        ensures kept { 128 ≤ byte → member_bytes_of_ascii_bitmap self.new ≡ member_bytes_of_ascii_bitmap self.old }
     {
         if byte < 128 {
             self.bits[usize::from(byte / 64)] |= 1 << (byte % 64);
@@ -63,9 +63,9 @@ impl AsciiBitmap {
 }
 
 impl ByteSet for AsciiBitmap {
-    ghost use Rattle.regex_pattern_front.specs.ByteSetMembers.{ascii_bitmap_bytes};
+    ghost use Rattle.regex_pattern_front.specs.ByteSetMembers.{member_bytes_of_ascii_bitmap};
 
-    ghost members = { ascii_bitmap_bytes };
+    ghost members = { member_bytes_of_ascii_bitmap };
 
     #[inline(always)]
     fn contains(&self, byte: u8) -> bool {
@@ -86,10 +86,10 @@ pub struct ByteBitmap {
 }
 
 impl Default for ByteBitmap {
-    ghost use Rattle.regex_pattern_front.specs.ByteSetMembers.{byte_bitmap_bytes};
+    ghost use Rattle.regex_pattern_front.specs.ByteSetMembers.{member_bytes_of_byte_bitmap};
 
     fn default() -> Self
-        ensures { byte_bitmap_bytes result ≡ [] }
+        ensures { member_bytes_of_byte_bitmap result ≡ [] }
     {
         ByteBitmap {
             table: [false; 256],
@@ -98,20 +98,21 @@ impl Default for ByteBitmap {
 }
 
 impl ByteBitmap {
-    ghost use Rattle.regex_pattern_front.specs.ByteSetMembers.{byte_bitmap_bytes};
+    ghost use Rattle.regex_pattern_front.specs.ByteSetMembers.{member_bytes_of_byte_bitmap};
 
     /// Adds a byte.
     pub fn set(&mut self, byte: u8)
-        ensures { byte_bitmap_bytes self.new ≡ bytes_that_pass (λ b. b == byte || contains (byte_bitmap_bytes self.old) b) }
+        ensures { member_bytes_of_byte_bitmap self.new ≡ bytes_that_pass
+            (λ b. b == byte || contains (member_bytes_of_byte_bitmap self.old) b) }
     {
         self.table[usize::from(byte)] = true;
     }
 }
 
 impl ByteSet for ByteBitmap {
-    ghost use Rattle.regex_pattern_front.specs.ByteSetMembers.{byte_bitmap_bytes};
+    ghost use Rattle.regex_pattern_front.specs.ByteSetMembers.{member_bytes_of_byte_bitmap};
 
-    ghost members = { byte_bitmap_bytes };
+    ghost members = { member_bytes_of_byte_bitmap };
 
     #[inline(always)]
     fn contains(&self, byte: u8) -> bool {
@@ -213,9 +214,9 @@ impl SmallArraySet for [u8; 3] {}
 impl SmallArraySet for [u8; 4] {}
 
 impl ByteSearcher for ByteBitmap {
-    ghost use Rattle.regex_pattern_front.specs.ByteSetMembers.{byte_bitmap_bytes};
+    ghost use Rattle.regex_pattern_front.specs.ByteSetMembers.{member_bytes_of_byte_bitmap};
 
-    ghost stands_at = { λ s bytes. is_member_byte_at_index (byte_bitmap_bytes s) bytes };
+    ghost stands_at = { λ s bytes. is_member_byte_at_index (member_bytes_of_byte_bitmap s) bytes };
 
     #[inline(always)]
     fn find_in(&self, bytes: &[u8]) -> Option<usize> {

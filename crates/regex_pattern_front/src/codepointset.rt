@@ -5,7 +5,7 @@ ghost use Rattle.std.specs.List.{All};
 ghost use Rattle.std.specs.List.Sorted.{IsNonDecreasingBy, IsPermutation};
 ghost use Rattle.regex_meaning.specs.Outcomes.{in_intervals};
 ghost use Rattle.regex_grammar.specs.CharacterClasses.{AreCanonicalIntervals};
-ghost use Rattle.regex_pattern_front.specs.Intervals.{interval_of, IntervalsAreInOrder, is_nonempty, merged_intervals, gaps_between_intervals};
+ghost use Rattle.regex_pattern_front.specs.Intervals.{interval_of, IntervalsAreInOrder, is_interval_nonempty, merged_intervals, gaps_between_intervals};
 
 use std::alloc::{AllocError, Global};
 use std::marker::Model;
@@ -56,7 +56,8 @@ impl CodePointSet {
     ///
     /// Returns an error on allocation failure.
     pub fn from_intervals(alloc: Global, intervals: &[Interval]) -> Result<Self, AllocError>
-        ensures members { IfOk result (λ s. (c : ℕ) → in_intervals s c ≡ in_intervals (map interval_of intervals.now) c) }
+        ensures members { IfOk result (λ s. (c : ℕ) → in_intervals s c ≡ in_intervals
+            (map interval_of intervals.now) c) }
         ensures apart { IfOk result (λ s. AreCanonicalIntervals s) }
     {
         let sorted = sorted(alloc, intervals)?;
@@ -125,7 +126,7 @@ fn sorted(alloc: Global, intervals: &[Interval]) -> Result<Vec<Interval>, AllocE
 
 // Returns the nonempty intervals.
 fn holding(alloc: Global, intervals: &[Interval]) -> Result<Vec<Interval>, AllocError>
-    ensures { IfOk result (λ v. v.items ≡ filter is_nonempty intervals.now) }
+    ensures { IfOk result (λ v. v.items ≡ filter is_interval_nonempty intervals.now) }
 {
     let mut holding = Vec::new(alloc);
     for interval in intervals {

@@ -67,6 +67,14 @@ pub enum Cause {
     /// `\0` before a digit, or `\1` to `\7` in a class.
     #[error("octal escapes are not supported")]
     OctalEscape,
+    /// In the whole language with `unicode`, `\c` without an ASCII letter after it. No call reads the whole
+    /// language yet.
+    #[error("control escape without a letter")]
+    ControlEscapeWithoutLetter,
+    /// In the whole language with `unicode`, `\0` before a digit, or `\1` to `\7` in a class. No call reads
+    /// the whole language yet.
+    #[error("octal escapes are not allowed with u")]
+    OctalEscapeWithUnicode,
     /// `\x` without two hexadecimal digits.
     #[error("incomplete hexadecimal escape")]
     HexEscape,
@@ -143,8 +151,8 @@ impl Diagnosis {
     pub fn below(self, pattern: &[u32]) -> CaretDiagnosis<'_> {
         let (before, behind) = pattern.split_at(self.at.min(pattern.len()));
         CaretDiagnosis {
-            before: LinePartAsCodePointsOrText::CodePoints(last_line(before)),
-            behind: LinePartAsCodePointsOrText::CodePoints(first_line(behind)),
+            before: PatternLinePartForDiagnosis::CodePoints(last_line(before)),
+            behind: PatternLinePartForDiagnosis::CodePoints(first_line(behind)),
             cause: self.cause,
         }
     }
@@ -153,10 +161,10 @@ impl Diagnosis {
     pub fn below_text(self, pattern: &str) -> CaretDiagnosis<'_> {
         let (before, behind) = pattern.split_at(self.offset_in(pattern));
         CaretDiagnosis {
-            before: LinePartAsCodePointsOrText::Text(
+            before: PatternLinePartForDiagnosis::Text(
                 before.rsplit_once('\n').map_or(before, |(_, line)| line),
             ),
-            behind: LinePartAsCodePointsOrText::Text(
+            behind: PatternLinePartForDiagnosis::Text(
                 behind.split_once('\n').map_or(behind, |(line, _)| line),
             ),
             cause: self.cause,
@@ -168,8 +176,8 @@ impl Diagnosis {
 #[derive(Clone, Copy, Debug)]
 pub struct CaretDiagnosis<'p> {
     // The line before the error, and from the error on.
-    before: LinePartAsCodePointsOrText<'p>,
-    behind: LinePartAsCodePointsOrText<'p>,
+    before: PatternLinePartForDiagnosis<'p>,
+    behind: PatternLinePartForDiagnosis<'p>,
     cause: Cause,
 }
 
@@ -187,27 +195,27 @@ impl fmt::Display for CaretDiagnosis<'_> {
 
 // A piece of a line of a pattern.
 #[derive(Clone, Copy, Debug)]
-enum LinePartAsCodePointsOrText<'p> {
+enum PatternLinePartForDiagnosis<'p> {
     CodePoints(&'p [u32]),
     Text(&'p str),
 }
 
-impl LinePartAsCodePointsOrText<'_> {
+impl PatternLinePartForDiagnosis<'_> {
     fn columns(self) -> usize {
         match self {
-            LinePartAsCodePointsOrText::CodePoints(points) => points.len(),
-            LinePartAsCodePointsOrText::Text(text) => text.chars().count(),
+            PatternLinePartForDiagnosis::CodePoints(points) => points.len(),
+            PatternLinePartForDiagnosis::Text(text) => text.chars().count(),
         }
     }
 
     fn write<W: fmt::Write>(self, f: &mut fmt::Formatter<W>) -> fmt::Result {
         match self {
-            LinePartAsCodePointsOrText::CodePoints(points) => {
+            PatternLinePartForDiagnosis::CodePoints(points) => {
                 for c in points {
                     write!(f, "{}", shown(*c))?;
                 }
             }
-            LinePartAsCodePointsOrText::Text(text) => {
+            PatternLinePartForDiagnosis::Text(text) => {
                 for c in text.chars() {
                     write!(f, "{}", shown(u32::from(c)))?;
                 }

@@ -1,20 +1,26 @@
 //! Escapes after a backslash, and group names.
 
 ghost use Rattle.std.specs.Prelude.{◌≡◌, ◌≤◌, ◌∷◌, length, string_bytes, Bool, not, ◌&&◌, ◌==◌, IfErr, IfSome, IsTrue, if◌then◌else◌};
-ghost use Rattle.regex_grammar.specs.EscapesNamesQuantifiers.{CharacterEscape, GroupName, control_escape_code_point, is_ascii_identifier_start, is_ascii_identifier_part, FixedHexDigits, UnicodeEscape, is_lead_surrogate};
+ghost use Rattle.regex_grammar.specs.EscapesNamesQuantifiers.{CharacterEscape, GroupName, control_escape_code_point, is_ascii_identifier_start, is_ascii_identifier_part};
+ghost use Rattle.regex_grammar.specs.EscapesNamesQuantifiers.{FixedHexDigits, UnicodeEscape, is_lead_surrogate};
 ghost use Rattle.regex_grammar.specs.EscapesNamesQuantifiers.{is_trail_surrogate};
-ghost use Rattle.regex_pattern_front.specs.CodePointReaderContracts.{IsReadOrNothingCanBeRead, IsReadOr, IsGroupNameLetter, IsTrailSurrogateEscapeRead, IsPairedWithTrailSurrogate, IsBracedCodePointEscape, is_syntax_error};
+ghost use Rattle.regex_pattern_front.specs.CodePointAndQuantifierReaderContracts.{IsReadOrNothingCanBeRead, IsReadOr, ResultIsGroupNameLetterOrNone};
+ghost use Rattle.regex_pattern_front.specs.CodePointAndQuantifierReaderContracts.{IsOptionalTrailSurrogateEscapeRead};
+ghost use Rattle.regex_pattern_front.specs.CodePointAndQuantifierReaderContracts.{PairsWithTrailSurrogateIfAny, IsCodePointAndClosingBrace, is_syntax_error};
 
-use crate::code_point_reader::PatternReader;
+use crate::code_point_and_quantifier_reader::PatternReader;
 use crate::codepointset::CODE_POINT_MAX;
 use crate::diagnosis::Cause;
-use crate::parser_error::ParseFault;
+use crate::parser_error::ParseStopReason;
 use std::alloc::Global;
 
 /// Reads an escape of one character after its backslash (ECMA-262, 21.2.1 `CharacterEscape`): `t n
 /// v f r`, `0` with no digit after it, `xHH`, `uHHHH`, with `unicode` `u{H..}`, or any code point
 /// except an ASCII letter or digit.
-pub(crate) fn character_escape(reader: &mut PatternReader, unicode: bool) -> Result<u32, ParseFault>
+pub(crate) fn character_escape(
+    reader: &mut PatternReader,
+    unicode: bool,
+) -> Result<u32, ParseStopReason>
     ensures moves { length reader.new.rest.now ≤ length reader.old.rest.now }
     ensures text { IsReadOrNothingCanBeRead (CharacterEscape unicode reader.old.rest.now) result reader.new.rest.now }
     ensures syntax { IfErr result (λ e. IsTrue (is_syntax_error e)) }
@@ -32,7 +38,8 @@ pub(crate) fn character_escape(reader: &mut PatternReader, unicode: bool) -> Res
 // Returns the character of an escape that begins with this code point.
 fn character_of_escape(reader: &mut PatternReader, c: u32, unicode: bool) -> Result<u32, Cause>
     ensures moves { length reader.new.rest.now ≤ length reader.old.rest.now }
-    ensures text { IsReadOrNothingCanBeRead (CharacterEscape unicode (c ∷ reader.old.rest.now)) result reader.new.rest.now }
+    ensures text { IsReadOrNothingCanBeRead (CharacterEscape unicode (c ∷ reader.old.rest.now)) result
+        reader.new.rest.now }
 {
     match char::from_u32(c) {
         Some('0') => null(reader),
@@ -45,8 +52,8 @@ fn character_of_escape(reader: &mut PatternReader, c: u32, unicode: bool) -> Res
     }
 }
 
-// Returns the control character of a letter (`ControlEscape`).
-fn control_escape_code_point(letter: char) -> Option<u32>
+/// Returns the control character of a letter (`ControlEscape`).
+pub(crate) fn control_escape_code_point(letter: char) -> Option<u32>
     ensures { result ≡ control_escape_code_point letter }
 {
     match letter {
@@ -72,7 +79,8 @@ fn invalid_escape_cause(letter: char) -> Cause {
 
 // Reads the rest of `\0`; no digit may follow.
 fn null(reader: &PatternReader) -> Result<u32, Cause>
-    ensures { (unicode : Bool) → IsReadOrNothingCanBeRead (CharacterEscape unicode (48 ∷ reader.now.rest.now)) result reader.now.rest.now }
+    ensures { (unicode : Bool) → IsReadOrNothingCanBeRead (CharacterEscape unicode (48 ∷ reader.now.rest.now)) result
+        reader.now.rest.now }
 {
     match reader.peek() {
         Some(c) if c.is_ascii_digit() => Err(Cause::OctalEscape),
@@ -80,17 +88,17 @@ fn null(reader: &PatternReader) -> Result<u32, Cause>
     }
 }
 
-// Reads two hexadecimal digits.
-fn read_two_hex_digits(reader: &mut PatternReader) -> Result<u32, Cause>
+/// Reads two hexadecimal digits.
+pub(crate) fn read_two_hex_digits(reader: &mut PatternReader) -> Result<u32, Cause>
     ensures moves { length reader.new.rest.now ≤ length reader.old.rest.now }
     ensures text { IsReadOrNothingCanBeRead (FixedHexDigits 2 reader.old.rest.now) result reader.new.rest.now }
 {
     reader.read_hex_digits(2).ok_or(Cause::HexEscape)
 }
 
-// Reads the rest of an escape after `\u`. With `unicode`, two surrogates that make a pair are one
-// character.
-fn unicode_escape(reader: &mut PatternReader, unicode: bool) -> Result<u32, Cause>
+/// Reads the rest of an escape after `\u`. With `unicode`, two surrogates that make a pair are one
+/// character.
+pub(crate) fn unicode_escape(reader: &mut PatternReader, unicode: bool) -> Result<u32, Cause>
     ensures moves { length reader.new.rest.now ≤ length reader.old.rest.now }
     ensures text { IsReadOrNothingCanBeRead (UnicodeEscape unicode reader.old.rest.now) result reader.new.rest.now }
 {
@@ -116,7 +124,7 @@ fn code_unit(reader: &mut PatternReader) -> Result<u32, Cause>
 // surrogate follows it.
 fn paired(reader: &mut PatternReader, c: u32) -> u32
     ensures moves { length reader.new.rest.now ≤ length reader.old.rest.now }
-    ensures text { IsPairedWithTrailSurrogate c reader.old.rest.now result reader.new.rest.now }
+    ensures text { PairsWithTrailSurrogateIfAny c reader.old.rest.now result reader.new.rest.now }
 {
     if !is_lead_surrogate(c) {
         return c;
@@ -129,13 +137,13 @@ fn paired(reader: &mut PatternReader, c: u32) -> u32
     0x1_0000 + (c - 0xD800) * 0x400 + (low - 0xDC00)
 }
 
-fn is_lead_surrogate(c: u32) -> bool
+pub(crate) fn is_lead_surrogate(c: u32) -> bool
     ensures { result ≡ is_lead_surrogate c }
 {
     0xD800 <= c && c <= 0xDBFF
 }
 
-fn is_trail_surrogate(c: u32) -> bool
+pub(crate) fn is_trail_surrogate(c: u32) -> bool
     ensures { result ≡ is_trail_surrogate c }
 {
     0xDC00 <= c && c <= 0xDFFF
@@ -144,7 +152,8 @@ fn is_trail_surrogate(c: u32) -> bool
 // Reads the rest of an escape after `\u{`.
 fn code_point(reader: &mut PatternReader) -> Result<u32, Cause>
     ensures moves { length reader.new.rest.now ≤ length reader.old.rest.now }
-    ensures text { IsReadOrNothingCanBeRead (IsBracedCodePointEscape reader.old.rest.now) result reader.new.rest.now }
+    ensures text { IsReadOrNothingCanBeRead (IsCodePointAndClosingBrace reader.old.rest.now) result
+        reader.new.rest.now }
 {
     let c = reader.read_number_in_base(16).ok_or(Cause::UnicodeEscape)?;
     if !reader.eat('}') {
@@ -160,7 +169,7 @@ fn code_point(reader: &mut PatternReader) -> Result<u32, Cause>
 fn low_surrogate(reader: &mut PatternReader) -> Option<u32>
     ensures moves { length reader.new.rest.now ≤ length reader.old.rest.now }
     ensures range { IfSome result (λ c. (0xDC00 ≤ c) × (c ≤ 0xDFFF)) }
-    ensures text { IsTrailSurrogateEscapeRead reader.old.rest.now result reader.new.rest.now }
+    ensures text { IsOptionalTrailSurrogateEscapeRead reader.old.rest.now result reader.new.rest.now }
 {
     if !reader.eat('\\') {
         return None;
@@ -174,7 +183,7 @@ fn low_surrogate(reader: &mut PatternReader) -> Option<u32>
 
 /// Reads a name after its `<`, and the `>`: ASCII letters and digits, `_` and `$`, with no digit
 /// first.
-pub(crate) fn name(alloc: Global, reader: &mut PatternReader) -> Result<String, ParseFault>
+pub(crate) fn name(alloc: Global, reader: &mut PatternReader) -> Result<String, ParseStopReason>
     ensures moves { length reader.new.rest.now ≤ length reader.old.rest.now }
     ensures text { IsReadOr (λ s. string_bytes s) (GroupName reader.old.rest.now) result reader.new.rest.now }
 {
@@ -211,15 +220,15 @@ fn ends_name(c: u32, is_first: bool) -> bool
 
 // Returns the code point as a `char` if it is allowed in a name.
 fn letter_of_name(c: u32, is_first: bool) -> Option<char>
-    ensures { IsGroupNameLetter is_first c result }
+    ensures { ResultIsGroupNameLetterOrNone is_first c result }
 {
     match char::from_u32(c) {
-        Some(letter) if may_stand_in_name(letter, is_first) => Some(letter),
+        Some(letter) if is_allowed_in_name(letter, is_first) => Some(letter),
         _ => None,
     }
 }
 
-fn may_stand_in_name(c: char, is_first: bool) -> bool
+fn is_allowed_in_name(c: char, is_first: bool) -> bool
     ensures { result ≡ (if is_first then is_ascii_identifier_start c else is_ascii_identifier_part c) }
 {
     c.is_ascii_alphabetic() || c == '_' || c == '$' || c.is_ascii_digit() && !is_first

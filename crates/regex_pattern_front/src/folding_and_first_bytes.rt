@@ -2,10 +2,10 @@
 
 ghost use Rattle.std.specs.Prelude.{◌≡◌, ◌<◌, ◌≤◌, ◌||◌, ℕ, Bool, Some, IfOk, [], ◌∷◌, ◌++◌, slice_get, encode_utf8, if◌then◌else◌, ◌==◌};
 ghost use Rattle.regex_meaning.specs.NumberListHelpers.{contains};
-ghost use Rattle.regex_meaning.specs.Text.{fold_code_point, expand_code_point, all_with_fold, nonascii_with_fold, nonascii_folds_to_ascii_word_char};
+ghost use Rattle.regex_meaning.specs.Text.{fold_code_point, expand_code_point, code_points_with_fold, nonascii_with_fold, nonascii_folds_to_ascii_word_char};
 ghost use Rattle.regex_meaning.specs.Text.{to_ascii_lowercase, to_ascii_uppercase};
 ghost use Rattle.regex_meaning.specs.StartPredicate.{bytes_that_pass, chars_with_first_byte, intersects};
-ghost use Rattle.regex_pattern_front.specs.{ByteSetMembers.{byte_bitmap_bytes}, Intervals.{interval_of, optional_interval_as_list}};
+ghost use Rattle.regex_pattern_front.specs.{ByteSetMembers.{member_bytes_of_byte_bitmap}, Intervals.{interval_of, optional_interval_as_list}};
 
 use crate::bytesearch::ByteBitmap;
 use crate::codepointset::{CODE_POINT_MAX, Interval};
@@ -60,15 +60,15 @@ pub fn expand_code_point(
     ensures { IfOk result (λ members. members.items ≡ expand_code_point c icase unicode) }
 {
     if icase {
-        all_with_fold(alloc, fold_code_point(c, unicode), unicode)
+        code_points_with_fold(alloc, fold_code_point(c, unicode), unicode)
     } else {
         Ok(vec![in alloc; c]?)
     }
 }
 
 // Returns all code points with this fold, in increasing order.
-fn all_with_fold(alloc: Global, folded: u32, unicode: bool) -> Result<Vec<u32>, AllocError>
-    ensures { IfOk result (λ members. members.items ≡ all_with_fold unicode folded) }
+fn code_points_with_fold(alloc: Global, folded: u32, unicode: bool) -> Result<Vec<u32>, AllocError>
+    ensures { IfOk result (λ members. members.items ≡ code_points_with_fold unicode folded) }
 {
     let upper = to_ascii_uppercase(folded);
     let lower = to_ascii_lowercase(folded);
@@ -114,8 +114,9 @@ pub fn utf8_first_byte(c: u32) -> u8
 
 /// Adds the first UTF-8 bytes of the interval's code points, up to U+10FFFF.
 pub fn add_utf8_first_bytes_to_bitmap(interval: Interval, bitmap: &mut ByteBitmap)
-    ensures { byte_bitmap_bytes bitmap.new ≡ bytes_that_pass (λ b.
-        contains (byte_bitmap_bytes bitmap.old) b || intersects (chars_with_first_byte b) (interval_of interval ∷ [])) }
+    ensures { member_bytes_of_byte_bitmap bitmap.new ≡ bytes_that_pass (λ b.
+        contains (member_bytes_of_byte_bitmap bitmap.old) b || intersects (chars_with_first_byte b)
+        (interval_of interval ∷ [])) }
 {
     // No other byte can be a first byte, since first bytes increase with the code points.
     let least = utf8_first_byte(interval.first.min(CODE_POINT_MAX));

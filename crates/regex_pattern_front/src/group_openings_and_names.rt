@@ -1,15 +1,17 @@
 //! Groups: how they open, and a scan for the names of all groups of a pattern.
 
 ghost use Rattle.std.specs.Prelude.{◌≡◌, ◌≤◌, ◌∷◌, ◌==◌, ◌&&◌, not, [], false, length, string_bytes, IfErr, IfOk, IsTrue, OnOk};
-ghost use Rattle.regex_grammar.specs.{GroupNameScan.{group_name_at, name_of_opened_group, scanned_group_names}, ReadingStatesAndDigits.{RemainingCodePoints}};
-ghost use Rattle.regex_pattern_front.specs.GroupReaderContracts.{IsLookaroundPolaritySignRead, IsOpeningRead, AreCountedAndNumbered, RecordsFurtherGroupsInScan, ScansCodePointAndGroupName, group_numbers_adding_absent_name};
-ghost use Rattle.regex_pattern_front.specs.CodePointReaderContracts.{is_syntax_error};
+ghost use Rattle.regex_grammar.specs.GroupNameScan.{group_name_at, name_of_opened_group, scanned_names_per_capturing_group};
+ghost use Rattle.regex_grammar.specs.ReadingStatesAndDigits.{RemainingCodePoints};
+ghost use Rattle.regex_pattern_front.specs.GroupReaderContracts.{IsLookaroundPolaritySignRead, IsOpeningRead, AreCountedAndNumbered, RecordsFurtherGroupsInScan};
+ghost use Rattle.regex_pattern_front.specs.GroupReaderContracts.{GroupNameScanProcessesCodePoint, group_numbers_adding_absent_name};
+ghost use Rattle.regex_pattern_front.specs.CodePointAndQuantifierReaderContracts.{is_syntax_error};
 ghost use Rattle.std.specs.BTreeMap.{get_by_text};
 
-use crate::code_point_reader::PatternReader;
+use crate::code_point_and_quantifier_reader::PatternReader;
 use crate::diagnosis::Cause;
 use crate::escapes_and_group_names::name;
-use crate::parser_error::ParseFault;
+use crate::parser_error::ParseStopReason;
 use crate::types::{CaptureGroupID, MAX_CAPTURE_GROUPS};
 use std::alloc::{AllocError, Global};
 use std::collections::BTreeMap;
@@ -28,7 +30,7 @@ pub(crate) enum GroupKind {
 }
 
 impl GroupKind {
-    ghost use Rattle.regex_pattern_front.specs.{GroupReaderContracts.{is_reversed_in, takes_quantifier}, GroupIdsWhileParsing.{captures_opened_by_group_kind}};
+    ghost use Rattle.regex_pattern_front.specs.{GroupReaderContracts.{is_reversed_in, takes_quantifier}, ParserGroupIdInvariant.{captures_opened_by_group_kind}};
 
     /// Returns the number of capturing groups that it opens: 0 or 1.
     pub(crate) fn captures_opened_by_group_kind(self) -> CaptureGroupID
@@ -42,7 +44,7 @@ impl GroupKind {
 
     /// Returns whether terms inside it are stored in reverse order, given whether those outside
     /// are.
-    pub(crate) fn reverses_terms(self, outside: bool) -> bool
+    pub(crate) fn are_inner_terms_reversed(self, outside: bool) -> bool
         ensures { result ≡ is_reversed_in self outside }
     {
         match self {
@@ -60,7 +62,7 @@ impl GroupKind {
 }
 
 /// Reads the rest of what opens a group, after its parenthesis.
-pub(crate) fn read_group_kind(reader: &mut PatternReader) -> Result<GroupKind, ParseFault>
+pub(crate) fn read_group_kind(reader: &mut PatternReader) -> Result<GroupKind, ParseStopReason>
     ensures moves { length reader.new.rest.now ≤ length reader.old.rest.now }
     ensures text { IsOpeningRead reader.old.rest.now result reader.new.rest.now }
     ensures syntax { IfErr result (λ e. IsTrue (is_syntax_error e)) }
@@ -123,9 +125,10 @@ pub(crate) struct ScannedGroups {
 /// and too many groups are refused before the pattern is parsed. A name that occurs twice is that
 /// of the first group. Syntax errors are skipped here: the parser reports them.
 pub(crate) fn scan_groups(alloc: Global, pattern: &[u32]) -> Result<ScannedGroups, AllocError>
-    ensures { IfOk result (λ found. AreCountedAndNumbered found.count found.numbers (scanned_group_names false pattern.now)) }
+    ensures { IfOk result (λ found. AreCountedAndNumbered found.count found.numbers
+        (scanned_names_per_capturing_group false pattern.now)) }
 {
-    let mut scan = GroupNameScanState {
+    let mut scan = GroupAndNameScanState {
         numbers: BTreeMap::new(alloc),
         groups: 0,
         in_class: false,
@@ -145,13 +148,13 @@ pub(crate) fn scan_groups(alloc: Global, pattern: &[u32]) -> Result<ScannedGroup
 
 // State of the scan: the numbers of the names, the number of groups, and whether a class is open.
 #[derive(Drop)]
-struct GroupNameScanState {
+struct GroupAndNameScanState {
     numbers: GroupNumbers,
     groups: u32,
     in_class: bool,
 }
 
-impl GroupNameScanState {
+impl GroupAndNameScanState {
     // Processes a code point; the reader is after it.
     fn scan_code_point(
         &mut self,
@@ -159,7 +162,7 @@ impl GroupNameScanState {
         c: u32,
         reader: PatternReader,
     ) -> Result<(), AllocError>
-        ensures { OnOk result (ScansCodePointAndGroupName self.old self.new c reader.entry.rest.now) }
+        ensures { OnOk result (GroupNameScanProcessesCodePoint self.old self.new c reader.entry.rest.now) }
     {
         if c == '[' as u32 {
             self.in_class = true;
@@ -194,7 +197,8 @@ impl GroupNameScanState {
 
     // Records a group whose parenthesis is just before the reader.
     fn note_group(&mut self, alloc: Global, mut reader: PatternReader) -> Result<(), AllocError>
-        ensures { OnOk result (RecordsFurtherGroupsInScan self.old self.new (name_of_opened_group reader.entry.rest.now)) }
+        ensures { OnOk result (RecordsFurtherGroupsInScan self.old self.new
+            (name_of_opened_group reader.entry.rest.now)) }
     {
         match read_group_kind(&mut reader) {
             Ok(GroupKind::Capture) => {
@@ -210,13 +214,14 @@ impl GroupNameScanState {
 
     // Records a group and its name, which is read here, unless an earlier group has the name.
     fn note_name(&mut self, alloc: Global, mut reader: PatternReader) -> Result<(), AllocError>
-        ensures { OnOk result (RecordsFurtherGroupsInScan self.old self.new (group_name_at reader.entry.rest.now ∷ [])) }
+        ensures { OnOk result (RecordsFurtherGroupsInScan self.old self.new
+            (group_name_at reader.entry.rest.now ∷ [])) }
     {
         self.groups = self.groups.saturating_add(1);
         match name(alloc, &mut reader) {
             Ok(name) => self.number(name),
-            Err(ParseFault::Refused { .. }) => Ok(()),
-            Err(ParseFault::Memory(refused)) => Err(refused),
+            Err(ParseStopReason::Refused { .. }) => Ok(()),
+            Err(ParseStopReason::Memory(refused)) => Err(refused),
         }
     }
 
@@ -224,7 +229,8 @@ impl GroupNameScanState {
     fn number(&mut self, name: String) -> Result<(), AllocError>
         ensures same { OnOk result ((self.new.groups ≡ self.old.groups) × (self.new.in_class ≡ self.old.in_class)) }
         ensures numbers { OnOk result ((other : RemainingCodePoints) → get_by_text self.new.numbers other
-            ≡ group_numbers_adding_absent_name (string_bytes name) self.old.groups (λ x. get_by_text self.old.numbers x) other) }
+            ≡ group_numbers_adding_absent_name (string_bytes name) self.old.groups
+            (λ x. get_by_text self.old.numbers x) other) }
     {
         if self.numbers.contains_key(name.as_str()) {
             return Ok(());

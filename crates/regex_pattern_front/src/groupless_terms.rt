@@ -4,20 +4,24 @@ ghost use Rattle.std.specs.Prelude.{◌≡◌, ℕ, ◌<◌, ◌≤◌, max, len
 ghost use Rattle.std.specs.BTreeMap.{get_by_text};
 ghost use Rattle.regex_meaning.specs.Tree.{bracket as bracket_of, back_ref};
 ghost use Rattle.regex_grammar.specs.{ReadingStatesAndDigits.{RemainingCodePoints}, Grammar.{character_node}};
-ghost use Rattle.regex_pattern_front.specs.{AstToSpecTree.{node_of, spec_flags_of, class_as_spec}, SubtreeListInvariants.{IsSoundGrouplessTree}, CodePointReaderContracts.{is_syntax_error}};
-ghost use Rattle.regex_pattern_front.specs.GrouplessTermContracts.{pattern_context, AreGroupNumbersAndWithinLimit, IsGrouplessTerm, IsGrouplessTermRead, IsAtomRead, TextBetweenOpensNoGroup, IsAnchorOrDotTermIfAny, RefusesCodePointThatIsNoTerm, is_paren_or_bar};
-ghost use Rattle.regex_pattern_front.specs.GrouplessTermContracts.{is_star_plus_or_question, is_brace_or_closing_bracket, begins_backreference, anchor_sign, boundary_letter, IsReferencedGroupNumberRead, IsReferencedNameNumberRead};
+ghost use Rattle.regex_pattern_front.specs.{AstToSpecTree.{node_of, spec_flags_of, class_as_spec}, SubtreeListInvariants.{IsWellFormedGrouplessSubtree}};
+ghost use Rattle.regex_pattern_front.specs.CodePointAndQuantifierReaderContracts.{is_syntax_error};
+ghost use Rattle.regex_pattern_front.specs.GrouplessTermContracts.{pattern_context, NamesAreNumberedWithinGroupLimit, TextBetweenIsGrouplessTerm};
+ghost use Rattle.regex_pattern_front.specs.GrouplessTermContracts.{IsGrouplessTermReadIfPresent, IsAtomReadIfPresent};
+ghost use Rattle.regex_pattern_front.specs.GrouplessTermContracts.{TextBetweenOpensNoGroup, AnchorOrDotReadIfPresent, RefusesCodePointThatIsNoTerm, is_paren_or_bar};
+ghost use Rattle.regex_pattern_front.specs.GrouplessTermContracts.{is_star_plus_or_question, is_brace_or_closing_bracket, begins_backreference, anchor_sign};
+ghost use Rattle.regex_pattern_front.specs.GrouplessTermContracts.{boundary_letter, IsReferencedGroupNumberRead, IsReferencedNameNumberRead};
 ghost use Rattle.regex_pattern_front.specs.GrouplessTermContracts.{IsNumberUnlessMissingOrZero, IsDecimalReadIfItFitsU32};
 
-use crate::classes::{ClassEscape, read_class};
-use crate::code_point_reader::PatternReader;
+use crate::character_class_parser::{DigitWordOrSpaceEscape, read_class};
+use crate::code_point_and_quantifier_reader::PatternReader;
 use crate::diagnosis::Cause;
 use crate::escapes_and_group_names::{character_escape, name};
 use crate::flags::Flags;
 use crate::folding_and_first_bytes::expand_code_point;
 use crate::group_openings_and_names::GroupNumbers;
 use crate::ir::{AnchorType, Node};
-use crate::parser_error::ParseFault;
+use crate::parser_error::ParseStopReason;
 use crate::types::BracketContents;
 use std::alloc::Global;
 
@@ -43,15 +47,20 @@ pub(crate) struct GrouplessTerm {
 
 impl GrouplessTermReader<'_> {
     /// Reads the term that begins with this code point, which is no parenthesis.
-    pub(crate) fn read_term_without_group(&mut self, c: u32) -> Result<GrouplessTerm, ParseFault>
+    pub(crate) fn read_term_without_group(
+        &mut self,
+        c: u32,
+    ) -> Result<GrouplessTerm, ParseStopReason>
         ensures moves { length self.new.reader.rest.now ≤ length self.old.reader.rest.now }
-        ensures leaf { IfOk result (λ l. IsSoundGrouplessTree self.new.references (node_of l.node)) }
+        ensures leaf { IfOk result (λ l. IsWellFormedGrouplessSubtree self.new.references (node_of l.node)) }
         ensures references { self.old.references ≤ self.new.references }
         ensures same { (self.new.flags ≡ self.old.flags) × (self.new.numbers ≡ self.old.numbers) }
         ensures passed { is_paren_or_bar c ≡ false
             → IfOk result (λ l. TextBetweenOpensNoGroup (c ∷ self.old.reader.rest.now) self.new.reader.rest.now) }
-        ensures text { is_paren_or_bar c ≡ false → (groups : List RemainingCodePoints) → AreGroupNumbersAndWithinLimit self.old.numbers groups
-            → IsGrouplessTermRead (pattern_context self.old.flags groups) (c ∷ self.old.reader.rest.now) result self.old.references
+        ensures text { is_paren_or_bar c ≡ false → (groups : List RemainingCodePoints) →
+            NamesAreNumberedWithinGroupLimit self.old.numbers groups
+            → IsGrouplessTermReadIfPresent (pattern_context self.old.flags groups) (c ∷ self.old.reader.rest.now) result
+            self.old.references
             self.new.references self.new.reader.rest.now }
     {
         if c == '\\' as u32 {
@@ -72,9 +81,9 @@ impl GrouplessTermReader<'_> {
 
     // Returns the term of `^`, `$` or `.`, or `None` for any other code point.
     fn sign(&self, c: u32) -> Option<GrouplessTerm>
-        ensures leaf { IfSome result (λ l. (greatest : ℕ) → IsSoundGrouplessTree greatest (node_of l.node)) }
+        ensures leaf { IfSome result (λ l. (greatest : ℕ) → IsWellFormedGrouplessSubtree greatest (node_of l.node)) }
         ensures text { (groups : List RemainingCodePoints) (there : RemainingCodePoints)
-            → IsAnchorOrDotTermIfAny (pattern_context self.now.flags groups) c there result }
+            → AnchorOrDotReadIfPresent (pattern_context self.now.flags groups) c there result }
     {
         if c == '^' as u32 {
             Some(self.anchor(AnchorType::StartOfLine))
@@ -97,7 +106,7 @@ impl GrouplessTermReader<'_> {
         if !is_brace_or_closing_bracket(c) {
             return None;
         }
-        if c == '{' as u32 && self.reader.begins_braces_quantifier() {
+        if c == '{' as u32 && self.reader.last_read_brace_begins_quantifier() {
             return Some(Cause::NothingToRepeat);
         }
         if self.flags.unicode {
@@ -108,9 +117,10 @@ impl GrouplessTermReader<'_> {
     }
 
     fn anchor(&self, anchor_type: AnchorType) -> GrouplessTerm
-        ensures leaf { (greatest : ℕ) → IsSoundGrouplessTree greatest (node_of result.node) }
+        ensures leaf { (greatest : ℕ) → IsWellFormedGrouplessSubtree greatest (node_of result.node) }
         ensures text { (groups : List RemainingCodePoints) (there : RemainingCodePoints)
-            → IsGrouplessTerm (pattern_context self.now.flags groups) (anchor_sign anchor_type ∷ there) result there }
+            → TextBetweenIsGrouplessTerm (pattern_context self.now.flags groups) (anchor_sign anchor_type ∷ there)
+            result there }
     {
         GrouplessTerm {
             node: Node::Anchor {
@@ -122,9 +132,9 @@ impl GrouplessTermReader<'_> {
     }
 
     fn dot(&self) -> GrouplessTerm
-        ensures leaf { (greatest : ℕ) → IsSoundGrouplessTree greatest (node_of result.node) }
+        ensures leaf { (greatest : ℕ) → IsWellFormedGrouplessSubtree greatest (node_of result.node) }
         ensures text { (groups : List RemainingCodePoints) (there : RemainingCodePoints)
-            → IsGrouplessTerm (pattern_context self.now.flags groups) (46 ∷ there) result there }
+            → TextBetweenIsGrouplessTerm (pattern_context self.now.flags groups) (46 ∷ there) result there }
     {
         if self.flags.dot_all {
             atom(Node::MatchAny)
@@ -135,8 +145,8 @@ impl GrouplessTermReader<'_> {
 
     // Returns the term of a character: with `icase`, if several code points have its fold, the set
     // of them.
-    fn character(&self, c: u32) -> Result<GrouplessTerm, ParseFault>
-        ensures leaf { IfOk result (λ l. (greatest : ℕ) → IsSoundGrouplessTree greatest (node_of l.node)) }
+    fn character(&self, c: u32) -> Result<GrouplessTerm, ParseStopReason>
+        ensures leaf { IfOk result (λ l. (greatest : ℕ) → IsWellFormedGrouplessSubtree greatest (node_of l.node)) }
         ensures atom { IfOk result (λ l. l.is_atom ≡ true) }
         ensures node { IfOk result (λ l. node_of l.node ≡ character_node (spec_flags_of self.now.flags) c) }
         ensures memory { IfErr result (λ e. is_syntax_error e ≡ false) }
@@ -150,14 +160,16 @@ impl GrouplessTermReader<'_> {
     }
 
     // Reads a term after its backslash.
-    fn escape(&mut self) -> Result<GrouplessTerm, ParseFault>
+    fn escape(&mut self) -> Result<GrouplessTerm, ParseStopReason>
         ensures moves { length self.new.reader.rest.now ≤ length self.old.reader.rest.now }
-        ensures leaf { IfOk result (λ l. IsSoundGrouplessTree self.new.references (node_of l.node)) }
+        ensures leaf { IfOk result (λ l. IsWellFormedGrouplessSubtree self.new.references (node_of l.node)) }
         ensures references { self.old.references ≤ self.new.references }
         ensures same { (self.new.flags ≡ self.old.flags) × (self.new.numbers ≡ self.old.numbers) }
-        ensures passed { IfOk result (λ l. TextBetweenOpensNoGroup (92 ∷ self.old.reader.rest.now) self.new.reader.rest.now) }
-        ensures text { (groups : List RemainingCodePoints) → AreGroupNumbersAndWithinLimit self.old.numbers groups
-            → IsGrouplessTermRead (pattern_context self.old.flags groups) (92 ∷ self.old.reader.rest.now) result self.old.references
+        ensures passed { IfOk result (λ l. TextBetweenOpensNoGroup (92 ∷ self.old.reader.rest.now)
+            self.new.reader.rest.now) }
+        ensures text { (groups : List RemainingCodePoints) → NamesAreNumberedWithinGroupLimit self.old.numbers groups
+            → IsGrouplessTermReadIfPresent (pattern_context self.old.flags groups) (92 ∷ self.old.reader.rest.now)
+            result self.old.references
             self.new.references self.new.reader.rest.now }
     {
         if self.reader.eat('b') {
@@ -170,18 +182,20 @@ impl GrouplessTermReader<'_> {
     }
 
     // Reads an atom after its backslash (ECMA-262, 21.2.1 `AtomEscape`).
-    fn atom_escape(&mut self) -> Result<GrouplessTerm, ParseFault>
+    fn atom_escape(&mut self) -> Result<GrouplessTerm, ParseStopReason>
         ensures moves { length self.new.reader.rest.now ≤ length self.old.reader.rest.now }
-        ensures leaf { IfOk result (λ l. IsSoundGrouplessTree self.new.references (node_of l.node)) }
+        ensures leaf { IfOk result (λ l. IsWellFormedGrouplessSubtree self.new.references (node_of l.node)) }
         ensures references { self.old.references ≤ self.new.references }
         ensures same { (self.new.flags ≡ self.old.flags) × (self.new.numbers ≡ self.old.numbers) }
-        ensures passed { IfOk result (λ l. TextBetweenOpensNoGroup (92 ∷ self.old.reader.rest.now) self.new.reader.rest.now) }
-        ensures text { (groups : List RemainingCodePoints) → AreGroupNumbersAndWithinLimit self.old.numbers groups
-            → IsAtomRead (pattern_context self.old.flags groups) (92 ∷ self.old.reader.rest.now) result self.old.references
+        ensures passed { IfOk result (λ l. TextBetweenOpensNoGroup (92 ∷ self.old.reader.rest.now)
+            self.new.reader.rest.now) }
+        ensures text { (groups : List RemainingCodePoints) → NamesAreNumberedWithinGroupLimit self.old.numbers groups
+            → IsAtomReadIfPresent (pattern_context self.old.flags groups) (92 ∷ self.old.reader.rest.now) result
+            self.old.references
             self.new.references self.new.reader.rest.now }
     {
         let letter = self.reader.peek();
-        if let Some(escape) = ClassEscape::of(letter) {
+        if let Some(escape) = DigitWordOrSpaceEscape::of(letter) {
             let _ = self.reader.next();
             let contents = escape.bracket_contents_of_escape(self.alloc, self.flags)?;
             return Ok(bracket(contents));
@@ -196,9 +210,10 @@ impl GrouplessTermReader<'_> {
     }
 
     fn boundary(&self, invert: bool) -> GrouplessTerm
-        ensures leaf { (greatest : ℕ) → IsSoundGrouplessTree greatest (node_of result.node) }
+        ensures leaf { (greatest : ℕ) → IsWellFormedGrouplessSubtree greatest (node_of result.node) }
         ensures text { (groups : List RemainingCodePoints) (there : RemainingCodePoints)
-            → IsGrouplessTerm (pattern_context self.now.flags groups) (92 ∷ boundary_letter invert ∷ there) result there }
+            → TextBetweenIsGrouplessTerm (pattern_context self.now.flags groups) (92 ∷ boundary_letter invert ∷ there)
+            result there }
     {
         GrouplessTerm {
             node: Node::WordBoundary {
@@ -212,7 +227,7 @@ impl GrouplessTermReader<'_> {
     // Returns a reference to a group; `left` code points are left from the reference on.
     fn reference(&mut self, group: u32, left: usize) -> GrouplessTerm
         requires { 0 < group }
-        ensures leaf { IsSoundGrouplessTree self.new.references (node_of result.node) }
+        ensures leaf { IsWellFormedGrouplessSubtree self.new.references (node_of result.node) }
         ensures moves { self.new.reader ≡ self.old.reader }
         ensures references { self.new.references ≡ max self.old.references group }
         ensures same { (self.new.flags ≡ self.old.flags) × (self.new.numbers ≡ self.old.numbers) }
@@ -277,7 +292,7 @@ fn atom(node: Node) -> GrouplessTerm
 }
 
 fn bracket(contents: BracketContents) -> GrouplessTerm
-    ensures leaf { (greatest : ℕ) → IsSoundGrouplessTree greatest (node_of result.node) }
+    ensures leaf { (greatest : ℕ) → IsWellFormedGrouplessSubtree greatest (node_of result.node) }
     ensures atom { result.is_atom ≡ true }
     ensures node { node_of result.node ≡ bracket_of (class_as_spec contents) }
 {
@@ -289,10 +304,11 @@ fn group_number(
     alloc: Global,
     reader: &mut PatternReader,
     numbers: &GroupNumbers,
-) -> Result<u32, ParseFault>
+) -> Result<u32, ParseStopReason>
     ensures moves { length reader.new.rest.now ≤ length reader.old.rest.now }
     ensures counts_from_one { IfOk result (λ group. 0 < group) }
-    ensures text { IsReferencedGroupNumberRead (λ x. get_by_text numbers.now x) reader.old.rest.now result reader.new.rest.now }
+    ensures text { IsReferencedGroupNumberRead (λ x. get_by_text numbers.now x) reader.old.rest.now result
+        reader.new.rest.now }
 {
     let start = *reader;
     if reader.eat('k') {
@@ -308,10 +324,11 @@ fn read_name_reference(
     start: PatternReader,
     reader: &mut PatternReader,
     numbers: &GroupNumbers,
-) -> Result<u32, ParseFault>
+) -> Result<u32, ParseStopReason>
     ensures moves { length reader.new.rest.now ≤ length reader.old.rest.now }
     ensures counts_from_one { IfOk result (λ group. 0 < group) }
-    ensures text { IsReferencedNameNumberRead (λ x. get_by_text numbers.now x) reader.old.rest.now result reader.new.rest.now }
+    ensures text { IsReferencedNameNumberRead (λ x. get_by_text numbers.now x) reader.old.rest.now result
+        reader.new.rest.now }
 {
     if !reader.eat('<') {
         return Err(start.error_at_last_read(Cause::MissingName));
@@ -327,7 +344,7 @@ fn nonzero_group_number(
     start: PatternReader,
     number: Option<u32>,
     cause: Cause,
-) -> Result<u32, ParseFault>
+) -> Result<u32, ParseStopReason>
     ensures counts { IsNumberUnlessMissingOrZero number result }
     ensures syntax { IfErr result (λ e. IsTrue (is_syntax_error e)) }
 {

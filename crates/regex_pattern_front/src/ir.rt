@@ -1,7 +1,9 @@
 //! The pattern tree.
 
 ghost use Rattle.std.specs.Prelude.{◌≡◌, ◌+◌, Some, None};
-ghost use Rattle.regex_pattern_front.specs.{IterativeDropMeasure.{DecreasesDropMeasure, tree_size, node_size, drop_measure_of_size_and_rest, drop_measure_of_node_and_rest}, AstToSpecTree.{cat_of}, declared.ir.Node.{Node}};
+ghost use Rattle.regex_pattern_front.specs.IterativeDropMeasure.{DecreasesDropMeasure, tree_size, node_size, drop_measure_of_size_and_rest};
+ghost use Rattle.regex_pattern_front.specs.IterativeDropMeasure.{drop_measure_of_node_and_rest};
+ghost use Rattle.regex_pattern_front.specs.{AstToSpecTree.{cat_of}, declared.ir.Node.{Node}};
 
 use crate::flags::Flags;
 use crate::types::{BracketContents, CaptureGroupID};
@@ -242,7 +244,8 @@ fn popped(mut children: Vec<Node>) -> NextNodeAndRestToDrop
 }
 
 fn linked(mut children: Vec<Node>, link: Node) -> NextNodeAndRestToDrop
-    ensures { DecreasesDropMeasure result (drop_measure_of_size_and_rest (tree_size (cat_of children.items)) (Some link)) }
+    ensures { DecreasesDropMeasure result (drop_measure_of_size_and_rest (tree_size (cat_of children.items))
+        (Some link)) }
 {
     if children.is_empty() {
         return NextNodeAndRestToDrop::Row(children, Some(link));

@@ -2,7 +2,8 @@
 
 ghost use Rattle.std.specs.Prelude.{◌≡◌};
 ghost use Rattle.regex_pattern_front.specs.{AstToSpecTree.{cat_of, node_of}, declared.ir.Node.TheVariants.{Alt}};
-ghost use Rattle.regex_pattern_front.specs.OptimizedTrees.{reads_one_character, optimized, loop_turned_into_char_loop, rest_of_alternatives, first_alternative_before_chain, alternatives_with_links_unreversed};
+ghost use Rattle.regex_pattern_front.specs.OptimizedTrees.{reads_one_character, optimized, loop_turned_into_char_loop, rest_of_alternatives};
+ghost use Rattle.regex_pattern_front.specs.OptimizedTrees.{first_alternative_prepended_to_chain, alternatives_with_links_unreversed};
 ghost use Rattle.regex_pattern_front.specs.OptimizedTrees.{OptimizedIsWellFormed, OptimizedHasSameOutcomes, OptimizedHasSameAnswers};
 ghost use Rattle.regex_pattern_front.specs.OptimizedTrees.{OptimizedHasSameGroups, OptimizedHasSameNames};
 ghost use Rattle.regex_meaning.specs.Tree.{alt};
@@ -75,7 +76,8 @@ fn optimize_row(first: &mut Node, rest: &mut Node)
 
 // Restores `turned` reversed alternatives, before those after them.
 fn restore_alternatives(done: &mut Node, rest: &mut Node, mut turned: usize)
-    ensures { alt (node_of done.new) (node_of rest.new) ≡ alternatives_with_links_unreversed turned (node_of done.old) (node_of rest.old) }
+    ensures { alt (node_of done.new) (node_of rest.new) ≡ alternatives_with_links_unreversed turned (node_of done.old)
+        (node_of rest.old) }
 {
     while turned > 0 {
         move_alternative(done, rest);
@@ -87,7 +89,7 @@ fn restore_alternatives(done: &mut Node, rest: &mut Node, mut turned: usize)
 #[inline(never)]
 fn move_alternative(from: &mut Node, to: &mut Node)
     ensures from { node_of from.new ≡ rest_of_alternatives (node_of from.old) }
-    ensures to { node_of to.new ≡ first_alternative_before_chain (node_of from.old) (node_of to.old) }
+    ensures to { node_of to.new ≡ first_alternative_prepended_to_chain (node_of from.old) (node_of to.old) }
     ensures part { (left right : _) → from.old ≡ Alt left right → from.new ≡ right.value }
 {
     if let Node::Alt(_, right) = from {

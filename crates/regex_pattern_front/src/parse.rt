@@ -2,23 +2,26 @@
 
 ghost use Rattle.std.specs.Prelude.{◌≡◌, ℕ, ◌+◌, ◌≤◌, ◌∷◌, [], false, length, IfOk, IfErr, IfSome, OnOk, IsTrue, None};
 ghost use Rattle.regex_meaning.specs.{CompilationRelation.{tree_contains_byte_nodes}, Tree.{Tree}, WellFormedTrees.{is_well_formed}};
-ghost use Rattle.regex_pattern_front.specs.{AstToSpecTree.{node_of, tree_of, spec_flags_of, group_name_bytes}, OptimizedTrees.{has_no_char_loops}, SubtreeListInvariants.{IsSoundSubtree}};
-ghost use Rattle.regex_pattern_front.specs.GroupIdsWhileParsing.{OpenDisjunctionsHaveAllGroups, captures_opened_by_group_kind};
-ghost use Rattle.regex_pattern_front.specs.ParserContracts.{HasReadPatternUpTo, IsGroupNameRead, IsParseResult, IsTermWithQuantifier, AdvancesOrHasNoTree, is_named_group, group_node_around, tree_of_root_and_flags};
-ghost use Rattle.regex_pattern_front.specs.ParserContracts.{IsTextRefused, Refuses, IsPlacedIn};
-ghost use Rattle.regex_pattern_front.specs.{GrouplessTermContracts.{is_paren_or_bar}, GroupReaderContracts.{AreGroupNumbers}, ParseErrors.{IsParseErrorOf}};
-ghost use Rattle.regex_grammar.specs.{Grammar.{Parses}, ReadingStatesAndDigits.{RemainingCodePoints}, ParserInvariants.{AreWithinGroupLimit, group_names_of}};
+ghost use Rattle.regex_pattern_front.specs.{AstToSpecTree.{node_of, tree_of, spec_flags_of, group_name_bytes}, OptimizedTrees.{has_no_char_loops}};
+ghost use Rattle.regex_pattern_front.specs.SubtreeListInvariants.{IsSoundSubtreeWithGroupIds};
+ghost use Rattle.regex_pattern_front.specs.ParserGroupIdInvariant.{OpenDisjunctionsHaveAllGroups, captures_opened_by_group_kind};
+ghost use Rattle.regex_pattern_front.specs.ParserContracts.{HasReadPatternUpTo, IsOptionalGroupNameRead, IsParseResult, IsTermWithOptionalQuantifierRead};
+ghost use Rattle.regex_pattern_front.specs.ParserContracts.{AdvancesOrHasNoTree};
+ghost use Rattle.regex_pattern_front.specs.ParserContracts.{is_named_group, group_node_around, tree_of_root_and_flags};
+ghost use Rattle.regex_pattern_front.specs.ParserContracts.{IsTextRefused, IsJustifiedRefusal, RefusalPlaceLiesInPattern};
+ghost use Rattle.regex_pattern_front.specs.{GrouplessTermContracts.{is_paren_or_bar}, GroupReaderContracts.{MapsNamesToGroupNumbers}, ParseErrors.{IsParseErrorOf}};
+ghost use Rattle.regex_grammar.specs.{Grammar.{Parses}, ReadingStatesAndDigits.{RemainingCodePoints}, ParserInvariants.{AreWithinGroupLimit, group_names_found_by_scan}};
 ghost use Rattle.std.specs.BTreeMap.{get_by_text};
 
-use crate::code_point_reader::PatternReader;
+use crate::code_point_and_quantifier_reader::PatternReader;
 use crate::diagnosis::{Cause, Diagnosis};
 use crate::escapes_and_group_names::name;
 use crate::flags::Flags;
 use crate::group_openings_and_names::{GroupKind, GroupNumbers, read_group_kind, scan_groups};
-use crate::group_stack::{OpenGroup, PartialDisjunction};
 use crate::groupless_terms::{GrouplessTerm, GrouplessTermReader};
 use crate::ir::{Node, Regex};
-use crate::parser_error::ParseFault;
+use crate::open_groups_and_partial_disjunctions::{OpenGroup, PartialDisjunction};
+use crate::parser_error::ParseStopReason;
 use crate::types::{CaptureGroupID, MAX_CAPTURE_GROUPS};
 use std::alloc::{AllocError, Global};
 use std::mem;
@@ -70,10 +73,10 @@ pub fn try_parse(alloc: Global, pattern: &[u32], flags: Flags) -> Result<Regex, 
     ensures characters { IfOk result (λ re. tree_contains_byte_nodes (tree_of re).root ≡ false) }
     ensures plain { IfOk result (λ re. IsTrue (has_no_char_loops (tree_of re).root)) }
     ensures tree { IfOk result (λ re. Parses (spec_flags_of flags) pattern.now (tree_of re)) }
-    ensures within { IfOk result (λ re. AreWithinGroupLimit (group_names_of pattern.now)) }
+    ensures within { IfOk result (λ re. AreWithinGroupLimit (group_names_found_by_scan pattern.now)) }
     ensures refused { IfErr result (IsParseErrorOf (spec_flags_of flags) pattern.now) }
 {
-    match read(alloc, pattern, flags) {
+    match scan_groups_and_parse(alloc, pattern, flags) {
         Ok(re) => Ok(re),
         Err(Refusal::Syntax(diagnosis)) => Err(ParseError::Syntax(diagnosis)),
         Err(Refusal::TooManyGroups(_)) => Err(ParseError::TooManyGroups),
@@ -122,7 +125,7 @@ pub fn parse_or_diagnose(
     ensures tree { let flags = spec_flags_of flags in IfOk result (λ read.
         IfOk read (λ re. Parses flags pattern.now (tree_of re)) × IfErr read (λ d. IsTextRefused flags pattern.now)) }
 {
-    match read(alloc, pattern, flags) {
+    match scan_groups_and_parse(alloc, pattern, flags) {
         Ok(re) => Ok(Ok(re)),
         Err(Refusal::Syntax(diagnosis)) => Ok(Err(diagnosis)),
         Err(Refusal::TooManyGroups(diagnosis)) => Ok(Err(diagnosis)),
@@ -131,15 +134,15 @@ pub fn parse_or_diagnose(
 }
 
 // Parses a pattern after a scan for its groups, or returns why it is refused.
-fn read(alloc: Global, pattern: &[u32], flags: Flags) -> Result<Regex, Refusal>
+fn scan_groups_and_parse(alloc: Global, pattern: &[u32], flags: Flags) -> Result<Regex, Refusal>
     ensures flags { IfOk result (λ re. re.flags ≡ flags) }
     ensures well_formed { IfOk result (λ re. IsTrue (is_well_formed (tree_of re).root)) }
     ensures characters { IfOk result (λ re. tree_contains_byte_nodes (tree_of re).root ≡ false) }
     ensures plain { IfOk result (λ re. IsTrue (has_no_char_loops (tree_of re).root)) }
     ensures tree { IfOk result (λ re. Parses (spec_flags_of flags) pattern.now (tree_of re)) }
-    ensures within { IfOk result (λ re. AreWithinGroupLimit (group_names_of pattern.now)) }
-    ensures refused { IfErr result (Refuses (spec_flags_of flags) pattern.now) }
-    ensures place { IfErr result (IsPlacedIn pattern.now) }
+    ensures within { IfOk result (λ re. AreWithinGroupLimit (group_names_found_by_scan pattern.now)) }
+    ensures refused { IfErr result (IsJustifiedRefusal (spec_flags_of flags) pattern.now) }
+    ensures place { IfErr result (RefusalPlaceLiesInPattern pattern.now) }
 {
     let found = match scan_groups(alloc, pattern) {
         Ok(found) => found,
@@ -154,11 +157,11 @@ fn read(alloc: Global, pattern: &[u32], flags: Flags) -> Result<Regex, Refusal>
     }
     match parse_to_tree(alloc, pattern, flags, found.numbers) {
         Ok(re) => Ok(re),
-        Err(ParseFault::Refused { cause, left }) => Err(Refusal::Syntax(Diagnosis {
+        Err(ParseStopReason::Refused { cause, left }) => Err(Refusal::Syntax(Diagnosis {
             cause,
             at: pattern.len().saturating_sub(left),
         })),
-        Err(ParseFault::Memory(refused)) => Err(Refusal::Memory(refused)),
+        Err(ParseStopReason::Memory(refused)) => Err(Refusal::Memory(refused)),
     }
 }
 
@@ -168,13 +171,14 @@ fn parse_to_tree(
     pattern: &[u32],
     flags: Flags,
     numbers: GroupNumbers,
-) -> Result<Regex, ParseFault>
+) -> Result<Regex, ParseStopReason>
     ensures flags { IfOk result (λ re. re.flags ≡ flags) }
     ensures well_formed { IfOk result (λ re. IsTrue (is_well_formed (tree_of re).root)) }
     ensures characters { IfOk result (λ re. tree_contains_byte_nodes (tree_of re).root ≡ false) }
     ensures plain { IfOk result (λ re. IsTrue (has_no_char_loops (tree_of re).root)) }
-    ensures tree { let names = group_names_of pattern.now in
-        (AreWithinGroupLimit names → AreGroupNumbers numbers names) → IsParseResult tree_of (spec_flags_of flags) pattern.now result }
+    ensures tree { let names = group_names_found_by_scan pattern.now in
+        (AreWithinGroupLimit names → MapsNamesToGroupNumbers numbers names) → IsParseResult tree_of
+        (spec_flags_of flags) pattern.now result }
 {
     let mut parser = Parser {
         leaves: GrouplessTermReader {
@@ -206,7 +210,7 @@ struct Parser<'p> {
 }
 
 impl Parser<'_> {
-    fn read_all(&mut self) -> Result<(), ParseFault>
+    fn read_all(&mut self) -> Result<(), ParseStopReason>
         requires { OpenDisjunctionsHaveAllGroups self.old }
         ensures reading { OnOk result (OpenDisjunctionsHaveAllGroups self.new) }
         ensures same { self.new.leaves.flags ≡ self.old.leaves.flags }
@@ -220,7 +224,7 @@ impl Parser<'_> {
     }
 
     // Reads what begins with this code point: a `|`, a parenthesis or a term.
-    fn read_what_code_point_begins(&mut self, c: u32) -> Result<(), ParseFault>
+    fn read_what_code_point_begins(&mut self, c: u32) -> Result<(), ParseStopReason>
         requires { OpenDisjunctionsHaveAllGroups self.old }
         ensures reading { OnOk result (OpenDisjunctionsHaveAllGroups self.new) }
         ensures moves { length self.new.leaves.reader.rest.now ≤ length self.old.leaves.reader.rest.now }
@@ -236,12 +240,13 @@ impl Parser<'_> {
     }
 
     // Reads a term that is no group.
-    fn term(&mut self, c: u32) -> Result<(), ParseFault>
+    fn term(&mut self, c: u32) -> Result<(), ParseStopReason>
         requires { OpenDisjunctionsHaveAllGroups self.old }
         ensures reading { OnOk result (OpenDisjunctionsHaveAllGroups self.new) }
         ensures moves { length self.new.leaves.reader.rest.now ≤ length self.old.leaves.reader.rest.now }
         ensures same { self.new.leaves.flags ≡ self.old.leaves.flags }
-        ensures text { is_paren_or_bar c ≡ false → AdvancesOrHasNoTree (c ∷ self.old.leaves.reader.rest.now) self.old result self.new }
+        ensures text { is_paren_or_bar c ≡ false → AdvancesOrHasNoTree (c ∷ self.old.leaves.reader.rest.now) self.old
+            result self.new }
     {
         let GrouplessTerm { node, is_atom } = self.leaves.read_term_without_group(c)?;
         let groups = self.groups..self.groups;
@@ -251,7 +256,7 @@ impl Parser<'_> {
     }
 
     // Opens a group, after its `(`.
-    fn enter(&mut self) -> Result<(), ParseFault>
+    fn enter(&mut self) -> Result<(), ParseStopReason>
         requires { OpenDisjunctionsHaveAllGroups self.old }
         ensures reading { OnOk result (OpenDisjunctionsHaveAllGroups self.new) }
         ensures moves { length self.new.leaves.reader.rest.now ≤ length self.old.leaves.reader.rest.now }
@@ -271,7 +276,7 @@ impl Parser<'_> {
         self.groups = start + more;
         let inner = PartialDisjunction::new(
             alloc,
-            opening.reverses_terms(self.level.are_terms_reversed()),
+            opening.are_inner_terms_reversed(self.level.are_terms_reversed()),
         );
         self.around.push(OpenGroup {
             outer: mem::replace(&mut self.level, inner),
@@ -284,7 +289,7 @@ impl Parser<'_> {
     }
 
     // Closes a group, after its `)`.
-    fn close_open_group(&mut self) -> Result<(), ParseFault>
+    fn close_open_group(&mut self) -> Result<(), ParseStopReason>
         requires { OpenDisjunctionsHaveAllGroups self.old }
         ensures reading { OnOk result (OpenDisjunctionsHaveAllGroups self.new) }
         ensures moves { length self.new.leaves.reader.rest.now ≤ length self.old.leaves.reader.rest.now }
@@ -312,27 +317,28 @@ impl Parser<'_> {
     }
 
     // Returns the error for the innermost open group.
-    fn unclosed(&self) -> ParseFault {
-        ParseFault::Refused {
+    fn unclosed(&self) -> ParseStopReason {
+        ParseStopReason::Refused {
             cause: Cause::UnclosedGroup,
             left: self.around.last().map_or(0, |open| open.left),
         }
     }
 
     // Returns the root of the tree, if no group is open and each reference has its group.
-    fn finish(self) -> Result<Node, ParseFault>
+    fn finish(self) -> Result<Node, ParseStopReason>
         requires { OpenDisjunctionsHaveAllGroups self }
         ensures well_formed { IfOk result (λ n. IsTrue (is_well_formed (node_of n))) }
         ensures characters { IfOk result (λ n. tree_contains_byte_nodes (node_of n) ≡ false) }
         ensures plain { IfOk result (λ n. IsTrue (has_no_char_loops (node_of n))) }
         ensures tree { let flags = spec_flags_of self.entry.leaves.flags in
-            (pattern : RemainingCodePoints) → HasReadPatternUpTo pattern [] self.entry → IsParseResult (tree_of_root_and_flags flags) flags pattern result }
+            (pattern : RemainingCodePoints) → HasReadPatternUpTo pattern [] self.entry → IsParseResult
+            (tree_of_root_and_flags flags) flags pattern result }
     {
         if !self.around.is_empty() {
             return Err(self.unclosed());
         }
         if self.leaves.references > u32::from(self.groups) {
-            return Err(ParseFault::Refused {
+            return Err(ParseStopReason::Refused {
                 cause: Cause::NoSuchGroup,
                 left: self.leaves.reference_left,
             });
@@ -352,8 +358,9 @@ fn enclosed(
     groups: Range<CaptureGroupID>,
 ) -> Result<Node, AllocError>
     ensures part { IfOk result (λ n. (greatest : ℕ)
-        → IsSoundSubtree (groups.start + captures_opened_by_group_kind opening) groups.end greatest (node_of contents)
-        → IsSoundSubtree groups.start groups.end greatest (node_of n)) }
+        → IsSoundSubtreeWithGroupIds (groups.start + captures_opened_by_group_kind opening) groups.end greatest
+        (node_of contents)
+        → IsSoundSubtreeWithGroupIds groups.start groups.end greatest (node_of n)) }
     ensures node { IfOk result (λ n. node_of n
         ≡ group_node_around opening (group_name_bytes name) groups.start groups.end (node_of contents)) }
 {
@@ -381,13 +388,15 @@ fn quantified(
     term: Node,
     groups: Range<CaptureGroupID>,
     is_atom: bool,
-) -> Result<Node, ParseFault>
+) -> Result<Node, ParseStopReason>
     ensures moves { length leaves.new.reader.rest.now ≤ length leaves.old.reader.rest.now }
     ensures references { leaves.new.references ≡ leaves.old.references }
-    ensures part { IfOk result (λ n. (greatest : ℕ) → IsSoundSubtree groups.start groups.end greatest (node_of term)
-        → IsSoundSubtree groups.start groups.end greatest (node_of n)) }
+    ensures part { IfOk result (λ n. (greatest : ℕ) → IsSoundSubtreeWithGroupIds groups.start groups.end greatest
+        (node_of term)
+        → IsSoundSubtreeWithGroupIds groups.start groups.end greatest (node_of n)) }
     ensures same { (leaves.new.flags ≡ leaves.old.flags) × (leaves.new.numbers ≡ leaves.old.numbers) }
-    ensures text { IsTermWithQuantifier is_atom leaves.old.reader.rest.now groups.start groups.end (node_of term) result
+    ensures text { IsTermWithOptionalQuantifierRead is_atom leaves.old.reader.rest.now groups.start groups.end
+        (node_of term) result
         leaves.new.reader.rest.now }
 {
     if !is_atom {
@@ -413,11 +422,11 @@ fn read_unused_group_name(
     leaves: &mut GrouplessTermReader,
     opening: GroupKind,
     groups: CaptureGroupID,
-) -> Result<Option<String>, ParseFault>
+) -> Result<Option<String>, ParseStopReason>
     ensures moves { length leaves.new.reader.rest.now ≤ length leaves.old.reader.rest.now }
     ensures references { leaves.new.references ≡ leaves.old.references }
     ensures same { (leaves.new.flags ≡ leaves.old.flags) × (leaves.new.numbers ≡ leaves.old.numbers) }
-    ensures text { IsGroupNameRead (λ name. get_by_text leaves.old.numbers name) groups (is_named_group opening)
+    ensures text { IsOptionalGroupNameRead (λ name. get_by_text leaves.old.numbers name) groups (is_named_group opening)
         leaves.old.reader.rest.now result leaves.new.reader.rest.now }
 {
     let GroupKind::Named = opening else {

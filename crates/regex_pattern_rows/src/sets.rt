@@ -40,15 +40,19 @@ fn sets_are_searched(rt: HostRuntime) {
             && bytes.byte_set_has_char(0xC2)
             && !bytes.byte_set_has_char(0x1C2)
     );
+    assert_eq!(rt; bytes.find_in(&[0x41, 0xC2, 0xA0]), Some(1));
+}
+
+#[test]
+fn byte_arrays_are_searched(rt: HostRuntime) {
     let first_bytes = [0x20AC, 0xD800, 0x10_FFFF, 0x11_0000, u32::MAX].map(utf8_first_byte);
     assert_eq!(rt; first_bytes, [0xE2, 0xED, 0xF4, 0xFF, 0xFF]);
     let found = [
-        bytes.find_in(&[0x41, 0xC2, 0xA0]),
         [b'c'].find_in(b"abc"),
         [b'x', b'b'].find_in(b"abc"),
         [b'x', b'y', b'z'].find_in(b"abc"),
     ];
-    assert_eq!(rt; found, [Some(1), Some(2), Some(1), None]);
+    assert_eq!(rt; found, [Some(2), Some(1), None]);
     let few = ByteArraySet([b'a', b'a', b'b', b'c']);
     assert!(rt; few.contains(b'c') && few.byte_set_has_char(0x63) && !few.byte_set_has_char(0x163));
     assert!(rt;

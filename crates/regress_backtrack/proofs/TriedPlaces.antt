@@ -9,15 +9,19 @@ use Rattle.regex_meaning.specs.Tree.{Tree}
 use Rattle.regex_meaning.specs.Text.{Text, rightwards, last_place, is_scalar}
 use Rattle.regex_meaning.specs.CodeUnitOffsets.{HasRisingPlaceOffsets, IsBoundary, offset, read, units}
 use Rattle.regex_meaning.specs.StartPredicate.{StartPredicate, start_arbitrary, start_byte_set, start_byte_sequence, start_anchored, start_predicate}
-use Rattle.regex_meaning.specs.StartPredicate.{may_start, begins_with_one_of, text_bytes_from_place}
+use Rattle.regex_meaning.specs.StartPredicate.{may_start, first_byte_is_one_of, utf8_bytes_of_text_from_place}
 use Rattle.regex_meaning.specs.OutcomesWithStepTicks.{tried_places}
 use Rattle.regex_meaning.specs.CodeUnits.{Encoding, utf8, utf16, ucs2, is_character_in_encoding}
 use Rattle.regex_meaning.specs.WellFormedTrees.{is_well_formed}
 use Rattle.regex_meaning.proofs.TextLemmas.{IsBoundary-place, offset-IsBoundary, place_at-offset}
-use Rattle.regress_input.specs.ReadsFromOffset.{end_if_matched, past_bytes_if_next, place, read_if_units_are_bytes, has_byte_units, IsInUtf8}
+use Rattle.regress_input.specs.CharAndByteReadsFromOffset.{end_if_matched, past_bytes_if_next, place, read_if_units_are_bytes, is_byte_encoding, IsInUtf8}
 use Rattle.regress_machine.specs.TextsForBytePrograms.{HasUtf8CharactersAndOffsets}
 use Rattle.regress_machine.proofs.Utf8.{bytes_near-side, offset-inside}
-use Rattle.regress_exec.specs.Attempts.{NextStartSkipsNoMatch, NoMatchAt, NoMatchStartsBetween, is_anchored_predicate, first_of_places, first_filtered_start, next_filtered_start, filtered_start_after}
+use Rattle.regress_program.specs.StartPredicatesAndWhenTheyAllocate.{is_anchored_predicate}
+use Rattle.regress_program.proofs.PredicateLemmas.{anchored-predicate}
+use Rattle.regress_exec.specs.AttemptResultsAndStartsToTry.{NextStartSkipsNoMatch, NoMatchAt, NoMatchStartsBetween, first_of_places, first_filtered_start}
+use Rattle.regress_exec.specs.AttemptResultsAndStartsToTry.{next_filtered_start}
+use Rattle.regress_exec.specs.AttemptResultsAndStartsToTry.{filtered_start_after}
 use Rattle.regress_exec.proofs.Skips.{untried}
 use Rattle.regress_exec.proofs.FirstMatch.{read-inside, read-end}
 use Rattle.regress_exec.proofs.Anchored.{ruled-out, anchored-behind, one-on}
@@ -37,7 +41,7 @@ abbrev pub is_member : (members : List ℕ) → Option ℕ → Bool
 is_member members None = false
 is_member members (Some b) = contains members b
 
-begins-first : (members bytes : List ℕ) → begins_with_one_of members bytes ≡ is_member members (slice_get bytes 0)
+begins-first : (members bytes : List ℕ) → first_byte_is_one_of members bytes ≡ is_member members (slice_get bytes 0)
 begins-first members [] = refl
 begins-first members (b ∷ bytes) = refl
 
@@ -57,18 +61,18 @@ module _ (text : Text) (is : HasRisingPlaceOffsets text) (reads : HasUtf8Charact
       (ap (offset text) (sym same) ∙ p.2, subst (λ q. q ≤ last_place text) same p.3)
 
   -- the bytes from a boundary on
-  pub bytes-there : (at : ℕ) → IsBoundary text at → drop at (encode_utf8_all text.characters) ≡ text_bytes_from_place text (place text at)
+  pub bytes-there : (at : ℕ) → IsBoundary text at → drop at (encode_utf8_all text.characters) ≡ utf8_bytes_of_text_from_place text (place text at)
   bytes-there at on =
       let p = place-of at on in
       ap (λ n. drop n (encode_utf8_all text.characters)) (sym p.0) ∙ bytes_near-side text reads rightwards (place text at) p.1
 
-  pub begins-there : (members : List ℕ) (at : ℕ) → IsBoundary text at → is_member members (slice_get (encode_utf8_all text.characters) at) ≡ begins_with_one_of members (text_bytes_from_place text (place text at))
+  pub begins-there : (members : List ℕ) (at : ℕ) → IsBoundary text at → is_member members (slice_get (encode_utf8_all text.characters) at) ≡ first_byte_is_one_of members (utf8_bytes_of_text_from_place text (place text at))
   begins-there members at on =
       ap (is_member members) (get-first at (encode_utf8_all text.characters) ∙ ap (λ (l : List ℕ). slice_get l 0) (bytes-there at on))
-      ∙ sym (begins-first members (text_bytes_from_place text (place text at)))
+      ∙ sym (begins-first members (utf8_bytes_of_text_from_place text (place text at)))
 
   pub sequence-there : (bytes : List ℕ) (at : ℕ) (found : Bool) (to : ℕ) → IsBoundary text at → end_if_matched found to ≡ past_bytes_if_next (encode_utf8_all text.characters) bytes rightwards at
-      → found ≡ starts_with nat_eq (text_bytes_from_place text (place text at)) bytes
+      → found ≡ starts_with nat_eq (utf8_bytes_of_text_from_place text (place text at)) bytes
   sequence-there bytes at found to on led =
       let p = place-of at on in
       let inside = offset-inside text reads (place text at) p.1 in
@@ -78,26 +82,26 @@ module _ (text : Text) (is : HasRisingPlaceOffsets text) (reads : HasUtf8Charact
 
   -- the same of what is read where units are bytes
   pub begins-read : (are_bytes : Bool) → IsTrue are_bytes → (members : List ℕ) (at : ℕ) → IsBoundary text at → (byte : Option ℕ)
-      → byte ≡ read_if_units_are_bytes are_bytes (slice_get (encode_utf8_all text.characters) at) → is_member members byte ≡ begins_with_one_of members (text_bytes_from_place text (place text at))
+      → byte ≡ read_if_units_are_bytes are_bytes (slice_get (encode_utf8_all text.characters) at) → is_member members byte ≡ first_byte_is_one_of members (utf8_bytes_of_text_from_place text (place text at))
   begins-read true sure members at on byte e = ap (is_member members) e ∙ begins-there members at on
   begins-read false sure members at on byte e = cc
 
   pub sequence-read : (are_bytes : Bool) → IsTrue are_bytes → (bytes : List ℕ) (at : ℕ) (found : Bool) (to : ℕ) → IsBoundary text at
-      → end_if_matched found to ≡ read_if_units_are_bytes are_bytes (past_bytes_if_next (encode_utf8_all text.characters) bytes rightwards at) → found ≡ starts_with nat_eq (text_bytes_from_place text (place text at)) bytes
+      → end_if_matched found to ≡ read_if_units_are_bytes are_bytes (past_bytes_if_next (encode_utf8_all text.characters) bytes rightwards at) → found ≡ starts_with nat_eq (utf8_bytes_of_text_from_place text (place text at)) bytes
   sequence-read true sure bytes at found to on led = sequence-there bytes at found to on led
   sequence-read false sure bytes at found to on led = cc
 
 -- a text whose units are bytes is one of bytes
-pub reads-bytes : (e : Encoding) (are_bytes : Bool) (text : Text) → are_bytes ≡ has_byte_units e → IsTrue are_bytes → IsTrue (list_all (is_character_in_encoding e) text.characters)
+pub reads-bytes : (e : Encoding) (are_bytes : Bool) (text : Text) → are_bytes ≡ is_byte_encoding e → IsTrue are_bytes → IsTrue (list_all (is_character_in_encoding e) text.characters)
     → (IsTrue are_bytes → IsInUtf8 text) → HasUtf8CharactersAndOffsets text
 reads-bytes utf8 are_bytes text by sure characters spelled = record { scalars = characters; offsets = (spelled sure).offsets }
 reads-bytes utf16 are_bytes text by sure characters spelled = cc
 reads-bytes ucs2 are_bytes text by sure characters spelled = cc
 
 -- the byte that is read at a boundary of one
-pub begins-here : (e : Encoding) {are_bytes : Bool} {text : Text} → are_bytes ≡ has_byte_units e → IsTrue are_bytes → IsTrue (list_all (is_character_in_encoding e) text.characters)
+pub begins-here : (e : Encoding) {are_bytes : Bool} {text : Text} → are_bytes ≡ is_byte_encoding e → IsTrue are_bytes → IsTrue (list_all (is_character_in_encoding e) text.characters)
     → (IsTrue are_bytes → IsInUtf8 text) → HasRisingPlaceOffsets text → (members : List ℕ) (at : ℕ) → IsBoundary text at → (byte : Option ℕ)
-    → byte ≡ read_if_units_are_bytes are_bytes (slice_get (encode_utf8_all text.characters) at) → is_member members byte ≡ begins_with_one_of members (text_bytes_from_place text (place text at))
+    → byte ≡ read_if_units_are_bytes are_bytes (slice_get (encode_utf8_all text.characters) at) → is_member members byte ≡ first_byte_is_one_of members (utf8_bytes_of_text_from_place text (place text at))
 begins-here e {are_bytes = are} {text = text} by sure characters spelled is =
     begins-read text is (reads-bytes e are text by sure characters spelled) are sure
 
@@ -304,7 +308,7 @@ module _ (tree : Tree) (text : Text) (is : HasRisingPlaceOffsets text) where
         by start_arbitrary e = open-by start_arbitrary e refl
         by (start_byte_set members) e = open-by (start_byte_set members) e refl
         by (start_byte_sequence bytes) e = open-by (start_byte_sequence bytes) e refl
-        by start_anchored e = subst (NextStartSkipsNoMatch tree text (at + 1)) (sym (ap (λ s. filtered_start_after s tree text at) e)) (anchored-behind tree text is well_formed scalars e at)
+        by start_anchored e = subst (NextStartSkipsNoMatch tree text (at + 1)) (sym (ap (λ s. filtered_start_after s tree text at) e)) (anchored-behind tree text is (sym (anchored-predicate tree) ∙ ap is_anchored_predicate e) at)
 
 module _ (s : StartPredicate) (text : Text) (is : HasRisingPlaceOffsets text) (scalars : IsTrue (list_all is_scalar text.characters)) where
   -- by its predicate

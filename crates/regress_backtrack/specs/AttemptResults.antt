@@ -2,8 +2,8 @@
 use Rattle.std.specs.Prelude.{◌≡◌, ℕ, ◌+◌, length, Bool, Option, Result}
 use Rattle.regex_meaning.specs.Tree.{Tree}
 use Rattle.regress_program.specs.CompilationOfTreesAsFunction.{compiled}
-use Rattle.regress_exec.specs.Attempts.{match_end_and_groups_at, end_with_groups, ticks_of_attempt_at}
-use Rattle.regress_exec.specs.BudgetAndContinuationAfterSearch.{SpendsNeedOrReachesLimit, AllocFailureCostsOneStep}
+use Rattle.regress_exec.specs.AttemptResultsAndStartsToTry.{match_end_and_groups_at, end_with_groups, ticks_of_attempt_at}
+use Rattle.regress_exec.specs.StepBudgetAndContinuationAfterSearch.{SpendsNeedOrReachesLimit, AllocFailureCostsAtLeastOneStep}
 use Rattle.regress_exec.specs.declared.exec.SearchError.{SearchError}
 use Rattle.regress_backtrack.specs.State.{StateModel, current_thread_state_of}
 use Rattle.regress_scan.specs.TreePlanAndText.{SearchInput}
@@ -11,8 +11,8 @@ use Rattle.regress_backtrack.specs.StepsTakenFromBudget.{Budget, step_limit}
 
 -- The end is that of the first outcome at the offset, and the state holds its groups; `None` if
 -- there is no outcome.
-abbrev pub HasMatchEndAndGroups : {P : Type 0} → (offset : P → ℕ) → SearchInput → (at : ℕ) → (after : StateModel) → Option P → Type 0
-HasMatchEndAndGroups offset w at after end = end_with_groups offset end (current_thread_state_of after 0 0).groups ≡ match_end_and_groups_at w.tree w.text at
+abbrev pub HasFirstOutcomeEndAndGroups : {P : Type 0} → (offset : P → ℕ) → SearchInput → (at : ℕ) → (after : StateModel) → Option P → Type 0
+HasFirstOutcomeEndAndGroups offset w at after end = end_with_groups offset end (current_thread_state_of after 0 0).groups ≡ match_end_and_groups_at w.tree w.text at
 
 -- The steps left are reduced by those up to the first outcome at the offset, or do not suffice.
 abbrev pub CostsStepsAt : {X : Type 0} → SearchInput → (at : ℕ) → (counts : Bool) → (before : Budget) → Result X SearchError → (after : Budget) → Type 0
@@ -24,4 +24,4 @@ HasSlots tree h = length h.slots ≡ (compiled tree).groups + (compiled tree).lo
 
 -- If the state has its slots, an allocation failure came after at least one step.
 abbrev pub TakesIfSlots : {X : Type 0} → SearchInput → (left : StateModel) → (counts : Bool) → (before : Budget) → Result X SearchError → (after : Budget) → Type 0
-TakesIfSlots w left counts before answer after = AllocFailureCostsOneStep (HasSlots w.tree left) (step_limit counts before) answer (step_limit counts after)
+TakesIfSlots w left counts before answer after = AllocFailureCostsAtLeastOneStep (HasSlots w.tree left) (step_limit counts before) answer (step_limit counts after)

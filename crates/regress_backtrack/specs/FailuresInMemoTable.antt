@@ -1,7 +1,7 @@
 -- What a memo table records, by the memo analysis of a program.
 use Rattle.std.specs.Prelude.{Option}
-use Rattle.regress_memo_analysis.specs.declared.analysis.MemoAnalysis.{MemoAnalysis}
-use Rattle.regress_memo_analysis.specs.AnalysisContents.{liveness_of, key_code_questions_of, insn_direction, insn_analysis_of}
+use Rattle.regress_memo_analysis.specs.declared.analysis_result.MemoAnalysis.{MemoAnalysis}
+use Rattle.regress_memo_analysis.specs.AnalysisAsLivenessAndPotentials.{analysis_as_liveness, key_code_questions_of, insn_direction, insn_analysis_of}
 use Rattle.regress_memo.specs.Laws.{analysis_keys}
 use Rattle.regress_memo.specs.MemoContents.{has_failure}
 use Rattle.regress_memo.specs.MemoContractView.{MemoView}
@@ -11,7 +11,7 @@ use Rattle.regress_backtrack.specs.FailureMemo.{MemoScheme, AreFailuresRight, sc
 -- The scheme of a memo analysis: its liveness and its keys.
 abbrev pub scheme_of : MemoAnalysis → MemoScheme
 scheme_of t = record {
-  account = liveness_of t;
+  account = analysis_as_liveness t;
   keys = λ program text. analysis_keys program text t;
   questions = key_code_questions_of t;
   way = insn_direction t;

@@ -5,7 +5,7 @@ use Rattle.regex_pattern_front.specs.AstToSpecTree.{tree_of}
 use Rattle.regex_pattern_front.specs.declared.ir.Regex.{Regex}
 use Rattle.regress_program.specs.CompilationOfTreesAsFunction.{compiled}
 use Rattle.regress_program.specs.OptimizedTreeUnlessNoOpt.{planned_tree}
-use Rattle.regress_plan.specs.InsnsAsSpecInsns.{spec_insn_of}
+use Rattle.regress_plan.specs.InsnsAsSpecInsns.{insn_as_spec_insn}
 use Rattle.regress_plan.specs.declared.insn.Insn.{Insn}
 use Rattle.regress_plan.specs.declared.plan.Plan.{Plan}
 use Rattle.regress_plan.specs.Plans.{IsPlanOf}
@@ -29,4 +29,4 @@ IsPlanOfExecutedProgram p = IsPlanOf p.wide (compiled (executed_tree_of p)) p.pl
 pub record IsPlannedProgram (loops : ℕ) (code : List Insn) (p : PlannedView) : Type 0 where
   pub planned : IsPlanOfExecutedProgram p
   pub counted : loops ≡ (compiled (executed_tree_of p)).loops
-  pub insns : map spec_insn_of code ≡ (compiled (executed_tree_of p)).insns
+  pub insns : map insn_as_spec_insn code ≡ (compiled (executed_tree_of p)).insns

@@ -2,26 +2,28 @@
 
 ghost use Rattle.std.specs.Prelude.{◌≡◌, IfOk, None, false, map, option_map};
 ghost use Rattle.regex_meaning.specs.CodeUnitOffsets.{IsBoundary};
-ghost use Rattle.regress_exec.specs.{Attempts.{ticks_of_attempt_at}, BudgetAndContinuationAfterSearch.{SpendsNeedOrReachesLimit, step_limit_or_memory_error, ResultTellsIfStepLimitReached}};
-ghost use Rattle.regress_plan.specs.InsnsAsSpecInsns.{spec_insn_of};
+ghost use Rattle.regress_exec.specs.AttemptResultsAndStartsToTry.{ticks_of_attempt_at};
+ghost use Rattle.regress_exec.specs.StepBudgetAndContinuationAfterSearch.{SpendsNeedOrReachesLimit, step_limit_error_else_memory_error, ResultTellsIfStepLimitReached};
+ghost use Rattle.regress_plan.specs.InsnsAsSpecInsns.{insn_as_spec_insn};
 ghost use Rattle.regress_scan.specs.TreePlanAndText.{program_of};
-ghost use Rattle.regress_backtrack.specs.{AttemptResults.{HasMatchEndAndGroups, CostsStepsAt, TakesIfSlots}, MemoizedExecution.{IsMemoSound, KeepsMemoSound}, Interpreter.{IfDone}};
-ghost use Rattle.regress_backtrack.specs.{FailuresInMemoTable.{IsMemoRight}, SearchableTexts.{TreeCanSearchText}};
+ghost use Rattle.regress_backtrack.specs.AttemptResults.{HasFirstOutcomeEndAndGroups, CostsStepsAt, TakesIfSlots};
+ghost use Rattle.regress_backtrack.specs.{MemoizedOpExecutionAndBacktracking.{IsMemoSound, KeepsMemoSound}, Interpreter.{IfDone}};
+ghost use Rattle.regress_backtrack.specs.{FailuresInMemoTable.{IsMemoRight}, TextsReadAsTreeRequires.{TreeCanSearchText}};
 
-use crate::failure_memo::{DoneOrStopped, FailureMemo, StepsAndMemo};
-use crate::failures_in_memo_table::{MemoizedRetryState, enable_memo};
-use crate::interpreter::search_rightwards_from_op;
+use crate::failure_memo::{FailureMemo, ResultStoredOrSearchStopped, StepsAndMemo};
+use crate::failures_in_memo_table::{CounterAndMemoForRetries, enable_memo};
+use crate::interpreter::run_thread_rightwards_to_preferred_end;
 use crate::state::BacktrackState;
-use crate::step_and_work_budgets::{SearchStopped, StepCounter};
-use crate::thread_position_and_control::ThreadPos;
+use crate::step_and_work_budgets::{SearchStoppedWithoutResult, StepCounter};
+use crate::thread_position_and_op_result::ThreadPos;
 use regress_exec::exec::SearchError;
 use regress_input::indexing::InputIndexer;
 use regress_plan::insn::Insn;
-use regress_scan::search_context::{PositionOf, SearchContext, position_of_offset_in};
+use regress_scan::search_context::{PositionOf, SearchContext, position_in_searched_text};
 
 // Returns why a search stopped: steps were refused, or else allocation failed.
 fn cause<S: StepCounter>(steps: &S) -> SearchError
-    ensures { result ≡ step_limit_or_memory_error (S.budget steps.now).out }
+    ensures { result ≡ step_limit_error_else_memory_error (S.budget steps.now).out }
 {
     if steps.steps_were_refused() {
         SearchError::StepLimit
@@ -36,7 +38,7 @@ fn end_position<W: SearchContext>(planned: &W, end: Option<usize>) -> Option<Pos
     ensures { option_map (λ p. W.Input.Position.offset p) result ≡ end }
 {
     match end {
-        Some(end) => Some(position_of_offset_in(planned, end)),
+        Some(end) => Some(position_in_searched_text(planned, end)),
         None => None,
     }
 }
@@ -55,22 +57,23 @@ pub(crate) fn attempt<W: SearchContext, S: StepCounter, M: FailureMemo>(
     requires sound { IsMemoSound S.StepCounter M.FailureMemo (W.searching planned.now) course.old.memo }
     requires fresh { (S.budget course.old.steps).out ≡ false }
     ensures found { let at = W.Input.Position.offset in
-        IfOk result (HasMatchEndAndGroups at (W.searching planned.now) (at pos) memory.new) }
+        IfOk result (HasFirstOutcomeEndAndGroups at (W.searching planned.now) (at pos) memory.new) }
     ensures steps { CostsStepsAt (W.searching planned.now) (W.Input.Position.offset pos) S.COUNTS
         (S.budget course.old.steps) result (S.budget course.new.steps) }
     ensures begun { TakesIfSlots (W.searching planned.now) memory.new S.COUNTS
         (S.budget course.old.steps) result (S.budget course.new.steps) }
     ensures cause { ResultTellsIfStepLimitReached result (S.budget course.new.steps).out }
-    ensures sound { KeepsMemoSound S.StepCounter M.FailureMemo (W.searching planned.now) course.old.memo course.new.memo }
+    ensures sound { KeepsMemoSound S.StepCounter M.FailureMemo (W.searching planned.now) course.old.memo
+        course.new.memo }
 {
     let at = planned.input().pos_to_offset(pos);
     let groups = planned.program().groups() as usize;
     let loops = planned.number_of_loops() as usize;
     memory.begin(groups, loops, at)?;
     let start = ThreadPos { ip: 0, at };
-    match search_rightwards_from_op(planned, start, memory, course) {
+    match run_thread_rightwards_to_preferred_end(planned, start, memory, course) {
         Ok(end) => Ok(end_position(planned, end)),
-        Err(SearchStopped) => Err(cause(&course.steps)),
+        Err(SearchStoppedWithoutResult) => Err(cause(&course.steps)),
     }
 }
 
@@ -83,24 +86,24 @@ fn attempt_with_memo<W: SearchContext>(
     insns: &[Insn],
     pos: PositionOf<W>,
     memory: &mut BacktrackState,
-    again: &mut MemoizedRetryState,
+    again: &mut CounterAndMemoForRetries,
     came: &mut Option<PositionOf<W>>,
-) -> DoneOrStopped
+) -> ResultStoredOrSearchStopped
     requires can { let w = W.searching planned.now in
         TreeCanSearchText w.tree w.text × IsBoundary w.text (W.Input.Position.offset pos) }
-    requires insns { map spec_insn_of insns.now ≡ (program_of (W.searching planned.now)).insns }
+    requires insns { map insn_as_spec_insn insns.now ≡ (program_of (W.searching planned.now)).insns }
     requires right { IsMemoRight (λ memo. memo.value) (W.searching planned.now) again.old.course.memo }
     ensures found { let at = W.Input.Position.offset in
-        IfDone result (HasMatchEndAndGroups at (W.searching planned.now) (at pos) memory.new came.new) }
+        IfDone result (HasFirstOutcomeEndAndGroups at (W.searching planned.now) (at pos) memory.new came.new) }
     ensures right { IsMemoRight (λ memo. memo.value) (W.searching planned.now) again.new.course.memo }
 {
     enable_memo(planned, insns, again);
     match attempt(planned, pos, memory, &mut again.course) {
         Ok(end) => {
             *came = end;
-            DoneOrStopped::Done
+            ResultStoredOrSearchStopped::Done
         }
-        Err(_) => DoneOrStopped::Stopped,
+        Err(_) => ResultStoredOrSearchStopped::Stopped,
     }
 }
 
@@ -111,22 +114,22 @@ pub(crate) fn retry_with_memo<W: SearchContext>(
     insns: &[Insn],
     pos: PositionOf<W>,
     memory: &mut BacktrackState,
-    again: &mut MemoizedRetryState,
+    again: &mut CounterAndMemoForRetries,
     came: &mut Option<PositionOf<W>>,
 ) -> Result<Option<PositionOf<W>>, SearchError>
     requires can { let w = W.searching planned.now in
         TreeCanSearchText w.tree w.text × IsBoundary w.text (W.Input.Position.offset pos) }
-    requires insns { map spec_insn_of insns.now ≡ (program_of (W.searching planned.now)).insns }
+    requires insns { map insn_as_spec_insn insns.now ≡ (program_of (W.searching planned.now)).insns }
     requires right { IsMemoRight (λ memo. memo.value) (W.searching planned.now) again.old.course.memo }
     ensures found { let at = W.Input.Position.offset in
-        IfOk result (HasMatchEndAndGroups at (W.searching planned.now) (at pos) memory.new) }
+        IfOk result (HasFirstOutcomeEndAndGroups at (W.searching planned.now) (at pos) memory.new) }
     ensures steps { let w = W.searching planned.now in
         SpendsNeedOrReachesLimit (ticks_of_attempt_at w.tree w.text (W.Input.Position.offset pos)) None result None }
     ensures cause { ResultTellsIfStepLimitReached result false }
     ensures right { IsMemoRight (λ memo. memo.value) (W.searching planned.now) again.new.course.memo }
 {
     match attempt_with_memo(planned, insns, pos, memory, again, came) {
-        DoneOrStopped::Done => Ok(*came),
-        DoneOrStopped::Stopped => Err(SearchError::Memory),
+        ResultStoredOrSearchStopped::Done => Ok(*came),
+        ResultStoredOrSearchStopped::Stopped => Err(SearchError::Memory),
     }
 }

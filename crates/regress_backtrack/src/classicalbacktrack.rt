@@ -4,9 +4,10 @@ ghost use Rattle.std.specs.Prelude.{◌≡◌, ◌≤◌, IsAscii, IfOk, option_
 ghost use Rattle.std.proofs.Props.{props};
 ghost use Rattle.regex_meaning.specs.{CodeUnitOffsets.{IsBoundary}, Text.{ascii_text, utf8_text, utf16_text, ucs2_text}};
 ghost use Rattle.regex_pattern_front.specs.AstToSpecTree.{tree_of};
-ghost use Rattle.regress_exec.specs.{Attempts.{NextStartSkipsNoMatch, NoMatchAt}, Executors.{ReadsBytesAsAscii, StartsWithoutStepLimit, AcceptsAllAsciiTexts}};
-ghost use Rattle.regress_machine.specs.SearchResults.{TreeProgramCanSearchText};
-ghost use Rattle.regress_plan.specs.TableKeysOfUnits.{has_16_bit_units};
+ghost use Rattle.regress_exec.specs.AttemptResultsAndStartsToTry.{NextStartSkipsNoMatch, NoMatchAt};
+ghost use Rattle.regress_exec.specs.NewExecutorsAndAsciiTexts.{ReadsBytesAsAscii, IsNewExecutorWithoutStepLimit, CanSearchAllAsciiTexts};
+ghost use Rattle.regress_machine.specs.SearchFindsFirstOutcomeAtPlace.{TreeProgramCanSearchText};
+ghost use Rattle.regress_plan.specs.TableKeysOfUnits.{is_16_bit_encoding};
 ghost use Rattle.regress_scan.specs.TreePlanAndText.{program_of};
 ghost use Rattle.regress_memo.specs.MemoContents.{has_failure};
 ghost use Rattle.regress_program.specs.CompilationOfTreesAsFunction.{compiled};
@@ -15,20 +16,22 @@ ghost use Rattle.regress_backtrack.specs.FailureMemo.{AreFailuresRightIn, scheme
 
 use crate::attempts::{attempt, retry_with_memo};
 use crate::failure_memo::{NoMemo, StepsAndMemo};
-use crate::failures_in_memo_table::MemoizedRetryState;
-use crate::next_start::first_candidate_start_from;
+use crate::failures_in_memo_table::CounterAndMemoForRetries;
+use crate::next_candidate_start_by_plan::first_candidate_start_from;
 use crate::program_plan_and_text::{ProgramAndPlan, ProgramPlanAndText};
 use crate::state::BacktrackState;
 use crate::step_and_work_budgets::{Unlimited, WorkBounded};
 pub use crate::step_limited::LimitedExecutor;
 use regress_exec::exec::{Executor, MatchProducer, ProducerFromProgramAndText, SearchError};
 use regress_exec::program_and_input::ProgramAndInput;
-use regress_exec::search_loop::AnchoredSearch;
+use regress_exec::search_loop::SingleAttemptExecutor;
 use regress_input::indexing::{AsciiInput, InputIndexer, Ucs2Input, Utf8Input, Utf16Input};
 use regress_input::position::PositionType;
-use regress_program::insn::{CompiledRegex, CompiledUnits, Program};
+use regress_program::insn::{CompiledRegex, CompiledRegexFor16BitUnits, Program};
 use regress_scan::leading_char_loop::{leading_loop_max_char_units, skip_leading_char_loop};
-use regress_scan::search_context::{PositionOf, SearchContext, offset_in, position_of_offset_in};
+use regress_scan::search_context::{
+    PositionOf, SearchContext, offset_in_searched_text, position_in_searched_text,
+};
 use std::alloc::AllocError;
 
 /// Executes a program's plan over a text. It keeps one state, and undoes a thread's changes to it
@@ -42,7 +45,7 @@ pub struct BacktrackExecutor<'r, Input: InputIndexer> {
     // with a memo.
     free: StepsAndMemo<WorkBounded, NoMemo>,
     // The state of attempts after that, which record what failed.
-    again: MemoizedRetryState,
+    again: CounterAndMemoForRetries,
     // The end found by the last attempt that was made again. Its position type also exposes the
     // text's lifetime in this struct, which calls that are generic in the executor require.
     came: Option<Input::Position>,
@@ -78,7 +81,7 @@ impl<'r, Input: InputIndexer> BacktrackExecutor<'r, Input> {
     // Creates an executor that has tried no position yet. It allocates no memory.
     fn from_parts(program: ProgramAndPlan<'r>, searched: ProgramAndInput<'r, Input>) -> Self
         requires same { program.regex ≡ searched.program.now }
-        requires wide { program.wide ≡ has_16_bit_units Input.Units.encoding }
+        requires wide { program.wide ≡ is_16_bit_encoding Input.Units.encoding }
         ensures tree { tree_of result.search.program.regex ≡ tree_of searched.entry.program.now }
         ensures text { Input.text result.search.searched.input ≡ Input.text searched.entry.input }
     {
@@ -95,7 +98,7 @@ impl<'r, Input: InputIndexer> BacktrackExecutor<'r, Input> {
                 memo: NoMemo,
                 end: None,
             },
-            again: MemoizedRetryState {
+            again: CounterAndMemoForRetries {
                 course: StepsAndMemo {
                     steps: Unlimited::work_counter_with_limit(0),
                     memo: None,
@@ -135,8 +138,8 @@ fn next_candidate_start<W: SearchContext>(planned: &W, from: PositionOf<W>) -> O
     ensures { let w = W.searching planned.now in let at = W.Input.Position.offset in
         NextStartSkipsNoMatch w.tree w.text (at from) (option_map at result) }
 {
-    match first_candidate_start_from(planned, offset_in(planned, from)) {
-        Some(at) => Some(position_of_offset_in(planned, at)),
+    match first_candidate_start_from(planned, offset_in_searched_text(planned, from)) {
+        Some(at) => Some(position_in_searched_text(planned, at)),
         None => None,
     }
 }
@@ -159,15 +162,15 @@ fn next_start_past_loop<W: SearchContext>(
         NextStartSkipsNoMatch w.tree w.text (at from) (option_map at result) }
 {
     planned.lemma_plan_fits_program();
-    let past = skip_leading_char_loop(planned, offset_in(planned, tried));
-    let start = offset_in(planned, from);
+    let past = skip_leading_char_loop(planned, offset_in_searched_text(planned, tried));
+    let start = offset_in_searched_text(planned, from);
     if past <= start {
         return Some(from);
     }
-    next_candidate_start(planned, position_of_offset_in(planned, past))
+    next_candidate_start(planned, position_in_searched_text(planned, past))
 }
 
-impl<'r, Input: InputIndexer> AnchoredSearch for BacktrackExecutor<'r, Input> {
+impl<'r, Input: InputIndexer> SingleAttemptExecutor for BacktrackExecutor<'r, Input> {
     type Input = Input;
 
     ghost tree = { λ e. tree_of e.search.program.regex };
@@ -188,7 +191,7 @@ impl<'r, Input: InputIndexer> AnchoredSearch for BacktrackExecutor<'r, Input> {
 
     #[inline(always)]
     fn attempt(&mut self, pos: Input::Position) -> Result<Option<Input::Position>, SearchError> {
-        if self.free.steps.is_work_spent() {
+        if self.free.steps.is_work_limit_exceeded() {
             let insns = self.search.program.insns();
             return retry_with_memo(
                 &self.search,
@@ -200,7 +203,7 @@ impl<'r, Input: InputIndexer> AnchoredSearch for BacktrackExecutor<'r, Input> {
             );
         }
         let end = attempt(&self.search, pos, &mut self.memory, &mut self.free);
-        if end.is_ok() || !self.free.steps.is_work_spent() {
+        if end.is_ok() || !self.free.steps.is_work_limit_exceeded() {
             return end;
         }
         let insns = self.search.program.insns();
@@ -234,7 +237,7 @@ impl<'r, Input: InputIndexer> AnchoredSearch for BacktrackExecutor<'r, Input> {
         next_candidate_start(&self.search, pos)
     }
 
-    fn next_start_to_try_after(&self, tried: Input::Position) -> Option<Input::Position> {
+    fn next_start_after_failed_attempt(&self, tried: Input::Position) -> Option<Input::Position> {
         let next = self.search.searched.position_after_failed_attempt(tried)?;
         let to = next_candidate_start(&self.search, next)?;
         if self.goes_over(tried, to) {
@@ -250,9 +253,12 @@ impl<'r, 't> BacktrackExecutor<'r, Utf16Input<'t>> {
     /// # Errors
     ///
     /// None so far: it allocates no memory.
-    pub fn new_utf16(re: &'r CompiledUnits, text: &'t [u16]) -> Result<Self, AllocError>
+    pub fn new_utf16(
+        re: &'r CompiledRegexFor16BitUnits,
+        text: &'t [u16],
+    ) -> Result<Self, AllocError>
         ensures { let producer = ⟦<BacktrackExecutor<'r, Utf16Input<'t>> as MatchProducer>⟧ in
-            IfOk result (StartsWithoutStepLimit producer (tree_of re.now) (utf16_text text.now)) }
+            IfOk result (IsNewExecutorWithoutStepLimit producer (tree_of re.now) (utf16_text text.now)) }
     {
         let program = ProgramAndPlan::new_16_bit_program_and_plan(re);
         Ok(BacktrackExecutor::from_parts(program, ProgramAndInput::pair_with_utf16_text(re, text)))
@@ -266,9 +272,9 @@ impl<'r, 't> BacktrackExecutor<'r, Ucs2Input<'t>> {
     /// # Errors
     ///
     /// None so far: it allocates no memory.
-    pub fn new_ucs2(re: &'r CompiledUnits, text: &'t [u16]) -> Result<Self, AllocError>
+    pub fn new_ucs2(re: &'r CompiledRegexFor16BitUnits, text: &'t [u16]) -> Result<Self, AllocError>
         ensures { let producer = ⟦<BacktrackExecutor<'r, Ucs2Input<'t>> as MatchProducer>⟧ in
-            IfOk result (StartsWithoutStepLimit producer (tree_of re.now) (ucs2_text text.now)) }
+            IfOk result (IsNewExecutorWithoutStepLimit producer (tree_of re.now) (ucs2_text text.now)) }
     {
         let program = ProgramAndPlan::new_16_bit_program_and_plan(re);
         Ok(BacktrackExecutor::from_parts(program, ProgramAndInput::pair_with_ucs2_text(re, text)))
@@ -322,12 +328,12 @@ type OfAscii = <OverAscii as Executor<'static, 'static>>::AsAscii;
 /// States that the `AsAscii` type of the executor over UTF-8 accepts every ASCII text and reads
 /// each of its bytes as a character.
 pub fn ascii_is_read_in_bytes()
-    ensures takes { AcceptsAllAsciiTexts ⟦<OfUtf8 as ProducerFromProgramAndText<'static>>⟧.can_search }
+    ensures takes { CanSearchAllAsciiTexts ⟦<OfUtf8 as ProducerFromProgramAndText<'static>>⟧.can_search }
     ensures reads { ReadsBytesAsAscii ⟦<OfUtf8 as ProducerFromProgramAndText<'static>>⟧.text_of }
 {}
 
 /// States the same of the `AsAscii` type of the executor over ASCII.
 pub fn ascii_stays_in_bytes()
-    ensures takes { AcceptsAllAsciiTexts ⟦<OfAscii as ProducerFromProgramAndText<'static>>⟧.can_search }
+    ensures takes { CanSearchAllAsciiTexts ⟦<OfAscii as ProducerFromProgramAndText<'static>>⟧.can_search }
     ensures reads { ReadsBytesAsAscii ⟦<OfAscii as ProducerFromProgramAndText<'static>>⟧.text_of }
 {}

@@ -4,11 +4,12 @@ ghost use Rattle.std.specs.Prelude.{◌≡◌, ◌≤◌, ◌⊎◌, ◌∷◌, 
 ghost use Rattle.regex_meaning.specs.CodeUnitOffsets.{units};
 ghost use Rattle.regress_memo_laws.specs.MemoSearch.{Key as KeyOf};
 ghost use Rattle.regress_machine.specs.Machine.{running};
-ghost use Rattle.regress_backtrack.specs.{State.{current_thread_state_of}, MemoizedCharLoops.{DecidesLoopRest}, FailureMemo.{MemoScheme, AreFailuresRight, IsKeyOf, as_key, no_scheme}};
+ghost use Rattle.regress_backtrack.specs.{State.{current_thread_state_of}, MemoizedCharLoops.{DecidesLoopRest}};
+ghost use Rattle.regress_backtrack.specs.FailureMemo.{MemoScheme, AreFailuresRight, IsKeyOf, memo_key_as_spec, no_scheme};
 
 use crate::state::BacktrackState;
 use crate::step_and_work_budgets::StepCounter;
-use crate::thread_position_and_control::DirectedThreadPos;
+use crate::thread_position_and_op_result::DirectedThreadPos;
 use regress_scan::search_context::SearchContext;
 
 /// A memo key as choice points hold it: an instruction and an offset, with a code for the state of
@@ -43,12 +44,13 @@ pub trait FailureMemo {
     ) -> Option<RecordKey>
         requires right { AreFailuresRight (W.searching planned.now) (terms self.now) (failed self.now) }
         requires inside { thread.here.at ≤ units (W.searching planned.now).text }
-        ensures { IfSome result (λ k. IsKeyOf (W.searching planned.now) (terms self.now) thread.forward (as_key k)
+        ensures { IfSome result (λ k. IsKeyOf (W.searching planned.now) (terms self.now) thread.forward
+            (memo_key_as_spec k)
             (running (current_thread_state_of memory.now thread.here.ip thread.here.at) ∷ [])) };
 
     /// Returns the key of the rest of a char loop without a maximum from an offset on, if it has
     /// one.
-    fn loop_rest_key<W: SearchContext>(
+    fn unbounded_char_loop_rest_key<W: SearchContext>(
         &self,
         planned: &W,
         run: DirectedThreadPos,
@@ -56,17 +58,18 @@ pub trait FailureMemo {
     ) -> Option<RecordKey>
         requires right { AreFailuresRight (W.searching planned.now) (terms self.now) (failed self.now) }
         ensures { IfSome result (λ k. DecidesLoopRest (W.searching planned.now) (terms self.now) run.forward run.here
-            (as_key k) memory.now) };
+            (memo_key_as_spec k) memory.now) };
 
     /// Returns whether a key is known to fail.
     fn is_known_to_fail(&self, key: RecordKey) -> bool
-        ensures { result ≡ failed self.now (as_key key) };
+        ensures { result ≡ failed self.now (memo_key_as_spec key) };
 
     /// Records that a key has failed, if the memo has it.
     fn record_key_failed(&mut self, key: RecordKey)
         ensures terms { terms self.new ≡ terms self.old }
-        ensures failed { (k : KeyOf) → failed self.new k ≡ true → (failed self.old k ≡ true) ⊎ (k ≡ as_key key) }
-        ensures recorded { has_key self.old (as_key key) → failed self.new (as_key key) ≡ true }
+        ensures failed { (k : KeyOf) → failed self.new k ≡ true → (failed self.old k ≡ true) ⊎
+            (k ≡ memo_key_as_spec key) }
+        ensures recorded { has_key self.old (memo_key_as_spec key) → failed self.new (memo_key_as_spec key) ≡ true }
         ensures kept { (k : KeyOf) → failed self.old k ≡ true → failed self.new k ≡ true };
 }
 
@@ -83,7 +86,7 @@ pub struct StepsAndMemo<S: StepCounter, M: FailureMemo> {
 /// Whether a call had a result, which it then left outside of its return value (as in `end` of
 /// `StepsAndMemo`).
 #[derive(Clone, Copy)]
-pub enum DoneOrStopped {
+pub enum ResultStoredOrSearchStopped {
     Done,
     Stopped,
 }
@@ -114,7 +117,7 @@ impl FailureMemo for NoMemo {
     }
 
     #[inline(always)]
-    fn loop_rest_key<W: SearchContext>(
+    fn unbounded_char_loop_rest_key<W: SearchContext>(
         &self,
         _: &W,
         _: DirectedThreadPos,

@@ -1,21 +1,24 @@
 //! Failures that a memo table records, by the memo analysis of a program.
 
 ghost use Rattle.std.specs.Prelude.{◌≡◌, ℕ, true, false, None, is_some, IfOk, IfSome, map};
-ghost use Rattle.regress_memo_laws.specs.{LoopDataKeyCodes.{HasSlotsOfProgram}, CharLoopMemoKeys.{char_loop_greediness_at, insn_before}};
-ghost use Rattle.regress_memo_analysis.specs.CheckedAnalysis.{MemoKeyHasBit};
-ghost use Rattle.regress_memo.specs.MemoContents.{has_failure, as_key as key_known};
-ghost use Rattle.regress_plan.specs.{InsnsAsSpecInsns.{spec_insn_of}, Plans.{char_loop_of}};
+ghost use Rattle.regress_memo_laws.specs.{LoopDataKeyCodes.{HasSlotsOfProgram}, UnboundedCharLoopMemoKeys.{char_loop_greediness_at, insn_before}};
+ghost use Rattle.regress_memo_analysis.specs.CheckedAnalysis.{IsRecordableMemoKey};
+ghost use Rattle.regress_memo.specs.MemoContents.{has_failure, memo_key_as_spec as key_known};
+ghost use Rattle.regress_plan.specs.{InsnsAsSpecInsns.{insn_as_spec_insn}, Plans.{op_as_char_loop}};
 ghost use Rattle.regress_scan.specs.TreePlanAndText.{program_of};
-ghost use Rattle.regress_backtrack.specs.{State.{current_thread_state_of}, FailuresInMemoTable.{scheme_of, IsMemoRight}, FailureMemo.{as_key, scheme_in, failed_in, has_key_in}};
+ghost use Rattle.regress_backtrack.specs.{State.{current_thread_state_of}, FailuresInMemoTable.{scheme_of, IsMemoRight}};
+ghost use Rattle.regress_backtrack.specs.FailureMemo.{memo_key_as_spec, scheme_in, failed_in, has_key_in};
 
 use crate::failure_memo::{FailureMemo, RecordKey, StepsAndMemo};
 use crate::state::BacktrackState;
 use crate::step_and_work_budgets::Unlimited;
-use crate::thread_position_and_control::DirectedThreadPos;
+use crate::thread_position_and_op_result::DirectedThreadPos;
 use regex_pattern_front::types::LoopID;
 use regress_memo::memo::{MemoTable, ThreadMemoKey as Known};
-use regress_memo_analysis::analysis::MemoAnalysis;
-use regress_memo_analysis::key_codes::{IterationStatesOfAllLoops, LoopCountAndIterationStart};
+use regress_memo_analysis::analysis_result::MemoAnalysis;
+use regress_memo_analysis::loop_data_key_codes::{
+    IterationStatesOfAllLoops, LoopCountAndIterationStart,
+};
 use regress_plan::insn::Insn;
 use regress_plan::ops::Op;
 use regress_scan::search_context::{SearchContext, text_end};
@@ -74,7 +77,7 @@ impl FailureMemo for MemoTable {
 
     ghost failed = { λ m. has_failure m };
 
-    ghost has_key = { λ m k. MemoKeyHasBit m.memo_analysis m.places k };
+    ghost has_key = { λ m k. IsRecordableMemoKey m.memo_analysis m.places k };
 
     #[inline(always)]
     fn key_at<W: SearchContext>(
@@ -103,7 +106,7 @@ impl FailureMemo for MemoTable {
     }
 
     #[inline(always)]
-    fn loop_rest_key<W: SearchContext>(
+    fn unbounded_char_loop_rest_key<W: SearchContext>(
         &self,
         planned: &W,
         run: DirectedThreadPos,
@@ -152,7 +155,7 @@ impl FailureMemo for MemoTable {
 // Converts a key of the memo table to the one that a choice point holds.
 #[inline(always)]
 fn record_key_of(key: Known) -> Option<RecordKey>
-    ensures { IfSome result (λ k. as_key k ≡ key_known key) }
+    ensures { IfSome result (λ k. memo_key_as_spec k ≡ key_known key) }
 {
     match u32::try_from(key.ip) {
         Ok(ip) => Some(RecordKey {
@@ -167,7 +170,7 @@ fn record_key_of(key: Known) -> Option<RecordKey>
 // Converts a key of a choice point to the one of the memo table.
 #[inline(always)]
 fn memo_key_of(key: RecordKey) -> Known
-    ensures { key_known result ≡ as_key key }
+    ensures { key_known result ≡ memo_key_as_spec key }
 {
     Known {
         ip: key.ip as usize,
@@ -202,14 +205,14 @@ impl<M: FailureMemo> FailureMemo for Option<Box<M>> {
     }
 
     #[inline(always)]
-    fn loop_rest_key<W: SearchContext>(
+    fn unbounded_char_loop_rest_key<W: SearchContext>(
         &self,
         planned: &W,
         run: DirectedThreadPos,
         memory: &BacktrackState,
     ) -> Option<RecordKey> {
         match self {
-            Some(memo) => memo.loop_rest_key(planned, run, memory),
+            Some(memo) => memo.unbounded_char_loop_rest_key(planned, run, memory),
             None => None,
         }
     }
@@ -233,7 +236,7 @@ impl<M: FailureMemo> FailureMemo for Option<Box<M>> {
 
 /// The state of attempts that are made again.
 #[derive(Drop)]
-pub(crate) struct MemoizedRetryState {
+pub(crate) struct CounterAndMemoForRetries {
     /// The counter and the memo. Failures are recorded where there is a memo analysis and memory
     /// for it.
     pub course: StepsAndMemo<Unlimited, Option<Box<MemoTable>>>,
@@ -245,9 +248,9 @@ pub(crate) struct MemoizedRetryState {
 pub(crate) fn enable_memo<W: SearchContext>(
     planned: &W,
     insns: &[Insn],
-    again: &mut MemoizedRetryState,
+    again: &mut CounterAndMemoForRetries,
 )
-    requires insns { map spec_insn_of insns.now ≡ (program_of (W.searching planned.now)).insns }
+    requires insns { map insn_as_spec_insn insns.now ≡ (program_of (W.searching planned.now)).insns }
     requires right { IsMemoRight (λ memo. memo.value) (W.searching planned.now) again.old.course.memo }
     ensures { IsMemoRight (λ memo. memo.value) (W.searching planned.now) again.new.course.memo }
 {
@@ -268,7 +271,7 @@ fn new_memo<W: SearchContext>(
     planned: &W,
     insns: &[Insn],
 ) -> Result<Option<Box<MemoTable>>, AllocError>
-    requires { map spec_insn_of insns.now ≡ (program_of (W.searching planned.now)).insns }
+    requires { map insn_as_spec_insn insns.now ≡ (program_of (W.searching planned.now)).insns }
     ensures { IfOk result (IsMemoRight (λ memo. memo.value) (W.searching planned.now)) }
 {
     let Some(memo_analysis) = MemoAnalysis::new(alloc, insns, planned.number_of_loops() as usize)?

@@ -4,10 +4,9 @@
 
 ghost use Rattle.std.specs.Prelude.{◌≡◌, IsTrue, nat_eq, option_map};
 ghost use Rattle.std.specs.List.{starts_with};
-ghost use Rattle.regex_meaning.specs.{CodeUnitOffsets.{IsBoundary}, StartPredicate.{begins_with_one_of, text_bytes_from_place}};
-ghost use Rattle.regress_exec.specs.Attempts.{is_anchored_predicate};
-ghost use Rattle.regress_input.specs.ReadsFromOffset.{place};
-ghost use Rattle.regress_program.specs.InsnMeanings.{spec_start_predicate_of};
+ghost use Rattle.regex_meaning.specs.{CodeUnitOffsets.{IsBoundary}, StartPredicate.{first_byte_is_one_of, utf8_bytes_of_text_from_place}};
+ghost use Rattle.regress_input.specs.CharAndByteReadsFromOffset.{place};
+ghost use Rattle.regress_program.specs.InsnsAndStartPredicatesAsSpec.{start_predicate_as_spec};
 ghost use Rattle.regress_backtrack.specs.StartsTriedUnderStepLimit.{lets_through as lets, IsFirstTried, IsNextTried};
 
 use regex_pattern_front::bytesearch::ByteSet;
@@ -25,7 +24,8 @@ fn starts_with_byte_in<Input: InputIndexer, Set: ByteSet>(
     requires at { IsBoundary (Input.text input.now) (Input.Position.offset at) }
     requires bytes { IsTrue Input.Units.ARE_BYTES }
     ensures { let text = Input.text input.now in
-        result ≡ begins_with_one_of (Set.members set.now) (text_bytes_from_place text (place text (Input.Position.offset at))) }
+        result ≡ first_byte_is_one_of (Set.members set.now) (utf8_bytes_of_text_from_place text
+        (place text (Input.Position.offset at))) }
 {
     match input.peek_byte_right(at) {
         Some(byte) => set.contains(byte),
@@ -39,7 +39,8 @@ fn has_bytes_at<Input: InputIndexer>(input: &Input, bytes: &[u8], at: Input::Pos
     requires at { IsBoundary (Input.text input.now) (Input.Position.offset at) }
     requires bytes { IsTrue Input.Units.ARE_BYTES }
     ensures { let text = Input.text input.now in
-        result ≡ starts_with nat_eq (text_bytes_from_place text (place text (Input.Position.offset at))) bytes.now }
+        result ≡ starts_with nat_eq (utf8_bytes_of_text_from_place text
+        (place text (Input.Position.offset at))) bytes.now }
 {
     let mut to = at;
     input.match_bytes(Forward, &mut to, bytes)
@@ -54,7 +55,7 @@ fn lets_through<Input: InputIndexer>(
     requires at { IsBoundary (Input.text input.now) (Input.Position.offset at) }
     requires bytes { IsTrue Input.Units.ARE_BYTES }
     ensures { let text = Input.text input.now in
-        result ≡ lets (spec_start_predicate_of start.now) text (place text (Input.Position.offset at)) }
+        result ≡ lets (start_predicate_as_spec start.now) text (place text (Input.Position.offset at)) }
 {
     match start {
         StartPredicate::Arbitrary | StartPredicate::StartAnchored => true,
@@ -75,7 +76,7 @@ pub(crate) fn first_start_to_try<Input: InputIndexer>(
     requires at { IsBoundary (Input.text input.now) (Input.Position.offset from) }
     requires bytes { IsTrue Input.Units.ARE_BYTES }
     ensures { let at = Input.Position.offset in
-        IsFirstTried (spec_start_predicate_of start.now) (Input.text input.now) (at from) (option_map at result) }
+        IsFirstTried (start_predicate_as_spec start.now) (Input.text input.now) (at from) (option_map at result) }
 {
     let mut next = Some(from);
     'places: while let Some(at) = next {
@@ -87,14 +88,6 @@ pub(crate) fn first_start_to_try<Input: InputIndexer>(
     None
 }
 
-// Checks whether only one position is tried.
-#[inline(always)]
-fn is_anchored(start: &StartPredicate) -> bool
-    ensures { result ≡ is_anchored_predicate (spec_start_predicate_of start.now) }
-{
-    matches!(start, StartPredicate::StartAnchored)
-}
-
 /// Returns the first position after the failed start `tried` that is tried, if there is one.
 pub(crate) fn next_start_to_try<Input: InputIndexer>(
     input: &Input,
@@ -104,9 +97,9 @@ pub(crate) fn next_start_to_try<Input: InputIndexer>(
     requires at { IsBoundary (Input.text input.now) (Input.Position.offset tried) }
     requires bytes { IsTrue Input.Units.ARE_BYTES }
     ensures { let at = Input.Position.offset in
-        IsNextTried (spec_start_predicate_of start.now) (Input.text input.now) (at tried) (option_map at result) }
+        IsNextTried (start_predicate_as_spec start.now) (Input.text input.now) (at tried) (option_map at result) }
 {
-    if is_anchored(start) {
+    if start.is_anchored() {
         return None;
     }
     match input.next_right_pos(tried) {

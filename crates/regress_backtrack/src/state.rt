@@ -1,10 +1,12 @@
 //! The state of a search: slots, an undo log of the values they had, and the choice points.
 
 ghost use Rattle.std.specs.Prelude.{◌≡◌, ◌≢◌, ◌<◌, ◌≤◌, ◌+◌, ◌-◌, ◌^◌, ◌++◌, ℕ, [], ◌∷◌, length, take, map, slice_get, slice_set, Some, true, false, OnOk, OnErr, IfOk};
-ghost use Rattle.regress_backtrack.specs.State.{StateModel, undone, IsStateInvariant, initial_slot as first_slot_at, logical_slot_value, seen_change, AreUnsetAndUnlogged, undo_entry_of};
-ghost use Rattle.regress_backtrack.specs.State.{last_mark_log as noted_since, initial_state, current_thread_state_of, loop_data_in_slot, with_choice_point_list, IsUndone, SetsSlot, ChangesStateUndoably, with_group_open};
+ghost use Rattle.regress_backtrack.specs.State.{StateModel, undone, IsStateInvariant, initial_slot as first_slot_at, logical_slot_value, seen_change};
+ghost use Rattle.regress_backtrack.specs.State.{SlotsAreUnsetAndUnlogged, undo_entry_logged_for_slot};
+ghost use Rattle.regress_backtrack.specs.State.{last_mark_log as noted_since, initial_state, current_thread_state_of, loop_data_in_slot, with_choice_point_list};
+ghost use Rattle.regress_backtrack.specs.State.{ChangesFromNumberAreUndone, SetsSlotUndoably, ChangesStateUndoably, with_group_open};
 ghost use Rattle.regress_backtrack.specs.State.{state_with_group_unset, with_group_range, with_loop_iteration};
-ghost use Rattle.regress_backtrack.specs.UndoLogging.{HasLogRoomOrIsLogged, IsLoggedUnlessAlreadySinceChoicePoint};
+ghost use Rattle.regress_backtrack.specs.UndoLoggingOncePerChoicePoint.{HasLogRoomOrIsLogged, IsLoggedUnlessAlreadySinceChoicePoint};
 
 use crate::lookaround_frames::LookaroundFrame;
 use std::alloc::{AllocError, Global};
@@ -236,7 +238,8 @@ fn log_change(
     requires log_len { log_len.old ≤ length log.old.items }
     requires free { free.old ≤ length log.old.items }
     requires slot { slot < length slots.now }
-    ensures noted { IfOk result (IsLoggedUnlessAlreadySinceChoicePoint (undo_entry_of slots.now slot) (noted_since marks.now)
+    ensures noted { IfOk result (IsLoggedUnlessAlreadySinceChoicePoint (undo_entry_logged_for_slot slots.now slot)
+        (noted_since marks.now)
         log_len.old log.old.items log_len.new log.new.items) }
     ensures refused { OnErr result ((log_len.new ≡ log_len.old)
         × (take log_len.old log.new.items ≡ take log_len.old log.old.items)) }
@@ -260,7 +263,7 @@ fn log_change(
 #[inline(always)]
 fn fit_slots(slots: &mut Vec<GroupOrLoopState>, count: usize) -> Result<(), AllocError>
     ensures made { OnOk result (length slots.new.items ≡ count) }
-    ensures fresh { AreUnsetAndUnlogged slots.old.items → AreUnsetAndUnlogged slots.new.items }
+    ensures fresh { SlotsAreUnsetAndUnlogged slots.old.items → SlotsAreUnsetAndUnlogged slots.new.items }
     ensures refused { OnErr result (length slots.new.items ≢ count) }
     ensures short { OnErr result (length slots.old.items < count) }
 {
@@ -275,7 +278,7 @@ fn fit_slots(slots: &mut Vec<GroupOrLoopState>, count: usize) -> Result<(), Allo
 #[inline(never)]
 fn make(slots: &mut Vec<GroupOrLoopState>, count: usize) -> Result<(), AllocError>
     ensures made { OnOk result (length slots.new.items ≡ count) }
-    ensures fresh { AreUnsetAndUnlogged slots.old.items → AreUnsetAndUnlogged slots.new.items }
+    ensures fresh { SlotsAreUnsetAndUnlogged slots.old.items → SlotsAreUnsetAndUnlogged slots.new.items }
     ensures refused { OnErr result (slots.new.items ≡ slots.old.items) }
     ensures short { OnErr result (length slots.old.items < count) }
 {
@@ -298,7 +301,7 @@ fn initial_slot(at: usize) -> GroupOrLoopState
 #[cold]
 #[inline(never)]
 fn wipe(slots: &mut Vec<GroupOrLoopState>)
-    ensures fresh { AreUnsetAndUnlogged slots.new.items }
+    ensures fresh { SlotsAreUnsetAndUnlogged slots.new.items }
     ensures length { length slots.new.items ≡ length slots.old.items }
 {
     for id in 0..slots.len() {
@@ -366,7 +369,7 @@ impl BacktrackState {
         requires slot { slot < length self.old.slots }
         requires is_set { value.is_set ≡ true }
         requires noted { value.noted ≡ 0 }
-        ensures set { OnOk result (SetsSlot slot value self.old self.new) }
+        ensures set { OnOk result (SetsSlotUndoably slot value self.old self.new) }
         ensures refused { OnErr result (self.new ≡ self.old) }
     {
         let noted = log_change(
@@ -408,7 +411,7 @@ impl BacktrackState {
     #[inline(always)]
     pub fn undo_to(&mut self, len: usize)
         requires { len ≤ length self.old.log }
-        ensures { IsUndone len self.old self.new }
+        ensures { ChangesFromNumberAreUndone len self.old self.new }
     {
         'changes: while self.log_len() > len {
             self.undo_last();
@@ -419,7 +422,7 @@ impl BacktrackState {
     #[inline(always)]
     fn undo_last(&mut self)
         requires { 0 < length self.old.log }
-        ensures { IsUndone (length self.old.log - 1) self.old self.new }
+        ensures { ChangesFromNumberAreUndone (length self.old.log - 1) self.old self.new }
     {
         self.log_len -= 1;
         let change = self.log[self.log_len];

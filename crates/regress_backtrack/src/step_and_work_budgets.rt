@@ -9,12 +9,12 @@ use std::alloc::AllocError;
 /// are counted, too few steps were left. The type is empty, so that a result with a position is
 /// returned in registers. The step counter knows the cause.
 #[derive(Clone, Copy)]
-pub struct SearchStopped;
+pub struct SearchStoppedWithoutResult;
 
-impl From<AllocError> for SearchStopped {
+impl From<AllocError> for SearchStoppedWithoutResult {
     #[inline(always)]
-    fn from(_: AllocError) -> SearchStopped {
-        SearchStopped
+    fn from(_: AllocError) -> SearchStoppedWithoutResult {
+        SearchStoppedWithoutResult
     }
 }
 
@@ -32,20 +32,20 @@ pub trait StepCounter: Copy {
     ghost budget: { Self → Budget };
 
     /// Takes a number of steps if as many are left. If not, returns `Err`, and none are left then.
-    fn take(&mut self, steps: usize) -> Result<(), SearchStopped>
+    fn take(&mut self, steps: usize) -> Result<(), SearchStoppedWithoutResult>
         ensures taken { OnOk result (AreStepsTakenFromBudget COUNTS steps (budget self.old) (budget self.new)) }
         ensures refused { OnErr result (AreStepsRefused COUNTS steps (budget self.old) (budget self.new)) };
 
     /// Charges one backtrack: takes one step and does some work. Returns `Err` if too much work was
     /// done or no step was left.
-    fn backtrack(&mut self) -> Result<(), SearchStopped>
+    fn backtrack(&mut self) -> Result<(), SearchStoppedWithoutResult>
         ensures taken { OnOk result (AreStepsTakenFromBudget COUNTS 1 (budget self.old) (budget self.new)) }
         ensures stopped { OnErr result (AreStepsTakenFromBudget COUNTS 1 (budget self.old) (budget self.new)
             ⊎ AreStepsRefused COUNTS 1 (budget self.old) (budget self.new)) };
 
     /// Charges a number of units read by one operation, or of choice points dropped at once. This
     /// is work if they are many.
-    fn charge_units_read(&mut self, units: usize)
+    fn charge_bulk_read_or_drop_work(&mut self, units: usize)
         ensures { budget self.new ≡ budget self.old };
 
     /// Returns whether steps were refused.
@@ -62,38 +62,38 @@ const BELOW_ZERO: u64 = 0x8000_0000_0000_0000;
 
 /// A counter for any number of steps, with limited work if `BOUND`.
 #[derive(Clone, Copy)]
-pub struct UnlimitedStepCounter<const BOUND: bool> {
+pub struct WorkCounterWithoutStepLimit<const BOUND: bool> {
     // The work that is left. Below 0 it wraps around to 2^64, so that no work is too much to count.
     work: u64,
 }
 
 /// A counter for any number of steps and limited work.
-pub type WorkBounded = UnlimitedStepCounter<true>;
+pub type WorkBounded = WorkCounterWithoutStepLimit<true>;
 
 /// A counter for any number of steps and any work.
-pub type Unlimited = UnlimitedStepCounter<false>;
+pub type Unlimited = WorkCounterWithoutStepLimit<false>;
 
-impl<const BOUND: bool> UnlimitedStepCounter<BOUND> {
+impl<const BOUND: bool> WorkCounterWithoutStepLimit<BOUND> {
     /// Creates a counter that allows this much work.
     #[inline(always)]
     pub fn work_counter_with_limit(work: u64) -> Self {
-        UnlimitedStepCounter { work }
+        WorkCounterWithoutStepLimit { work }
     }
 
     /// Creates a counter whose work is already spent.
     #[inline(always)]
     pub fn exhausted_work_counter() -> Self {
-        UnlimitedStepCounter { work: BELOW_ZERO }
+        WorkCounterWithoutStepLimit { work: BELOW_ZERO }
     }
 
     /// Returns whether more work was done than was allowed.
     #[inline(always)]
-    pub fn is_work_spent(&self) -> bool {
+    pub fn is_work_limit_exceeded(&self) -> bool {
         self.work >= BELOW_ZERO
     }
 }
 
-impl<const BOUND: bool> StepCounter for UnlimitedStepCounter<BOUND> {
+impl<const BOUND: bool> StepCounter for WorkCounterWithoutStepLimit<BOUND> {
     ghost COUNTS = { false };
 
     const COUNTS: bool = false;
@@ -103,25 +103,25 @@ impl<const BOUND: bool> StepCounter for UnlimitedStepCounter<BOUND> {
     ghost budget = { λ _. record { left = 0; out = false } };
 
     #[inline(always)]
-    fn take(&mut self, _steps: usize) -> Result<(), SearchStopped> {
+    fn take(&mut self, _steps: usize) -> Result<(), SearchStoppedWithoutResult> {
         Ok(())
     }
 
     #[inline(always)]
-    fn backtrack(&mut self) -> Result<(), SearchStopped> {
+    fn backtrack(&mut self) -> Result<(), SearchStoppedWithoutResult> {
         if !BOUND {
             return Ok(());
         }
         self.work = self.work.wrapping_sub(1);
-        if self.is_work_spent() {
-            Err(SearchStopped)
+        if self.is_work_limit_exceeded() {
+            Err(SearchStoppedWithoutResult)
         } else {
             Ok(())
         }
     }
 
     #[inline(always)]
-    fn charge_units_read(&mut self, units: usize) {
+    fn charge_bulk_read_or_drop_work(&mut self, units: usize) {
         if BOUND && units >= LONG {
             self.work = self.work.wrapping_sub(units as u64);
         }
@@ -150,24 +150,24 @@ impl StepCounter for LimitedStepCounter {
     ghost budget = { λ s. record { left = s.left; out = s.out } };
 
     #[inline(always)]
-    fn take(&mut self, steps: usize) -> Result<(), SearchStopped> {
+    fn take(&mut self, steps: usize) -> Result<(), SearchStoppedWithoutResult> {
         let steps = steps as u64;
         if self.left < steps {
             self.left = 0;
             self.out = true;
-            return Err(SearchStopped);
+            return Err(SearchStoppedWithoutResult);
         }
         self.left -= steps;
         Ok(())
     }
 
     #[inline(always)]
-    fn backtrack(&mut self) -> Result<(), SearchStopped> {
+    fn backtrack(&mut self) -> Result<(), SearchStoppedWithoutResult> {
         self.take(1)
     }
 
     #[inline(always)]
-    fn charge_units_read(&mut self, _units: usize) {}
+    fn charge_bulk_read_or_drop_work(&mut self, _units: usize) {}
 
     #[inline(always)]
     fn steps_were_refused(&self) -> bool {

@@ -4,7 +4,7 @@ ghost use Rattle.std.specs.Prelude.{◌≡◌, IfOk, Some};
 ghost use Rattle.regex_meaning.specs.{StartPredicate.{start_predicate}, Text.{utf8_text}};
 ghost use Rattle.regex_meaning.proofs.TextLemmas.{utf8_text-IsText};
 ghost use Rattle.regex_pattern_front.specs.AstToSpecTree.{tree_of};
-ghost use Rattle.regress_program.specs.InsnMeanings.{spec_start_predicate_of};
+ghost use Rattle.regress_program.specs.InsnsAndStartPredicatesAsSpec.{start_predicate_as_spec};
 ghost use Rattle.regress_backtrack.specs.{State.{current_thread_state_of}, AttemptResults.{HasSlots}};
 
 use crate::attempts::attempt;
@@ -13,7 +13,7 @@ use crate::failure_memo::{NoMemo, StepsAndMemo};
 use crate::starts_accepted_by_predicate::{first_start_to_try, next_start_to_try};
 use crate::step_and_work_budgets::LimitedStepCounter;
 use regress_exec::exec::{MatchProducer, ProducerFromProgramAndText, SearchError};
-use regress_exec::search_loop::AnchoredSearch;
+use regress_exec::search_loop::SingleAttemptExecutor;
 use regress_input::indexing::{InputIndexer, Utf8Input};
 use regress_program::insn::{CompiledRegex, Program, StartPredicate};
 use std::alloc::AllocError;
@@ -27,7 +27,7 @@ pub struct LimitedExecutor<'r, 't> {
     start: &'r StartPredicate,
     // The steps that are left, and whether the last attempt was refused some.
     steps: LimitedStepCounter,
-    ghost predicted: { start_predicate (tree_of executor.search.program.regex) ≡ spec_start_predicate_of start.now },
+    ghost predicted: { start_predicate (tree_of executor.search.program.regex) ≡ start_predicate_as_spec start.now },
 }
 
 impl<'r, 't> LimitedExecutor<'r, 't> {
@@ -63,7 +63,7 @@ impl<'r, 't> LimitedExecutor<'r, 't> {
     }
 }
 
-impl<'r, 't> AnchoredSearch for LimitedExecutor<'r, 't> {
+impl<'r, 't> SingleAttemptExecutor for LimitedExecutor<'r, 't> {
     type Input = Utf8Input<'t>;
 
     ghost tree = { λ e. tree_of e.executor.search.program.regex };
@@ -131,7 +131,7 @@ impl<'r, 't> AnchoredSearch for LimitedExecutor<'r, 't> {
         first_start_to_try(&self.executor.search.searched.input, self.start, pos)
     }
 
-    fn next_start_to_try_after(
+    fn next_start_after_failed_attempt(
         &self,
         tried: <Utf8Input<'t> as InputIndexer>::Position,
     ) -> Option<<Utf8Input<'t> as InputIndexer>::Position> {

@@ -8,36 +8,37 @@ use Rattle.regex_meaning.specs.CodeUnitOffsets.{HasRisingPlaceOffsets, IsBoundar
 use Rattle.regex_meaning.specs.Tree.{Tree}
 use Rattle.regress_program.specs.CompilationOfTreesAsFunction.{compiled}
 use Rattle.regress_input.proofs.Places.{boundary_inside}
-use Rattle.regress_exec.specs.Attempts.{match_end_and_groups_at, steps_for_attempt, search_from}
+use Rattle.regress_exec.specs.AttemptResultsAndStartsToTry.{match_end_and_groups_at, steps_for_attempt, search_from}
 use Rattle.regress_exec.proofs.Attempts.{begins}
 use Rattle.regex_meaning.specs.CompilationRelation.{Program}
-use Rattle.regress_machine.specs.SearchResults.{state_before_first_insn, end_of, TreeProgramCanSearchText}
+use Rattle.regress_machine.specs.SearchFindsFirstOutcomeAtPlace.{state_before_first_insn, end_of, TreeProgramCanSearchText}
 use Rattle.regress_machine.specs.InsnEffects.{end_of_search}
 use Rattle.regress_machine.specs.Machine as machine
 use Rattle.regress_machine.specs.Machine.{running, ends, Found, search}
 use Rattle.regress_memo_laws.specs.Liveness.{ReadsAsBytes}
 use Rattle.regress_memo_laws.specs.MemoSearch.{Key, Entry, tried, tries, Answers}
-use Rattle.regress_memo_analysis.specs.declared.analysis.MemoAnalysis.{MemoAnalysis}
-use Rattle.regress_memo_analysis.specs.WorkBound.{first_row, work_per_position, cost_of_all_keys}
-use Rattle.regress_memo_analysis.specs.AnalysisContents.{insn_analysis_of}
-use Rattle.regress_memo.specs.Laws.{Holds}
+use Rattle.regress_memo_analysis.specs.declared.analysis_result.MemoAnalysis.{MemoAnalysis}
+use Rattle.regress_memo_analysis.specs.WorkBound.{first_row, work_per_position, all_keys_cost_per_position}
+use Rattle.regress_memo_analysis.specs.AnalysisAsLivenessAndPotentials.{insn_analysis_of}
+use Rattle.regress_memo.specs.Laws.{ListsExactlyKnownKeys}
 use Rattle.regress_memo.specs.MemoContents.{has_failure, IsEmptyMemo}
 use Rattle.regress_memo.specs.MemoContractView.{MemoView}
 use Rattle.regress_memo.proofs.LawLemmas.{memos-are-true}
 use Rattle.regress_scan.proofs.Reach.{some-of}
-use Rattle.regress_memo.specs.MemoSearchCosts.{HasCome}
-use Rattle.regress_exec.specs.WorkLimits.{least_offset_after_match}
+use Rattle.regress_memo.specs.AmortizedMemoSearchSteps.{HasCome}
+use Rattle.regress_exec.specs.AttemptsAndMatchesWithinWork.{least_offset_after_match}
 use Rattle.regress_bounded.specs.declared.memo_and_work_budget.MemoAndWorkBudget.{MemoAndWorkBudget}
 use Rattle.regress_bounded.specs.declared.memo_and_work_budget.AttemptAbortReason.{AttemptAbortReason}
 use Rattle.regress_bounded.specs.declared.memo_and_work_budget.AttemptAbortReason.TheVariants.{Work}
 use Rattle.regress_pikevm.specs.InsnEffects.{end_and_groups}
 use Rattle.regress_pikevm.proofs.Remains.{map-end}
 use Rattle.regress_pikevm.specs.declared.pikevm.states.State.{State}
-use Rattle.regress_bounded.specs.ProgramWorkBounds.{HasBound, work_per_unit}
-use Rattle.regress_bounded.specs.SearchStateEntries.{IsPaid, IsRight, IsMemoRight, AttemptStartAndResult, AttemptBeginsWithMemoAndBudget, Stands, IsStanding, IsOver, MayStop, EndsAt, Runs, front_of}
-use Rattle.regress_bounded.specs.WorkCosts.{HasWalked, IsWalked, IsTrying}
+use Rattle.regress_bounded.specs.ProgramWorkBoundForAllMatches.{HasBound, work_per_unit}
+use Rattle.regress_bounded.specs.SearchStateAsMemoSearchEntries.{IsPaid, IsRight, IsMemoRight, AttemptStartMemoBudgetAndResult, AttemptBeginsWithMemoAndBudget, Stands}
+use Rattle.regress_bounded.specs.SearchStateAsMemoSearchEntries.{IsStanding, IsOver, MayStop, EndsAt, Runs, front_of}
+use Rattle.regress_bounded.specs.WorkOfCharLoopsAndAttempts.{HasWalked, IsWalked, IsTrying}
 use Rattle.regress_pikevm.specs.States.{state_of}
-use Rattle.regress_bounded.specs.SuccessiveAttempts.{Walked, HasWalked as AreWalked}
+use Rattle.regress_bounded.specs.WorkOfSuccessiveAttempts.{Walked, HasWalked as AreWalked}
 use Rattle.regress_bounded.proofs.Ends.{ends-itself}
 use Rattle.regress_bounded.proofs.PaidSearches.{memory-of, then-starts, in-hand, in-order, still-onward, so-far, behind-end, then-ends, then-none}
 use Rattle.regress_bounded.proofs.Standing.{row-none}
@@ -46,7 +47,7 @@ use Rattle.regress_bounded.proofs.Standing as standing
 -- ---- It begins
 
 module _ {P : Type 0} {offset : P → ℕ} {program : Program} {text : Text} where
-  pub begins-stands : {at : ℕ} {c : MemoAndWorkBudget} {b : AttemptStartAndResult} (start : State P) → HasRisingPlaceOffsets text → IsBoundary text at → state_of offset start ≡ state_before_first_insn program at → AttemptBeginsWithMemoAndBudget program text at c b
+  pub begins-stands : {at : ℕ} {c : MemoAndWorkBudget} {b : AttemptStartMemoBudgetAndResult} (start : State P) → HasRisingPlaceOffsets text → IsBoundary text at → state_of offset start ≡ state_before_first_insn program at → AttemptBeginsWithMemoAndBudget program text at c b
       → Stands offset program text b (front_of offset (Some start)) [] c
   begins-stands {at} {c} {b} start is_text on is h =
       let right = h.right in
@@ -72,7 +73,7 @@ module _ {P : Type 0} {offset : P → ℕ} {program : Program} {text : Text} whe
 module _ {P : Type 0} (offset : P → ℕ) (program : Program) (text : Text) where
   -- one that has what is known as its memory
   record Attempt (at : ℕ) (c : MemoAndWorkBudget) (searched : Option Found) : Type 0 where
-    begin : AttemptStartAndResult
+    begin : AttemptStartMemoBudgetAndResult
     begins : AttemptBeginsWithMemoAndBudget program text at c begin
     found : searched ≡ Some begin.found
 
@@ -89,7 +90,7 @@ module _ {P : Type 0} (offset : P → ℕ) (program : Program) (text : Text) whe
 
   -- ---- What it finds
 
-  module _ (b : AttemptStartAndResult) (c : MemoAndWorkBudget) where
+  module _ (b : AttemptStartMemoBudgetAndResult) (c : MemoAndWorkBudget) where
     nothing-found : Stands offset program text b [] [] c → b.found.end ≡ None
     nothing-found h =
         let none : h.row ≡ [] = row-none offset program text h.row h.is in
@@ -102,13 +103,13 @@ module _ {P : Type 0} (offset : P → ℕ) (program : Program) (text : Text) whe
         standing.then-ends program text c.memo.memo_analysis s.right.paid b s.is_memory s.answers s.work s.now h.from (state_of offset end) s.row s.comes h.ends
 
   -- its end is inside the text
-  end-inside : (b : AttemptStartAndResult) (c : MemoAndWorkBudget) (end : State P) → EndsAt offset program text b end c → offset end.pos ≤ units text
+  end-inside : (b : AttemptStartMemoBudgetAndResult) (c : MemoAndWorkBudget) (end : State P) → EndsAt offset program text b end c → offset end.pos ≤ units text
   end-inside b c end h =
       let own : offset end.pos ≡ h.from.pos = ap (λ (u : machine.State). u.pos) (ends-itself program text rightwards h.from (state_of offset end) h.ends) in
       let within = h.stands.comes.keyed.0.sound.within in
       omega (arith, own, within)
 
-  runs-found : (b : AttemptStartAndResult) (c : MemoAndWorkBudget) (end : Option (State P)) → Runs offset program text b (Ok end) c → b.found.end ≡ option_map (λ e. state_of offset e) end
+  runs-found : (b : AttemptStartMemoBudgetAndResult) (c : MemoAndWorkBudget) (end : Option (State P)) → Runs offset program text b (Ok end) c → b.found.end ≡ option_map (λ e. state_of offset e) end
   runs-found b c None h = nothing-found b c h
   runs-found b c (Some e) h = end-found b c e h
 
@@ -120,7 +121,7 @@ module _ {P : Type 0} (offset : P → ℕ) (program : Program) (text : Text) whe
     t = new.memo.memo_analysis
 
     -- the attempt from what was known
-    abbrev its : AttemptStartAndResult
+    abbrev its : AttemptStartMemoBudgetAndResult
     its = record { at = at; memory = walked.walked.memory; total = old.left; turns = answered.turns; found = answered.found }
 
     its-begins : IsRight program text old.memo → AttemptBeginsWithMemoAndBudget program text at old its
@@ -130,7 +131,7 @@ module _ {P : Type 0} (offset : P → ℕ) (program : Program) (text : Text) whe
     has = subst (λ t. HasWalked program text t ahead walked.done walked.walked.memory) (sym same) walked.walked.has
 
     module _ (paid : IsPaid program text t) where
-      trying : (known : Key → Bool) (work : ℕ) (now : List Key) (row : List Entry) → HasCome program text t rightwards its.memory (tries (first_row program at)) work now row → Holds known now
+      trying : (known : Key → Bool) (work : ℕ) (now : List Key) (row : List Entry) → HasCome program text t rightwards its.memory (tries (first_row program at)) work now row → ListsExactlyKnownKeys known now
           → IsTrying program text t known at walked.done work row
       trying known work now row h holds = record {
         memory = its.memory;
@@ -178,7 +179,7 @@ module _ {P : Type 0} (offset : P → ℕ) (program : Program) (text : Text) whe
           let all =
           so-far program t paid.memo_analysis text paid.is_text paid.bytes paid.short at walked.done its.memory
           (still-onward program t paid.memo_analysis text paid.is_text paid.bytes paid.short ahead walked.done its.memory has at le) answered h.work h.now h.row inside h.comes in
-          let third : work_per_unit t ≡ 1 + (work_per_position t + (cost_of_all_keys t + (insn_analysis_of t 0).ready)) = omega arith in
+          let third : work_per_unit t ≡ 1 + (work_per_position t + (all_keys_cost_per_position t + (insn_analysis_of t 0).ready)) = omega arith in
           let same_all = ap (λ m. m * (units text + 1)) third in
           let u = ap (λ t. work_per_unit t * (units text + 1)) same in
           let e = walked.enough in
@@ -222,7 +223,7 @@ module _ {P : Type 0} (offset : P → ℕ) {tree : Tree} {text : Text} (can : Tr
 
   module _ (new : MemoAndWorkBudget) where
     abbrev ByRuns : Result (Option (State P)) AttemptAbortReason → Type 0
-    ByRuns r = (b : AttemptStartAndResult) → AttemptBeginsWithMemoAndBudget (compiled tree) text at old b → Runs offset (compiled tree) text b r new
+    ByRuns r = (b : AttemptStartMemoBudgetAndResult) → AttemptBeginsWithMemoAndBudget (compiled tree) text at old b → Runs offset (compiled tree) text b r new
 
     -- an end that is found is inside the text
     pub found-inside : {found : Option (State P)} {end : State P} → found ≡ Some end → IsMemoRight (compiled tree) text old.memo → ByRuns (Ok found) → offset end.pos ≤ units text
@@ -251,7 +252,7 @@ module _ {P : Type 0} (offset : P → ℕ) {tree : Tree} {text : Text} (can : Tr
       inside : at ≤ units text
       inside = boundary_inside text is at on
 
-      abbrev from : Walked (compiled tree) text old ahead → AttemptStartAndResult
+      abbrev from : Walked (compiled tree) text old ahead → AttemptStartMemoBudgetAndResult
       from w = its offset (compiled tree) text at ahead old new same w le inside (answered-at tree text can at on)
 
       from-begins : (w : Walked (compiled tree) text old ahead) → IsRight (compiled tree) text old.memo → AttemptBeginsWithMemoAndBudget (compiled tree) text at old (from w)

@@ -7,9 +7,9 @@ use Rattle.regex_meaning.specs.Outcomes.{is_some_and}
 use Rattle.regex_meaning.specs.CompilationRelation.{Program, Insn, LoopFields, Goal, JustFail, Char, CharSet, ByteSet, ByteSeq, AsciiBracket, Bracket, MatchAny}
 use Rattle.regex_meaning.specs.CompilationRelation.{MatchAnyExceptLineTerminator, Alt, Jump, EnterLoop, LoopAgain, ResetCaptureGroup, Loop1CharBody}
 use Rattle.regex_meaning.specs.CompilationRelation.{BeginCaptureGroup, EndCaptureGroup, BackRef, Lookahead, Lookbehind}
-use Rattle.regress_machine.specs.Machine.{State, Thread, LoopData, Next, goes, scans, ends, asks, with_some, only_if, go, go_if, iterate_or_leave_loop}
-use Rattle.regress_machine.specs.Machine.{next_iteration_unless_empty, loop_repeated, test_of, on_to, read_one, stay_if, backref_read, read_group, scan, act, act_on}
-use Rattle.regress_memo_laws.specs.LookaroundContinuations.{lookaround_at}
+use Rattle.regress_machine.specs.Machine.{State, Thread, LoopData, Next, goes, scans, ends, asks, with_some, only_if, go, go_if, iterate_or_leave_at_loop_head}
+use Rattle.regress_machine.specs.Machine.{effect_at_iteration_end, loop_again_effect, test_of, on_to, read_one, stay_if, backref_read, read_group, scan, act, act_on}
+use Rattle.regress_memo_laws.specs.EquivalenceAfterSkippingSucceedingLookarounds.{lookaround_at}
 
 -- an end is the state's own, nothing is asked where there is no lookaround, and nothing gone over where there is no run
 abbrev pub EndsAs : (looks run : Bool) → State → Next → Type 0
@@ -42,18 +42,18 @@ module _ (looks run : Bool) (s : State) where
   as-go_if true u = tt
   as-go_if false u = tt
 
-  as-loop_turn : (f : LoopFields) (begin k : ℕ) (u : State) → EndsAs looks run s (iterate_or_leave_loop f begin k u)
+  as-loop_turn : (f : LoopFields) (begin k : ℕ) (u : State) → EndsAs looks run s (iterate_or_leave_at_loop_head f begin k u)
   as-loop_turn f begin k u = as-only_if (nat_lt f.loop_id (length u.loops)) _ tt
 
-  as-again_with : (f : LoopFields) (begin : ℕ) (x : LoopData) (u : State) → EndsAs looks run s (next_iteration_unless_empty f begin x u)
+  as-again_with : (f : LoopFields) (begin : ℕ) (x : LoopData) (u : State) → EndsAs looks run s (effect_at_iteration_end f begin x u)
   as-again_with f begin x u = as-only_if (nat_lt x.iters f.max_iters) _ (by (x.entry == u.pos && nat_lt f.min_iters (x.iters + 1)))
     where
-      by : (b : Bool) → EndsAs looks run s (if b then goes [] else iterate_or_leave_loop f begin (x.iters + 1) u)
+      by : (b : Bool) → EndsAs looks run s (if b then goes [] else iterate_or_leave_at_loop_head f begin (x.iters + 1) u)
       by true = tt
       by false = as-loop_turn f begin (x.iters + 1) u
 
-  as-again_at : (o : Option Insn) (begin : ℕ) (u : State) → EndsAs looks run s (loop_repeated o begin u)
-  as-again_at (Some (EnterLoop f)) begin u = as-with_some (slice_get u.loops f.loop_id) (λ x. next_iteration_unless_empty f begin x u) (λ x. as-again_with f begin x u)
+  as-again_at : (o : Option Insn) (begin : ℕ) (u : State) → EndsAs looks run s (loop_again_effect o begin u)
+  as-again_at (Some (EnterLoop f)) begin u = as-with_some (slice_get u.loops f.loop_id) (λ x. effect_at_iteration_end f begin x u) (λ x. as-again_with f begin x u)
   as-again_at (Some _) begin u = tt
   as-again_at None begin u = tt
 

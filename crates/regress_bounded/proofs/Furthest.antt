@@ -10,28 +10,28 @@ use Rattle.regex_meaning.specs.CodeUnitOffsets.{HasRisingPlaceOffsets, IsBoundar
 use Rattle.regex_meaning.specs.CompilationRelation.{Program}
 use Rattle.regex_meaning.proofs.Options.{some-same}
 use Rattle.regex_meaning.proofs.TextLemmas.{IsBoundary-place, offset-IsBoundary, offset-less, offset-le}
-use Rattle.regress_input.specs.ReadsFromOffset.{end_if_matched, past_if}
-use Rattle.regress_plan.specs.InsnsAsSpecInsns.{spec_insn_of}
+use Rattle.regress_input.specs.CharAndByteReadsFromOffset.{end_if_matched, past_if}
+use Rattle.regress_plan.specs.InsnsAsSpecInsns.{insn_as_spec_insn}
 use Rattle.regress_machine.specs.Machine as machine
 use Rattle.regress_machine.specs.Machine.{waiting, test_of}
-use Rattle.regress_machine.specs.InsnEffects.{state_after_char_loop_at}
+use Rattle.regress_machine.specs.InsnEffects.{state_after_char_loop_to_offset}
 use Rattle.regress_machine.proofs.Beside.{moved-zero}
-use Rattle.regress_simulation.specs.CharLoopExitStates.{behind}
+use Rattle.regress_simulation.specs.CharLoopExitStatesByPreference.{behind}
 use Rattle.regress_memo_laws.specs.LoopDataKeyCodes.{plan_code}
 use Rattle.regress_memo_laws.specs.MemoSearch.{Key, Entry, tried, noted}
-use Rattle.regress_memo_analysis.specs.AnalysisContents.{key_code_questions_of, insn_direction}
+use Rattle.regress_memo_analysis.specs.AnalysisAsLivenessAndPotentials.{key_code_questions_of, insn_direction}
 use Rattle.regress_memo.specs.declared.memo.ThreadMemoKey.{ThreadMemoKey as Stored}
-use Rattle.regress_memo.specs.MemoContents.{as_key, memo_key_at, has_failure}
+use Rattle.regress_memo.specs.MemoContents.{memo_key_as_spec, memo_key_at, has_failure}
 use Rattle.regress_memo.specs.MemoContractView.{MemoView}
 use Rattle.regress_scan.proofs.Reach.{some-of}
 use Rattle.regress_scan.proofs.StopSets.{places-few}
-use Rattle.regress_bounded.specs.declared.pending_stack.UnboundedCharLoop.{UnboundedCharLoop}
-use Rattle.regress_bounded.specs.declared.pending_stack.StackEntry.{StackEntry}
-use Rattle.regress_bounded.specs.declared.pending_stack.StackEntry.TheVariants.{Thread as AsThread, Record as AsRecord}
+use Rattle.regress_bounded.specs.declared.stack_of_pending_threads_and_records.UnboundedCharLoop.{UnboundedCharLoop}
+use Rattle.regress_bounded.specs.declared.stack_of_pending_threads_and_records.StackEntry.{StackEntry}
+use Rattle.regress_bounded.specs.declared.stack_of_pending_threads_and_records.StackEntry.TheVariants.{Thread as AsThread, Record as AsRecord}
 use Rattle.regress_pikevm.specs.declared.pikevm.states.State.{State}
 use Rattle.regress_pikevm.specs.States.{state_of}
-use Rattle.regress_bounded.specs.SearchStateEntries.{IsRight, IsMemoRight, IsRow, IsRunHere, PlacesWait, ScansWithMemo, IsPast}
-use Rattle.regress_bounded.specs.WorkCosts.{key_on, row_on, row_of_places}
+use Rattle.regress_bounded.specs.SearchStateAsMemoSearchEntries.{IsRight, IsMemoRight, IsRow, IsRunHere, PlacesWait, ScansWithMemo, IsPast}
+use Rattle.regress_bounded.specs.WorkOfCharLoopsAndAttempts.{key_on, row_on, row_of_places}
 use Rattle.regress_bounded.proofs.Lazily.{endless-by}
 use Rattle.regress_bounded.proofs.Passed.{past-none, past-more, past-all}
 use Rattle.regress_bounded.proofs.PaidRuns.{key-is}
@@ -108,7 +108,7 @@ module _ {P : Type 0} {offset : P → ℕ} {program : Program} {text : Text} {ru
     key-of test place n = key_on program text m.memo_analysis rightwards test place s n
 
     -- the way of a run's instruction is nothing to its keys
-    key-there : IsRight program text m → (test : ℕ → Bool) → test_of program (Some (spec_insn_of run.body)) ≡ Some test → (place n : ℕ)
+    key-there : IsRight program text m → (test : ℕ → Bool) → test_of program (Some (insn_as_spec_insn run.body)) ≡ Some test → (place n : ℕ)
         → memo_key_at m.memo_analysis (record s { ip = s.ip + 1; pos = text_offset text (moved text rightwards n place) }) ≡ Some (key-of test place n)
     key-there r test e place n =
         let d = insn_direction m.memo_analysis s.ip in
@@ -126,19 +126,19 @@ module _ {P : Type 0} {offset : P → ℕ} {program : Program} {text : Text} {ru
         there ∙ ap (λ y. Some (its q y)) (zero_on ∙ sym (moved-zero text rightwards q))
 
     -- a key that is found is that of a place
-    pub key-found : (test : ℕ → Bool) → test_of program (Some (spec_insn_of run.body)) ≡ Some test → (place n at : ℕ) (found : Option Stored) (key : Stored) → found ≡ Some key
-        → option_map as_key found ≡ memo_key_at m.memo_analysis (record s { ip = s.ip + 1; pos = at }) → at ≡ text_offset text (moved text rightwards n place) → as_key key ≡ key-of test place n
+    pub key-found : (test : ℕ → Bool) → test_of program (Some (insn_as_spec_insn run.body)) ≡ Some test → (place n at : ℕ) (found : Option Stored) (key : Stored) → found ≡ Some key
+        → option_map memo_key_as_spec found ≡ memo_key_at m.memo_analysis (record s { ip = s.ip + 1; pos = at }) → at ≡ text_offset text (moved text rightwards n place) → memo_key_as_spec key ≡ key-of test place n
     key-found test e place n at found key is_key told same =
-        same-keys (as_key key) (key-of test place n) (∥∥₁_elim knows (Prim.hlevel props) (λ r. ap (λ (k : Key). k.ip) (from r)))
+        same-keys (memo_key_as_spec key) (key-of test place n) (∥∥₁_elim knows (Prim.hlevel props) (λ r. ap (λ (k : Key). k.ip) (from r)))
         (∥∥₁_elim knows (Prim.hlevel props) (λ r. ap (λ (k : Key). k.at) (from r)))
         (∥∥₁_elim knows (Prim.hlevel props) (λ r. ap (λ (k : Key). k.code) (from r)))
       where
-        from : IsRight program text m → as_key key ≡ key-of test place n
-        from r = some-same _ _ (sym (ap (option_map as_key) is_key) ∙ told ∙ ap (λ x. memo_key_at m.memo_analysis (record s { ip = s.ip + 1; pos = x })) same ∙ key-there r test e place n)
+        from : IsRight program text m → memo_key_as_spec key ≡ key-of test place n
+        from r = some-same _ _ (sym (ap (option_map memo_key_as_spec) is_key) ∙ told ∙ ap (λ x. memo_key_at m.memo_analysis (record s { ip = s.ip + 1; pos = x })) same ∙ key-there r test e place n)
 
     -- there is one
-    pub key-some : (test : ℕ → Bool) → test_of program (Some (spec_insn_of run.body)) ≡ Some test → HasRisingPlaceOffsets text → (at : ℕ) → IsBoundary text at → (found : Option Stored) → found ≡ None
-        → option_map as_key found ≡ memo_key_at m.memo_analysis (record s { ip = s.ip + 1; pos = at }) → ⊥
+    pub key-some : (test : ℕ → Bool) → test_of program (Some (insn_as_spec_insn run.body)) ≡ Some test → HasRisingPlaceOffsets text → (at : ℕ) → IsBoundary text at → (found : Option Stored) → found ≡ None
+        → option_map memo_key_as_spec found ≡ memo_key_at m.memo_analysis (record s { ip = s.ip + 1; pos = at }) → ⊥
     key-some test e is at h found none told = ∥∥₁_elim knows (Prim.hlevel props) (λ r. never r)
       where
         p : (p : ℕ) × (place_at text at ≡ Some p) × (text_offset text p ≡ at) × (p ≤ last_place text)
@@ -147,7 +147,7 @@ module _ {P : Type 0} {offset : P → ℕ} {program : Program} {text : Text} {ru
         never : IsRight program text m → ⊥
         never r =
             let same : at ≡ text_offset text (moved text rightwards 0 p.0) = sym p.2 ∙ ap (text_offset text) (sym (moved-zero text rightwards p.0)) in
-            let no : None ≡ Some (key-of test p.0 0) = sym (ap (option_map as_key) none) ∙ told ∙ ap (λ x. memo_key_at m.memo_analysis (record s { ip = s.ip + 1; pos = x })) same ∙ key-there r test e p.0 0 in
+            let no : None ≡ Some (key-of test p.0 0) = sym (ap (option_map memo_key_as_spec) none) ∙ told ∙ ap (λ x. memo_key_at m.memo_analysis (record s { ip = s.ip + 1; pos = x })) same ∙ key-there r test e p.0 0 in
             let never : ⊥ = cc in never
 
     -- its place is one of the memory's
@@ -178,20 +178,20 @@ module _ {P : Type 0} {offset : P → ℕ} {program : Program} {text : Text} {ru
         }
 
     -- from there on it is known to fail
-    pub furthest-known : (test : ℕ → Bool) → test_of program (Some (spec_insn_of run.body)) ≡ Some test → (place : ℕ) (old mid : List (StackEntry P)) (at : P) (n : ℕ)
-        (found : Option Stored) (key : Stored) → found ≡ Some key → option_map as_key found ≡ memo_key_at m.memo_analysis (record s { ip = s.ip + 1; pos = offset at }) → Goes test place old mid at n
-        → has_failure m (as_key key) ≡ true → ScansWithMemo offset program text m.memo_analysis (has_failure m) test place s run.least old mid (None, n)
+    pub furthest-known : (test : ℕ → Bool) → test_of program (Some (insn_as_spec_insn run.body)) ≡ Some test → (place : ℕ) (old mid : List (StackEntry P)) (at : P) (n : ℕ)
+        (found : Option Stored) (key : Stored) → found ≡ Some key → option_map memo_key_as_spec found ≡ memo_key_at m.memo_analysis (record s { ip = s.ip + 1; pos = offset at }) → Goes test place old mid at n
+        → has_failure m (memo_key_as_spec key) ≡ true → ScansWithMemo offset program text m.memo_analysis (has_failure m) test place s run.least old mid (None, n)
     furthest-known test e place old mid at n found key is_key told h known =
         (h.wait, subst (λ k. has_failure m k ≡ true) (key-found test e place n (offset at) found key is_key told h.past.at) known)
 
-    module _ (test : ℕ → Bool) (e : test_of program (Some (spec_insn_of run.body)) ≡ Some test) (place : ℕ) (old mid : List (StackEntry P)) (at : P) (n : ℕ)
-        (found : Option Stored) (key : Stored) (is_key : found ≡ Some key) (told : option_map as_key found ≡ memo_key_at m.memo_analysis (record s { ip = s.ip + 1; pos = offset at })) (h : Goes test place old mid at n) (unknown : has_failure m (as_key key) ≡ false)
-        (there : State P) (is_there : state_of offset there ≡ state_after_char_loop_at (offset at) s) where
-      its-key : as_key key ≡ key-of test place n
+    module _ (test : ℕ → Bool) (e : test_of program (Some (insn_as_spec_insn run.body)) ≡ Some test) (place : ℕ) (old mid : List (StackEntry P)) (at : P) (n : ℕ)
+        (found : Option Stored) (key : Stored) (is_key : found ≡ Some key) (told : option_map memo_key_as_spec found ≡ memo_key_at m.memo_analysis (record s { ip = s.ip + 1; pos = offset at })) (h : Goes test place old mid at n) (unknown : has_failure m (memo_key_as_spec key) ≡ false)
+        (there : State P) (is_there : state_of offset there ≡ state_after_char_loop_to_offset (offset at) s) where
+      its-key : memo_key_as_spec key ≡ key-of test place n
       its-key = key-found test e place n (offset at) found key is_key told h.past.at
 
       place-behind : state_of offset there ≡ behind text rightwards place s n
-      place-behind = is_there ∙ ap (λ x. state_after_char_loop_at x s) h.past.at
+      place-behind = is_there ∙ ap (λ x. state_after_char_loop_to_offset x s) h.past.at
 
       more-unknown : (j : ℕ) → run.least ≤ j → j < n + 1 → has_failure m (key-of test place j) ≡ false
       more-unknown j le less = elim (cases_lt j n) [

@@ -3,19 +3,19 @@ use Rattle.std.proofs.Common.{◌≡◌, ◌≤◌, ℕ, ◌+◌, ◌-◌, Bool,
 use Rattle.regex_meaning.specs.Text.{Text, rightwards}
 use Rattle.regex_meaning.specs.CodeUnitOffsets.{HasRisingPlaceOffsets, units}
 use Rattle.regex_meaning.specs.CompilationRelation.{Program}
-use Rattle.regress_plan.specs.InsnsAsSpecInsns.{spec_insn_of}
+use Rattle.regress_plan.specs.InsnsAsSpecInsns.{insn_as_spec_insn}
 use Rattle.regress_machine.specs.Machine as machine
 use Rattle.regress_machine.specs.Machine.{running, test_of}
-use Rattle.regress_memo_laws.specs.CharLoopThreads.{passing}
+use Rattle.regress_memo_laws.specs.CharLoopExitThreadLists.{passing}
 use Rattle.regress_memo_laws.specs.MemoSearch.{Entry, tried, noted}
 use Rattle.regress_memo.specs.MemoContents.{has_failure}
 use Rattle.regress_bounded.specs.declared.memo_and_work_budget.MemoAndWorkBudget.{MemoAndWorkBudget}
-use Rattle.regress_bounded.specs.declared.pending_stack.UnboundedCharLoop.{UnboundedCharLoop}
-use Rattle.regress_bounded.specs.declared.pending_stack.StackEntry.{StackEntry}
+use Rattle.regress_bounded.specs.declared.stack_of_pending_threads_and_records.UnboundedCharLoop.{UnboundedCharLoop}
+use Rattle.regress_bounded.specs.declared.stack_of_pending_threads_and_records.StackEntry.{StackEntry}
 use Rattle.regress_pikevm.specs.declared.pikevm.states.State.{State}
-use Rattle.regress_bounded.specs.SearchStateEntries.{AttemptStartAndResult, IsRow, IsRunHere, ScansWithMemo, IsPast, Stands, IsOver, front_of}
-use Rattle.regress_bounded.specs.BudgetSpending.{IsTakenFromBudget, IsBudgetExhausted}
-use Rattle.regress_bounded.specs.WorkCosts.{IsEndless, key_on, row_on, row_of_places}
+use Rattle.regress_bounded.specs.SearchStateAsMemoSearchEntries.{AttemptStartMemoBudgetAndResult, IsRow, IsRunHere, ScansWithMemo, IsPast, Stands, IsOver, front_of}
+use Rattle.regress_bounded.specs.BudgetSpending.{IsTakenFromBudget, WorkExceedsBudgetLeavingNothing}
+use Rattle.regress_bounded.specs.WorkOfCharLoopsAndAttempts.{IsEndless, key_on, row_on, row_of_places}
 use Rattle.regress_bounded.proofs.Lazily.{few-passed, PassesOver, endless-by}
 use Rattle.regress_bounded.proofs.Meeting.{greedy-met-known, greedy-met-all}
 use Rattle.regress_bounded.proofs.Standing.{on, goes-on, is-over}
@@ -35,7 +35,7 @@ module _ {P : Type 0} {offset : P → ℕ} {program : Program} {text : Text} {ru
 
     -- what is met from there on, by each test and place
     abbrev pub HasMet : Type 0
-    HasMet = (test : ℕ → Bool) (place : ℕ) → test_of program (Some (spec_insn_of run.body)) ≡ Some test → IsPast offset text test place run.least pos → Meets test place next
+    HasMet = (test : ℕ → Bool) (place : ℕ) → test_of program (Some (insn_as_spec_insn run.body)) ≡ Some test → IsPast offset text test place run.least pos → Meets test place next
 
     pub met-few : HasRisingPlaceOffsets text → HasMet → n ≤ units text
     met-few is_text met =
@@ -48,13 +48,13 @@ module _ {P : Type 0} {offset : P → ℕ} {program : Program} {text : Text} {ru
         passes (Some here) w = let e = w.all in omega (arith, e)
 
 -- a row behind the thread that goes on, if one does, in so much work
-record Met {P : Type 0} (offset : P → ℕ) (program : Program) (text : Text) (s : machine.State) {stack : List (StackEntry P)} {c : MemoAndWorkBudget} (b : AttemptStartAndResult)
+record Met {P : Type 0} (offset : P → ℕ) (program : Program) (text : Text) (s : machine.State) {stack : List (StackEntry P)} {c : MemoAndWorkBudget} (b : AttemptStartMemoBudgetAndResult)
     (h : Stands offset program text b (tried (running s) ∷ []) stack c) (next : Option (State P)) (new : List (StackEntry P)) (n : ℕ) : Type 0 where
   row : List Entry
   comes : on offset program text b s h (n + 2) (front_of offset next ++ row)
   is : IsRow offset program text new row
 
-module _ {P : Type 0} {offset : P → ℕ} {program : Program} {text : Text} {b : AttemptStartAndResult} {s : machine.State} {stack : List (StackEntry P)} {c : MemoAndWorkBudget}
+module _ {P : Type 0} {offset : P → ℕ} {program : Program} {text : Text} {b : AttemptStartMemoBudgetAndResult} {s : machine.State} {stack : List (StackEntry P)} {c : MemoAndWorkBudget}
     (h : Stands offset program text b (tried (running s) ∷ []) stack c) {run : UnboundedCharLoop} (here : IsRunHere offset program text run true s)
     {passed : ℕ} {pos : P} (p : PassesOver offset program text run s passed pos) (le : run.least ≤ passed) (new : List (StackEntry P)) (next : Option (State P)) (n : ℕ)
     (met : HasMet p le c stack new next n) where
@@ -79,7 +79,7 @@ module _ {P : Type 0} {offset : P → ℕ} {program : Program} {text : Text} {b 
         is = w.rows h.row h.is;
       }
 
-  pub met-over : (c' : MemoAndWorkBudget) → c'.memo ≡ c.memo → IsBudgetExhausted (n + 2) c.left c'.left → IsOver offset program text b c'
+  pub met-over : (c' : MemoAndWorkBudget) → c'.memo ≡ c.memo → WorkExceedsBudgetLeavingNothing (n + 2) c.left c'.left → IsOver offset program text b c'
   met-over c' same spent = is-over offset program text b h (front_of offset next ++ comes-to.row) (n + 2) c' comes-to.comes same spent
 
   pub met-goes : (c' : MemoAndWorkBudget) → c'.memo ≡ c.memo → IsTakenFromBudget (n + 2) c.left c'.left → Stands offset program text b (front_of offset next) new c'

@@ -8,27 +8,28 @@ use Rattle.regex_meaning.specs.Text.{Text, rightwards, last_place, moved}
 use Rattle.regex_meaning.specs.CodeUnitOffsets.{HasRisingPlaceOffsets, IsBoundary, units, place_at, offset as text_offset}
 use Rattle.regex_meaning.specs.CompilationRelation.{Program, Loop1CharBody}
 use Rattle.regex_meaning.proofs.TextLemmas.{place_at-offset, offset-place_at, IsBoundary-place}
-use Rattle.regress_plan.specs.InsnsAsSpecInsns.{spec_insn_of}
+use Rattle.regress_plan.specs.InsnsAsSpecInsns.{insn_as_spec_insn}
 use Rattle.regress_machine.specs.Machine as machine
 use Rattle.regress_machine.specs.Machine.{running, test_of}
-use Rattle.regress_machine.specs.InsnEffects.{state_after_char_loop_at}
+use Rattle.regress_machine.specs.InsnEffects.{state_after_char_loop_to_offset}
 use Rattle.regress_machine.proofs.Beside.{moved-zero}
-use Rattle.regress_simulation.specs.CharLoopExitStates.{behind}
-use Rattle.regress_memo_laws.specs.CharLoopThreads.{passing, pending_loop_threads}
+use Rattle.regress_simulation.specs.CharLoopExitStatesByPreference.{behind}
+use Rattle.regress_memo_laws.specs.CharLoopExitThreadLists.{passing, pending_loop_threads}
 use Rattle.regress_memo_laws.specs.MemoSearch.{Key, Entry, tried, kept, noted, tries}
 use Rattle.regress_memo_analysis.specs.WorkBound.{first_row}
 use Rattle.regress_memo_analysis.specs.AnalysisChecks.{unlimited}
 use Rattle.regress_memo.specs.declared.memo.ThreadMemoKey.{ThreadMemoKey as Stored}
-use Rattle.regress_memo.specs.MemoContents.{as_key, memo_key_at, has_failure}
-use Rattle.regress_memo.specs.MemoSearchCosts.{HasCome}
+use Rattle.regress_memo.specs.MemoContents.{memo_key_as_spec, memo_key_at, has_failure}
+use Rattle.regress_memo.specs.AmortizedMemoSearchSteps.{HasCome}
 use Rattle.regress_bounded.specs.declared.memo_and_work_budget.MemoAndWorkBudget.{MemoAndWorkBudget}
-use Rattle.regress_bounded.specs.declared.pending_stack.UnboundedCharLoop.{UnboundedCharLoop}
-use Rattle.regress_bounded.specs.declared.pending_stack.StackEntry.{StackEntry}
-use Rattle.regress_bounded.specs.declared.pending_stack.StackEntry.TheVariants.{Run as AsRun, Record as AsRecord}
+use Rattle.regress_bounded.specs.declared.stack_of_pending_threads_and_records.UnboundedCharLoop.{UnboundedCharLoop}
+use Rattle.regress_bounded.specs.declared.stack_of_pending_threads_and_records.StackEntry.{StackEntry}
+use Rattle.regress_bounded.specs.declared.stack_of_pending_threads_and_records.StackEntry.TheVariants.{Run as AsRun, Record as AsRecord}
 use Rattle.regress_pikevm.specs.declared.pikevm.states.State.{State}
-use Rattle.regress_bounded.specs.SearchStateEntries.{AttemptStartAndResult, IsRow, IsRest, Stands, Standing, IsStanding, IsOver, front_of, IsRunHere, HasPassedOver, IsNearest}
-use Rattle.regress_bounded.specs.WorkCosts.{IsEndless, key_on}
-use Rattle.regress_bounded.specs.BudgetSpending.{IsTakenFromBudget, IsBudgetExhausted}
+use Rattle.regress_bounded.specs.SearchStateAsMemoSearchEntries.{AttemptStartMemoBudgetAndResult, IsRow, IsRest, Stands, Standing, IsStanding, IsOver, front_of}
+use Rattle.regress_bounded.specs.SearchStateAsMemoSearchEntries.{IsRunHere, HasPassedOver, IsNearest}
+use Rattle.regress_bounded.specs.WorkOfCharLoopsAndAttempts.{IsEndless, key_on}
+use Rattle.regress_bounded.specs.BudgetSpending.{IsTakenFromBudget, WorkExceedsBudgetLeavingNothing}
 use Rattle.regress_pikevm.specs.States.{state_of}
 use Rattle.regress_bounded.proofs.Meeting.{ScansAt, scans-at, greedy-met-none, nearest-behind, with-behind}
 use Rattle.regress_memo_laws.proofs.Runs.{passing-left}
@@ -54,7 +55,7 @@ few-passed text is test place inside =
 -- its test and its place, and so many characters that are passed over
 pub record PassesOver {P : Type 0} (offset : P → ℕ) (program : Program) (text : Text) (run : UnboundedCharLoop) (s : machine.State) (passed : ℕ) (pos : P) : Type 0 where
   pub test : ℕ → Bool
-  pub tests : test_of program (Some (spec_insn_of run.body)) ≡ Some test
+  pub tests : test_of program (Some (insn_as_spec_insn run.body)) ≡ Some test
   pub place : ℕ
   pub at : place_at text s.pos ≡ Some place
   pub inside : place ≤ last_place text
@@ -63,7 +64,7 @@ pub record PassesOver {P : Type 0} (offset : P → ℕ) (program : Program) (tex
 module _ {P : Type 0} {offset : P → ℕ} {program : Program} {text : Text} {run : UnboundedCharLoop} {greedy : Bool} {s : machine.State} (here : IsRunHere offset program text run greedy s) where
   -- a test, at a place
   pub record Reads : Type 0 where
-    pub test : IsSome (test_of program (Some (spec_insn_of run.body)))
+    pub test : IsSome (test_of program (Some (insn_as_spec_insn run.body)))
     pub at : IsBoundary text s.pos
 
   reads-at : ScansAt program text s → Reads
@@ -80,15 +81,15 @@ module _ {P : Type 0} {offset : P → ℕ} {program : Program} {text : Text} {ru
         }
 
     pub passes-over : HasRisingPlaceOffsets text → (passed : ℕ) (pos : P)
-        → ((test : ℕ → Bool) (place : ℕ) → test_of program (Some (spec_insn_of run.body)) ≡ Some test → place_at text s.pos ≡ Some place → HasPassedOver offset text test run.least place passed pos)
+        → ((test : ℕ → Bool) (place : ℕ) → test_of program (Some (insn_as_spec_insn run.body)) ≡ Some test → place_at text s.pos ≡ Some place → HasPassedOver offset text test run.least place passed pos)
         → PassesOver offset program text run s passed pos
     passes-over is passed pos h =
-        let t = some-of (test_of program (Some (spec_insn_of run.body))) reads-here.test in
+        let t = some-of (test_of program (Some (insn_as_spec_insn run.body))) reads-here.test in
         let p = IsBoundary-place text s.pos is reads-here.at in
         record { test = t.0; tests = t.1; place = p.0; at = p.1; inside = p.3; over = h t.0 p.0 t.1 p.1 }
 
   -- the run by its test
-  pub endless-by : (test : ℕ → Bool) → test_of program (Some (spec_insn_of run.body)) ≡ Some test → IsEndless program s test run.least greedy
+  pub endless-by : (test : ℕ → Bool) → test_of program (Some (insn_as_spec_insn run.body)) ≡ Some test → IsEndless program s test run.least greedy
   endless-by test e = record { run = here.insn; body = ap (test_of program) here.body ∙ e }
 
 -- the number of what was passed fits
@@ -103,7 +104,7 @@ run-which {run = run} here same = record { insn = here.insn ∙ ap (λ b. Some (
 
 -- ---- Its turn, where there are too few characters
 
-module _ {P : Type 0} {offset : P → ℕ} {program : Program} {text : Text} {b : AttemptStartAndResult} {s : machine.State} {stack : List (StackEntry P)} {c : MemoAndWorkBudget}
+module _ {P : Type 0} {offset : P → ℕ} {program : Program} {text : Text} {b : AttemptStartMemoBudgetAndResult} {s : machine.State} {stack : List (StackEntry P)} {c : MemoAndWorkBudget}
     (h : Stands offset program text b (tried (running s) ∷ []) stack c) {run : UnboundedCharLoop} {passed : ℕ} {pos : P} (p : PassesOver offset program text run s passed pos) where
   short-by : {greedy : Bool} → IsRunHere offset program text run greedy s → passed < run.least → on offset program text b s h (passed + 2) h.row
   short-by {greedy} here few =
@@ -121,7 +122,7 @@ module _ {P : Type 0} {offset : P → ℕ} {program : Program} {text : Text} {b 
           s p.test run.least p.place endless p.at less h.comes
 
   module _ {greedy : Bool} (here : IsRunHere offset program text run greedy s) (few : passed < run.least) (c' : MemoAndWorkBudget) (same : c'.memo ≡ c.memo) where
-    pub short-over : IsBudgetExhausted (passed + 2) c.left c'.left → IsOver offset program text b c'
+    pub short-over : WorkExceedsBudgetLeavingNothing (passed + 2) c.left c'.left → IsOver offset program text b c'
     short-over spent = is-over offset program text b h h.row (passed + 2) c' (short-by here few) same spent
 
     pub short-goes : IsTakenFromBudget (passed + 2) c.left c'.left → Stands offset program text b [] stack c'
@@ -129,7 +130,7 @@ module _ {P : Type 0} {offset : P → ℕ} {program : Program} {text : Text} {b 
 
 -- ---- The turn of a lazy one
 
-module _ {P : Type 0} {offset : P → ℕ} {program : Program} {text : Text} {b : AttemptStartAndResult} (state : State P) {stack : List (StackEntry P)} {c : MemoAndWorkBudget}
+module _ {P : Type 0} {offset : P → ℕ} {program : Program} {text : Text} {b : AttemptStartMemoBudgetAndResult} (state : State P) {stack : List (StackEntry P)} {c : MemoAndWorkBudget}
     (h : Stands offset program text b (tried (running (state_of offset state)) ∷ []) stack c) {run : UnboundedCharLoop} (here : IsRunHere offset program text run false (state_of offset state))
     {passed : ℕ} {pos : P} (p : PassesOver offset program text run (state_of offset state) passed pos) (le : run.least ≤ passed) where
   abbrev s : machine.State
@@ -148,17 +149,17 @@ module _ {P : Type 0} {offset : P → ℕ} {program : Program} {text : Text} {b 
       (lazy-first program c.memo.memo_analysis paid.memo_analysis paid.bounded text paid.is_text paid.bytes paid.short rightwards b.memory (tries (first_row program b.at)) h.work h.now h.row
       s p.test run.least p.place endless p.at (omega (arith, same, sum)) h.comes)
 
-  pub lazy-over : (c' : MemoAndWorkBudget) → c'.memo ≡ c.memo → IsBudgetExhausted (passed + 2) c.left c'.left → IsOver offset program text b c'
+  pub lazy-over : (c' : MemoAndWorkBudget) → c'.memo ≡ c.memo → WorkExceedsBudgetLeavingNothing (passed + 2) c.left c'.left → IsOver offset program text b c'
   lazy-over c' same spent = is-over offset program text b h _ (passed + 2) c' first same spent
 
   pub lazy-goes : (next : State P) (new : List (StackEntry P))
-      → ((test : ℕ → Bool) (place : ℕ) → test_of program (Some (spec_insn_of run.body)) ≡ Some test → place_at text (offset pos) ≡ Some place → IsNearest offset text test place pos state next stack new)
+      → ((test : ℕ → Bool) (place : ℕ) → test_of program (Some (insn_as_spec_insn run.body)) ≡ Some test → place_at text (offset pos) ≡ Some place → IsNearest offset text test place pos state next stack new)
       → (c' : MemoAndWorkBudget) → c'.memo ≡ c.memo → IsTakenFromBudget (passed + 2) c.left c'.left → Stands offset program text b (front_of offset (Some next)) new c'
   lazy-goes next new nearest c' same spent =
       let sum = p.over.past.sum in
       let there = moved text rightwards passed p.place in
       let near = nearest p.test there p.tests (ap (place_at text) p.over.past.at ∙ place_at-offset text there h.right.paid.is_text p.over.past.within) in
-      let is : behind text rightwards p.place s passed ≡ state_of offset next = sym (near.is_here ∙ ap (λ at. state_after_char_loop_at at s) p.over.past.at) in
+      let is : behind text rightwards p.place s passed ≡ state_of offset next = sym (near.is_here ∙ ap (λ at. state_after_char_loop_to_offset at s) p.over.past.at) in
       let after = nearest-behind offset program text c.memo.memo_analysis h.right.paid p.test run.least p.place state endless p.inside passed (omega (arith, sum)) there refl pos next stack new near in
       let come = subst (λ r. on offset program text b s h (passed + 2) (tried (running r) ∷ kept (pending_loop_threads text p.test rightwards (passed + 1) p.place s) ∷ h.row)) is first in
       let x = with-behind offset program text c.memo.memo_analysis b.memory (tries (first_row program b.at)) (h.work + (passed + 2)) h.now (state_of offset next)
@@ -167,7 +168,7 @@ module _ {P : Type 0} {offset : P → ℕ} {program : Program} {text : Text} {b 
 
 -- ---- The way back to one
 
-module _ {P : Type 0} {offset : P → ℕ} {program : Program} {text : Text} {b : AttemptStartAndResult} (stack : List (StackEntry P)) (state : State P) {c : MemoAndWorkBudget}
+module _ {P : Type 0} {offset : P → ℕ} {program : Program} {text : Text} {b : AttemptStartMemoBudgetAndResult} (stack : List (StackEntry P)) (state : State P) {c : MemoAndWorkBudget}
     (h : Stands offset program text b [] (stack ++ AsRun state ∷ []) c) where
   abbrev its : machine.State
   its = state_of offset state
@@ -206,12 +207,12 @@ module _ {P : Type 0} {offset : P → ℕ} {program : Program} {text : Text} {b 
       omega (arith, within, places)
 
   -- a key that is found is it
-  module _ {found : Option Stored} {stored : Stored} (found_is : found ≡ Some stored) (told : option_map as_key found ≡ memo_key_at c.memo.memo_analysis (record its { ip = its.ip + 1; pos = its.pos })) where
+  module _ {found : Option Stored} {stored : Stored} (found_is : found ≡ Some stored) (told : option_map memo_key_as_spec found ≡ memo_key_at c.memo.memo_analysis (record its { ip = its.ip + 1; pos = its.pos })) where
     abbrev k : Key
-    k = as_key stored
+    k = memo_key_as_spec stored
 
     is : k ≡ key-back
-    is = some-key (sym (ap (option_map as_key) found_is) ∙ told ∙ key-there)
+    is = some-key (sym (ap (option_map memo_key_as_spec) found_is) ∙ told ∙ key-there)
 
     abbrev on-back : (work : ℕ) → List Entry → Type 0
     on-back work row = HasCome program text c.memo.memo_analysis rightwards b.memory (tries (first_row program b.at)) (h.work + work) h.now row
@@ -223,7 +224,7 @@ module _ {P : Type 0} {offset : P → ℕ} {program : Program} {text : Text} {b 
         lazy-known program c.memo.memo_analysis paid.memo_analysis paid.bounded text paid.is_text paid.bytes paid.short rightwards b.memory (tries (first_row program b.at)) h.work h.now left-off.rest
         its rest-of.test rest-of.least rest-of.place rest-of.run its-inside (subst (KeyFails program text c.memo.memo_analysis) is (h.right.is_true.fails k fails)) comes-back
 
-    pub back-known-over : has_failure c.memo k ≡ true → (c' : MemoAndWorkBudget) → c'.memo ≡ c.memo → IsBudgetExhausted 1 c.left c'.left → IsOver offset program text b c'
+    pub back-known-over : has_failure c.memo k ≡ true → (c' : MemoAndWorkBudget) → c'.memo ≡ c.memo → WorkExceedsBudgetLeavingNothing 1 c.left c'.left → IsOver offset program text b c'
     back-known-over fails c' same spent = is-over offset program text b h left-off.rest 1 c' (back-known fails) same spent
 
     pub back-known-goes : has_failure c.memo k ≡ true → (c' : MemoAndWorkBudget) → c'.memo ≡ c.memo → IsTakenFromBudget 1 c.left c'.left → Stands offset program text b [] stack c'
@@ -241,7 +242,7 @@ module _ {P : Type 0} {offset : P → ℕ} {program : Program} {text : Text} {b 
         its rest-of.test rest-of.least rest-of.place rest-of.run its-inside
         (subst (λ k. IsNew k h.now) is (memos-hold.new (has_failure c.memo) h.now k h.holds unknown)) comes-back)
 
-    pub back-over : has_failure c.memo k ≡ false → (c' : MemoAndWorkBudget) → c'.memo ≡ c.memo → IsBudgetExhausted 2 c.left c'.left → IsOver offset program text b c'
+    pub back-over : has_failure c.memo k ≡ false → (c' : MemoAndWorkBudget) → c'.memo ≡ c.memo → WorkExceedsBudgetLeavingNothing 2 c.left c'.left → IsOver offset program text b c'
     back-over unknown c' same spent = is-over offset program text b h _ 2 c' (back-again unknown) same spent
 
     pub back-goes : has_failure c.memo k ≡ false → (next : State P) (mid new : List (StackEntry P)) → mid ≡ stack ++ AsRecord stored ∷ []
@@ -253,7 +254,7 @@ module _ {P : Type 0} {offset : P → ℕ} {program : Program} {text : Text} {b 
         let none : moved text rightwards 0 rest-of.place ≡ rest-of.place = moved-zero text rightwards rest-of.place in
         let at : text_offset text (moved text rightwards 0 rest-of.place) ≡ its.pos =
         ap (text_offset text) none ∙ (offset-place_at text its.pos rest-of.place h.right.paid.is_text rest-of.at).0 in
-        let nearest_is : behind text rightwards rest-of.place its 0 ≡ state_of offset next = ap (λ q. state_after_char_loop_at q its) at ∙ sym near.is_here in
+        let nearest_is : behind text rightwards rest-of.place its 0 ≡ state_of offset next = ap (λ q. state_after_char_loop_to_offset q its) at ∙ sym near.is_here in
         let all = pending_loop_threads text rest-of.test rightwards 0 rest-of.place its in
         let more = pending_loop_threads text rest-of.test rightwards 1 rest-of.place its in
         let after = nearest-behind offset program text t h.right.paid rest-of.test rest-of.least rest-of.place state rest-of.run its-inside 0 (omega arith)
@@ -280,7 +281,7 @@ module _ {P : Type 0} {offset : P → ℕ} {program : Program} {text : Text} (st
   back-tested = ∥∥₁_elim there (Prim.hlevel props) (λ x. ap is_some (rest-of stack state x.stands).run.body)
 
   -- it has a key
-  pub back-keyed : {found : Option Stored} → found ≡ None → option_map as_key found ≡ memo_key_at c.memo.memo_analysis (record (state_of offset state) { ip = state.ip + 1; pos = offset state.pos }) → ⊥
+  pub back-keyed : {found : Option Stored} → found ≡ None → option_map memo_key_as_spec found ≡ memo_key_at c.memo.memo_analysis (record (state_of offset state) { ip = state.ip + 1; pos = offset state.pos }) → ⊥
   back-keyed none told =
       ∥∥₁_elim there (Prim.hlevel props) (λ x.
-      let never = sym (ap (option_map as_key) none) ∙ told ∙ key-there stack state x.stands in let no : ⊥ = cc in no)
+      let never = sym (ap (option_map memo_key_as_spec) none) ∙ told ∙ key-there stack state x.stands in let no : ⊥ = cc in no)

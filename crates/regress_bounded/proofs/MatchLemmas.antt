@@ -7,8 +7,8 @@ use Rattle.regex_meaning.specs.CodeUnitOffsets.{units}
 use Rattle.regex_meaning.specs.StepBudget.{answers_within, finishes_within}
 use Rattle.regex_meaning.specs.Text.{Text}
 use Rattle.regex_meaning.specs.Tree.{Tree}
-use Rattle.regress_exec.specs.WorkLimits.{WorkView, is_work_enough}
-use Rattle.regress_bounded.specs.ProgramWorkBounds.{IsAtStart, YieldsWithinWork}
+use Rattle.regress_exec.specs.AttemptsAndMatchesWithinWork.{RemainingAnswersAndWork, is_work_enough}
+use Rattle.regress_bounded.specs.ProgramWorkBoundForAllMatches.{IsAtStart, YieldsMatchesIfWorkSuffices}
 
 -- an executor that has made no attempt has all before it, from whatever start
 fresh-enough : (enough : Bool) (ahead : ℕ) (test : Bool) (start : ℕ)
@@ -17,14 +17,14 @@ fresh-enough enough ahead true start e z = rw (e, z) (leb-zero start)
 fresh-enough enough ahead false start e z = e
 
 -- What is to come of an executor at its start.
-abbrev pub HasBegun : (tree : Tree) (text : Text) (budget : Option ℕ) (enough : Bool) (ahead left start : ℕ) (it : WorkView) → Type 0
+abbrev pub HasBegun : (tree : Tree) (text : Text) (budget : Option ℕ) (enough : Bool) (ahead left start : ℕ) (it : RemainingAnswersAndWork) → Type 0
 HasBegun tree text budget enough ahead left start it =
     (it.come.answers ≡ answers_within tree text budget start) × (it.come.limited ≡ not (finishes_within tree text budget start)) × (it.come.text_end ≡ units text)
     × (it.left ≡ left) × (it.enough ≡ is_work_enough enough ahead (if nat_le start (units text) then Some start else None))
 
-pub begun-Yields : {tree its_tree : Tree} {text its_text : Text} {per_unit work : ℕ} {budget : Option ℕ} {enough : Bool} {ahead left start : ℕ} {it : WorkView}
+pub begun-Yields : {tree its_tree : Tree} {text its_text : Text} {per_unit work : ℕ} {budget : Option ℕ} {enough : Bool} {ahead left start : ℕ} {it : RemainingAnswersAndWork}
     → IsAtStart tree text per_unit work its_tree its_text budget enough ahead left
-    → HasBegun its_tree its_text budget enough ahead left start it → YieldsWithinWork tree text start per_unit work it
+    → HasBegun its_tree its_text budget enough ahead left start it → YieldsMatchesIfWorkSuffices tree text start per_unit work it
 begun-Yields {tree} {its_tree} {text} {its_text} {per_unit} {work} {budget} {enough} {ahead} {left} {start} {it} s b = record {
   answers = b.0 ∙ rw (s.of_tree, s.of_text, s.unlimited) refl;
   unlimited = b.1 ∙ rw (s.of_tree, s.of_text, s.unlimited) refl;

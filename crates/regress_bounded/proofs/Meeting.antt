@@ -10,22 +10,23 @@ use Rattle.regress_machine.specs.Machine as machine
 use Rattle.regress_machine.specs.Machine.{Thread, running, Next, goes, scans, with_some, scan, test_of, act, act_on}
 use Rattle.regress_machine.specs.InsnEffects.{IsNotStuck}
 use Rattle.regress_memo_laws.specs.DistinctLists.{IsNew}
-use Rattle.regress_memo_laws.specs.CharLoopThreads.{passing, pending_loop_threads}
+use Rattle.regress_memo_laws.specs.CharLoopExitThreadLists.{passing, pending_loop_threads}
 use Rattle.regress_memo_laws.specs.MemoSearch.{Key, Entry, tried, kept, noted, tries}
 use Rattle.regress_memo_laws.proofs.Runs.{passing-on, passing-left}
-use Rattle.regress_memo_analysis.specs.declared.analysis.MemoAnalysis.{MemoAnalysis}
+use Rattle.regress_memo_analysis.specs.declared.analysis_result.MemoAnalysis.{MemoAnalysis}
 use Rattle.regress_memo_analysis.specs.WorkBound.{first_row}
 use Rattle.regress_memo_analysis.specs.AnalysisChecks.{unlimited}
 use Rattle.regress_memo.specs.declared.memo.ThreadMemoKey.{ThreadMemoKey as Stored}
-use Rattle.regress_memo.specs.MemoContents.{as_key, has_failure}
-use Rattle.regress_memo.specs.MemoSearchCosts.{HasCome}
+use Rattle.regress_memo.specs.MemoContents.{memo_key_as_spec, has_failure}
+use Rattle.regress_memo.specs.AmortizedMemoSearchSteps.{HasCome}
 use Rattle.regress_scan.proofs.Reach.{moved-more}
 use Rattle.regress_bounded.specs.declared.memo_and_work_budget.MemoAndWorkBudget.{MemoAndWorkBudget}
-use Rattle.regress_bounded.specs.declared.pending_stack.StackEntry.{StackEntry}
-use Rattle.regress_bounded.specs.declared.pending_stack.StackEntry.TheVariants.{Run as AsRun}
+use Rattle.regress_bounded.specs.declared.stack_of_pending_threads_and_records.StackEntry.{StackEntry}
+use Rattle.regress_bounded.specs.declared.stack_of_pending_threads_and_records.StackEntry.TheVariants.{Run as AsRun}
 use Rattle.regress_pikevm.specs.declared.pikevm.states.State.{State}
-use Rattle.regress_bounded.specs.SearchStateEntries.{AttemptStartAndResult, HasKeyNotKnownToFail, IsRow, IsRest, IsPaid, Stands, IsTurn, Scans, PlacesWait, AllWait, IsNearest}
-use Rattle.regress_bounded.specs.WorkCosts.{IsEndless, key_on, row_on, row_of_places}
+use Rattle.regress_bounded.specs.SearchStateAsMemoSearchEntries.{AttemptStartMemoBudgetAndResult, IsUnfailedStateKeyIfAny, IsRow, IsRest, IsPaid, Stands}
+use Rattle.regress_bounded.specs.SearchStateAsMemoSearchEntries.{IsTurn, Scans, PlacesWait, AllWait, IsNearest}
+use Rattle.regress_bounded.specs.WorkOfCharLoopsAndAttempts.{IsEndless, key_on, row_on, row_of_places}
 use Rattle.regress_bounded.specs.BudgetSpending.{IsTakenFromBudget}
 use Rattle.regress_pikevm.specs.States.{state_of}
 use Rattle.regress_bounded.proofs.PaidRuns.{limited-turned, limited-recorded, greedy-known, greedy-all, greedy-none, lazy-later, lazy-last, kept-none}
@@ -56,18 +57,18 @@ module _ (program : Program) (text : Text) (s : machine.State) (least most : ℕ
 
 -- ---- One with a maximum
 
-module _ {P : Type 0} (offset : P → ℕ) (program : Program) (text : Text) (b : AttemptStartAndResult) (s : machine.State) {stack : List (StackEntry P)} {c : MemoAndWorkBudget}
+module _ {P : Type 0} (offset : P → ℕ) (program : Program) (text : Text) (b : AttemptStartMemoBudgetAndResult) (s : machine.State) {stack : List (StackEntry P)} {c : MemoAndWorkBudget}
     (h : Stands offset program text b (tried (running s) ∷ []) stack c) where
   not-unlimited : (most : ℕ) → (most == unlimited) ≡ false → most ≢ unlimited
   not-unlimited most other e = let yes : (most == unlimited) ≡ true = ap (λ m. m == unlimited) e in let never : true ≡ false = sym yes ∙ other in cc
 
-  left-scans : (work : ℕ) (ts : List Thread) (key : Option Stored) → HasKeyNotKnownToFail c.memo s key → Scans offset program text s work ts
+  left-scans : (work : ℕ) (ts : List Thread) (key : Option Stored) → IsUnfailedStateKeyIfAny c.memo s key → Scans offset program text s work ts
       → on offset program text b s h work (tries ts ++ record_of offset program text b s h key h.row)
   left-scans work ts key k x =
       let at = scans-at program text s x.least x.most x.greedy x.run (can-turn offset program text b s h) in
       subst (λ n. on offset program text b s h n (tries ts ++ record_of offset program text b s h key h.row)) (sym x.is) (by key k at)
     where
-      by : (key : Option Stored) → HasKeyNotKnownToFail c.memo s key → ScansAt program text s → on offset program text b s h (x.tries + 1) (tries ts ++ record_of offset program text b s h key h.row)
+      by : (key : Option Stored) → IsUnfailedStateKeyIfAny c.memo s key → ScansAt program text s → on offset program text b s h (x.tries + 1) (tries ts ++ record_of offset program text b s h key h.row)
       by None k at =
           let paid = h.right.paid in
           limited-turned program c.memo.memo_analysis paid.memo_analysis paid.bounded text paid.is_text paid.bytes paid.short rightwards b.memory (tries (first_row program b.at)) h.work h.now h.row
@@ -75,11 +76,11 @@ module _ {P : Type 0} (offset : P → ℕ) (program : Program) (text : Text) (b 
       by (Some key) k at =
           let paid = h.right.paid in
           limited-recorded program c.memo.memo_analysis paid.memo_analysis paid.bounded text paid.is_text paid.bytes paid.short rightwards b.memory (tries (first_row program b.at)) h.work h.now h.row
-          s x.least x.most x.greedy x.run at.test at.body at.place at.at (not-unlimited x.most x.limited) x.tries ts x.acts (as_key key) k.is
-          (new offset program text b s h (as_key key) k.unknown) h.comes
+          s x.least x.most x.greedy x.run at.test at.body at.place at.at (not-unlimited x.most x.limited) x.tries ts x.acts (memo_key_as_spec key) k.is
+          (new offset program text b s h (memo_key_as_spec key) k.unknown) h.comes
 
   -- what a turn leaves, above a record where there is a key
-  pub left : (work : ℕ) (ts : List Thread) (key : Option Stored) → HasKeyNotKnownToFail c.memo s key → IsTurn offset program text s work ts
+  pub left : (work : ℕ) (ts : List Thread) (key : Option Stored) → IsUnfailedStateKeyIfAny c.memo s key → IsTurn offset program text s work ts
       → on offset program text b s h work (tries ts ++ record_of offset program text b s h key h.row)
   left work ts key k (inl x) = subst (λ n. on offset program text b s h n (tries ts ++ record_of offset program text b s h key h.row)) (sym x.1) (left-goes offset program text b s h ts key k x.0)
   left work ts key k (inr x) = left-scans work ts key k x

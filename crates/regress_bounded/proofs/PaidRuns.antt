@@ -14,25 +14,26 @@ use Rattle.regex_meaning.specs.CompilationRelation.{Program, Loop1CharBody}
 use Rattle.regex_meaning.proofs.Each.{Each-append, Each-map, Each-reverse}
 use Rattle.regex_meaning.proofs.Lists.{length-numbers_from}
 use Rattle.regex_meaning.proofs.TextLemmas.{offset-place_at}
-use Rattle.regress_machine.specs.Machine.{State, Thread, running, waiting, scans, first_runs_others_wait, run_states, test_of, act}
+use Rattle.regress_machine.specs.Machine.{State, Thread, running, waiting, scans, first_running_and_others_waiting, run_states, test_of, act}
 use Rattle.regress_machine.proofs.Beside.{moved-zero}
 use Rattle.regress_machine.proofs.Run.{numbers_between}
-use Rattle.regress_simulation.specs.CharLoopExitStates.{behind}
+use Rattle.regress_simulation.specs.CharLoopExitStatesByPreference.{behind}
 use Rattle.regress_simulation.specs.ThreadSimulation.{FindNothing}
 use Rattle.regress_simulation.proofs.Runs.{behind-from, run-turn}
 use Rattle.regress_simulation.proofs.Simulates.{simulates-same}
 use Rattle.regress_memo_laws.specs.Liveness.{Agree, outermost, ReadsAsBytes}
-use Rattle.regress_memo_laws.specs.Bisimulation.{Relation, AlikeThreads}
-use Rattle.regress_memo_laws.specs.BoundedCharLoopsAndLookarounds.{ScanIsPaid, ScanGives}
+use Rattle.regress_memo_laws.specs.ThreadBisimulation.{Relation, AlikeThreads}
+use Rattle.regress_memo_laws.specs.CappedCharLoopsAndLookarounds.{ScanIsPaid, ScanGives}
 use Rattle.regress_memo_laws.specs.LoopDataKeyCodes.{HasSlotsOfProgram, plan_code, key_of}
 use Rattle.regress_memo_laws.specs.DistinctLists.{IsNew}
 use Rattle.regress_memo_laws.specs.PreservedSlotCounts.{state_of_thread}
 use Rattle.regress_memo_laws.specs.AmortizedStepCosts.{potential_by, IsCostCovered, GreedyLoopIsCovered, LazyLoopIsCovered, RunTurnsArePaid, LazyTurnsArePaid}
 use Rattle.regress_memo_laws.specs.MemoPlanChecksAndGuarantees.{IsRecorded, plan_taken}
-use Rattle.regress_memo_laws.specs.CharLoopMemoKeys.{char_loop_greediness_at, CharLoopRecords, run_key}
-use Rattle.regress_memo_laws.specs.CharLoopThreads.{passing, pending_loop_threads}
-use Rattle.regress_memo_laws.specs.CharLoopSteps.{placed, AreUnknown, AtCharLoop, GreedyGives, LazyGives}
-use Rattle.regress_memo_laws.specs.MemoSearch.{Key, Entry, tried, kept, noted, tries, threads_in, entry_potential, GoesOnward, KeyStandsFor, AreSound, IsMemoStep, ReachesBySteps, gives}
+use Rattle.regress_memo_laws.specs.UnboundedCharLoopMemoKeys.{char_loop_greediness_at, CharLoopRecords, run_key}
+use Rattle.regress_memo_laws.specs.CharLoopExitThreadLists.{passing, pending_loop_threads}
+use Rattle.regress_memo_laws.specs.UnboundedCharLoopsAsMemoSteps.{placed, AreUnknown, AtCharLoop, GreedyGives, LazyGives}
+use Rattle.regress_memo_laws.specs.MemoSearch.{Key, Entry, tried, kept, noted, tries, threads_in, entry_potential, GoesOnward, KeyStandsFor, AreSound, IsMemoStep}
+use Rattle.regress_memo_laws.specs.MemoSearch.{ReachesBySteps, gives}
 use Rattle.regress_memo_laws.specs.ThreadPotentials.{each_noted}
 use Rattle.regress_memo_laws.proofs.Beside.{others-paid, scans-give}
 use Rattle.regress_memo_laws.proofs.Distinct.{Each-left, Each-right}
@@ -44,22 +45,24 @@ use Rattle.regress_memo_laws.proofs.Runs.{passing-left, passing-on, lazy-runs-go
 use Rattle.regress_memo_laws.proofs.RunTurns.{place-inside, row-next, row-last, runs-give}
 use Rattle.regress_memo_laws.proofs.Turns.{threads-tries, turns-right}
 use Rattle.regress_memo_laws.proofs.Weights.{turns-give}
-use Rattle.regress_memo_analysis.specs.declared.analysis.MemoAnalysis.{MemoAnalysis}
+use Rattle.regress_memo_analysis.specs.declared.analysis_result.MemoAnalysis.{MemoAnalysis}
 use Rattle.regress_memo_analysis.specs.UnreachedCharLoopBodies.{FlowsPastBodies}
 use Rattle.regress_memo_analysis.specs.WorkBound.{IsWorkBounded}
 use Rattle.regress_memo_analysis.specs.AnalysisChecks.{IsConsistentAt, unlimited}
-use Rattle.regress_memo_analysis.specs.AnalysisContents.{insn_analysis_of, liveness_of, key_code_questions_of, recorded, potentials_of, key_cost_of, insn_direction}
-use Rattle.regress_memo_analysis.specs.Successors.{successors_in}
+use Rattle.regress_memo_analysis.specs.AnalysisAsLivenessAndPotentials.{insn_analysis_of, analysis_as_liveness, key_code_questions_of, recorded, potentials_of}
+use Rattle.regress_memo_analysis.specs.AnalysisAsLivenessAndPotentials.{key_cost_of}
+use Rattle.regress_memo_analysis.specs.AnalysisAsLivenessAndPotentials.{insn_direction}
+use Rattle.regress_memo_analysis.specs.Successors.{successors_of_insn_if_any}
 use Rattle.regress_memo_analysis.specs.CheckedAnalysis.{IsAnalysisOf, Serves}
 use Rattle.regress_memo_analysis.proofs.WholeLemmas.{ledgers-serve}
 use Rattle.regress_memo.specs.Laws.{analysis_keys, KeyFails}
 use Rattle.regress_memo.specs.MemoContents.{memo_key_at}
-use Rattle.regress_memo.specs.MemoSearchCosts.{IsKeyed, AreKeyed, HasCome}
+use Rattle.regress_memo.specs.AmortizedMemoSearchSteps.{IsKeyed, AreKeyed, HasCome}
 use Rattle.regress_memo.proofs.LawLemmas.{keys-are-there, records-there}
 use Rattle.regress_memo.proofs.SearchLemmas.{HasKey, has-key, no-key, keyed-joined}
 use Rattle.regress_scan.proofs.Reach.{numbers-last}
 use Rattle.regress_scan.proofs.StopSets.{places-few}
-use Rattle.regress_bounded.specs.WorkCosts.{IsEndless, key_on, row_on, row_of_places}
+use Rattle.regress_bounded.specs.WorkOfCharLoopsAndAttempts.{IsEndless, key_on, row_on, row_of_places}
 
 -- ---- Numbers
 
@@ -93,7 +96,7 @@ module _ (P : State → Type 0) (f : ℕ → State) where
   waits-so [] h = tt
   waits-so (n ∷ ns) h = (h.0, waits-so ns h.1)
 
-  turn-so : (ns : List ℕ) → Each (λ n. P (f n)) ns → AreSo (first_runs_others_wait (map f ns))
+  turn-so : (ns : List ℕ) → Each (λ n. P (f n)) ns → AreSo (first_running_and_others_waiting (map f ns))
   turn-so [] h = tt
   turn-so (n ∷ ns) h = (h.0, waits-so ns h.1)
 
@@ -101,7 +104,7 @@ module _ (P : State → Type 0) (f : ℕ → State) where
   of-waits [] h = tt
   of-waits (n ∷ ns) h = (h.0, of-waits ns h.1)
 
-  of-turn : (ns : List ℕ) → AreSo (first_runs_others_wait (map f ns)) → Each (λ n. P (f n)) ns
+  of-turn : (ns : List ℕ) → AreSo (first_running_and_others_waiting (map f ns)) → Each (λ n. P (f n)) ns
   of-turn [] h = tt
   of-turn (n ∷ ns) h = (h.0, of-waits ns h.1)
 
@@ -138,7 +141,7 @@ module _ (program : Program) (t : MemoAnalysis) (of : IsAnalysisOf program t) (b
   -- few threads, at states behind the run, which have keys
   record LeavesFew (s : State) (least most n : ℕ) (ts : List Thread) : Type 0 where
     states : List State
-    are : first_runs_others_wait states ≡ ts
+    are : first_running_and_others_waiting states ≡ ts
     few : n ≤ most
     as_many : length states ≤ most + 1 - least
     there : Each (λ u. u.ip ≡ s.ip + 2) states
@@ -153,21 +156,21 @@ module _ (program : Program) (t : MemoAnalysis) (of : IsAnalysisOf program t) (b
     abbrev its-places : List ℕ
     its-places = numbers_from least (furthest + 1 - least)
 
-    turn : act program text d s ≡ scans (min most (passing text test d place + 1)) (first_runs_others_wait (run_states text greedy d least furthest place s))
+    turn : act program text d s ≡ scans (min most (passing text test d place + 1)) (first_running_and_others_waiting (run_states text greedy d least furthest place s))
     turn = run-turn program text d place s least most greedy test run body at
 
-    each-sound : Each (λ n. Agree (liveness_of t) (units text) outermost d (behind text d place s n) (behind text d place s n)) its-places
+    each-sound : Each (λ n. Agree (analysis_as_liveness t) (units text) outermost d (behind text d place s n) (behind text d place s n)) its-places
     each-sound =
-        let R : Relation = λ u v. Agree (liveness_of t) (units text) outermost d u v in
-        let all = (soundness-stays program text (liveness_of t) served.plan.account d).scans outermost s _ _ keyed.sound turn in
+        let R : Relation = λ u v. Agree (analysis_as_liveness t) (units text) outermost d u v in
+        let all = (soundness-stays program text (analysis_as_liveness t) served.plan.account d).scans outermost s _ _ keyed.sound turn in
         of-either-way _ its-places greedy
         (of-turn (λ u. R u u) (behind text d place s) (if greedy then reverse its-places else its-places) (alike-each R _ all))
 
     -- a state that is keyed at a run stays keyed behind its characters
     pub scan-keyed : (n : ℕ) → least ≤ n → n ≤ most → n ≤ passing text test d place → Keyed (behind text d place s n)
     scan-keyed n le few passes =
-        let right = subst (λ o. IsConsistentAt t program (successors_in s.ip o) s.ip) run (of.steps s.ip) in
-        let past = subst (λ o. FlowsPastBodies program (successors_in s.ip o) s.ip) run (bounded.past s.ip) in
+        let right = subst (λ o. IsConsistentAt t program (successors_of_insn_if_any s.ip o) s.ip) run (of.steps s.ip) in
+        let past = subst (λ o. FlowsPastBodies program (successors_of_insn_if_any s.ip o) s.ip) run (bounded.past s.ip) in
         record {
           of = record { groups = keyed.of.groups; starts = keyed.of.starts; loops = keyed.of.loops };
           sound = number-in _ least (furthest + 1 - least) each-sound n le (omega (arith, le, few, passes));
@@ -180,13 +183,13 @@ module _ (program : Program) (t : MemoAnalysis) (of : IsAnalysisOf program t) (b
       abbrev its-states : List State
       its-states = run_states text greedy d least furthest place s
 
-      same-turn : scans n ts ≡ scans (min most (passing text test d place + 1)) (first_runs_others_wait its-states)
+      same-turn : scans n ts ≡ scans (min most (passing text test d place + 1)) (first_running_and_others_waiting its-states)
       same-turn = sym turned ∙ turn
 
       same-count : n ≡ min most (passing text test d place + 1)
       same-count = let same = same-turn in cc
 
-      same-threads : first_runs_others_wait its-states ≡ ts
+      same-threads : first_running_and_others_waiting its-states ≡ ts
       same-threads = let same = same-turn in cc
 
       places-keyed : Each (λ m. Keyed (behind text d place s m)) its-places
@@ -228,9 +231,9 @@ module _ (program : Program) (t : MemoAnalysis) (of : IsAnalysisOf program t) (b
 
   -- behind the run the way is the same
   way-behind : insn_direction t (s.ip + 2) ≡ insn_direction t s.ip
-  way-behind = (subst (λ o. IsConsistentAt t program (successors_in s.ip o) s.ip) endless.run (of.steps s.ip)).way
+  way-behind = (subst (λ o. IsConsistentAt t program (successors_of_insn_if_any s.ip o) s.ip) endless.run (of.steps s.ip)).way
 
-  run-records : insn_direction t s.ip ≡ d → CharLoopRecords program (liveness_of t) (key_code_questions_of t) (insn_direction t) (recorded t) d test greedy s.ip
+  run-records : insn_direction t s.ip ≡ d → CharLoopRecords program (analysis_as_liveness t) (key_code_questions_of t) (insn_direction t) (recorded t) d test greedy s.ip
   run-records way =
       let written = of.runs s.ip least unlimited greedy endless.run in
       record {
@@ -291,7 +294,7 @@ module _ (program : Program) (t : MemoAnalysis) (of : IsAnalysisOf program t) (b
     its-key n = key_on program text t d test place s n
 
     abbrev its-waiting : ℕ → List (Thread × Key)
-    its-waiting count = placed program text (liveness_of t) (key_code_questions_of t) (insn_direction t) (recorded t) (plan_taken program) d test s place least count
+    its-waiting count = placed program text (analysis_as_liveness t) (key_code_questions_of t) (insn_direction t) (recorded t) (plan_taken program) d test s place least count
 
     abbrev its-places-row : ℕ → List Entry
     its-places-row count = row_of_places program text t d test place s least count
@@ -350,7 +353,7 @@ module _ (program : Program) (t : MemoAnalysis) (of : IsAnalysisOf program t) (b
       places-keyed-over rest below (suc count) few =
           (place-keyed (least + count) (omega arith) (omega (arith, few)), places-keyed-over rest below count (omega (arith, few)))
 
-      at-run : AtCharLoop program text (liveness_of t) (key_code_questions_of t) (insn_direction t) (recorded t) (plan_taken program) d test s greedy least unlimited place
+      at-run : AtCharLoop program text (analysis_as_liveness t) (key_code_questions_of t) (insn_direction t) (recorded t) (plan_taken program) d test s greedy least unlimited place
       at-run = record {
         run = endless.run;
         records = run-records keyed.way;
@@ -361,9 +364,9 @@ module _ (program : Program) (t : MemoAnalysis) (of : IsAnalysisOf program t) (b
       }
 
 module _ (program : Program) (text : Text) (t : MemoAnalysis) (d : Direction) where
-  keyed-sound : (ts : List Thread) → AreKeyed program text t d ts → AreSound program text (liveness_of t) (analysis_keys program text t) d ts
+  keyed-sound : (ts : List Thread) → AreKeyed program text t d ts → AreSound program text (analysis_as_liveness t) (analysis_keys program text t) d ts
   keyed-sound ts h =
-      each-alike (Agree (liveness_of t) (units text) outermost d) ts
+      each-alike (Agree (analysis_as_liveness t) (units text) outermost d) ts
       (Each-map (λ u. IsKeyed program text t d (state_of_thread u)) _ (λ u k. k.sound) ts h)
 
 -- ---- Turns
@@ -375,7 +378,7 @@ module _ (program : Program) (t : MemoAnalysis) (of : IsAnalysisOf program t) (b
 
   abbrev Steps : (work : ℕ) → List Entry → Type 0
   Steps work row =
-      ReachesBySteps program text (liveness_of t) (analysis_keys program text t) d (λ k. key_cost_of t k.ip) (potential_by program (potentials_of t) (key_cost_of t) (recorded t))
+      ReachesBySteps program text (analysis_as_liveness t) (analysis_keys program text t) d (λ k. key_cost_of t k.ip) (potential_by program (potentials_of t) (key_cost_of t) (recorded t))
       memory first work now row
 
   abbrev serves : Serves program t text
@@ -397,8 +400,8 @@ module _ (program : Program) (t : MemoAnalysis) (of : IsAnalysisOf program t) (b
         others-paid.scans program (potentials_of t) (key_cost_of t) (recorded t) of.paid (plan_code (key_code_questions_of t)) s least most
         ((of.runs s.ip least most greedy run).limited limited)
 
-    abbrev given : ScanGives program text (liveness_of t) (key_code_questions_of t) (insn_direction t) (recorded t) (plan_taken program) d now s
-    given = scans-give program text (liveness_of t) (key_code_questions_of t) (insn_direction t) (recorded t) (plan_taken program) serves.plan d now s
+    abbrev given : ScanGives program text (analysis_as_liveness t) (key_code_questions_of t) (insn_direction t) (recorded t) (plan_taken program) d now s
+    given = scans-give program text (analysis_as_liveness t) (key_code_questions_of t) (insn_direction t) (recorded t) (plan_taken program) serves.plan d now s
 
     pub limited-turned : memo_key_at t s ≡ None → Come work now (tried (running s) ∷ rest) → Come (work + (n + 1)) now (tries ts ++ rest)
     limited-turned none h =
@@ -417,7 +420,7 @@ module _ (program : Program) (t : MemoAnalysis) (of : IsAnalysisOf program t) (b
         let keyed = h.keyed.0 in
         let l = left keyed in
         let there = records-there t s.ip has.records in
-        let rec : IsRecorded program text (liveness_of t) (key_code_questions_of t) (insn_direction t) (recorded t) (plan_taken program) d now s =
+        let rec : IsRecorded program text (analysis_as_liveness t) (key_code_questions_of t) (insn_direction t) (recorded t) (plan_taken program) d now s =
         record { records = there; goes = keyed.way; no_body = keyed.no_body; of = keyed.of; sound = keyed.sound; one = plans-take.threads program key keyed.no_body; new = new } in
         subst (Come (work + (n + 1)) now) (append_assoc (tries ts) (its ∷ []) rest) (record {
           comes = gives work (n + 1) now (tried (running s) ∷ []) (tries ts ++ its ∷ []) rest tt h.comes (given.recorded n ts turned rec)
@@ -439,23 +442,23 @@ module _ (program : Program) (t : MemoAnalysis) (of : IsAnalysisOf program t) (b
   module _ (s : State) (test : ℕ → Bool) (least place : ℕ) (endless : IsEndless program s test least true) (at : place_at text s.pos ≡ Some place) where
     -- the keys of its places behind `least` characters up to before so many are new
     abbrev pub New : (n : ℕ) → Type 0
-    New n = AreUnknown program text (liveness_of t) (key_code_questions_of t) (insn_direction t) (recorded t) (plan_taken program) d test s now place least n
+    New n = AreUnknown program text (analysis_as_liveness t) (key_code_questions_of t) (insn_direction t) (recorded t) (plan_taken program) d test s now place least n
 
     on-text : place ≤ last_place text
     on-text = (offset-place_at text s.pos place is_text at).1
 
-    abbrev greedy-gives : IsKeyed program text t d s → GreedyGives program text (liveness_of t) (key_code_questions_of t) (insn_direction t) (recorded t) (plan_taken program) d test s now place least
+    abbrev greedy-gives : IsKeyed program text t d s → GreedyGives program text (analysis_as_liveness t) (key_code_questions_of t) (insn_direction t) (recorded t) (plan_taken program) d test s now place least
     greedy-gives keyed =
-        runs-give.greedy program text (liveness_of t) (key_code_questions_of t) (insn_direction t) (recorded t) (plan_taken program) d test s now place least unlimited serves.plan.account
+        runs-give.greedy program text (analysis_as_liveness t) (key_code_questions_of t) (insn_direction t) (recorded t) (plan_taken program) d test s now place least unlimited serves.plan.account
         (at-run program t of bounded text is_text bytes less d s test least true endless place on-text keyed at)
         (λ n. let k = key_on program text t d test place s n in plans-take.greedy program s.ip k.at k.code (ap char_loop_greediness_at endless.run))
 
     abbrev greedy-ready : GreedyLoopIsCovered program (potentials_of t) (key_cost_of t) (recorded t) least s.ip
     greedy-ready = (of.runs s.ip least unlimited true endless.run).greedy refl refl
 
-    abbrev greedy-paid : RunTurnsArePaid program (potentials_of t) (key_cost_of t) (recorded t) text (liveness_of t) (key_code_questions_of t) (insn_direction t) (plan_taken program) d test s place least
+    abbrev greedy-paid : RunTurnsArePaid program (potentials_of t) (key_cost_of t) (recorded t) text (analysis_as_liveness t) (key_code_questions_of t) (insn_direction t) (plan_taken program) d test s place least
     greedy-paid =
-        turns-paid.runs program (potentials_of t) (key_cost_of t) (recorded t) text (liveness_of t) (key_code_questions_of t) (insn_direction t) (plan_taken program) d test s place least greedy-ready
+        turns-paid.runs program (potentials_of t) (key_cost_of t) (recorded t) text (analysis_as_liveness t) (key_code_questions_of t) (insn_direction t) (plan_taken program) d test s place least greedy-ready
 
     -- what is known to fail from a place on finds nothing
     row-fails : IsKeyed program text t d s → (n : ℕ) → least ≤ n → n ≤ passing text test d place → KeyFails program text t (key_on program text t d test place s n)
@@ -463,7 +466,7 @@ module _ (program : Program) (t : MemoAnalysis) (of : IsAnalysisOf program t) (b
     row-fails keyed n le few fails =
         let row = row_on program text t d test place s n in
         fails d row
-        ((runs-have-keys program text (liveness_of t) (key_code_questions_of t) (insn_direction t) (recorded t) (plan_taken program) d test (moved text d n place) s is_text
+        ((runs-have-keys program text (analysis_as_liveness t) (key_code_questions_of t) (insn_direction t) (recorded t) (plan_taken program) d test (moved text d n place) s is_text
         (further-inside program t of bounded text is_text bytes less d s test least true endless place on-text n few) keyed.of).greedy
         (run-records program t of bounded text is_text bytes less d s test least true endless keyed.way)
         (keyed-sound program text t d row (row-keyed program t of bounded text is_text bytes less d s test least true endless place on-text keyed at n le few)))
@@ -527,9 +530,9 @@ module _ (program : Program) (t : MemoAnalysis) (of : IsAnalysisOf program t) (b
     abbrev lazy-ready : LazyLoopIsCovered program (potentials_of t) (key_cost_of t) (recorded t) least s.ip
     lazy-ready = (of.runs s.ip least unlimited false endless.run).lazy refl refl
 
-    abbrev lazy-paid : LazyTurnsArePaid program (potentials_of t) (key_cost_of t) (recorded t) text (liveness_of t) (key_code_questions_of t) (insn_direction t) (plan_taken program) d test s place least
+    abbrev lazy-paid : LazyTurnsArePaid program (potentials_of t) (key_cost_of t) (recorded t) text (analysis_as_liveness t) (key_code_questions_of t) (insn_direction t) (plan_taken program) d test s place least
     lazy-paid =
-        turns-paid.lazy_runs program (potentials_of t) (key_cost_of t) (recorded t) text (liveness_of t) (key_code_questions_of t) (insn_direction t) (plan_taken program) d test s place least lazy-ready
+        turns-paid.lazy_runs program (potentials_of t) (key_cost_of t) (recorded t) text (analysis_as_liveness t) (key_code_questions_of t) (insn_direction t) (plan_taken program) d test s place least lazy-ready
 
     -- ---- It begins
 
@@ -537,9 +540,9 @@ module _ (program : Program) (t : MemoAnalysis) (of : IsAnalysisOf program t) (b
       abbrev on-its-text : place ≤ last_place text
       on-its-text = (offset-place_at text s.pos place is_text at).1
 
-      abbrev lazy-gives : IsKeyed program text t d s → LazyGives program text (liveness_of t) (key_code_questions_of t) (insn_direction t) (recorded t) (plan_taken program) d test s now place least
+      abbrev lazy-gives : IsKeyed program text t d s → LazyGives program text (analysis_as_liveness t) (key_code_questions_of t) (insn_direction t) (recorded t) (plan_taken program) d test s now place least
       lazy-gives keyed =
-          runs-give.lazy program text (liveness_of t) (key_code_questions_of t) (insn_direction t) (recorded t) (plan_taken program) d test s now place least unlimited serves.plan.account
+          runs-give.lazy program text (analysis_as_liveness t) (key_code_questions_of t) (insn_direction t) (recorded t) (plan_taken program) d test s now place least unlimited serves.plan.account
           (at-run program t of bounded text is_text bytes less d s test least false endless place on-its-text keyed at)
 
       -- the nearest place is taken, and the others wait
@@ -608,18 +611,18 @@ module _ (program : Program) (t : MemoAnalysis) (of : IsAnalysisOf program t) (b
       run-state : Waits → HasSlotsOfProgram program s
       run-state w = let k = w.nearest_keyed in record { groups = k.of.groups; starts = k.of.starts; loops = k.of.loops }
 
-      its-records : Waits → CharLoopRecords program (liveness_of t) (key_code_questions_of t) (insn_direction t) (recorded t) d test false s.ip
+      its-records : Waits → CharLoopRecords program (analysis_as_liveness t) (key_code_questions_of t) (insn_direction t) (recorded t) d test false s.ip
       its-records w = run-records program t of bounded text is_text bytes less d s test least false endless (run-way w)
 
-      waits-sound : Waits → AreSound program text (liveness_of t) (analysis_keys program text t) d its-waits
+      waits-sound : Waits → AreSound program text (analysis_as_liveness t) (analysis_keys program text t) d its-waits
       waits-sound w = keyed-sound program text t d its-waits w.all_keyed
 
-      waits-of-key : Waits → KeyStandsFor program text (liveness_of t) (analysis_keys program text t) d its-first-key its-waits
+      waits-of-key : Waits → KeyStandsFor program text (analysis_as_liveness t) (analysis_keys program text t) d its-first-key its-waits
       waits-of-key w =
-          let here : run_key program text (liveness_of t) (key_code_questions_of t) (insn_direction t) (recorded t) (plan_taken program) d place s ≡ its-first-key =
-          ap (λ q. run_key program text (liveness_of t) (key_code_questions_of t) (insn_direction t) (recorded t) (plan_taken program) d q s) (sym (moved-zero text d place)) in
-          subst (λ k. KeyStandsFor program text (liveness_of t) (analysis_keys program text t) d k its-waits) here
-          ((runs-have-keys program text (liveness_of t) (key_code_questions_of t) (insn_direction t) (recorded t) (plan_taken program) d test place s is_text inside (run-state w)).lazy
+          let here : run_key program text (analysis_as_liveness t) (key_code_questions_of t) (insn_direction t) (recorded t) (plan_taken program) d place s ≡ its-first-key =
+          ap (λ q. run_key program text (analysis_as_liveness t) (key_code_questions_of t) (insn_direction t) (recorded t) (plan_taken program) d q s) (sym (moved-zero text d place)) in
+          subst (λ k. KeyStandsFor program text (analysis_as_liveness t) (analysis_keys program text t) d k its-waits) here
+          ((runs-have-keys program text (analysis_as_liveness t) (key_code_questions_of t) (insn_direction t) (recorded t) (plan_taken program) d test place s is_text inside (run-state w)).lazy
           (its-records w) (waits-sound w))
 
       alone : threads_in (kept its-waits ∷ []) ≡ its-waits
@@ -648,8 +651,8 @@ module _ (program : Program) (t : MemoAnalysis) (of : IsAnalysisOf program t) (b
           let w = waits-known h in
           record {
             comes = gives work 1 now (kept its-waits ∷ []) [] rest tt h.comes
-                (subst (λ ts. IsMemoStep program text (liveness_of t) (analysis_keys program text t) d now ts []) (sym alone)
-                ((turns-right program text (liveness_of t) (analysis_keys program text t) serves.plan.account serves.serves.keys d).dropped now its-first-key its-waits fails (waits-of-key w)))
+                (subst (λ ts. IsMemoStep program text (analysis_as_liveness t) (analysis_keys program text t) d now ts []) (sym alone)
+                ((turns-right program text (analysis_as_liveness t) (analysis_keys program text t) serves.plan.account serves.serves.keys d).dropped now its-first-key its-waits fails (waits-of-key w)))
                 (let some = some-ready in omega (arith, some));
             keyed = w.below;
           }
@@ -662,8 +665,8 @@ module _ (program : Program) (t : MemoAnalysis) (of : IsAnalysisOf program t) (b
           let entries = tried (running nearest) ∷ kept more-waits ∷ noted its-first-key its-waits ∷ [] in
           record {
             comes = gives work 2 now (kept its-waits ∷ []) entries rest tt h.comes
-                (subst (λ ts. IsMemoStep program text (liveness_of t) (analysis_keys program text t) d now ts entries) (sym alone)
-                (runs-give.lazy_again program text (liveness_of t) (key_code_questions_of t) (insn_direction t) (recorded t) (plan_taken program) d test s now place serves.plan.account inside
+                (subst (λ ts. IsMemoStep program text (analysis_as_liveness t) (analysis_keys program text t) d now ts entries) (sym alone)
+                (runs-give.lazy_again program text (analysis_as_liveness t) (key_code_questions_of t) (insn_direction t) (recorded t) (plan_taken program) d test s now place serves.plan.account inside
                 (its-records w) (run-state w) (waits-sound w) (plans-take.lazy program s.ip its-first-key.at its-first-key.code (ap char_loop_greediness_at endless.run)) new))
                 lazy-paid.again;
             keyed = (w.nearest_keyed, Each-append (λ u. IsKeyed program text t d (state_of_thread u)) more-waits (threads_in rest) w.more_keyed w.below);
@@ -686,9 +689,9 @@ module _ (program : Program) (t : MemoAnalysis) (text : Text) (memory : List Key
       let y = one-weighs program (potentials_of t) (key_cost_of t) (recorded t) (tried (running r)) in
       let none : work + 0 ≡ work = omega arith in
       record {
-        comes = subst (λ n. ReachesBySteps program text (liveness_of t) (analysis_keys program text t) d (λ k. key_cost_of t k.ip) weight memory first n now (tried (running r) ∷ rest)) none
+        comes = subst (λ n. ReachesBySteps program text (analysis_as_liveness t) (analysis_keys program text t) d (λ k. key_cost_of t k.ip) weight memory first n now (tried (running r) ∷ rest)) none
             (gives work 0 now front (tried (running r) ∷ []) rest tt h.comes
-            ((turns-give program text (liveness_of t) (analysis_keys program text t) d now).passed 0 (tried (running r) ∷ []) (running r ∷ []) tt
+            ((turns-give program text (analysis_as_liveness t) (analysis_keys program text t) d now).passed 0 (tried (running r) ∷ []) (running r ∷ []) tt
             (simulates-same program text false d (running r ∷ [])) (stays-on d))
             (omega (arith, x, y)));
         keyed = h.keyed;

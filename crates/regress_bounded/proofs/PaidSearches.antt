@@ -6,37 +6,38 @@ use Rattle.std.proofs.Math.Nat.{add-mul, mul-add}
 use Rattle.regex_meaning.specs.Text.{Text, rightwards}
 use Rattle.regex_meaning.specs.CodeUnitOffsets.{HasRisingPlaceOffsets, units}
 use Rattle.regex_meaning.specs.CompilationRelation.{Program}
-use Rattle.regress_machine.specs.SearchResults.{state_before_first_insn}
+use Rattle.regress_machine.specs.SearchFindsFirstOutcomeAtPlace.{state_before_first_insn}
 use Rattle.regress_machine.specs.Machine.{Thread, running}
 use Rattle.regress_memo_laws.specs.Liveness.{ReadsAsBytes}
 use Rattle.regress_memo_laws.specs.LoopDataKeyCodes.{plan_codes}
 use Rattle.regress_memo_laws.specs.DistinctLists.{IsIn}
 use Rattle.regress_memo_laws.specs.AmortizedStepCosts.{potential_by}
-use Rattle.regress_memo_laws.specs.AttemptCounts.{at_first, passed, failed, found}
+use Rattle.regress_memo_laws.specs.AttemptsAndWorkOverSuccessiveMatches.{at_first, passed, failed, found}
 use Rattle.regress_memo_laws.specs.MemoSearch.{Key, Entry, tried, tries, keys_in, at_of, AreOnward, Answers, IsMemory}
 use Rattle.regress_memo_laws.specs.MemoSearch as turns
 use Rattle.regress_memo_laws.proofs.Distinct.{Each-right, distinct-right}
 use Rattle.regress_memo_laws.proofs.Paid.{one-weighs}
 use Rattle.regress_memo_laws.proofs.Turns.{turns-go-on, work-is-bounded}
 use Rattle.regress_memo_laws.proofs.Weights.{places-keys}
-use Rattle.regress_memo_analysis.specs.declared.analysis.MemoAnalysis.{MemoAnalysis}
-use Rattle.regress_memo_analysis.specs.WorkBound.{cost_of_all_keys, work_per_position, first_row}
-use Rattle.regress_memo_analysis.specs.AnalysisContents.{insn_analysis_of, liveness_of, key_code_questions_of, recorded, potentials_of, key_cost_of}
+use Rattle.regress_memo_analysis.specs.declared.analysis_result.MemoAnalysis.{MemoAnalysis}
+use Rattle.regress_memo_analysis.specs.WorkBound.{all_keys_cost_per_position, work_per_position, first_row}
+use Rattle.regress_memo_analysis.specs.AnalysisAsLivenessAndPotentials.{insn_analysis_of, analysis_as_liveness, key_code_questions_of, recorded, potentials_of}
+use Rattle.regress_memo_analysis.specs.AnalysisAsLivenessAndPotentials.{key_cost_of}
 use Rattle.regress_memo_analysis.specs.CheckedAnalysis.{IsAnalysisOf, Serves}
 use Rattle.regress_memo_analysis.proofs.BoundLemmas.{ledgers-bound, prices-of-all}
 use Rattle.regress_memo_analysis.proofs.WholeLemmas.{ledgers-serve}
-use Rattle.regress_memo.specs.Laws.{analysis_keys, Holds}
+use Rattle.regress_memo.specs.Laws.{analysis_keys, ListsExactlyKnownKeys}
 use Rattle.regress_memo.specs.MemoContents.{has_failure, IsEmptyMemo}
 use Rattle.regress_memo.specs.MemoContractView.{MemoView}
-use Rattle.regress_memo.specs.MemoSearchCosts.{HasCome}
+use Rattle.regress_memo.specs.AmortizedMemoSearchSteps.{HasCome}
 use Rattle.regress_memo.proofs.LawLemmas.{memos-hold}
 use Rattle.regress_memo.proofs.SearchLemmas.{searches-are-paid}
-use Rattle.regress_bounded.specs.WorkCosts.{HasWalked, IsWalked, IsTrying}
+use Rattle.regress_bounded.specs.WorkOfCharLoopsAndAttempts.{HasWalked, IsWalked, IsTrying}
 
 -- ---- What is known
 
 -- at first nothing is
-pub memory-of : (t : MemoAnalysis) (places : ℕ) (records_successes : Bool) (m : MemoView) → IsEmptyMemo t places records_successes m → Holds (has_failure m) []
+pub memory-of : (t : MemoAnalysis) (places : ℕ) (records_successes : Bool) (m : MemoView) → IsEmptyMemo t places records_successes m → ListsExactlyKnownKeys (has_failure m) []
 memory-of t places records_successes m begun = (memos-hold.begun t places records_successes m begun).0
 
 -- ---- Places
@@ -103,17 +104,17 @@ module _ (program : Program) (t : MemoAnalysis) (of : IsAnalysisOf program t) (t
   -- it goes on from there
   pub in-order : (at : ℕ) (memory : List Key) (work : ℕ) (now : List Key) (u : Thread) (rest : List Entry) → Come at memory work now (tried u ∷ rest) → at ≤ at_of u
   in-order at memory work now u rest h =
-      (turns-go-on program text (liveness_of t) (analysis_keys program text t) rightwards price weight memory (first_row program at) at work now (tried u ∷ rest) refl (first-onward at) h.comes).0
+      (turns-go-on program text (analysis_as_liveness t) (analysis_keys program text t) rightwards price weight memory (first_row program at) at work now (tried u ∷ rest) refl (first-onward at) h.comes).0
 
   module _ (at done : ℕ) (memory : List Key) (walked : Walked at done memory) (answers : Answered at) (more : ℕ) (now : List Key) (row : List Entry) where
     -- what a search knows and owes after any number of turns
     stands-so : Come at memory more now row
-        → turns.HasCome program text (liveness_of t) (analysis_keys program text t) rightwards price weight memory (first_row program at) more now row answers.found
+        → turns.HasCome program text (analysis_as_liveness t) (analysis_keys program text t) rightwards price weight memory (first_row program at) more now row answers.found
     stands-so h =
-        work-is-bounded program text (liveness_of t) (analysis_keys program text t) served.plan.account served.serves.keys rightwards price weight memory (first_row program at)
+        work-is-bounded program text (analysis_as_liveness t) (analysis_keys program text t) served.plan.account served.serves.keys rightwards price weight memory (first_row program at)
         answers.turns answers.found walked.is answers.searches more now row h.comes
 
-    still-memory : Come at memory more now row → IsMemory program text (liveness_of t) (analysis_keys program text t) now
+    still-memory : Come at memory more now row → IsMemory program text (analysis_as_liveness t) (analysis_keys program text t) now
     still-memory h =
         let s = (stands-so h).stands in
         record {
@@ -124,7 +125,7 @@ module _ (program : Program) (t : MemoAnalysis) (of : IsAnalysisOf program t) (t
 
     -- what the attempts so far may do, and this one, and one unit more for each place
     pub with-room : at ≤ units text → Come at memory more now row
-        → done + more + (units text + 1) ≤ (1 + (work_per_position t + (cost_of_all_keys t + (insn_analysis_of t 0).ready))) * (units text + 1)
+        → done + more + (units text + 1) ≤ (1 + (work_per_position t + (all_keys_cost_per_position t + (insn_analysis_of t 0).ready))) * (units text + 1)
     with-room inside h =
         let n = units text + 1 in
         let order = walked.order in
@@ -147,9 +148,9 @@ module _ (program : Program) (t : MemoAnalysis) (of : IsAnalysisOf program t) (t
         let cost = places-keys.cost (recorded t) (units text) (plan_codes (key_code_questions_of t)) (key_cost_of t) in
         let prices = ap (λ p. p * n) (prices-of-all t of.coded) in
         let some = mul-one (insn_analysis_of t 0).ready (units text) in
-        let a = add-mul (1 + work_per_position t) (cost_of_all_keys t + (insn_analysis_of t 0).ready) n in
-        let b = add-mul (cost_of_all_keys t) (insn_analysis_of t 0).ready n in
-        let same : (1 + (work_per_position t + (cost_of_all_keys t + (insn_analysis_of t 0).ready))) * n ≡ (1 + work_per_position t + (cost_of_all_keys t + (insn_analysis_of t 0).ready)) * n = ap (λ m. m * n) (omega arith) in
+        let a = add-mul (1 + work_per_position t) (all_keys_cost_per_position t + (insn_analysis_of t 0).ready) n in
+        let b = add-mul (all_keys_cost_per_position t) (insn_analysis_of t 0).ready n in
+        let same : (1 + (work_per_position t + (all_keys_cost_per_position t + (insn_analysis_of t 0).ready))) * n ≡ (1 + work_per_position t + (all_keys_cost_per_position t + (insn_analysis_of t 0).ready)) * n = ap (λ m. m * n) (omega arith) in
         let its : (0 + 1 + work_per_position t) * n ≡ (1 + work_per_position t) * n = ap (λ m. m * n) (omega arith) in
         omega (arith, before, here, first, cost, prices, some, a, b, same, its)
       where
@@ -157,7 +158,7 @@ module _ (program : Program) (t : MemoAnalysis) (of : IsAnalysisOf program t) (t
         mul-one r u = let m = mul-add r u 1 in omega (arith, m)
 
     pub so-far : at ≤ units text → Come at memory more now row
-        → done + more ≤ (1 + (work_per_position t + (cost_of_all_keys t + (insn_analysis_of t 0).ready))) * (units text + 1)
+        → done + more ≤ (1 + (work_per_position t + (all_keys_cost_per_position t + (insn_analysis_of t 0).ready))) * (units text + 1)
     so-far inside h = let all = with-room inside h in omega (arith, all)
 
   -- ---- An attempt is done
@@ -194,7 +195,7 @@ module _ (program : Program) (t : MemoAnalysis) (of : IsAnalysisOf program t) (t
     abbrev Trying : (at done work : ℕ) → List Entry → Type 0
     Trying at done work row = IsTrying program text t known at done work row
 
-    pub then-starts : Holds known [] → (at : ℕ) → Behind at 0
+    pub then-starts : ListsExactlyKnownKeys known [] → (at : ℕ) → Behind at 0
     then-starts holds at = record { memory = []; has = stands-still at; holds = holds }
 
     -- a match ends it

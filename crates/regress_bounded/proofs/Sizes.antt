@@ -4,13 +4,13 @@ use Rattle.std.specs.Prelude.{nat_le}
 use Rattle.std.proofs.Math.Nat.{mul-le-mul_right}
 use Rattle.std.proofs.lemmas.Bool.{leb-true}
 use Rattle.std.proofs.lemmas.List.Folds.{fold-map}
-use Rattle.regress_plan.specs.InsnsAsSpecInsns.{spec_insn_of}
+use Rattle.regress_plan.specs.InsnsAsSpecInsns.{insn_as_spec_insn}
 use Rattle.regress_plan.specs.declared.insn.Insn.{Insn as Coded}
-use Rattle.regress_bounded.specs.ProgramWorkBounds.{size_of_insn}
+use Rattle.regress_bounded.specs.ProgramWorkBoundForAllMatches.{size_of_insn}
 
 -- the size is the same of instructions as they are coded
-pub size-coded : (insns : List Coded) → sum_by (λ x. size_of_insn (spec_insn_of x)) insns ≡ sum_by size_of_insn (map spec_insn_of insns)
-size-coded insns = sym (fold-map (λ n x. n + size_of_insn x) spec_insn_of 0 insns)
+pub size-coded : (insns : List Coded) → sum_by (λ x. size_of_insn (insn_as_spec_insn x)) insns ≡ sum_by size_of_insn (map insn_as_spec_insn insns)
+size-coded insns = sym (fold-map (λ n x. n + size_of_insn x) insn_as_spec_insn 0 insns)
 
 -- what is few by the number for a size is few by the size
 pub few-by : (per_unit size number codes : ℕ) → number ≡ min size (2 ^ 64 - 1) → nat_le per_unit (64 * (number * codes)) ≡ true → per_unit ≤ 64 * (size * codes)

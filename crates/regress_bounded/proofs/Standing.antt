@@ -13,27 +13,28 @@ use Rattle.regress_memo_laws.specs.AmortizedStepCosts.{potential_by}
 use Rattle.regress_memo_laws.specs.DistinctLists.{IsNew}
 use Rattle.regress_memo_laws.specs.MemoSearch.{Key, Keys, Entry, tried, noted, tries, threads_in, IsMemory, HoldsInvariant as Finds}
 use Rattle.regress_memo_laws.proofs.Turns.{work-is-bounded, reached-fail}
-use Rattle.regress_memo_analysis.specs.declared.analysis.MemoAnalysis.{MemoAnalysis}
+use Rattle.regress_memo_analysis.specs.declared.analysis_result.MemoAnalysis.{MemoAnalysis}
 use Rattle.regress_memo_analysis.specs.WorkBound.{first_row}
-use Rattle.regress_memo_analysis.specs.AnalysisContents.{liveness_of, recorded, potentials_of, key_cost_of}
-use Rattle.regress_memo_analysis.specs.CheckedAnalysis.{MemoKeyHasBit, Serves}
+use Rattle.regress_memo_analysis.specs.AnalysisAsLivenessAndPotentials.{analysis_as_liveness, recorded, potentials_of, key_cost_of}
+use Rattle.regress_memo_analysis.specs.CheckedAnalysis.{IsRecordableMemoKey, Serves}
 use Rattle.regress_memo_analysis.proofs.WholeLemmas.{ledgers-serve}
 use Rattle.regress_memo.specs.Laws.{analysis_keys, KeyFails}
-use Rattle.regress_memo.specs.MemoContents.{as_key, memo_key_at, has_failure, RecordsFailure}
+use Rattle.regress_memo.specs.MemoContents.{memo_key_as_spec, memo_key_at, has_failure, RecordsFailure}
 use Rattle.regress_memo.specs.MemoContractView.{MemoView}
-use Rattle.regress_memo.specs.MemoSearchCosts.{HasCome, IsKeyed, ComesOn}
+use Rattle.regress_memo.specs.AmortizedMemoSearchSteps.{HasCome, IsKeyed, ComesOn}
 use Rattle.regress_memo.proofs.LawLemmas.{memos-hold, memos-are-true, keys-are-there}
 use Rattle.regress_memo.specs.declared.memo.ThreadMemoKey.{ThreadMemoKey as Stored}
 use Rattle.regress_memo.proofs.SearchLemmas.{searches-are-paid}
 use Rattle.regress_bounded.specs.declared.memo_and_work_budget.MemoAndWorkBudget.{MemoAndWorkBudget}
-use Rattle.regress_bounded.specs.declared.pending_stack.StackEntry.{StackEntry}
-use Rattle.regress_bounded.specs.declared.pending_stack.StackEntry.TheVariants.{Thread as AsThread, Record as AsRecord}
+use Rattle.regress_bounded.specs.declared.stack_of_pending_threads_and_records.StackEntry.{StackEntry}
+use Rattle.regress_bounded.specs.declared.stack_of_pending_threads_and_records.StackEntry.TheVariants.{Thread as AsThread, Record as AsRecord}
 use Rattle.regress_pikevm.specs.declared.pikevm.states.State.{State}
 use Rattle.std.proofs.Math.Logic.{∥∥₁_map, ∥∥₁_elim}
 use Rattle.std.proofs.Props.{props}
-use Rattle.regress_bounded.specs.SearchStateEntries.{IsPaid, IsRight, IsMemoRight, IsStanding, AttemptStartAndResult, HasKeyNotKnownToFail, IsRecordOf, StandsFor, AreFor, IsRow, Stands}
-use Rattle.regress_bounded.specs.SearchStateEntries.{IsOver, front_of}
-use Rattle.regress_bounded.specs.BudgetSpending.{IsTakenFromBudget, IsBudgetExhausted}
+use Rattle.regress_bounded.specs.SearchStateAsMemoSearchEntries.{IsPaid, IsRight, IsMemoRight, IsStanding, AttemptStartMemoBudgetAndResult}
+use Rattle.regress_bounded.specs.SearchStateAsMemoSearchEntries.{IsUnfailedStateKeyIfAny, IsRecordOf, StandsFor, AreFor, IsRow, Stands}
+use Rattle.regress_bounded.specs.SearchStateAsMemoSearchEntries.{IsOver, front_of}
+use Rattle.regress_bounded.specs.BudgetSpending.{IsTakenFromBudget, WorkExceedsBudgetLeavingNothing}
 use Rattle.regress_pikevm.specs.States.{state_of}
 
 -- ---- Rows
@@ -69,23 +70,23 @@ module _ (program : Program) (text : Text) (t : MemoAnalysis) (paid : IsPaid pro
   abbrev pub served : Serves program t text
   served = ledgers-serve program t paid.memo_analysis text paid.is_text paid.bytes paid.short
 
-  module _ (b : AttemptStartAndResult) (memory : IsMemory program text (liveness_of t) (analysis_keys program text t) b.memory)
+  module _ (b : AttemptStartMemoBudgetAndResult) (memory : IsMemory program text (analysis_as_liveness t) (analysis_keys program text t) b.memory)
       (answers : search program text b.turns rightwards (first_row program b.at) ≡ Some b.found) where
     abbrev pub Come : (work : ℕ) → List Key → List Entry → Type 0
     Come work now row = HasCome program text t rightwards b.memory (tries (first_row program b.at)) work now row
 
     -- what is in hand finds what the attempt is to find
     pub finds : (work : ℕ) (now : List Key) (row : List Entry) → Come work now row
-        → Finds program text (liveness_of t) (analysis_keys program text t) rightwards now row b.found
+        → Finds program text (analysis_as_liveness t) (analysis_keys program text t) rightwards now row b.found
     finds work now row h =
-        (work-is-bounded program text (liveness_of t) (analysis_keys program text t) served.plan.account served.serves.keys rightwards (λ k. key_cost_of t k.ip)
+        (work-is-bounded program text (analysis_as_liveness t) (analysis_keys program text t) served.plan.account served.serves.keys rightwards (λ k. key_cost_of t k.ip)
         (potential_by program (potentials_of t) (key_cost_of t) (recorded t)) b.memory (first_row program b.at) b.turns b.found memory answers work now row h.comes).stands
 
     -- the thread in hand is not stuck
     pub then-can : (work : ℕ) (now : List Key) (s : machine.State) (rest : List Entry) → Come work now (tried (running s) ∷ rest) → IsNotStuck (act program text rightwards s)
     then-can work now s rest h = by (act program text rightwards s) refl
       where
-        found : Finds program text (liveness_of t) (analysis_keys program text t) rightwards now (tried (running s) ∷ rest) b.found
+        found : Finds program text (analysis_as_liveness t) (analysis_keys program text t) rightwards now (tried (running s) ∷ rest) b.found
         found = finds work now (tried (running s) ∷ rest) h
 
         by : (x : Next) → act program text rightwards s ≡ x → IsNotStuck x
@@ -107,7 +108,7 @@ module _ (program : Program) (text : Text) (t : MemoAnalysis) (paid : IsPaid pro
     unfolding search
     then-none work now h = by f.turns refl
       where
-        f : Finds program text (liveness_of t) (analysis_keys program text t) rightwards now [] b.found
+        f : Finds program text (analysis_as_liveness t) (analysis_keys program text t) rightwards now [] b.found
         f = finds work now [] h
 
         by : (n : ℕ) → f.turns ≡ n → b.found.end ≡ None
@@ -118,7 +119,7 @@ module _ (program : Program) (text : Text) (t : MemoAnalysis) (paid : IsPaid pro
 -- ---- The thread in hand, and a step on
 
 -- what the course of an attempt leads to
-module _ {P : Type 0} (offset : P → ℕ) (program : Program) (text : Text) (b : AttemptStartAndResult) {front : List Entry} {stack : List (StackEntry P)} {c : MemoAndWorkBudget}
+module _ {P : Type 0} (offset : P → ℕ) (program : Program) (text : Text) (b : AttemptStartMemoBudgetAndResult) {front : List Entry} {stack : List (StackEntry P)} {c : MemoAndWorkBudget}
     (h : Stands offset program text b front stack c) where
   abbrev pub ComeTo : (work : ℕ) → List Key → List Entry → Type 0
   ComeTo work now row = HasCome program text c.memo.memo_analysis rightwards b.memory (tries (first_row program b.at)) work now row
@@ -142,13 +143,13 @@ module _ {P : Type 0} (offset : P → ℕ) (program : Program) (text : Text) (b 
       stands-with front' row' stack' (h.work + work) c'.left come is (let e = h.spent in let s : c.left ≡ work + c'.left = spent in omega (arith, e, s)) c'.memo same
 
   -- there was not so much
-  pub is-over : (row' : List Entry) (work : ℕ) (c' : MemoAndWorkBudget) → ComeTo (h.work + work) h.now row' → c'.memo ≡ c.memo → IsBudgetExhausted work c.left c'.left → IsOver offset program text b c'
+  pub is-over : (row' : List Entry) (work : ℕ) (c' : MemoAndWorkBudget) → ComeTo (h.work + work) h.now row' → c'.memo ≡ c.memo → WorkExceedsBudgetLeavingNothing work c.left c'.left → IsOver offset program text b c'
   is-over row' work c' come same spent =
       subst (λ m. IsOver offset program text b (record { memo = m; left = c'.left })) (sym same)
       (record { work = h.work + work; now = h.now; row = row'; comes = come; over = (let e = h.spent in let s : c.left < work = spent.0 in omega (arith, e, s)); none = spent.1 })
 
 -- the thread in hand
-module _ {P : Type 0} (offset : P → ℕ) (program : Program) (text : Text) (b : AttemptStartAndResult) (s : machine.State) {stack : List (StackEntry P)} {c : MemoAndWorkBudget}
+module _ {P : Type 0} (offset : P → ℕ) (program : Program) (text : Text) (b : AttemptStartMemoBudgetAndResult) (s : machine.State) {stack : List (StackEntry P)} {c : MemoAndWorkBudget}
     (h : Stands offset program text b (tried (running s) ∷ []) stack c) where
   abbrev pub on : (work : ℕ) → List Entry → Type 0
   on work row = HasCome program text c.memo.memo_analysis rightwards b.memory (tries (first_row program b.at)) (h.work + work) h.now row
@@ -174,15 +175,15 @@ module _ {P : Type 0} (offset : P → ℕ) (program : Program) (text : Text) (b 
   -- a record of it, if it has a key
   abbrev pub record_of : Option Stored → List Entry → List Entry
   record_of None row = row
-  record_of (Some k) row = noted (as_key k) (running s ∷ []) ∷ row
+  record_of (Some k) row = noted (memo_key_as_spec k) (running s ∷ []) ∷ row
 
-  pub left-goes : (ts : List Thread) (key : Option Stored) → HasKeyNotKnownToFail c.memo s key → act program text rightwards s ≡ goes ts → on 1 (tries ts ++ record_of key h.row)
+  pub left-goes : (ts : List Thread) (key : Option Stored) → IsUnfailedStateKeyIfAny c.memo s key → act program text rightwards s ≡ goes ts → on 1 (tries ts ++ record_of key h.row)
   left-goes ts None key e = (laws offset program text b h h.work h.now h.row).turned s ts e key.is h.comes
-  left-goes ts (Some k) key e = (laws offset program text b h h.work h.now h.row).recorded s ts (as_key k) e key.is (new (as_key k) key.unknown) h.comes
+  left-goes ts (Some k) key e = (laws offset program text b h h.work h.now h.row).recorded s ts (memo_key_as_spec k) e key.is (new (memo_key_as_spec k) key.unknown) h.comes
 
 -- ---- What is come back to
 
-module _ {P : Type 0} (offset : P → ℕ) (program : Program) (text : Text) (b : AttemptStartAndResult) (stack : List (StackEntry P)) (w : StackEntry P) {c : MemoAndWorkBudget}
+module _ {P : Type 0} (offset : P → ℕ) (program : Program) (text : Text) (b : AttemptStartMemoBudgetAndResult) (stack : List (StackEntry P)) (w : StackEntry P) {c : MemoAndWorkBudget}
     (h : Stands offset program text b [] (stack ++ w ∷ []) c) where
   abbrev pub popped : Popped offset program text stack w h.row
   popped = row-pop offset program text stack w h.row h.is
@@ -195,7 +196,7 @@ module _ {P : Type 0} (offset : P → ℕ) (program : Program) (text : Text) (b 
   back-comes e is = subst (HasCome program text c.memo.memo_analysis rightwards b.memory (tries (first_row program b.at)) h.work h.now) (popped.is ∙ ap (λ e. e ∷ popped.rest) is) h.comes
 
 -- to a thread
-module _ {P : Type 0} {offset : P → ℕ} {program : Program} {text : Text} {b : AttemptStartAndResult} (stack : List (StackEntry P)) (w : StackEntry P) {c : MemoAndWorkBudget}
+module _ {P : Type 0} {offset : P → ℕ} {program : Program} {text : Text} {b : AttemptStartMemoBudgetAndResult} (stack : List (StackEntry P)) (w : StackEntry P) {c : MemoAndWorkBudget}
     (h : Stands offset program text b [] (stack ++ w ∷ []) c) (s : State P) (is : w ≡ AsThread s) where
   taken-up : back-on offset program text b stack w h 1 h.now (tried (running (state_of offset s)) ∷ (popped offset program text b stack w h).rest)
   taken-up =
@@ -208,58 +209,58 @@ module _ {P : Type 0} {offset : P → ℕ} {program : Program} {text : Text} {b 
       let p = popped offset program text b stack w h in
       goes-on offset program text b h (tried (running (state_of offset s)) ∷ []) p.rest stack 1 c' taken-up p.below same spent
 
-  pub thread-over : (c' : MemoAndWorkBudget) → c'.memo ≡ c.memo → IsBudgetExhausted 1 c.left c'.left → IsOver offset program text b c'
+  pub thread-over : (c' : MemoAndWorkBudget) → c'.memo ≡ c.memo → WorkExceedsBudgetLeavingNothing 1 c.left c'.left → IsOver offset program text b c'
   thread-over c' same spent = is-over offset program text b h _ 1 c' taken-up same spent
 
 -- to a record
-module _ {P : Type 0} {offset : P → ℕ} {program : Program} {text : Text} {b : AttemptStartAndResult} (stack : List (StackEntry P)) (w : StackEntry P) {c : MemoAndWorkBudget}
+module _ {P : Type 0} {offset : P → ℕ} {program : Program} {text : Text} {b : AttemptStartMemoBudgetAndResult} (stack : List (StackEntry P)) (w : StackEntry P) {c : MemoAndWorkBudget}
     (h : Stands offset program text b [] (stack ++ w ∷ []) c) (k : Stored) (is : w ≡ AsRecord k) where
   abbrev pub below : Popped offset program text stack w h.row
   below = popped offset program text b stack w h
 
-  abbrev pub stood : IsRecordOf offset program text (as_key k) below.entry
+  abbrev pub stood : IsRecordOf offset program text (memo_key_as_spec k) below.entry
   stood = subst (λ w. StandsFor offset program text w below.entry) is below.stands
 
   abbrev keys : Keys
   keys = analysis_keys program text c.memo.memo_analysis
 
-  at-record : HasCome program text c.memo.memo_analysis rightwards b.memory (tries (first_row program b.at)) h.work h.now (noted (as_key k) stood.threads ∷ below.rest)
-  at-record = back-comes offset program text b stack w h (noted (as_key k) stood.threads) stood.is
+  at-record : HasCome program text c.memo.memo_analysis rightwards b.memory (tries (first_row program b.at)) h.work h.now (noted (memo_key_as_spec k) stood.threads ∷ below.rest)
+  at-record = back-comes offset program text b stack w h (noted (memo_key_as_spec k) stood.threads) stood.is
 
-  record-finds : Finds program text (liveness_of c.memo.memo_analysis) keys rightwards h.now (noted (as_key k) stood.threads ∷ below.rest) b.found
+  record-finds : Finds program text (analysis_as_liveness c.memo.memo_analysis) keys rightwards h.now (noted (memo_key_as_spec k) stood.threads ∷ below.rest) b.found
   record-finds = finds program text c.memo.memo_analysis h.right.paid b h.is_memory h.answers h.work h.now _ at-record
 
   -- it has a bit
-  pub record-bit : MemoKeyHasBit c.memo.memo_analysis c.memo.places (as_key k)
+  pub record-bit : IsRecordableMemoKey c.memo.memo_analysis c.memo.places (memo_key_as_spec k)
   record-bit =
-      subst (λ n. MemoKeyHasBit c.memo.memo_analysis n (as_key k)) (sym h.right.is_true.places)
-      (keys-are-there.has_bit program text c.memo.memo_analysis h.right.paid.memo_analysis rightwards (as_key k) stood.threads record-finds.noted.0.is_of)
+      subst (λ n. IsRecordableMemoKey c.memo.memo_analysis n (memo_key_as_spec k)) (sym h.right.is_true.places)
+      (keys-are-there.has_bit program text c.memo.memo_analysis h.right.paid.memo_analysis rightwards (memo_key_as_spec k) stood.threads record-finds.noted.0.is_of)
 
-  record-fails : KeyFails program text c.memo.memo_analysis (as_key k)
+  record-fails : KeyFails program text c.memo.memo_analysis (memo_key_as_spec k)
   record-fails =
       let s = served program text c.memo.memo_analysis h.right.paid in
-      reached-fail program text (liveness_of c.memo.memo_analysis) keys s.plan.account s.serves.keys rightwards h.now (as_key k) stood.threads below.rest b.found record-finds
+      reached-fail program text (analysis_as_liveness c.memo.memo_analysis) keys s.plan.account s.serves.keys rightwards h.now (memo_key_as_spec k) stood.threads below.rest b.found record-finds
 
-  reached : back-on offset program text b stack w h 1 (as_key k ∷ h.now) below.rest
-  reached = (laws offset program text b h h.work h.now below.rest).reached (as_key k) stood.threads at-record
+  reached : back-on offset program text b stack w h 1 (memo_key_as_spec k ∷ h.now) below.rest
+  reached = (laws offset program text b h h.work h.now below.rest).reached (memo_key_as_spec k) stood.threads at-record
 
-  pub record-over : (c' : MemoAndWorkBudget) → c'.memo ≡ c.memo → IsBudgetExhausted 1 c.left c'.left → IsOver offset program text b c'
+  pub record-over : (c' : MemoAndWorkBudget) → c'.memo ≡ c.memo → WorkExceedsBudgetLeavingNothing 1 c.left c'.left → IsOver offset program text b c'
   record-over c' same spent =
       subst (λ m. IsOver offset program text b (record { memo = m; left = c'.left })) (sym same)
-      (record { work = h.work + 1; now = as_key k ∷ h.now; row = below.rest; comes = reached; over = (let e = h.spent in let s : c.left < 1 = spent.0 in omega (arith, e, s)); none = spent.1 })
+      (record { work = h.work + 1; now = memo_key_as_spec k ∷ h.now; row = below.rest; comes = reached; over = (let e = h.spent in let s : c.left < 1 = spent.0 in omega (arith, e, s)); none = spent.1 })
 
   -- what is by a ledger
   record ByLedger (t : MemoAnalysis) : Type 0 where
     paid : IsPaid program text t
-    memory : IsMemory program text (liveness_of t) (analysis_keys program text t) b.memory
-    comes : HasCome program text t rightwards b.memory (tries (first_row program b.at)) (h.work + 1) (as_key k ∷ h.now) below.rest
+    memory : IsMemory program text (analysis_as_liveness t) (analysis_keys program text t) b.memory
+    comes : HasCome program text t rightwards b.memory (tries (first_row program b.at)) (h.work + 1) (memo_key_as_spec k ∷ h.now) below.rest
 
-  noted-by : (m n : MemoView) → m ≡ c.memo → RecordsFailure (as_key k) m n → (left : ℕ) → IsTakenFromBudget 1 c.left left
+  noted-by : (m n : MemoView) → m ≡ c.memo → RecordsFailure (memo_key_as_spec k) m n → (left : ℕ) → IsTakenFromBudget 1 c.left left
       → IsRight program text n × Stands offset program text b [] stack (record { memo = n; left = left })
   noted-by m n is notes left spent =
-      let notes' : RecordsFailure (as_key k) c.memo n = subst (λ m. RecordsFailure (as_key k) m n) is notes in
+      let notes' : RecordsFailure (memo_key_as_spec k) c.memo n = subst (λ m. RecordsFailure (memo_key_as_spec k) m n) is notes in
       let by : ByLedger n.memo_analysis = subst ByLedger (sym notes'.same.memo_analysis) (record { paid = h.right.paid; memory = h.is_memory; comes = reached }) in
-      let right : IsRight program text n = record { paid = by.paid; is_true = memos-are-true.failure program text (as_key k) c.memo n notes' record-fails h.right.is_true } in (
+      let right : IsRight program text n = record { paid = by.paid; is_true = memos-are-true.failure program text (memo_key_as_spec k) c.memo n notes' record-fails h.right.is_true } in (
         right,
         record {
           right = right;
@@ -267,19 +268,19 @@ module _ {P : Type 0} {offset : P → ℕ} {program : Program} {text : Text} {b 
           is_memory = by.memory;
           answers = h.answers;
           work = h.work + 1;
-          now = as_key k ∷ h.now;
+          now = memo_key_as_spec k ∷ h.now;
           row = below.rest;
           comes = by.comes;
           is = below.below;
-          holds = memos-hold.failure (as_key k) c.memo n h.now notes' h.holds;
+          holds = memos-hold.failure (memo_key_as_spec k) c.memo n h.now notes' h.holds;
           spent = (let e = h.spent in let s : c.left ≡ 1 + left = spent in omega (arith, e, s));
         },
       )
 
-  pub record-right : (m n : MemoView) → m ≡ c.memo → RecordsFailure (as_key k) m n → (left : ℕ) → IsTakenFromBudget 1 c.left left → IsRight program text n
+  pub record-right : (m n : MemoView) → m ≡ c.memo → RecordsFailure (memo_key_as_spec k) m n → (left : ℕ) → IsTakenFromBudget 1 c.left left → IsRight program text n
   record-right m n is notes left spent = (noted-by m n is notes left spent).0
 
-  pub record-goes : (m : MemoView) (c' : MemoAndWorkBudget) → m ≡ c.memo → RecordsFailure (as_key k) m c'.memo → IsTakenFromBudget 1 c.left c'.left → Stands offset program text b [] stack c'
+  pub record-goes : (m : MemoView) (c' : MemoAndWorkBudget) → m ≡ c.memo → RecordsFailure (memo_key_as_spec k) m c'.memo → IsTakenFromBudget 1 c.left c'.left → Stands offset program text b [] stack c'
   record-goes m c' is notes spent = (noted-by m c'.memo is notes c'.left spent).1
 
 -- ---- What there is
@@ -295,16 +296,16 @@ module _ {P : Type 0} {offset : P → ℕ} {program : Program} {text : Text} {fr
 
   -- on from what there is
   pub standing-on : {front' : List Entry} {stack' : List (StackEntry P)} {c' : MemoAndWorkBudget}
-      → ((b : AttemptStartAndResult) → Stands offset program text b front stack c → Stands offset program text b front' stack' c') → IsStanding offset program text front' stack' c'
+      → ((b : AttemptStartMemoBudgetAndResult) → Stands offset program text b front stack c → Stands offset program text b front' stack' c') → IsStanding offset program text front' stack' c'
   standing-on f = ∥∥₁_map there (λ s. record { begin = s.begin; stands = f s.begin s.stands })
 
-  pub less-on : {n m : ℕ} → ((b : AttemptStartAndResult) → Stands offset program text b front stack c → n < m) → n < m
+  pub less-on : {n m : ℕ} → ((b : AttemptStartMemoBudgetAndResult) → Stands offset program text b front stack c → n < m) → n < m
   less-on f = ∥∥₁_elim there (Prim.hlevel props) (λ s. f s.begin s.stands)
 
 -- with what is the same
 module _ {P : Type 0} {offset : P → ℕ} {program : Program} {text : Text} {next next' : Option (State P)} (next_is : next ≡ next') {stack stack' : List (StackEntry P)} (stack_is : stack ≡ stack')
     {c : MemoAndWorkBudget} where
-  pub stands-as : {b : AttemptStartAndResult} → Stands offset program text b (front_of offset next) stack c → Stands offset program text b (front_of offset next') stack' c
+  pub stands-as : {b : AttemptStartMemoBudgetAndResult} → Stands offset program text b (front_of offset next) stack c → Stands offset program text b (front_of offset next') stack' c
   stands-as {b} h =
       subst (λ xs. Stands offset program text b (front_of offset next') xs c) stack_is (subst (λ n. Stands offset program text b (front_of offset n) stack c) next_is h)
 

@@ -8,10 +8,11 @@ use Rattle.regress_pikevm.specs.declared.pikevm.states.State.{State}
 use Rattle.regress_bounded.specs.declared.memo_and_work_budget.MemoAndWorkBudget.{MemoAndWorkBudget}
 use Rattle.regress_bounded.specs.declared.memo_and_work_budget.AttemptAbortReason.{AttemptAbortReason}
 use Rattle.regress_bounded.specs.declared.memo_and_work_budget.AttemptAbortReason.TheVariants.{Work}
-use Rattle.regress_bounded.specs.declared.pending_stack.StackEntry.{StackEntry}
-use Rattle.regress_bounded.specs.declared.thread_steps.StepResult.{StepResult}
-use Rattle.regress_bounded.specs.declared.thread_steps.StepResult.TheVariants.{On, End}
-use Rattle.regress_bounded.specs.SearchStateEntries.{AttemptStartAndResult, Stands, IsStanding, IsOver, MayStop, ComesOn, GoesOn, EndsAt, Turns, TurnsFrom, Runs, front_of}
+use Rattle.regress_bounded.specs.declared.stack_of_pending_threads_and_records.StackEntry.{StackEntry}
+use Rattle.regress_bounded.specs.declared.thread_steps_and_backtracking.StepResult.{StepResult}
+use Rattle.regress_bounded.specs.declared.thread_steps_and_backtracking.StepResult.TheVariants.{On, End}
+use Rattle.regress_bounded.specs.SearchStateAsMemoSearchEntries.{AttemptStartMemoBudgetAndResult, Stands, IsStanding, IsOver, MayStop, ComesOn, GoesOn, EndsAt, Turns}
+use Rattle.regress_bounded.specs.SearchStateAsMemoSearchEntries.{TurnsFrom, Runs, front_of}
 use Rattle.regress_bounded.specs.BudgetSpending.{IsTakenFromBudget}
 
 -- what holds of a refusal holds of what hands it on
@@ -23,7 +24,7 @@ handed-on P (Err f) e h p = subst (λ f. P (Err f)) (sym h) p
 pub some-key : {X : Type 0} {x y : X} → Some x ≡ Some y → x ≡ y
 some-key e = cc
 
-module _ {P : Type 0} {offset : P → ℕ} {program : Program} {text : Text} {b : AttemptStartAndResult} where
+module _ {P : Type 0} {offset : P → ℕ} {program : Program} {text : Text} {b : AttemptStartMemoBudgetAndResult} where
   -- it goes on with the next thread, in some work
   pub went-on : {next : Option (State P)} {stack : List (StackEntry P)} {c : MemoAndWorkBudget} {left : ℕ} (work : ℕ)
       → 1 ≤ work → IsTakenFromBudget work left c.left → Stands offset program text b (front_of offset next) stack c → ComesOn offset program text b left next stack c
@@ -48,9 +49,9 @@ module _ {P : Type 0} {offset : P → ℕ} {program : Program} {text : Text} {b 
 module _ {P : Type 0} {offset : P → ℕ} {program : Program} {text : Text} {front : List Entry} {old : List (StackEntry P)} {before : MemoAndWorkBudget}
     (there : IsStanding offset program text front old before) (new : List (StackEntry P)) (behind : MemoAndWorkBudget) {came : StepResult P} where
   pub came-on : {next : Option (State P)} → came ≡ On next → TurnsFrom offset program text front old before (Ok came) new behind
-      → (b : AttemptStartAndResult) → Stands offset program text b front old before → ComesOn offset program text b before.left next new behind
+      → (b : AttemptStartMemoBudgetAndResult) → Stands offset program text b front old before → ComesOn offset program text b before.left next new behind
   came-on is goes b h = subst (λ came. Turns offset program text b before.left (Ok came) new behind) is (goes b h)
 
   pub came-end : {end : State P} → came ≡ End end → TurnsFrom offset program text front old before (Ok came) new behind
-      → (b : AttemptStartAndResult) → Stands offset program text b front old before → EndsAt offset program text b end behind
+      → (b : AttemptStartMemoBudgetAndResult) → Stands offset program text b front old before → EndsAt offset program text b end behind
   came-end is goes b h = subst (λ came. Turns offset program text b before.left (Ok came) new behind) is (goes b h)

@@ -11,34 +11,35 @@ use Rattle.regex_meaning.specs.CompilationRelation.{Program, Insn, Loop1CharBody
 use Rattle.regex_meaning.proofs.TextLemmas.{offset-place_at}
 use Rattle.regex_pattern_front.specs.AstToSpecTree.{tree_of}
 use Rattle.regex_pattern_front.specs.declared.ir.Regex.{Regex}
-use Rattle.regress_plan.specs.InsnsAsSpecInsns.{spec_insn_of}
+use Rattle.regress_plan.specs.InsnsAsSpecInsns.{insn_as_spec_insn}
 use Rattle.regress_plan.specs.declared.insn.Insn.{Insn as Coded}
 use Rattle.regress_plan.specs.declared.insn.Insn.TheVariants.{Loop1CharBody as CodedRun}
 use Rattle.regress_program.specs.CompilationOfTreesAsFunction.{compiled}
 use Rattle.regress_machine.specs.Machine as machine
-use Rattle.regress_machine.specs.Machine.{Thread, running, waiting, Next, goes, scans, ends, asks, stuck, first_runs_others_wait, act}
+use Rattle.regress_machine.specs.Machine.{Thread, running, waiting, Next, goes, scans, ends, asks, stuck, first_running_and_others_waiting, act}
 use Rattle.regress_machine.specs.InsnEffects.{IsNotStuck}
 use Rattle.regress_machine.proofs.Fetched.{act-some, fetched-below}
 use Rattle.regress_simulation.proofs.Runs.{run-turn}
-use Rattle.regress_memo_laws.specs.CharLoopThreads.{passing}
+use Rattle.regress_memo_laws.specs.CharLoopExitThreadLists.{passing}
 use Rattle.regress_memo_laws.specs.MemoSearch.{Key, Entry, tried, tries}
 use Rattle.regress_memo_laws.proofs.Runs.{passing-left}
 use Rattle.regress_memo_analysis.specs.WorkBound.{first_row}
 use Rattle.regress_memo_analysis.specs.AnalysisChecks.{unlimited}
 use Rattle.regress_memo.specs.declared.memo.ThreadMemoKey.{ThreadMemoKey as Stored}
-use Rattle.regress_memo.specs.MemoContents.{as_key, memo_key_at, has_failure}
-use Rattle.regress_memo.specs.MemoSearchCosts.{HasCome}
+use Rattle.regress_memo.specs.MemoContents.{memo_key_as_spec, memo_key_at, has_failure}
+use Rattle.regress_memo.specs.AmortizedMemoSearchSteps.{HasCome}
 use Rattle.regress_bounded.specs.declared.memo_and_work_budget.MemoAndWorkBudget.{MemoAndWorkBudget}
 use Rattle.regress_bounded.specs.declared.memo_and_work_budget.AttemptAbortReason.{AttemptAbortReason}
-use Rattle.regress_bounded.specs.declared.pending_stack.StackEntry.{StackEntry}
-use Rattle.regress_bounded.specs.declared.pending_stack.StackEntry.TheVariants.{Thread as AsThread}
-use Rattle.regress_bounded.specs.declared.thread_steps.StepResult.{StepResult}
+use Rattle.regress_bounded.specs.declared.stack_of_pending_threads_and_records.StackEntry.{StackEntry}
+use Rattle.regress_bounded.specs.declared.stack_of_pending_threads_and_records.StackEntry.TheVariants.{Thread as AsThread}
+use Rattle.regress_bounded.specs.declared.thread_steps_and_backtracking.StepResult.{StepResult}
 use Rattle.regress_pikevm.specs.declared.pikevm.states.State.{State}
 use Rattle.regress_pikevm.specs.declared.pikevm.states.NextStates.{NextStates}
 use Rattle.regress_pikevm.specs.declared.pikevm.states.NextStates.TheVariants.{Lookaround}
-use Rattle.regress_bounded.specs.SearchStateEntries.{AttemptStartAndResult, HasKeyNotKnownToFail, IsNotUnboundedLoop, IsStanding, IsRow, Stands, Turns, IsOver, IsTurn, Leaves, HasTaken}
-use Rattle.regress_bounded.specs.SearchStateEntries.{IsRunHere, front_of, is_known_key, unbounded_char_loop_min_and_greed}
-use Rattle.regress_bounded.specs.BudgetSpending.{IsTakenFromBudget, IsBudgetExhausted}
+use Rattle.regress_bounded.specs.SearchStateAsMemoSearchEntries.{AttemptStartMemoBudgetAndResult, IsUnfailedStateKeyIfAny, IsNotUnboundedCharLoop}
+use Rattle.regress_bounded.specs.SearchStateAsMemoSearchEntries.{IsStanding, IsRow, Stands, Turns, IsOver, IsTurn, Leaves, HasTaken}
+use Rattle.regress_bounded.specs.SearchStateAsMemoSearchEntries.{IsRunHere, front_of, is_known_key, unbounded_char_loop_min_and_greed}
+use Rattle.regress_bounded.specs.BudgetSpending.{IsTakenFromBudget, WorkExceedsBudgetLeavingNothing}
 use Rattle.regress_pikevm.specs.States.{state_of, preferred_last, next_threads, waiting_threads}
 use Rattle.regress_pikevm.proofs.Fetching.{insn-here}
 use Rattle.regress_pikevm.proofs.Remains.{scan-threads, waiting-append}
@@ -98,18 +99,18 @@ record IsKnownKey (test : Key → Bool) (o : Option Key) : Type 0 where
   is : o ≡ Some key
   known : test key ≡ true
 
-known-key : (test : Key → Bool) (key : Option Stored) (o : Option Key) → option_map as_key key ≡ o → is_known_key test (option_map as_key key) ≡ true → IsKnownKey test o
+known-key : (test : Key → Bool) (key : Option Stored) (o : Option Key) → option_map memo_key_as_spec key ≡ o → is_known_key test (option_map memo_key_as_spec key) ≡ true → IsKnownKey test o
 known-key test None o e h = cc
-known-key test (Some k) o e h = record { key = as_key k; is = sym e; known = h }
+known-key test (Some k) o e h = record { key = memo_key_as_spec k; is = sym e; known = h }
 
 -- it has failed
-module _ {P : Type 0} {offset : P → ℕ} {program : Program} {text : Text} {b : AttemptStartAndResult} {s : machine.State} {stack : List (StackEntry P)} {c : MemoAndWorkBudget}
-    (h : Stands offset program text b (tried (running s) ∷ []) stack c) (key : Option Stored) (its : option_map as_key key ≡ memo_key_at c.memo.memo_analysis s)
-    (fails : is_known_key (has_failure c.memo) (option_map as_key key) ≡ true) where
+module _ {P : Type 0} {offset : P → ℕ} {program : Program} {text : Text} {b : AttemptStartMemoBudgetAndResult} {s : machine.State} {stack : List (StackEntry P)} {c : MemoAndWorkBudget}
+    (h : Stands offset program text b (tried (running s) ∷ []) stack c) (key : Option Stored) (its : option_map memo_key_as_spec key ≡ memo_key_at c.memo.memo_analysis s)
+    (fails : is_known_key (has_failure c.memo) (option_map memo_key_as_spec key) ≡ true) where
   comes-known : on offset program text b s h 1 h.row
   comes-known = let k = known-key (has_failure c.memo) key (memo_key_at c.memo.memo_analysis s) its fails in known offset program text b s h k.key k.is k.known
 
-  pub known-over : (c' : MemoAndWorkBudget) → c'.memo ≡ c.memo → IsBudgetExhausted 1 c.left c'.left → IsOver offset program text b c'
+  pub known-over : (c' : MemoAndWorkBudget) → c'.memo ≡ c.memo → WorkExceedsBudgetLeavingNothing 1 c.left c'.left → IsOver offset program text b c'
   known-over c' same spent = is-over offset program text b h h.row 1 c' comes-known same spent
 
   pub known-goes : (c' : MemoAndWorkBudget) → c'.memo ≡ c.memo → IsTakenFromBudget 1 c.left c'.left → Stands offset program text b [] stack c'
@@ -118,7 +119,7 @@ module _ {P : Type 0} {offset : P → ℕ} {program : Program} {text : Text} {b 
 -- ---- What stands there
 
 -- no other instruction is a run
-pub endless-other : (insn : Coded) → ((greedy : Bool) (least most : ℕ) → insn ≡ CodedRun greedy least most → ⊥) → None ≡ unbounded_char_loop_min_and_greed (spec_insn_of insn)
+pub endless-other : (insn : Coded) → ((greedy : Bool) (least most : ℕ) → insn ≡ CodedRun greedy least most → ⊥) → None ≡ unbounded_char_loop_min_and_greed (insn_as_spec_insn insn)
 endless-other (CodedRun greedy least most) other = absurd (other greedy least most refl)
 endless-other insn other = refl
 
@@ -145,11 +146,11 @@ module _ {P : Type 0} (offset : P → ℕ) (re : Regex) (text : Text) (insns : L
   -- a run without a maximum, and the instruction that it reads by
   pub record RunAt (greedy : Bool) (least : ℕ) : Type 0 where
     pub below : s.ip + 1 < length insns
-    pub reads : (body : Coded) → body ≡ get_or insns (s.ip + 1) body → slice_get (compiled (tree_of re)).insns (s.ip + 1) ≡ Some (spec_insn_of body)
+    pub reads : (body : Coded) → body ≡ get_or insns (s.ip + 1) body → slice_get (compiled (tree_of re)).insns (s.ip + 1) ≡ Some (insn_as_spec_insn body)
     pub here : (body : Coded) → body ≡ get_or insns (s.ip + 1) body
         → IsRunHere offset (compiled (tree_of re)) text (record { body = body; least = least; greedy = greedy }) greedy s
 
-module _ {P : Type 0} {offset : P → ℕ} (re : Regex) {text : Text} (insns : List Coded) (code : map spec_insn_of insns ≡ (compiled (tree_of re)).insns) {s : machine.State}
+module _ {P : Type 0} {offset : P → ℕ} (re : Regex) {text : Text} (insns : List Coded) (code : map insn_as_spec_insn insns ≡ (compiled (tree_of re)).insns) {s : machine.State}
     {stack : List (StackEntry P)} {c : MemoAndWorkBudget} (there : IsStanding offset (compiled (tree_of re)) text (tried (running s) ∷ []) stack c) where
   abbrev its-program : Program
   its-program = compiled (tree_of re)
@@ -158,15 +159,15 @@ module _ {P : Type 0} {offset : P → ℕ} (re : Regex) {text : Text} (insns : L
   its-can = standing-can there
 
   pub here-below : s.ip < length insns
-  here-below = fetched-below spec_insn_of insns its-program.insns s.ip code (act-some its-program text rightwards (slice_get its-program.insns s.ip) s its-can)
+  here-below = fetched-below insn_as_spec_insn insns its-program.insns s.ip code (act-some its-program text rightwards (slice_get its-program.insns s.ip) s its-can)
 
-  pub here-insn : (insn : Coded) → insn ≡ get_or insns s.ip insn → slice_get its-program.insns s.ip ≡ Some (spec_insn_of insn)
+  pub here-insn : (insn : Coded) → insn ≡ get_or insns s.ip insn → slice_get its-program.insns s.ip ≡ Some (insn_as_spec_insn insn)
   here-insn insn is = insn-here re insns code text rightwards s its-can insn is
 
-  pub run-at : (insn : Coded) → insn ≡ get_or insns s.ip insn → (greedy : Bool) (least : ℕ) → Some (least, greedy) ≡ unbounded_char_loop_min_and_greed (spec_insn_of insn)
+  pub run-at : (insn : Coded) → insn ≡ get_or insns s.ip insn → (greedy : Bool) (least : ℕ) → Some (least, greedy) ≡ unbounded_char_loop_min_and_greed (insn_as_spec_insn insn)
       → RunAt offset re text insns s greedy least
   run-at insn is greedy least found =
-      let run = here-insn insn is ∙ ap Some (endless-run (spec_insn_of insn) greedy least found) in
+      let run = here-insn insn is ∙ ap Some (endless-run (insn_as_spec_insn insn) greedy least found) in
       let at = scans-at its-program text s least unlimited greedy run its-can in
       let tested = body-tested its-program s.ip at.test at.body in
       record {
@@ -194,7 +195,7 @@ LeadsOn (scans tries ts) = Unit {0}
 LeadsOn _ = ⊥
 
 module _ {P : Type 0} (offset : P → ℕ) (program : Program) (text : Text) (s : machine.State) where
-  is-turn : IsNotUnboundedLoop program s.ip → (x : Next) → act program text rightwards s ≡ x → LeadsOn x → IsTurn offset program text s (tried_in x + 1) (left_in x)
+  is-turn : IsNotUnboundedCharLoop program s.ip → (x : Next) → act program text rightwards s ≡ x → LeadsOn x → IsTurn offset program text s (tried_in x + 1) (left_in x)
   is-turn limited (goes ts) is leads = inl (is, refl)
   is-turn limited (scans tries ts) is leads =
       let r = scans-run program text rightwards s tries ts is in
@@ -226,16 +227,16 @@ module _ {P : Type 0} {offset : P → ℕ} {program : Program} {text : Text} {s 
       → tried_in (next_threads offset x) ≤ units text + 1
   arm-few there turned is is_text = tries-few program text s is_text (next_threads offset x) (sym turned ∙ ap (next_threads offset) is)
 
-  module _ {b : AttemptStartAndResult} (h : Stands offset program text b (tried (running s) ∷ []) stack c) (limited : IsNotUnboundedLoop program s.ip) (turned : next_threads offset t ≡ act program text rightwards s)
+  module _ {b : AttemptStartMemoBudgetAndResult} (h : Stands offset program text b (tried (running s) ∷ []) stack c) (limited : IsNotUnboundedCharLoop program s.ip) (turned : next_threads offset t ≡ act program text rightwards s)
       (is : t ≡ x) (leads : LeadsOn (next_threads offset x)) where
     pub arm-turn : IsTurn offset program text s (tried_in (next_threads offset x) + 1) (left_in (next_threads offset x))
     arm-turn = is-turn offset program text s limited (next_threads offset x) (sym turned ∙ ap (next_threads offset) is) leads
 
-    module _ {key : Option Stored} (k : HasKeyNotKnownToFail c.memo s key) (stack' : List (StackEntry P)) (c' : MemoAndWorkBudget) where
+    module _ {key : Option Stored} (k : IsUnfailedStateKeyIfAny c.memo s key) (stack' : List (StackEntry P)) (c' : MemoAndWorkBudget) where
       -- what it leaves, by the clause of the function that does
       abbrev LeftBy : Result ⊤ AttemptAbortReason → Type 0
-      LeftBy r = (program : Program) (text : Text) (b : AttemptStartAndResult) (s : machine.State) (ts : List Thread) → IsTurn offset program text s (tried_in (next_threads offset x) + 1) ts
-          → HasKeyNotKnownToFail c.memo s key → Stands offset program text b (tried (running s) ∷ []) stack c → Leaves offset program text b c.left ts r stack' c'
+      LeftBy r = (program : Program) (text : Text) (b : AttemptStartMemoBudgetAndResult) (s : machine.State) (ts : List Thread) → IsTurn offset program text s (tried_in (next_threads offset x) + 1) ts
+          → IsUnfailedStateKeyIfAny c.memo s key → Stands offset program text b (tried (running s) ∷ []) stack c → Leaves offset program text b c.left ts r stack' c'
 
       pub arm-leaves : LeftBy (Ok tt) → Stands offset program text b (tries (left_in (next_threads offset x))) stack' c' × (c'.left < c.left)
       arm-leaves left = left program text b s (left_in (next_threads offset x)) arm-turn k h
@@ -264,7 +265,7 @@ module _ {P : Type 0} (offset : P → ℕ) (program : Program) (text : Text) whe
       (subst (λ l. IsRow offset program text l (tries (waiting_threads offset others) ++ tried (waiting (state_of offset s)) ∷ row))
       (append_assoc old (AsThread s ∷ []) (map (λ o. AsThread o) others)) all)
 
-  module _ (b : AttemptStartAndResult) {c : MemoAndWorkBudget} where
+  module _ (b : AttemptStartMemoBudgetAndResult) {c : MemoAndWorkBudget} where
     -- what is in hand is parted otherwise
     parted : {front : List Entry} {stack : List (StackEntry P)} (h : Stands offset program text b front stack c) (front' row' : List Entry) (stack' : List (StackEntry P))
         → front ++ h.row ≡ front' ++ row' → IsRow offset program text stack' row' → Stands offset program text b front' stack' c
@@ -281,23 +282,23 @@ module _ {P : Type 0} (offset : P → ℕ) (program : Program) (text : Text) whe
 
     -- the preferred one is taken
     takes-on : (states : List (State P)) (next : Option (State P)) (old new : List (StackEntry P)) → HasTaken offset states old next new
-        → Stands offset program text b (tries (first_runs_others_wait (preferred_last offset states))) old c → Stands offset program text b (front_of offset next) new c
+        → Stands offset program text b (tries (first_running_and_others_waiting (preferred_last offset states))) old c → Stands offset program text b (front_of offset next) new c
     takes-on states None old new t h =
         subst (λ l. Stands offset program text b [] l c) (sym t.1)
-        (subst (λ l. Stands offset program text b (tries (first_runs_others_wait (preferred_last offset l))) old c) t.0 h)
+        (subst (λ l. Stands offset program text b (tries (first_running_and_others_waiting (preferred_last offset l))) old c) t.0 h)
     takes-on states (Some s) old new t h =
-        let order : first_runs_others_wait (preferred_last offset states) ≡ running (state_of offset s) ∷ waiting_threads offset t.others =
-        sym (append-nil (first_runs_others_wait (preferred_last offset states))) ∙ sym (scan-threads offset states t.others [] s t.is) in
+        let order : first_running_and_others_waiting (preferred_last offset states) ≡ running (state_of offset s) ∷ waiting_threads offset t.others =
+        sym (append-nil (first_running_and_others_waiting (preferred_last offset states))) ∙ sym (scan-threads offset states t.others [] s t.is) in
         let h' : Stands offset program text b (tries (running (state_of offset s) ∷ waiting_threads offset t.others)) old c =
         subst (λ us. Stands offset program text b (tries us) old c) order h in
         subst (λ l. Stands offset program text b (front_of offset (Some s)) l c) (sym t.wait)
         (parted h' (front_of offset (Some s)) (tries (waiting_threads offset t.others) ++ h'.row) (old ++ map (λ o. AsThread o) t.others) refl (rows-push t.others old h'.row h'.is))
 
-module _ {P : Type 0} {offset : P → ℕ} {program : Program} {text : Text} {b : AttemptStartAndResult} {c : MemoAndWorkBudget} {old new : List (StackEntry P)} where
+module _ {P : Type 0} {offset : P → ℕ} {program : Program} {text : Text} {b : AttemptStartMemoBudgetAndResult} {c : MemoAndWorkBudget} {old new : List (StackEntry P)} where
   pub one-waits : {u : Thread} (s : State P) → Stands offset program text b (tried u ∷ tried (waiting (state_of offset s)) ∷ []) old c → new ≡ old ++ AsThread s ∷ []
       → Stands offset program text b (tried u ∷ []) new c
   one-waits {u} s h is = subst (λ xs. Stands offset program text b (tried u ∷ []) xs c) (sym is) (waits-on offset program text b u s old h)
 
-  pub one-taken : (states : List (State P)) (next : Option (State P)) → Stands offset program text b (tries (first_runs_others_wait (preferred_last offset states))) old c
+  pub one-taken : (states : List (State P)) (next : Option (State P)) → Stands offset program text b (tries (first_running_and_others_waiting (preferred_last offset states))) old c
       → HasTaken offset states old next new → Stands offset program text b (front_of offset next) new c
   one-taken states next h t = takes-on offset program text b states next old new t h

@@ -6,5 +6,5 @@ abbrev pub IsTakenFromBudget : (work old new : ℕ) → Type 0
 IsTakenFromBudget work old new = old ≡ work + new
 
 -- The budget is smaller than the work, and nothing is left.
-abbrev pub IsBudgetExhausted : (work old new : ℕ) → Type 0
-IsBudgetExhausted work old new = (old < work) × (new ≡ 0)
+abbrev pub WorkExceedsBudgetLeavingNothing : (work old new : ℕ) → Type 0
+WorkExceedsBudgetLeavingNothing work old new = (old < work) × (new ≡ 0)

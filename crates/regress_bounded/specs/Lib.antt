@@ -1,5 +1,5 @@
-pub mod ProgramWorkBounds
-pub mod SearchStateEntries
-pub mod WorkCosts
+pub mod ProgramWorkBoundForAllMatches
+pub mod SearchStateAsMemoSearchEntries
+pub mod WorkOfCharLoopsAndAttempts
 pub mod BudgetSpending
-pub mod SuccessiveAttempts
+pub mod WorkOfSuccessiveAttempts

@@ -5,23 +5,29 @@ ghost use Rattle.std.specs.Prelude.{◌≡◌, ◌≤◌, ◌<◌, ◌^◌, ◌*
 ghost use Rattle.std.proofs.Props.{props};
 ghost use Rattle.regex_meaning.specs.{CodeUnitOffsets.{IsBoundary, units}, Text.{ascii_text, ucs2_text, utf16_text, utf8_text}};
 ghost use Rattle.regex_pattern_front.specs.AstToSpecTree.{tree_of};
-ghost use Rattle.regress_exec.specs.{Attempts.{match_end_and_groups_at}, WorkLimits.{least_offset_after_match}, declared.exec.SearchError.TheVariants.{Memory}};
+ghost use Rattle.regress_exec.specs.{AttemptResultsAndStartsToTry.{match_end_and_groups_at}, AttemptsAndMatchesWithinWork.{least_offset_after_match}};
+ghost use Rattle.regress_exec.specs.declared.exec.SearchError.TheVariants.{Memory};
 ghost use Rattle.regress_program.specs.CompilationOfTreesAsFunction.{compiled};
 ghost use Rattle.regress_pikevm.specs.{InsnEffects.{end_and_groups}, States.{groups_of}};
-ghost use Rattle.regress_bounded.specs.ProgramWorkBounds.{CanStartAt, IsBoundOf, IsExecutorAtStartWithWorkBound, YieldsWithinWork, is_work_enough_for_text};
-ghost use Rattle.regress_bounded.specs.{SearchStateEntries.{AttemptStartAndResult, AttemptBeginsWithMemoAndBudget, IsMemoRightForRegex, Stands, IsStanding, Runs, front_of}, SuccessiveAttempts.{HasWalked}};
+ghost use Rattle.regress_bounded.specs.ProgramWorkBoundForAllMatches.{IsBoundaryOrPastEnd, TreeHasWorkBound, ExecutorIsBeforeItsFirstAttempt};
+ghost use Rattle.regress_bounded.specs.ProgramWorkBoundForAllMatches.{YieldsMatchesIfWorkSuffices, is_work_enough_for_text};
+ghost use Rattle.regress_bounded.specs.SearchStateAsMemoSearchEntries.{AttemptStartMemoBudgetAndResult, AttemptBeginsWithMemoAndBudget, IsMemoRightForRegex, Stands};
+ghost use Rattle.regress_bounded.specs.SearchStateAsMemoSearchEntries.{IsStanding, Runs, front_of};
+ghost use Rattle.regress_bounded.specs.WorkOfSuccessiveAttempts.{HasWalked};
 
 use crate::memo_and_work_budget::{AttemptAbortReason, MemoAndWorkBudget};
-use crate::pending_stack::StackEntry;
-use crate::thread_steps::{StepResult, execute_thread_step, resume_entry_or_record_failure};
+use crate::stack_of_pending_threads_and_records::StackEntry;
+use crate::thread_steps_and_backtracking::{
+    StepResult, execute_thread_step, resume_entry_or_record_failure,
+};
 use crate::work_bound::WorkBound;
 use regress_exec::exec::{MatchProducer, SearchError, WorkLimitedProducer, WorkMatches};
 use regress_exec::program_and_input::ProgramAndInput;
-use regress_exec::search_loop::{AnchoredSearch, group_at};
+use regress_exec::search_loop::{SingleAttemptExecutor, group_at};
 use regress_input::indexing::{AsciiInput, InputIndexer, Ucs2Input, Utf8Input, Utf16Input};
 use regress_input::position::PositionType;
 use regress_pikevm::pikevm::states::{State, initial_state};
-use regress_program::insn::{CompiledRegex, CompiledUnits, Program};
+use regress_program::insn::{CompiledRegex, CompiledRegexFor16BitUnits, Program};
 
 /// Searches a text with a program that has a bound, in a limited amount of work for all matches
 /// together.
@@ -66,7 +72,7 @@ fn run<Input: InputIndexer>(
     ensures left { course.new.left ≤ course.old.left }
     ensures runs { let at = Input.Position.offset in let s = searched.now in
         let program = compiled (tree_of s.program.now) in let text = Input.text s.input in
-        (b : AttemptStartAndResult) → Stands at program text b (front_of at (Some start)) [] course.old
+        (b : AttemptStartMemoBudgetAndResult) → Stands at program text b (front_of at (Some start)) [] course.old
         → Runs at program text b result course.new }
 {
     stack.clear();
@@ -105,14 +111,15 @@ fn preferred_final_state<Input: InputIndexer>(
     ensures left { course.new.left ≤ course.old.left }
     ensures runs { let at = Input.Position.offset in let s = searched.now in
         let program = compiled (tree_of s.program.now) in let text = Input.text s.input in
-        (b : AttemptStartAndResult) → AttemptBeginsWithMemoAndBudget program text (at pos) course.old b → Runs at program text b result course.new }
+        (b : AttemptStartMemoBudgetAndResult) → AttemptBeginsWithMemoAndBudget program text (at pos) course.old b → Runs
+        at program text b result course.new }
 {
     let start = initial_state(searched.program, pos)?;
     let end = run(searched, start, stack, course)?;
     Ok(end)
 }
 
-impl<'r, Input: InputIndexer> AnchoredSearch for BoundedExecutor<'r, Input> {
+impl<'r, Input: InputIndexer> SingleAttemptExecutor for BoundedExecutor<'r, Input> {
     type Input = Input;
 
     ghost tree = { λ e. tree_of e.searched.program.now };
@@ -174,7 +181,7 @@ impl<'r, Input: InputIndexer> AnchoredSearch for BoundedExecutor<'r, Input> {
         Some(pos)
     }
 
-    fn next_start_to_try_after(&self, tried: Input::Position) -> Option<Input::Position> {
+    fn next_start_after_failed_attempt(&self, tried: Input::Position) -> Option<Input::Position> {
         self.searched.position_after_failed_attempt(tried)
     }
 }
@@ -204,7 +211,7 @@ impl<'r, Input: InputIndexer> BoundedExecutor<'r, Input> {
         bound: &WorkBound,
         work: u64,
     ) -> Result<Self, SearchError>
-        requires { IsBoundOf (tree_of searched.program.now) bound.now }
+        requires { TreeHasWorkBound (tree_of searched.program.now) bound.now }
         ensures searched { IfOk result (λ e. e.searched ≡ searched.entry) }
         ensures left { IfOk result (λ e. e.course.left ≡ work) }
         ensures enough { IfOk result (λ e. e.enough
@@ -249,15 +256,16 @@ impl<'r, 't> BoundedExecutor<'r, Ucs2Input<'t>> {
     ///
     /// `Memory` if no memo table can be allocated.
     pub fn matches_ucs2(
-        re: &'r CompiledUnits,
+        re: &'r CompiledRegexFor16BitUnits,
         bound: &WorkBound,
         text: &'t [u16],
         start: usize,
         work: u64,
     ) -> Result<WorkMatches<Self>, SearchError>
-        requires bound { IsBoundOf (tree_of re.now) bound.now }
-        requires start { CanStartAt (ucs2_text text.now (tree_of re.now).flags.unicode) start }
-        ensures yields { IfOk result (YieldsWithinWork (tree_of re.now) (ucs2_text text.now (tree_of re.now).flags.unicode)
+        requires bound { TreeHasWorkBound (tree_of re.now) bound.now }
+        requires start { IsBoundaryOrPastEnd (ucs2_text text.now (tree_of re.now).flags.unicode) start }
+        ensures yields { IfOk result (YieldsMatchesIfWorkSuffices (tree_of re.now)
+            (ucs2_text text.now (tree_of re.now).flags.unicode)
             start bound.now.per_unit work) }
         ensures ended { IfOk result (λ it. it.come.ended
             ≡ not (nat_le start (units (ucs2_text text.now (tree_of re.now).flags.unicode)))) }
@@ -269,14 +277,14 @@ impl<'r, 't> BoundedExecutor<'r, Ucs2Input<'t>> {
 
     // Creates an executor for a UCS-2 text with a budget of `work` units.
     fn new_ucs2(
-        re: &'r CompiledUnits,
+        re: &'r CompiledRegexFor16BitUnits,
         bound: &WorkBound,
         text: &'t [u16],
         work: u64,
     ) -> Result<Self, SearchError>
-        requires bound { IsBoundOf (tree_of re.now) bound.now }
+        requires bound { TreeHasWorkBound (tree_of re.now) bound.now }
         ensures start { let e = ⟦<BoundedExecutor<'r, Ucs2Input<'t>> as MatchProducer>⟧ in
-            IfOk result (IsExecutorAtStartWithWorkBound e (tree_of re.now) (ucs2_text text.now) bound.now work) }
+            IfOk result (ExecutorIsBeforeItsFirstAttempt e (tree_of re.now) (ucs2_text text.now) bound.now work) }
         ensures refused { IfErr result (λ e. e ≡ Memory) }
     {
         BoundedExecutor::over(ProgramAndInput::pair_with_ucs2_text(re, text), bound, work)
@@ -298,9 +306,10 @@ impl<'r, 't> BoundedExecutor<'r, Utf8Input<'t>> {
         start: usize,
         work: u64,
     ) -> Result<WorkMatches<Self>, SearchError>
-        requires bound { IsBoundOf (tree_of re.now) bound.now }
-        requires start { CanStartAt (utf8_text text.now (tree_of re.now).flags.unicode) start }
-        ensures yields { IfOk result (YieldsWithinWork (tree_of re.now) (utf8_text text.now (tree_of re.now).flags.unicode)
+        requires bound { TreeHasWorkBound (tree_of re.now) bound.now }
+        requires start { IsBoundaryOrPastEnd (utf8_text text.now (tree_of re.now).flags.unicode) start }
+        ensures yields { IfOk result (YieldsMatchesIfWorkSuffices (tree_of re.now)
+            (utf8_text text.now (tree_of re.now).flags.unicode)
             start bound.now.per_unit work) }
         ensures ended { IfOk result (λ it. it.come.ended
             ≡ not (nat_le start (units (utf8_text text.now (tree_of re.now).flags.unicode)))) }
@@ -317,9 +326,9 @@ impl<'r, 't> BoundedExecutor<'r, Utf8Input<'t>> {
         text: &'t str,
         work: u64,
     ) -> Result<Self, SearchError>
-        requires bound { IsBoundOf (tree_of re.now) bound.now }
+        requires bound { TreeHasWorkBound (tree_of re.now) bound.now }
         ensures start { let e = ⟦<BoundedExecutor<'r, Utf8Input<'t>> as MatchProducer>⟧ in
-            IfOk result (IsExecutorAtStartWithWorkBound e (tree_of re.now) (utf8_text text.now) bound.now work) }
+            IfOk result (ExecutorIsBeforeItsFirstAttempt e (tree_of re.now) (utf8_text text.now) bound.now work) }
         ensures refused { IfErr result (λ e. e ≡ Memory) }
     {
         BoundedExecutor::over(ProgramAndInput::pair_with_utf8_text(re, text), bound, work)
@@ -341,10 +350,11 @@ impl<'r, 't> BoundedExecutor<'r, AsciiInput<'t>> {
         start: usize,
         work: u64,
     ) -> Result<WorkMatches<Self>, SearchError>
-        requires bound { IsBoundOf (tree_of re.now) bound.now }
+        requires bound { TreeHasWorkBound (tree_of re.now) bound.now }
         requires ascii { IsAscii text.now }
-        requires start { CanStartAt (ascii_text text.now (tree_of re.now).flags.unicode) start }
-        ensures yields { IfOk result (YieldsWithinWork (tree_of re.now) (ascii_text text.now (tree_of re.now).flags.unicode)
+        requires start { IsBoundaryOrPastEnd (ascii_text text.now (tree_of re.now).flags.unicode) start }
+        ensures yields { IfOk result (YieldsMatchesIfWorkSuffices (tree_of re.now)
+            (ascii_text text.now (tree_of re.now).flags.unicode)
             start bound.now.per_unit work) }
         ensures ended { IfOk result (λ it. it.come.ended
             ≡ not (nat_le start (units (ascii_text text.now (tree_of re.now).flags.unicode)))) }
@@ -361,10 +371,10 @@ impl<'r, 't> BoundedExecutor<'r, AsciiInput<'t>> {
         text: &'t str,
         work: u64,
     ) -> Result<Self, SearchError>
-        requires bound { IsBoundOf (tree_of re.now) bound.now }
+        requires bound { TreeHasWorkBound (tree_of re.now) bound.now }
         requires ascii { IsAscii text.now }
         ensures start { let e = ⟦<BoundedExecutor<'r, AsciiInput<'t>> as MatchProducer>⟧ in
-            IfOk result (IsExecutorAtStartWithWorkBound e (tree_of re.now) (ascii_text text.now) bound.now work) }
+            IfOk result (ExecutorIsBeforeItsFirstAttempt e (tree_of re.now) (ascii_text text.now) bound.now work) }
         ensures refused { IfErr result (λ e. e ≡ Memory) }
     {
         BoundedExecutor::over(ProgramAndInput::pair_with_ascii_text(re, text), bound, work)
@@ -380,15 +390,16 @@ impl<'r, 't> BoundedExecutor<'r, Utf16Input<'t>> {
     ///
     /// `Memory` if no memo table can be allocated.
     pub fn matches_utf16(
-        re: &'r CompiledUnits,
+        re: &'r CompiledRegexFor16BitUnits,
         bound: &WorkBound,
         text: &'t [u16],
         start: usize,
         work: u64,
     ) -> Result<WorkMatches<Self>, SearchError>
-        requires bound { IsBoundOf (tree_of re.now) bound.now }
-        requires start { CanStartAt (utf16_text text.now (tree_of re.now).flags.unicode) start }
-        ensures yields { IfOk result (YieldsWithinWork (tree_of re.now) (utf16_text text.now (tree_of re.now).flags.unicode)
+        requires bound { TreeHasWorkBound (tree_of re.now) bound.now }
+        requires start { IsBoundaryOrPastEnd (utf16_text text.now (tree_of re.now).flags.unicode) start }
+        ensures yields { IfOk result (YieldsMatchesIfWorkSuffices (tree_of re.now)
+            (utf16_text text.now (tree_of re.now).flags.unicode)
             start bound.now.per_unit work) }
         ensures ended { IfOk result (λ it. it.come.ended
             ≡ not (nat_le start (units (utf16_text text.now (tree_of re.now).flags.unicode)))) }
@@ -400,14 +411,14 @@ impl<'r, 't> BoundedExecutor<'r, Utf16Input<'t>> {
 
     // Creates an executor for a UTF-16 text with a budget of `work` units.
     fn new_utf16(
-        re: &'r CompiledUnits,
+        re: &'r CompiledRegexFor16BitUnits,
         bound: &WorkBound,
         text: &'t [u16],
         work: u64,
     ) -> Result<Self, SearchError>
-        requires bound { IsBoundOf (tree_of re.now) bound.now }
+        requires bound { TreeHasWorkBound (tree_of re.now) bound.now }
         ensures start { let e = ⟦<BoundedExecutor<'r, Utf16Input<'t>> as MatchProducer>⟧ in
-            IfOk result (IsExecutorAtStartWithWorkBound e (tree_of re.now) (utf16_text text.now) bound.now work) }
+            IfOk result (ExecutorIsBeforeItsFirstAttempt e (tree_of re.now) (utf16_text text.now) bound.now work) }
         ensures refused { IfErr result (λ e. e ≡ Memory) }
     {
         BoundedExecutor::over(ProgramAndInput::pair_with_utf16_text(re, text), bound, work)

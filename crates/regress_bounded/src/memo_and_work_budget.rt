@@ -1,12 +1,13 @@
 //! The work budget of a search: what is known to fail, and how much work may still be done.
 
 ghost use Rattle.std.specs.Prelude.{◌≡◌, ◌<◌, ◌≤◌, OnOk, IfErr, IfSome, option_map};
-ghost use Rattle.regress_memo_analysis.specs.CheckedAnalysis.{MemoKeyHasBit};
-ghost use Rattle.regress_memo.specs.MemoContents.{as_key, memo_key_at as key_of_state};
+ghost use Rattle.regress_memo_analysis.specs.CheckedAnalysis.{IsRecordableMemoKey};
+ghost use Rattle.regress_memo.specs.MemoContents.{memo_key_as_spec, memo_key_at as key_of_state};
 ghost use Rattle.regress_pikevm.specs.States.{state_of};
-ghost use Rattle.regress_bounded.specs.{declared.memo_and_work_budget.AttemptAbortReason.TheVariants.{Memory, Work}, BudgetSpending.{IsTakenFromBudget, IsBudgetExhausted}};
+ghost use Rattle.regress_bounded.specs.declared.memo_and_work_budget.AttemptAbortReason.TheVariants.{Memory, Work};
+ghost use Rattle.regress_bounded.specs.BudgetSpending.{IsTakenFromBudget, WorkExceedsBudgetLeavingNothing};
 
-use crate::pending_stack::ThreadLoopStates;
+use crate::stack_of_pending_threads_and_records::ThreadLoopStates;
 use regress_input::position::PositionType;
 use regress_memo::memo::{MemoTable, ThreadMemoKey};
 use regress_pikevm::pikevm::states::State;
@@ -43,7 +44,8 @@ impl MemoAndWorkBudget {
         ensures memo { self.new.memo ≡ self.old.memo }
         ensures left { self.new.left ≤ self.old.left }
         ensures spent { OnOk result (IsTakenFromBudget work self.old.left self.new.left) }
-        ensures over { IfErr result (λ e. (e ≡ Work) × IsBudgetExhausted work self.old.left self.new.left) }
+        ensures over { IfErr result (λ e. (e ≡ Work) × WorkExceedsBudgetLeavingNothing work self.old.left
+            self.new.left) }
     {
         if self.left < work {
             self.left = 0;
@@ -62,10 +64,11 @@ impl MemoAndWorkBudget {
         at: P,
         state: &State<P>,
     ) -> Option<ThreadMemoKey>
-        ensures key { option_map as_key result ≡ key_of_state self.now.memo.memo_analysis
+        ensures key { option_map memo_key_as_spec result ≡ key_of_state self.now.memo.memo_analysis
             (record (state_of P.offset state.now) { ip = ip; pos = P.offset at }) }
         ensures bit { P.offset at < self.now.memo.places
-            → IfSome result (λ key. MemoKeyHasBit self.now.memo.memo_analysis self.now.memo.places (as_key key)) }
+            → IfSome result (λ key. IsRecordableMemoKey self.now.memo.memo_analysis self.now.memo.places
+            (memo_key_as_spec key)) }
     {
         self.memo
             .key_at(ip, at.to_offset(), &ThreadLoopStates { state })

@@ -3,24 +3,25 @@
 ghost use Rattle.std.specs.Prelude.{◌≡◌, ◌<◌, ◌≤◌, ◌^◌, ◌+◌, ℕ, Bool, true, false, Some, IfOk, IsSome, [], ◌∷◌, ◌++◌, map};
 ghost use Rattle.regex_meaning.specs.CodeUnitOffsets.{IsBoundary, place_at};
 ghost use Rattle.regex_pattern_front.specs.AstToSpecTree.{tree_of};
-ghost use Rattle.regress_memo_laws.specs.{CharLoopThreads.{passing}, MemoSearch.{tried}};
+ghost use Rattle.regress_memo_laws.specs.{CharLoopExitThreadLists.{passing}, MemoSearch.{tried}};
 ghost use Rattle.regress_machine.specs.Machine.{running};
 ghost use Rattle.regress_memo.specs.MemoContents.{has_failure};
-ghost use Rattle.regress_program.specs.{CompilationOfTreesAsFunction.{compiled}, InsnMeanings.{spec_insn_of}};
-ghost use Rattle.regress_scan.specs.InsnMatchers.{ByteInsnHasByteText, char_test_of};
-ghost use Rattle.regress_bounded.specs.SearchStateEntries.{IsMemoRightForRegex, IsRunHere, IsStanding, GoesFrom, ScansWithMemo, HasPassedOver, IsPast, IsNearest};
-ghost use Rattle.regress_bounded.specs.declared.pending_stack.StackEntry.TheVariants.{Run as AsRun};
+ghost use Rattle.regress_program.specs.{CompilationOfTreesAsFunction.{compiled}, InsnsAndStartPredicatesAsSpec.{insn_as_spec_insn}};
+ghost use Rattle.regress_scan.specs.OffsetsAfterMatchedInsns.{ByteInsnHasByteText, char_test_of_insn};
+ghost use Rattle.regress_bounded.specs.SearchStateAsMemoSearchEntries.{IsMemoRightForRegex, IsRunHere, IsStanding, GoesFrom, ScansWithMemo, HasPassedOver, IsPast};
+ghost use Rattle.regress_bounded.specs.SearchStateAsMemoSearchEntries.{IsNearest};
+ghost use Rattle.regress_bounded.specs.declared.stack_of_pending_threads_and_records.StackEntry.TheVariants.{Run as AsRun};
 ghost use Rattle.regress_pikevm.specs.States.{state_of};
 
 use crate::memo_and_work_budget::{AttemptAbortReason, MemoAndWorkBudget};
-use crate::pending_stack::{StackEntry, UnboundedCharLoop, push_entry};
+use crate::stack_of_pending_threads_and_records::{StackEntry, UnboundedCharLoop, push_entry};
 use regress_exec::program_and_input::ProgramAndInput;
 use regress_input::cursor::Forward;
 use regress_input::indexing::InputIndexer;
 use regress_input::position::PositionType;
 use regress_memo::memo::ThreadMemoKey;
-use regress_pikevm::pikevm::char_loops::exit_state;
-use regress_pikevm::pikevm::insn_matchers;
+use regress_pikevm::pikevm::char_loops::copy_state_after_char_loop;
+use regress_pikevm::pikevm::read_or_assertion_insn_matchers;
 use regress_pikevm::pikevm::states::State;
 use regress_program::insn::Insn;
 use std::alloc::AllocError;
@@ -31,18 +32,21 @@ fn read_minimum_chars<Input: InputIndexer>(
     run: UnboundedCharLoop,
     pos: &mut Input::Position,
 ) -> usize
-    requires test { IsSome (char_test_of searched.now.program.now run.body) }
+    requires test { IsSome (char_test_of_insn searched.now.program.now run.body) }
     requires at { IsBoundary (Input.text searched.now.input) (Input.Position.offset pos.old) }
     requires bytes { ByteInsnHasByteText run.body (Input.text searched.now.input) Input.Units.ARE_BYTES }
     ensures at { IsBoundary (Input.text searched.now.input) (Input.Position.offset pos.new) }
     ensures passed { let s = searched.now in let text = Input.text s.input in (test : ℕ → Bool) (place : ℕ)
-        → char_test_of s.program.now run.body ≡ Some test → place_at text (Input.Position.offset pos.old) ≡ Some place
+        → char_test_of_insn s.program.now run.body ≡ Some test → place_at text
+        (Input.Position.offset pos.old) ≡ Some place
         → HasPassedOver Input.Position.offset text test run.least place result pos.new }
 {
     let mut count = 0;
     'characters: while count < run.least {
         let mut next = *pos;
-        if !insn_matchers::insn_accepts_next_char(searched, run.body, Forward, &mut next) {
+        if !read_or_assertion_insn_matchers::insn_accepts_next_char(
+            searched, run.body, Forward, &mut next,
+        ) {
             break;
         }
         *pos = next;
@@ -56,7 +60,7 @@ fn read_minimum_chars<Input: InputIndexer>(
 /// A greedy loop takes the furthest exit and pushes the nearer ones. It stops at a position from
 /// which on it is known to fail. A lazy loop takes the nearest exit and pushes one entry for all
 /// others.
-pub(crate) fn loop_with_memo<Input: InputIndexer>(
+pub(crate) fn execute_unbounded_char_loop_with_memo<Input: InputIndexer>(
     searched: &ProgramAndInput<'_, Input>,
     run: UnboundedCharLoop,
     state: State<Input::Position>,
@@ -107,11 +111,11 @@ fn scan_with_memo<Input: InputIndexer>(
         (Input.text s.input) run true (state_of Input.Position.offset state.now) }
     requires bytes { ByteInsnHasByteText run.body (Input.text searched.now.input) Input.Units.ARE_BYTES }
     requires within { state.now.ip + 2 < 2 ^ 64 }
-    requires test { IsSome (char_test_of searched.now.program.now run.body) }
+    requires test { IsSome (char_test_of_insn searched.now.program.now run.body) }
     requires at { IsBoundary (Input.text searched.now.input) (Input.Position.offset from) }
     requires few { run.least ≤ Input.Position.offset from }
     ensures { let at = Input.Position.offset in let s = searched.now in let text = Input.text s.input in
-        (test : ℕ → Bool) (place : ℕ) → char_test_of s.program.now run.body ≡ Some test
+        (test : ℕ → Bool) (place : ℕ) → char_test_of_insn s.program.now run.body ≡ Some test
         → IsPast at text test place run.least from
         → IfOk result (ScansWithMemo at (compiled (tree_of s.program.now)) text course.now.memo.memo_analysis
         (has_failure course.now.memo) test place (state_of at state.now) run.least stack.old.items stack.new.items) }
@@ -125,9 +129,11 @@ fn scan_with_memo<Input: InputIndexer>(
         if course.memo.fails(key) {
             return Ok((None, count));
         }
-        let here = exit_state(at, state)?;
+        let here = copy_state_after_char_loop(at, state)?;
         push_entry(StackEntry::Record(key), stack)?;
-        if !insn_matchers::insn_accepts_next_char(searched, run.body, Forward, &mut at) {
+        if !read_or_assertion_insn_matchers::insn_accepts_next_char(
+            searched, run.body, Forward, &mut at,
+        ) {
             return Ok((Some(here), count));
         }
         push_entry(StackEntry::Thread(here), stack)?;
@@ -144,18 +150,18 @@ fn nearest<Input: InputIndexer>(
     mut state: State<Input::Position>,
     stack: &mut Vec<StackEntry<Input::Position>>,
 ) -> Result<State<Input::Position>, AllocError>
-    requires test { IsSome (char_test_of searched.now.program.now body) }
+    requires test { IsSome (char_test_of_insn searched.now.program.now body) }
     requires at { IsBoundary (Input.text searched.now.input) (Input.Position.offset at) }
     requires bytes { ByteInsnHasByteText body (Input.text searched.now.input) Input.Units.ARE_BYTES }
     requires within { state.ip + 2 < 2 ^ 64 }
     ensures { let s = searched.now in let text = Input.text s.input in (test : ℕ → Bool) (place : ℕ)
-        → char_test_of s.program.now body ≡ Some test → place_at text (Input.Position.offset at) ≡ Some place
+        → char_test_of_insn s.program.now body ≡ Some test → place_at text (Input.Position.offset at) ≡ Some place
         → IfOk result (λ here. IsNearest Input.Position.offset text test place at state here
         stack.old.items stack.new.items) }
 {
-    let here = exit_state(at, &state)?;
+    let here = copy_state_after_char_loop(at, &state)?;
     let mut next = at;
-    if insn_matchers::insn_accepts_next_char(searched, body, Forward, &mut next) {
+    if read_or_assertion_insn_matchers::insn_accepts_next_char(searched, body, Forward, &mut next) {
         state.pos = next;
         push_entry(StackEntry::Run(state), stack)?;
     }
@@ -163,14 +169,14 @@ fn nearest<Input: InputIndexer>(
 }
 
 /// Continues a lazy loop at the position of its pending entry.
-pub(crate) fn resume_pending_lazy_loop<Input: InputIndexer>(
+pub(crate) fn resume_pending_lazy_char_loop<Input: InputIndexer>(
     searched: &ProgramAndInput<'_, Input>,
     insns: &[Insn],
     state: State<Input::Position>,
     stack: &mut Vec<StackEntry<Input::Position>>,
     course: &mut MemoAndWorkBudget,
 ) -> Result<Option<State<Input::Position>>, AttemptAbortReason>
-    requires code { map spec_insn_of insns.now ≡ (compiled (tree_of searched.now.program.now)).insns }
+    requires code { map insn_as_spec_insn insns.now ≡ (compiled (tree_of searched.now.program.now)).insns }
     requires stands { let s = searched.now in
         IsStanding Input.Position.offset (compiled (tree_of s.program.now)) (Input.text s.input)
         [] (stack.old.items ++ AsRun state ∷ []) course.old }

@@ -4,15 +4,15 @@ ghost use Rattle.std.specs.Arc.{arc_value};
 ghost use Rattle.std.specs.Prelude.{◌≡◌, ◌+◌, ◌-◌, ◌/◌, ◌*◌, ◌≤◌, ◌^◌, ℕ, IfOk, IfSome, MatchOption, None, Some, false, map, min, nat_le, slice_get};
 ghost use Rattle.std.specs.List.{sum_by};
 ghost use Rattle.regex_pattern_front.specs.AstToSpecTree.{tree_of};
-ghost use Rattle.regress_memo_analysis.specs.CheckedAnalysis.{AreCodesCountedAndDisjoint};
-ghost use Rattle.regress_memo_laws.specs.LookaroundContinuations.{lookaround_at};
+ghost use Rattle.regress_memo_analysis.specs.CheckedAnalysis.{AreInsnCodesCountedAndDisjoint};
+ghost use Rattle.regress_memo_laws.specs.EquivalenceAfterSkippingSucceedingLookarounds.{lookaround_at};
 ghost use Rattle.regress_memo.specs.MemoContents.{IsEmptyMemo};
-ghost use Rattle.regress_program.specs.InsnMeanings.{spec_insn_of};
-ghost use Rattle.regress_bounded.specs.ProgramWorkBounds.{IsBoundOf, most_memo_codes_per_insn, size_of_insn};
+ghost use Rattle.regress_program.specs.InsnsAndStartPredicatesAsSpec.{insn_as_spec_insn};
+ghost use Rattle.regress_bounded.specs.ProgramWorkBoundForAllMatches.{TreeHasWorkBound, most_memo_codes_per_insn, size_of_insn};
 
 use regress_memo::memo::MemoTable;
-use regress_memo_analysis::analysis::MemoAnalysis;
-use regress_program::insn::{CompiledRegex, CompiledUnits, Insn, Program};
+use regress_memo_analysis::analysis_result::MemoAnalysis;
+use regress_program::insn::{CompiledRegex, CompiledRegexFor16BitUnits, Insn, Program};
 use std::alloc::{AllocError, Global};
 use std::sync::Arc;
 
@@ -36,7 +36,7 @@ impl WorkBound {
     ///
     /// `AllocError` if memory for the analysis cannot be allocated.
     pub fn bound_for_bytes(re: &CompiledRegex) -> Result<Option<WorkBound>, AllocError>
-        ensures { IfOk result (λ bound. IfSome bound (IsBoundOf (tree_of re.now))) }
+        ensures { IfOk result (λ bound. IfSome bound (TreeHasWorkBound (tree_of re.now))) }
     {
         WorkBound::bound_of_program(re.program_common_to_both_unit_kinds())
     }
@@ -46,15 +46,15 @@ impl WorkBound {
     /// # Errors
     ///
     /// `AllocError` if memory for the analysis cannot be allocated.
-    pub fn bound_for_units(re: &CompiledUnits) -> Result<Option<WorkBound>, AllocError>
-        ensures { IfOk result (λ bound. IfSome bound (IsBoundOf (tree_of re.now))) }
+    pub fn bound_for_units(re: &CompiledRegexFor16BitUnits) -> Result<Option<WorkBound>, AllocError>
+        ensures { IfOk result (λ bound. IfSome bound (TreeHasWorkBound (tree_of re.now))) }
     {
         WorkBound::bound_of_program(re.program_common_to_both_unit_kinds())
     }
 
     // Computes the bound of a program.
     fn bound_of_program(program: &Program) -> Result<Option<WorkBound>, AllocError>
-        ensures { IfOk result (λ bound. IfSome bound (IsBoundOf (tree_of program.now))) }
+        ensures { IfOk result (λ bound. IfSome bound (TreeHasWorkBound (tree_of program.now))) }
     {
         let alloc = program.allocator();
         let insns = program.insns();
@@ -98,7 +98,7 @@ impl WorkBound {
         alloc: Global,
         places: usize,
     ) -> Result<Option<MemoTable>, AllocError>
-        requires { AreCodesCountedAndDisjoint (arc_value self.now.memo_analysis) }
+        requires { AreInsnCodesCountedAndDisjoint (arc_value self.now.memo_analysis) }
         ensures { IfOk result (λ found. MatchOption found (2 ^ 64 ≤ (arc_value self.now.memo_analysis).codes * places)
             (IsEmptyMemo (arc_value self.now.memo_analysis) places false)) }
     {
@@ -123,7 +123,7 @@ fn is_few(per_unit: u64, size: u64, codes: u64) -> bool
 
 // Returns the size of a program, saturating at `u64::MAX`.
 fn program_size(insns: &[Insn]) -> u64
-    ensures { result ≡ min (sum_by size_of_insn (map spec_insn_of insns.now)) (2 ^ 64 - 1) }
+    ensures { result ≡ min (sum_by size_of_insn (map insn_as_spec_insn insns.now)) (2 ^ 64 - 1) }
 {
     let mut all = 0u64;
     for insn in insns {
@@ -135,7 +135,7 @@ fn program_size(insns: &[Insn]) -> u64
 // Returns the size of an instruction: 1, plus the maximum of a char loop, or its minimum if it has
 // no maximum.
 fn size_of(insn: Insn) -> u64
-    ensures { result ≡ min (size_of_insn (spec_insn_of insn)) (2 ^ 64 - 1) }
+    ensures { result ≡ min (size_of_insn (insn_as_spec_insn insn)) (2 ^ 64 - 1) }
 {
     let Insn::Loop1CharBody {
         min_iters,
@@ -167,7 +167,7 @@ fn most_memo_codes_per_insn(memo_analysis: &MemoAnalysis) -> u64
 
 // Checks whether a program has a lookaround.
 fn looks_aside(insns: &[Insn]) -> bool
-    ensures { result ≡ false → (ip : ℕ) → lookaround_at (slice_get (map spec_insn_of insns.now) ip) ≡ None }
+    ensures { result ≡ false → (ip : ℕ) → lookaround_at (slice_get (map insn_as_spec_insn insns.now) ip) ≡ None }
 {
     for insn in insns {
         if is_look(insn) {
@@ -179,7 +179,7 @@ fn looks_aside(insns: &[Insn]) -> bool
 
 // Checks whether an instruction is a lookaround.
 fn is_look(insn: &Insn) -> bool
-    ensures { result ≡ false → lookaround_at (Some (spec_insn_of insn.now)) ≡ None }
+    ensures { result ≡ false → lookaround_at (Some (insn_as_spec_insn insn.now)) ≡ None }
 {
     matches!(insn, Insn::Lookahead { .. } | Insn::Lookbehind { .. })
 }

@@ -4,7 +4,7 @@ use Rattle.std.proofs.Math.Seq.{drop-drop, drop_at, take_at}
 use Rattle.std.proofs.lemmas.Grind.{flat_map-append}
 use Rattle.std.proofs.lemmas.List.{append-nil, length-append}
 use Rattle.std.specs.Prelude.{flat_map}
-use Rattle.regex_meaning.specs.GroupsByNumberAndName.{Answer}
+use Rattle.regex_meaning.specs.MatchGroupsByNumberAndName.{Answer}
 use Rattle.regress_c.specs.Replies.{spans_of, written_over}
 use Rattle.regress_c.specs.declared.reply.Span.{Span}
 

@@ -8,13 +8,13 @@ use Rattle.std.proofs.lemmas.Grind.{flat_map-append}
 use Rattle.std.proofs.lemmas.List.{append-nil, length-append}
 use Rattle.std.specs.Prelude.{flat_map, if◌then◌else◌, Result, Err}
 use Rattle.regex_meaning.specs.Laws.{Each}
-use Rattle.regex_meaning.specs.GroupsByNumberAndName.{Answer}
+use Rattle.regex_meaning.specs.MatchGroupsByNumberAndName.{Answer}
 use Rattle.regex_meaning.specs.CodeUnitOffsets.{HasRisingPlaceOffsets, units}
 use Rattle.regex_meaning.specs.StepBudget.{IsBudgetAtMost, answers_within, finishes_within, need_from}
 use Rattle.regex_meaning.specs.Text.{Text}
 use Rattle.regex_meaning.specs.Tree.{Tree}
 use Rattle.regex_meaning.proofs.Each.{Each-append}
-use Rattle.regress_exec.specs.MatchAnswers.{answer_of}
+use Rattle.regress_exec.specs.MatchesAsSpecAnswers.{answer_of}
 use Rattle.regress_exec.specs.declared.exec.SearchError.{SearchError}
 use Rattle.regress_exec.specs.declared.exec.SearchError.TheVariants.{Memory, StepLimit}
 use Rattle.regress_exec.proofs.Budget.{left-no_more}

@@ -4,12 +4,12 @@ use Rattle.std.specs.Prelude.{Option, Some, None, Result, Ok, Err, IfSome, IsErr
 use Rattle.std.specs.Borrow.{Bor}
 use Rattle.std.specs.Option.{option_transpose}
 use Rattle.std.proofs.lemmas.Bool.Decides.{leb_tells}
-use Rattle.regress_exec.specs.WorkLimits.{NextYieldsWithinWork, WorkView}
+use Rattle.regress_exec.specs.AttemptsAndMatchesWithinWork.{NextYieldsWithinWork, RemainingAnswersAndWork}
 use Rattle.regress_exec.specs.declared.exec.Match.{Match}
 use Rattle.regress_exec.specs.declared.exec.work_matches.WorkError.{WorkError}
 use Rattle.regress_exec.specs.declared.exec.work_matches.WorkError.TheVariants as worked
-use Rattle.regress_match.specs.ProgramTreesAndAnswers.{as_utf8, byte_tree}
-use Rattle.regress_match.specs.WorkBounds.{BoundedView, IsWorkBoundOfBothPrograms, YieldsWithinWork, total_work}
+use Rattle.regress_match.specs.ProgramTreesAndAnswers.{bytes_as_utf8_text, tree_for_byte_units}
+use Rattle.regress_match.specs.WorkBounds.{BoundedView, IsHigherOfProgramWorkBounds, YieldsMatchesIfWorkSuffices, enough_work_for_text}
 use Rattle.regress_match.specs.declared.api.regex.Regex.{Regex}
 use Rattle.regress_c.specs.Codes.{of_work}
 use Rattle.regress_c.specs.InWork.{FindsInWork, IsFirstInWork, Reckons}
@@ -36,17 +36,17 @@ found-by re bytes start work left text bounds bounded found starts same is first
     (subst (λ r. IsFirstInWork r bytes start work found left) of_re (subst (λ t. IsFirstInWork bounded.re t start work found left) starts.0 first))
 
 -- and its number is that of bounds
-pub enough-by : (re : Regex) (bounds : Option BoundedView) (bounded : BoundedView) → IfSome bounds (λ b. b.re ≡ re) → IfSome bounds (λ b. IsWorkBoundOfBothPrograms re b.per_unit) → bounds ≡ Some bounded
-    → IsWorkBoundOfBothPrograms bounded.re bounded.per_unit
+pub enough-by : (re : Regex) (bounds : Option BoundedView) (bounded : BoundedView) → IfSome bounds (λ b. b.re ≡ re) → IfSome bounds (λ b. IsHigherOfProgramWorkBounds re b.per_unit) → bounds ≡ Some bounded
+    → IsHigherOfProgramWorkBounds bounded.re bounded.per_unit
 enough-by re bounds bounded same each is =
     let of_re : bounded.re ≡ re = subst (λ o. IfSome o (λ b. b.re ≡ re)) is same in
-    subst (λ r. IsWorkBoundOfBothPrograms r bounded.per_unit) (sym of_re) (subst (λ o. IfSome o (λ b. IsWorkBoundOfBothPrograms re b.per_unit)) is each)
+    subst (λ r. IsHigherOfProgramWorkBounds r bounded.per_unit) (sym of_re) (subst (λ o. IfSome o (λ b. IsHigherOfProgramWorkBounds re b.per_unit)) is each)
 
 -- what was reckoned by the pattern of a handle
-pub reckoned-by : (held : Option Regex) (re at : Regex) (found : Option ℕ) (number : ℕ) → Some re ≡ held → at ≡ re → IfSome found (IsWorkBoundOfBothPrograms at) → found ≡ Some number
+pub reckoned-by : (held : Option Regex) (re at : Regex) (found : Option ℕ) (number : ℕ) → Some re ≡ held → at ≡ re → IfSome found (IsHigherOfProgramWorkBounds at) → found ≡ Some number
     → Reckons held (Ok number)
 reckoned-by held re at found number taken same each is =
-    subst (λ h. Reckons h (Ok number)) taken (subst (λ r. IsWorkBoundOfBothPrograms r number) same (subst (λ o. IfSome o (IsWorkBoundOfBothPrograms at)) is each))
+    subst (λ h. Reckons h (Ok number)) taken (subst (λ r. IsHigherOfProgramWorkBounds r number) same (subst (λ o. IfSome o (IsHigherOfProgramWorkBounds at)) is each))
 
 -- what a refusal is handed on as
 pub handed-on : {X : Type 0} (P : Result X Refusal → Type 0) (r : Result X Refusal) (e : Refusal) → IsErrAnd r (λ f. f ≡ e) → P (Err e) → P r
@@ -58,17 +58,17 @@ abbrev as_found : Result (Option Match) WorkError → Result (Option Match) Refu
 as_found (Ok m) = Ok m
 as_found (Err e) = Err (of_work e)
 
-module _ (re : Regex) (text : List ℕ) (start per_unit work : ℕ) (it behind : WorkView)
-    (each : IsWorkBoundOfBothPrograms re per_unit) (yields : YieldsWithinWork (byte_tree re) (as_utf8 re text) start per_unit work it) where
+module _ (re : Regex) (text : List ℕ) (start per_unit work : ℕ) (it behind : RemainingAnswersAndWork)
+    (each : IsHigherOfProgramWorkBounds re per_unit) (yields : YieldsMatchesIfWorkSuffices (tree_for_byte_units re) (bytes_as_utf8_text re text) start per_unit work it) where
   no-more : (first : Option (Result Match WorkError)) → NextYieldsWithinWork it first behind → behind.left ≤ work
   no-more first gives = subst (λ l. behind.left ≤ l) yields.left gives.1
 
-  pub too-little : it.enough ≡ false → work < total_work per_unit (as_utf8 re text)
-  too-little e = by (leb_tells (total_work per_unit (as_utf8 re text)) work)
+  pub too-little : it.enough ≡ false → work < enough_work_for_text per_unit (bytes_as_utf8_text re text)
+  too-little e = by (leb_tells (enough_work_for_text per_unit (bytes_as_utf8_text re text)) work)
     where
-      by : ((nat_le (total_work per_unit (as_utf8 re text)) work ≡ true) × (total_work per_unit (as_utf8 re text) ≤ work))
-          ⊎ ((nat_le (total_work per_unit (as_utf8 re text)) work ≡ false) × (work < total_work per_unit (as_utf8 re text)))
-          → work < total_work per_unit (as_utf8 re text)
+      by : ((nat_le (enough_work_for_text per_unit (bytes_as_utf8_text re text)) work ≡ true) × (enough_work_for_text per_unit (bytes_as_utf8_text re text) ≤ work))
+          ⊎ ((nat_le (enough_work_for_text per_unit (bytes_as_utf8_text re text)) work ≡ false) × (work < enough_work_for_text per_unit (bytes_as_utf8_text re text)))
+          → work < enough_work_for_text per_unit (bytes_as_utf8_text re text)
       by (inl (t, l)) = let never : true ≡ false = sym (yields.enough l) ∙ e in absurd (cc)
       by (inr (t, l)) = l
 

@@ -1,6 +1,6 @@
 -- A search that goes on by a pattern.
 use Rattle.std.proofs.Common.{◌≡◌, ℕ, ◌<◌, List, Option, Some, None, Result, Ok, Err, refl, sym, ap, ◌∙◌, subst, length}
-use Rattle.regress_match.specs.ProgramTreesAndAnswers.{as_utf16, unit_tree}
+use Rattle.regress_match.specs.ProgramTreesAndAnswers.{units_as_utf16_text, tree_for_16_bit_units}
 use Rattle.regress_match.specs.declared.api.regex.Regex.{Regex}
 use Rattle.regress_c.specs.Codes.{code_of}
 use Rattle.regress_c.specs.Going.{FillsFrom, FillsIn, Goes, GoesBy, GoesIn, HasSameText, RefusesSearch, RepliesNext, Went, code_of_stop, ran}
@@ -17,14 +17,14 @@ use Rattle.regress_c.specs.declared.search.Encoding.TheVariants.{Utf16}
 use Rattle.regress_c.specs.declared.search.Search.{Search}
 
 in-utf16 : (re : Regex) (s : Search) (before after : List Span) (r : Result Filled Refusal)
-    → FillsFrom (unit_tree re) (as_utf16 re s.units.now) (can_start_utf16 s.units.now s.next) None s.next before after r → FillsIn re s Utf16 None before after r
+    → FillsFrom (tree_for_16_bit_units re) (units_as_utf16_text re s.units.now) (can_start_utf16 s.units.now s.next) None s.next before after r → FillsIn re s Utf16 None before after r
 in-utf16 re s before after (Ok filled) h = (h, refl)
 in-utf16 re s before after (Err NotBoundary) h = h
 in-utf16 re s before after (Err Memory) h = (tt, h)
 in-utf16 re s before after (Err _) h = absurd h
 
 pub fills-utf16 : (re : Regex) (s : Search) (e : Encoding) (steps : Option ℕ) (before after : List Span) (r : Result Filled Refusal) → e ≡ Utf16 → steps ≡ None
-    → FillsFrom (unit_tree re) (as_utf16 re s.units.now) (can_start_utf16 s.units.now s.next) None s.next before after r → FillsIn re s e steps before after r
+    → FillsFrom (tree_for_16_bit_units re) (units_as_utf16_text re s.units.now) (can_start_utf16 s.units.now s.next) None s.next before after r → FillsIn re s e steps before after r
 fills-utf16 re s e steps before after r is none h =
     subst (λ e. FillsIn re s e steps before after r) (sym is) (subst (λ n. FillsIn re s Utf16 n before after r) (sym none) (in-utf16 re s before after r h))
 

@@ -2,9 +2,9 @@
 use Rattle.std.proofs.Common.{◌≡◌, ℕ, ◌+◌, ◌<◌, ◌≤◌, true, false, List, [], ◌∷◌, length, map, drop, get_or, slice_get, Option, Some, None, option_map, bytes_eq}
 use Rattle.std.proofs.Common.{sym, ap, ◌∙◌, arith}
 use Rattle.std.proofs.Math.ListN.{drop_of_length-le}
-use Rattle.regex_meaning.specs.GroupsByNumberAndName.{group_names_by_id, ids_where}
+use Rattle.regex_meaning.specs.MatchGroupsByNumberAndName.{group_names_by_id, ids_where}
 use Rattle.regress_exec.proofs.Groups.{ids-here}
-use Rattle.regress_match.specs.ProgramTreesAndAnswers.{byte_tree}
+use Rattle.regress_match.specs.ProgramTreesAndAnswers.{tree_for_byte_units}
 use Rattle.regress_match.specs.declared.api.regex.Regex.{Regex}
 use Rattle.regress_c.specs.Codes.{code_of}
 use Rattle.regress_c.specs.GroupNumbers.{first_id_named, number_reply, numbered_reply}
@@ -29,7 +29,7 @@ nowhere name names i past sought = sym (sought ∙ ap (λ ns. slice_get (ids_whe
 pub number-empty : (re : Regex) (name : List ℕ) → name ≡ [] → number_reply (Some re) name ≡ record { code = code_of NoGroup; count = 0 }
 number-empty re name e = ap (number_reply (Some re)) e
 
-pub number-found : (re : Regex) (name : List ℕ) (names : List (List ℕ)) (found : Option ℕ) → 0 < length name → names ≡ group_names_by_id (byte_tree re).root
+pub number-found : (re : Regex) (name : List ℕ) (names : List (List ℕ)) (found : Option ℕ) → 0 < length name → names ≡ group_names_by_id (tree_for_byte_units re).root
     → found ≡ first_id_named name names → number_reply (Some re) name ≡ numbered_reply (option_map (λ id. id + 1) found)
 number-found re [] names found some n f = absurd (omega (arith, some))
 number-found re (c ∷ name) names found some n f = ap (λ o. numbered_reply (option_map (λ id. id + 1) o)) (sym (f ∙ ap (first_id_named (c ∷ name)) n))

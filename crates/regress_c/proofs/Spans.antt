@@ -6,9 +6,9 @@ use Rattle.std.proofs.lemmas.Bool.{le-leb, lt-leb}
 use Rattle.std.proofs.lemmas.List.{append-nil, length-drop, length-map, take_all}
 use Rattle.std.proofs.Math.Seq.{drop-drop, take-length}
 use Rattle.std.proofs.lemmas.Option.{unwrap_or-slice_get}
-use Rattle.regex_meaning.specs.GroupsByNumberAndName.{Answer, group}
+use Rattle.regex_meaning.specs.MatchGroupsByNumberAndName.{Answer, group}
 use Rattle.regress_exec.specs.GroupIterators.{all_groups}
-use Rattle.regress_exec.specs.MatchAnswers.{answer_of, range_of}
+use Rattle.regress_exec.specs.MatchesAsSpecAnswers.{answer_of, range_as_pair}
 use Rattle.regress_exec.specs.declared.exec.Match.{Match}
 use Rattle.regress_c.specs.Codes.{code_of, done}
 use Rattle.regress_c.specs.Replies.{left_by, reply_to, span_of, spans_of, written_over}
@@ -60,7 +60,7 @@ module _ (m : Match) where
 
   pub count_is : (captures : ℕ) → length m.captures.items ≡ captures → captures + 1 ≡ length spans
   count_is captures e =
-      let all : length spans ≡ suc captures = spans-count (answer_of m) ∙ ap suc (length-map m.captures.items (option_map range_of) ∙ e) in omega arith
+      let all : length spans ≡ suc captures = spans-count (answer_of m) ∙ ap suc (length-map m.captures.items (option_map range_as_pair) ∙ e) in omega arith
 
   pub done_reply : (room : ℕ) → length spans ≤ room → reply_to (Ok (Some m)) room ≡ record { code = done; count = length spans }
   done_reply room h = ap (λ b. record { code = if b then done else code_of ShortBuffer; count = length spans }) (le-leb (length spans) room h)

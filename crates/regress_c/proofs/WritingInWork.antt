@@ -6,17 +6,17 @@ use Rattle.std.proofs.lemmas.List.{length-append}
 use Rattle.std.specs.Prelude.{Option, Some, None, Ok, Err, IfSome, IsUtf8, flat_map}
 use Rattle.std.specs.Borrow.{Bor}
 use Rattle.regex_meaning.specs.Laws.{Each, IsAnswerOf}
-use Rattle.regex_meaning.specs.GroupsByNumberAndName.{Answer}
+use Rattle.regex_meaning.specs.MatchGroupsByNumberAndName.{Answer}
 use Rattle.regex_meaning.proofs.Each.{Each-map}
 use Rattle.regex_meaning.proofs.Ordered.{answers-IsAnswerOf}
 use Rattle.regex_meaning.proofs.TextLemmas.{utf8_text-IsText}
-use Rattle.regress_exec.specs.MatchAnswers.{answer_of}
-use Rattle.regress_exec.specs.WorkLimits.{NextYieldsWithinWork, WorkView}
+use Rattle.regress_exec.specs.MatchesAsSpecAnswers.{answer_of}
+use Rattle.regress_exec.specs.AttemptsAndMatchesWithinWork.{NextYieldsWithinWork, RemainingAnswersAndWork}
 use Rattle.regress_exec.specs.declared.exec.Match.{Match}
 use Rattle.regress_exec.specs.declared.exec.work_matches.WorkError.{WorkError}
 use Rattle.regress_exec.specs.declared.exec.work_matches.WorkError.TheVariants as worked
-use Rattle.regress_match.specs.ProgramTreesAndAnswers.{as_utf8, byte_tree, utf8_answers}
-use Rattle.regress_match.specs.WorkBounds.{BoundedView, IsWorkBoundOfBothPrograms, YieldsWithinWork}
+use Rattle.regress_match.specs.ProgramTreesAndAnswers.{bytes_as_utf8_text, tree_for_byte_units, utf8_answers}
+use Rattle.regress_match.specs.WorkBounds.{BoundedView, IsHigherOfProgramWorkBounds, YieldsMatchesIfWorkSuffices}
 use Rattle.regress_match.specs.declared.api.regex.Regex.{Regex}
 use Rattle.regress_c.specs.AllInWork.{Ending, EndsInWork, EndsIterator, RefusesAllInWork, RepliesAllInWork, RepliesOutcome, WritesInWork, Written}
 use Rattle.regress_c.specs.AllInWork.{full, over, failed, ran, refused, short}
@@ -33,7 +33,7 @@ use Rattle.regress_c.proofs.FirstInWork.{too-little}
 use Rattle.regress_c.proofs.Spans.{spans-count}
 
 -- the matches that were written so far, and the view of the iterator that yields those after them
-pub record Writing (ranges : ℕ) (start : WorkView) (before : List Span) (view : WorkView) (now : List Span) (count at : ℕ) : Type 0 where
+pub record Writing (ranges : ℕ) (start : RemainingAnswersAndWork) (before : List Span) (view : RemainingAnswersAndWork) (now : List Span) (count at : ℕ) : Type 0 where
   pub found : List Answer
   pub answers : start.come.answers ≡ found ++ view.come.answers
   pub each : Each (λ m. length (spans_of m) ≡ ranges) view.come.answers
@@ -48,7 +48,7 @@ not-enough : (start view : Bool) → (start ≡ true → view ≡ true) → view
 not-enough true view keeps none = absurd (cc (sym (keeps refl) ∙ none))
 not-enough false view keeps none = refl
 
-module _ {ranges : ℕ} {start : WorkView} {before : List Span} where
+module _ {ranges : ℕ} {start : RemainingAnswersAndWork} {before : List Span} where
   pub begun : Each (λ m. length (spans_of m) ≡ ranges) start.come.answers → Writing ranges start before start before 0 0
   begun each = record {
     found = [];
@@ -63,11 +63,11 @@ module _ {ranges : ℕ} {start : WorkView} {before : List Span} where
   }
 
   -- a match that comes has so many ranges
-  pub ranges-of : (view view' : WorkView) (now : List Span) (count at : ℕ) (m : Match) → Writing ranges start before view now count at
+  pub ranges-of : (view view' : RemainingAnswersAndWork) (now : List Span) (count at : ℕ) (m : Match) → Writing ranges start before view now count at
       → NextYieldsWithinWork view (Some (Ok m)) view' → ranges ≡ length (spans_of (answer_of m))
   ranges-of view view' now count at m f gives = sym (subst (Each (λ m. length (spans_of m) ≡ ranges)) gives.0.0 f.each).0
 
-  pub one_more : (view view' : WorkView) (now after : List Span) (count at : ℕ) (m : Match) → Writing ranges start before view now count at
+  pub one_more : (view view' : RemainingAnswersAndWork) (now after : List Span) (count at : ℕ) (m : Match) → Writing ranges start before view now count at
       → NextYieldsWithinWork view (Some (Ok m)) view' → after ≡ take at now ++ spans_of (answer_of m) ++ drop (at + ranges) now
       → Writing ranges start before view' after (count + 1) (at + ranges)
   one_more view view' now after count at m f gives w =
@@ -86,7 +86,7 @@ module _ {ranges : ℕ} {start : WorkView} {before : List Span} where
         written = more.1;
       }
 
-  module _ (view : WorkView) (now : List Span) (count at : ℕ) (f : Writing ranges start before view now count at) (reply : Reply) where
+  module _ (view : RemainingAnswersAndWork) (now : List Span) (count at : ℕ) (f : Writing ranges start before view now count at) (reply : Reply) where
     -- there is no room for one more
     pub is-full : length before - at < ranges → reply ≡ record { code = done; count = count } → WritesInWork ranges start view before now reply
     is-full room r = (
@@ -97,7 +97,7 @@ module _ {ranges : ℕ} {start : WorkView} {before : List Span} where
     )
 
     -- there is no further match
-    pub is-over : (view' : WorkView) → NextYieldsWithinWork view None view' → reply ≡ record { code = no_match; count = count }
+    pub is-over : (view' : RemainingAnswersAndWork) → NextYieldsWithinWork view None view' → reply ≡ record { code = no_match; count = count }
         → WritesInWork ranges start view' before now reply
     is-over view' gives r = (
       record { found = f.found; rest = view.come.answers; ending = over },
@@ -106,13 +106,13 @@ module _ {ranges : ℕ} {start : WorkView} {before : List Span} where
       f.written,
     )
 
-    fails : (e : WorkError) (view' : WorkView) → NextYieldsWithinWork view (Some (Err e)) view'
+    fails : (e : WorkError) (view' : RemainingAnswersAndWork) → NextYieldsWithinWork view (Some (Err e)) view'
         → EndsIterator ranges (length before) start view' (record { found = f.found; rest = view.come.answers; ending = failed e }) (failed e)
     fails worked.Memory view' gives = tt
     fails worked.WorkLimit view' gives = (not-enough start.enough view.enough f.enough gives.0.0.0, gives.0.0.1)
 
     -- the search for one more failed
-    pub is-failed : (e : WorkError) (view' : WorkView) → NextYieldsWithinWork view (Some (Err e)) view' → reply ≡ record { code = code_of (of_work e); count = count }
+    pub is-failed : (e : WorkError) (view' : RemainingAnswersAndWork) → NextYieldsWithinWork view (Some (Err e)) view' → reply ≡ record { code = code_of (of_work e); count = count }
         → WritesInWork ranges start view' before now reply
     is-failed e view' gives r = (
       record { found = f.found; rest = view.come.answers; ending = failed e },
@@ -131,19 +131,19 @@ module _ (re : Regex) (text : List ℕ) (start : ℕ) where
   -- each match in a text has a range for the whole, and one for each group
   pub ranges-each : Each (λ m. length (spans_of m) ≡ range_count re) (utf8_answers re text start)
   ranges-each =
-      let tree = byte_tree re in
-      Each-map (IsAnswerOf tree.root (as_utf8 re text)) (λ m. length (spans_of m) ≡ range_count re)
+      let tree = tree_for_byte_units re in
+      Each-map (IsAnswerOf tree.root (bytes_as_utf8_text re text)) (λ m. length (spans_of m) ≡ range_count re)
       (λ m is. let count = spans-count m in let groups = is.count in omega (arith, count, groups)) (utf8_answers re text start)
-      (answers-IsAnswerOf tree.root (as_utf8 re text) (utf8_text-IsText text tree.flags.unicode) start)
+      (answers-IsAnswerOf tree.root (bytes_as_utf8_text re text) (utf8_text-IsText text tree.flags.unicode) start)
 
   -- and so has each match that an iterator in it yields
-  pub ranges-come : (per_unit work : ℕ) (it : WorkView) → YieldsWithinWork (byte_tree re) (as_utf8 re text) start per_unit work it
+  pub ranges-come : (per_unit work : ℕ) (it : RemainingAnswersAndWork) → YieldsMatchesIfWorkSuffices (tree_for_byte_units re) (bytes_as_utf8_text re text) start per_unit work it
       → Each (λ m. length (spans_of m) ≡ range_count re) it.come.answers
   ranges-come per_unit work it yields = subst (Each (λ m. length (spans_of m) ≡ range_count re)) (sym yields.answers) ranges-each
 
-  module _ (per_unit work left : ℕ) (it behind : WorkView) (before after : List Span) (reply : Reply)
-      (is : IsUtf8 text) (can : can_start_utf8 text start) (fits : range_count re ≤ length before) (bound : IsWorkBoundOfBothPrograms re per_unit)
-      (yields : YieldsWithinWork (byte_tree re) (as_utf8 re text) start per_unit work it) (left_is : left ≡ behind.left) where
+  module _ (per_unit work left : ℕ) (it behind : RemainingAnswersAndWork) (before after : List Span) (reply : Reply)
+      (is : IsUtf8 text) (can : can_start_utf8 text start) (fits : range_count re ≤ length before) (bound : IsHigherOfProgramWorkBounds re per_unit)
+      (yields : YieldsMatchesIfWorkSuffices (tree_for_byte_units re) (bytes_as_utf8_text re text) start per_unit work it) (left_is : left ≡ behind.left) where
     ends : (w : Written) (e : Ending) → EndsIterator (range_count re) (length before) it behind w e → EndsInWork re text work left (length before) w e
     ends w full h = h
     ends w over h = h
@@ -198,22 +198,22 @@ not-held held bytes start work before reply none r =
 -- ---- By a bounded pattern
 
 -- The text of these bytes, and the pattern that a bound was computed for.
-module _ (re : Regex) (bytes : List ℕ) (start work : ℕ) (text : Bor (List ℕ)) (bounds : Option BoundedView) (bounded : BoundedView) (it : WorkView) (ranges : ℕ)
-    (starts : Starts bytes start (Ok text)) (same : IfSome bounds (λ b. b.re ≡ re)) (each : IfSome bounds (λ b. IsWorkBoundOfBothPrograms re b.per_unit)) (is : bounds ≡ Some bounded)
-    (yields : YieldsWithinWork (byte_tree bounded.re) (as_utf8 bounded.re text.now) start bounded.per_unit work it) (ranges_is : ranges ≡ range_count re) where
+module _ (re : Regex) (bytes : List ℕ) (start work : ℕ) (text : Bor (List ℕ)) (bounds : Option BoundedView) (bounded : BoundedView) (it : RemainingAnswersAndWork) (ranges : ℕ)
+    (starts : Starts bytes start (Ok text)) (same : IfSome bounds (λ b. b.re ≡ re)) (each : IfSome bounds (λ b. IsHigherOfProgramWorkBounds re b.per_unit)) (is : bounds ≡ Some bounded)
+    (yields : YieldsMatchesIfWorkSuffices (tree_for_byte_units bounded.re) (bytes_as_utf8_text bounded.re text.now) start bounded.per_unit work it) (ranges_is : ranges ≡ range_count re) where
   of_re : bounded.re ≡ re
   of_re = subst (λ o. IfSome o (λ b. b.re ≡ re)) is same
 
-  by_re : YieldsWithinWork (byte_tree re) (as_utf8 re bytes) start bounded.per_unit work it
+  by_re : YieldsMatchesIfWorkSuffices (tree_for_byte_units re) (bytes_as_utf8_text re bytes) start bounded.per_unit work it
   by_re =
-      subst (λ r. YieldsWithinWork (byte_tree r) (as_utf8 r bytes) start bounded.per_unit work it) of_re
-      (subst (λ t. YieldsWithinWork (byte_tree bounded.re) (as_utf8 bounded.re t) start bounded.per_unit work it) starts.0 yields)
+      subst (λ r. YieldsMatchesIfWorkSuffices (tree_for_byte_units r) (bytes_as_utf8_text r bytes) start bounded.per_unit work it) of_re
+      (subst (λ t. YieldsMatchesIfWorkSuffices (tree_for_byte_units bounded.re) (bytes_as_utf8_text bounded.re t) start bounded.per_unit work it) starts.0 yields)
 
   pub each-ranges : Each (λ m. length (spans_of m) ≡ ranges) it.come.answers
   each-ranges = subst (λ n. Each (λ m. length (spans_of m) ≡ n) it.come.answers) (sym ranges_is) (ranges-come re bytes start bounded.per_unit work it by_re)
 
-  pub writes : (left : ℕ) (behind : WorkView) (before after : List Span) (reply : Reply) → ranges ≤ length before → left ≡ behind.left
+  pub writes : (left : ℕ) (behind : RemainingAnswersAndWork) (before after : List Span) (reply : Reply) → ranges ≤ length before → left ≡ behind.left
       → WritesInWork ranges it behind before after reply → RepliesOutcome re bytes start work left before after reply
   writes left behind before after reply room left_is w =
       has-written re bytes start bounded.per_unit work left it behind before after reply starts.1 starts.2 (subst (λ n. n ≤ length before) ranges_is room)
-      (subst (λ o. IfSome o (λ b. IsWorkBoundOfBothPrograms re b.per_unit)) is each) by_re left_is (subst (λ n. WritesInWork n it behind before after reply) ranges_is w)
+      (subst (λ o. IfSome o (λ b. IsHigherOfProgramWorkBounds re b.per_unit)) is each) by_re left_is (subst (λ n. WritesInWork n it behind before after reply) ranges_is w)

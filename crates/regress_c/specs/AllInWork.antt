@@ -1,8 +1,8 @@
 -- The matches that one call writes within a work budget, and why it writes no more.
 use Rattle.std.specs.Prelude.{◌≡◌, ◌<◌, ◌≤◌, ◌+◌, ◌*◌, ◌++◌, ℕ, false, List, [], Option, Some, None, Result, Ok, Err, IsUtf8, flat_map, length}
 use Rattle.regex_meaning.specs.Laws.{Each}
-use Rattle.regex_meaning.specs.GroupsByNumberAndName.{Answer}
-use Rattle.regress_exec.specs.WorkLimits.{WorkView}
+use Rattle.regex_meaning.specs.MatchGroupsByNumberAndName.{Answer}
+use Rattle.regress_exec.specs.AttemptsAndMatchesWithinWork.{RemainingAnswersAndWork}
 use Rattle.regress_exec.specs.declared.exec.work_matches.WorkError.{WorkError}
 use Rattle.regress_exec.specs.declared.exec.work_matches.WorkError.TheVariants as worked
 use Rattle.regress_match.specs.ProgramTreesAndAnswers.{utf8_answers}
@@ -48,7 +48,7 @@ spans_written w before = written_over (flat_map spans_of w.found) before
 
 -- The iterator yields matches with `ranges` ranges each, and has the view `before` at first and
 -- `behind` at last.
-module _ (ranges room : ℕ) (before behind : WorkView) where
+module _ (ranges room : ℕ) (before behind : RemainingAnswersAndWork) where
   -- When no further match of the iterator is written.
   abbrev pub EndsIterator : Written → Ending → Type 0
   EndsIterator w full = room < (length w.found + 1) * ranges
@@ -63,7 +63,7 @@ module _ (ranges room : ℕ) (before behind : WorkView) where
     pub ends : EndsIterator w w.ending
 
 -- The matches of an iterator are written, and the reply says how many.
-abbrev pub WritesInWork : (ranges : ℕ) → (before behind : WorkView) → (old new : List Span) → Reply → Type 0
+abbrev pub WritesInWork : (ranges : ℕ) → (before behind : RemainingAnswersAndWork) → (old new : List Span) → Reply → Type 0
 WritesInWork ranges before behind old new reply = (w : Written)
     × IsWritten ranges (length old) before behind w × (reply ≡ written_reply w) × (new ≡ spans_written w old)
 

@@ -1,12 +1,13 @@
 -- The matches that one call writes, and the offset from which the search continues.
 use Rattle.std.specs.Prelude.{◌≡◌, ◌≢◌, ◌<◌, ◌+◌, ◌*◌, ℕ, false, List, [], ◌++◌, Option, Some, None, Result, Ok, Err, IsSome, flat_map, length}
 use Rattle.regex_meaning.specs.Laws.{Each}
-use Rattle.regex_meaning.specs.GroupsByNumberAndName.{Answer}
+use Rattle.regex_meaning.specs.MatchGroupsByNumberAndName.{Answer}
 use Rattle.regex_meaning.specs.StepBudget.{IsBudgetAtMost, answers_within, finishes_within}
 use Rattle.regex_meaning.specs.Text.{Text}
 use Rattle.regex_meaning.specs.Tree.{Tree, group_ids}
 use Rattle.regress_exec.specs.declared.exec.SearchError.TheVariants.{Memory, StepLimit}
-use Rattle.regress_match.specs.ProgramTreesAndAnswers.{IsBoundaryOrPastEnd, as_ucs2, as_utf16, as_utf8, byte_tree, unit_tree}
+use Rattle.regress_match.specs.ProgramTreesAndAnswers.{IsBoundaryOrPastEnd, units_as_ucs2_text, units_as_utf16_text, bytes_as_utf8_text, tree_for_byte_units}
+use Rattle.regress_match.specs.ProgramTreesAndAnswers.{tree_for_16_bit_units}
 use Rattle.regress_match.specs.Resuming.{IsExhaustedFrom, FindInTurn, budget_after}
 use Rattle.regress_match.specs.declared.api.regex.Regex.{Regex}
 use Rattle.regress_c.specs.Codes.{code_of, done, no_match, of_search}
@@ -81,15 +82,15 @@ module _ (tree : Tree) (text : Text) where
 
 -- The tree of the program for texts in this encoding.
 abbrev pub tree_by : Regex → Encoding → Tree
-tree_by re Utf8 = byte_tree re
-tree_by re Utf16 = unit_tree re
-tree_by re Ucs2 = unit_tree re
+tree_by re Utf8 = tree_for_byte_units re
+tree_by re Utf16 = tree_for_16_bit_units re
+tree_by re Ucs2 = tree_for_16_bit_units re
 
 -- The text of a search, read in this encoding.
 abbrev pub text_by : Regex → Search → Encoding → Text
-text_by re s Utf8 = as_utf8 re s.bytes.now
-text_by re s Utf16 = as_utf16 re s.units.now
-text_by re s Ucs2 = as_ucs2 re s.units.now
+text_by re s Utf8 = bytes_as_utf8_text re s.bytes.now
+text_by re s Utf16 = units_as_utf16_text re s.units.now
+text_by re s Ucs2 = units_as_ucs2_text re s.units.now
 
 -- The offset from which the search continues splits no character.
 abbrev pub CanGoOn : Search → Encoding → Type 0

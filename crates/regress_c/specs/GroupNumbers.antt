@@ -1,7 +1,7 @@
 -- The number of a group by its name.
 use Rattle.std.specs.Prelude.{ℕ, ◌+◌, List, [], ◌∷◌, Option, Some, None, bytes_eq, option_map, slice_get}
-use Rattle.regex_meaning.specs.GroupsByNumberAndName.{group_names_by_id, ids_where}
-use Rattle.regress_match.specs.ProgramTreesAndAnswers.{byte_tree}
+use Rattle.regex_meaning.specs.MatchGroupsByNumberAndName.{group_names_by_id, ids_where}
+use Rattle.regress_match.specs.ProgramTreesAndAnswers.{tree_for_byte_units}
 use Rattle.regress_match.specs.declared.api.regex.Regex.{Regex}
 use Rattle.regress_c.specs.Codes.{code_of, done}
 use Rattle.regress_c.specs.declared.refusal.Refusal.TheVariants.{Empty, NoGroup}
@@ -15,7 +15,7 @@ first_id_named name names = slice_get (ids_where (bytes_eq name) 0 names) 0
 -- group without a name.
 abbrev pub number_of_name : Regex → (name : List ℕ) → Option ℕ
 number_of_name re [] = None
-number_of_name re (c ∷ name) = option_map (λ id. id + 1) (first_id_named (c ∷ name) (group_names_by_id (byte_tree re).root))
+number_of_name re (c ∷ name) = option_map (λ id. id + 1) (first_id_named (c ∷ name) (group_names_by_id (tree_for_byte_units re).root))
 
 -- The reply with a number, or `NoGroup` without one.
 abbrev pub numbered_reply : Option ℕ → Reply

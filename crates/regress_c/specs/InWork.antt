@@ -1,10 +1,10 @@
 -- The results of a search within a work budget.
 use Rattle.std.specs.Prelude.{◌≡◌, ◌<◌, ◌≤◌, ℕ, List, Option, Some, None, Result, Ok, Err, IsUtf8, length, option_map, slice_get}
-use Rattle.regex_meaning.specs.GroupsByNumberAndName.{Answer}
-use Rattle.regress_exec.specs.MatchAnswers.{answer_of}
+use Rattle.regex_meaning.specs.MatchGroupsByNumberAndName.{Answer}
+use Rattle.regress_exec.specs.MatchesAsSpecAnswers.{answer_of}
 use Rattle.regress_exec.specs.declared.exec.Match.{Match}
-use Rattle.regress_match.specs.ProgramTreesAndAnswers.{as_utf8, utf8_answers}
-use Rattle.regress_match.specs.WorkBounds.{IsWorkBoundOfBothPrograms, total_work}
+use Rattle.regress_match.specs.ProgramTreesAndAnswers.{bytes_as_utf8_text, utf8_answers}
+use Rattle.regress_match.specs.WorkBounds.{IsHigherOfProgramWorkBounds, enough_work_for_text}
 use Rattle.regress_match.specs.declared.api.regex.Regex.{Regex}
 use Rattle.regress_c.specs.Codes.{code_of, done}
 use Rattle.regress_c.specs.Replies.{left_by, reply_to}
@@ -16,7 +16,7 @@ use Rattle.regress_c.specs.declared.reply.Span.{Span}
 
 -- No work is left, and the budget was less than the pattern's bound requires for the text.
 abbrev pub IsUsedUp : Regex → (text : List ℕ) → (work left : ℕ) → Type 0
-IsUsedUp re text work left = (left ≡ 0) × ((per_unit : ℕ) × IsWorkBoundOfBothPrograms re per_unit × (work < total_work per_unit (as_utf8 re text)))
+IsUsedUp re text work left = (left ≡ 0) × ((per_unit : ℕ) × IsHigherOfProgramWorkBounds re per_unit × (work < enough_work_for_text per_unit (bytes_as_utf8_text re text)))
 
 -- The result is the first match from `start` on, or `None` exactly if there is none; or a refusal.
 abbrev pub IsFirstInWork : Regex → (text : List ℕ) → (start work : ℕ) → Result (Option Match) Refusal → (left : ℕ) → Type 0
@@ -45,7 +45,7 @@ RepliesInWork held text start work left before after reply = (found : Result (Op
 -- The result is the work bound of the handle's pattern, or why there is none.
 abbrev pub Reckons : (held : Option Regex) → Result ℕ Refusal → Type 0
 Reckons None result = result ≡ Err Empty
-Reckons (Some re) (Ok per_unit) = IsWorkBoundOfBothPrograms re per_unit
+Reckons (Some re) (Ok per_unit) = IsHigherOfProgramWorkBounds re per_unit
 Reckons (Some re) (Err NoBound) = Unit {0}
 Reckons (Some re) (Err Memory) = Unit {0}
 Reckons (Some re) (Err _) = ⊥

@@ -1,7 +1,7 @@
 -- The match at one offset, in each encoding of the text.
 use Rattle.std.specs.Prelude.{ℕ, List, [], ◌∷◌, Option, Some, None, false}
-use Rattle.regex_meaning.specs.GroupsByNumberAndName.{Answer}
-use Rattle.regress_match.specs.ProgramTreesAndAnswers.{ucs2_answer_at, utf16_answer_at, utf8_answer_at}
+use Rattle.regex_meaning.specs.MatchGroupsByNumberAndName.{Answer}
+use Rattle.regress_match.specs.ProgramTreesAndAnswers.{ucs2_answer_beginning_at, utf16_answer_beginning_at, utf8_answer_beginning_at}
 use Rattle.regress_match.specs.declared.api.regex.Regex.{Regex}
 use Rattle.regress_c.specs.Searching.{Coming}
 
@@ -12,12 +12,12 @@ at_most_one (Some m) = m ∷ []
 
 -- The match that begins at `at` in a UTF-8 text.
 abbrev pub utf8_coming_at : (text : List ℕ) → Regex → (at : ℕ) → Coming
-utf8_coming_at text re at = record { answers = at_most_one (utf8_answer_at re text at); limited = false }
+utf8_coming_at text re at = record { answers = at_most_one (utf8_answer_beginning_at re text at); limited = false }
 
 -- The match that begins at `at` in a UTF-16 text.
 abbrev pub utf16_coming_at : (text : List ℕ) → Regex → (at : ℕ) → Coming
-utf16_coming_at text re at = record { answers = at_most_one (utf16_answer_at re text at); limited = false }
+utf16_coming_at text re at = record { answers = at_most_one (utf16_answer_beginning_at re text at); limited = false }
 
 -- The match that begins at `at` in a UCS-2 text.
 abbrev pub ucs2_coming_at : (text : List ℕ) → Regex → (at : ℕ) → Coming
-ucs2_coming_at text re at = record { answers = at_most_one (ucs2_answer_at re text at); limited = false }
+ucs2_coming_at text re at = record { answers = at_most_one (ucs2_answer_beginning_at re text at); limited = false }

@@ -1,7 +1,7 @@
 -- The reply to the result of a search, and the caller's buffer afterwards.
 use Rattle.std.specs.Prelude.{ℕ, ◌-◌, ◌^◌, ◌++◌, List, Option, Some, None, Result, Ok, Err, drop, length, map, nat_le, if◌then◌else◌}
-use Rattle.regex_meaning.specs.GroupsByNumberAndName.{Answer}
-use Rattle.regress_exec.specs.MatchAnswers.{answer_of}
+use Rattle.regex_meaning.specs.MatchGroupsByNumberAndName.{Answer}
+use Rattle.regress_exec.specs.MatchesAsSpecAnswers.{answer_of}
 use Rattle.regress_exec.specs.GroupIterators.{all_groups}
 use Rattle.regress_exec.specs.declared.exec.Match.{Match}
 use Rattle.regress_c.specs.Codes.{code_of, done, no_match}

@@ -3,10 +3,10 @@ use Rattle.std.specs.Prelude.{◌≡◌, ◌≤◌, ◌+◌, ◌-◌, ℕ, List,
 use Rattle.std.specs.Prelude.{nat_le, if◌then◌else◌}
 use Rattle.std.specs.List.{sum_by}
 use Rattle.regex_meaning.specs.FlagLettersAndEscaping.{escape}
-use Rattle.regex_meaning.specs.GroupsByNumberAndName.{Answer, group_names_by_id}
+use Rattle.regex_meaning.specs.MatchGroupsByNumberAndName.{Answer, group_names_by_id}
 use Rattle.regex_meaning.specs.Replace.{replaced}
 use Rattle.regex_meaning.specs.Tree.{group_ids}
-use Rattle.regress_match.specs.ProgramTreesAndAnswers.{byte_tree, utf8_answers}
+use Rattle.regress_match.specs.ProgramTreesAndAnswers.{tree_for_byte_units, utf8_answers}
 use Rattle.regress_match.specs.ExpansionsAndMatchRanges.{matches_with_expansions}
 use Rattle.regress_match.specs.declared.api.regex.Regex.{Regex}
 use Rattle.regress_c.specs.Codes.{code_of, done}
@@ -77,7 +77,7 @@ Escapes text (Err _) = ⊥
 
 -- The number of ranges of a match: one for the whole, and one for each group.
 abbrev pub range_count : Regex → ℕ
-range_count re = length (group_ids (byte_tree re).root) + 1
+range_count re = length (group_ids (tree_for_byte_units re).root) + 1
 
 -- The reply with the number of ranges, which is refused if the handle is empty.
 abbrev pub count_reply : (held : Option Regex) → Reply
@@ -87,8 +87,8 @@ count_reply (Some re) = record { code = done; count = range_count re }
 -- The result is the name of a group, which is empty if it has none, or `NoGroup` if there is no
 -- such group.
 abbrev pub Names : Regex → (number : ℕ) → Result (List ℕ) Refusal → Type 0
-Names re number (Ok name) = (1 ≤ number) × (number ≤ length (group_ids (byte_tree re).root)) × (name ≡ get_or (group_names_by_id (byte_tree re).root) (number - 1) [])
-Names re number (Err NoGroup) = ¬ ((1 ≤ number) × (number ≤ length (group_ids (byte_tree re).root)))
+Names re number (Ok name) = (1 ≤ number) × (number ≤ length (group_ids (tree_for_byte_units re).root)) × (name ≡ get_or (group_names_by_id (tree_for_byte_units re).root) (number - 1) [])
+Names re number (Err NoGroup) = ¬ ((1 ≤ number) × (number ≤ length (group_ids (tree_for_byte_units re).root)))
 Names re number (Err _) = ⊥
 
 -- The result with the handle's pattern, which is refused if the handle is empty.

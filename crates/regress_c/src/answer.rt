@@ -4,7 +4,8 @@ ghost use Rattle.std.specs.Prelude.{◌≡◌, ◌<◌, ◌≤◌, IfSome, Some,
 ghost use Rattle.std.specs.List.{sum_by};
 ghost use Rattle.std.specs.Result.{result_map_both};
 ghost use Rattle.regress_c.specs.Compiling.{given};
-ghost use Rattle.regress_c.specs.Texts.{Diagnoses, Escapes, Names, Replaces, ReplacesBy, RepliesText, RepliesTold, count_reply, left_by_made, left_by_text, made_reply, text_reply};
+ghost use Rattle.regress_c.specs.Texts.{Diagnoses, Escapes, Names, Replaces, ReplacesBy, RepliesText, RepliesTold, count_reply, left_by_made, left_by_text, made_reply};
+ghost use Rattle.regress_c.specs.Texts.{text_reply};
 ghost use Rattle.regress_c.specs.{Codes.{done}, GroupNumbers.{first_id_named, number_reply}, Messages.{message_of as message_text}};
 
 use crate::flags::flags_from;

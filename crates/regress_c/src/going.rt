@@ -5,15 +5,16 @@ ghost use Rattle.regress_c.specs.Codes.{code_of as number_of};
 ghost use Rattle.regress_c.specs.Going.{Fills, FillsFrom, FillsIn, RepliesNext, code_of_stop, ranges_of as ranges_by, tree_by};
 ghost use Rattle.regress_c.specs.{Searching.{can_start_utf8, can_start_utf16}, Replies.{spans_of}};
 ghost use Rattle.regex_meaning.specs.CodeUnitOffsets.{units};
-ghost use Rattle.regress_exec.specs.MatchAnswers.{answer_of};
-ghost use Rattle.regress_match.specs.ProgramTreesAndAnswers.{IsBoundaryOrPastEnd, as_ucs2, as_utf16, as_utf8, byte_tree, unit_tree};
+ghost use Rattle.regress_exec.specs.MatchesAsSpecAnswers.{answer_of};
+ghost use Rattle.regress_match.specs.ProgramTreesAndAnswers.{IsBoundaryOrPastEnd, units_as_ucs2_text, units_as_utf16_text, bytes_as_utf8_text, tree_for_byte_units};
+ghost use Rattle.regress_match.specs.ProgramTreesAndAnswers.{tree_for_16_bit_units};
 
 use crate::opening::{cuts_utf8, cuts_utf16};
 use crate::pattern::Pattern;
 use crate::refusal::{DONE, NO_MATCH, Refusal};
 use crate::reply::{Reply, Span, write_at};
 use crate::search::{Encoding, Search};
-use regress_exec::search_loop::AnchoredSearch;
+use regress_exec::search_loop::SingleAttemptExecutor;
 use regress_match::{Regex, SearchError, Step, next_from};
 use std::alloc::Global;
 
@@ -152,7 +153,8 @@ fn filled_in(
 
 // Writes the next matches in a UTF-8 text.
 fn in_utf8(re: &Regex, text: &str, start: usize, spans: &mut [Span]) -> Result<Filled, Refusal>
-    ensures { FillsFrom (byte_tree re.now) (as_utf8 re.now text.now) (can_start_utf8 text.now start) None
+    ensures { FillsFrom (tree_for_byte_units re.now) (bytes_as_utf8_text re.now text.now)
+        (can_start_utf8 text.now start) None
         start spans.old spans.new result }
 {
     if cuts_utf8(text, start) {
@@ -170,7 +172,8 @@ fn in_utf8_within(
     steps: u64,
     spans: &mut [Span],
 ) -> Result<Filled, Refusal>
-    ensures { FillsFrom (byte_tree re.now) (as_utf8 re.now text.now) (can_start_utf8 text.now start)
+    ensures { FillsFrom (tree_for_byte_units re.now) (bytes_as_utf8_text re.now text.now)
+        (can_start_utf8 text.now start)
         (Some steps) start spans.old spans.new result }
 {
     if cuts_utf8(text, start) {
@@ -184,7 +187,8 @@ fn in_utf8_within(
 
 // Writes the next matches in a UTF-16 text.
 fn in_utf16(re: &Regex, units: &[u16], start: usize, spans: &mut [Span]) -> Result<Filled, Refusal>
-    ensures { FillsFrom (unit_tree re.now) (as_utf16 re.now units.now) (can_start_utf16 units.now start)
+    ensures { FillsFrom (tree_for_16_bit_units re.now) (units_as_utf16_text re.now units.now)
+        (can_start_utf16 units.now start)
         None start spans.old spans.new result }
 {
     if cuts_utf16(units, start) {
@@ -196,14 +200,16 @@ fn in_utf16(re: &Regex, units: &[u16], start: usize, spans: &mut [Span]) -> Resu
 
 // Writes the next matches in a UCS-2 text.
 fn in_ucs2(re: &Regex, units: &[u16], start: usize, spans: &mut [Span]) -> Result<Filled, Refusal>
-    ensures { FillsFrom (unit_tree re.now) (as_ucs2 re.now units.now) (Unit {0}) None start spans.old spans.new result }
+    ensures { FillsFrom (tree_for_16_bit_units re.now) (units_as_ucs2_text re.now units.now) (Unit {0}) None
+        start spans.old
+        spans.new result }
 {
     let mut executor = re.ucs2_search(units)?;
     Ok(fill(&mut executor, start, re.unit_group_count() + 1, spans))
 }
 
 // Writes matches from an offset on, as many as there is room for, each with `ranges` ranges.
-fn fill<E: AnchoredSearch>(
+fn fill<E: SingleAttemptExecutor>(
     search: &mut E,
     start: usize,
     ranges: usize,
@@ -256,7 +262,7 @@ fn write_step(step: Step, count: usize, at: usize, spans: &mut [Span]) -> usize
 }
 
 // Returns `usize::MAX`, which is past the end of every text.
-fn past_end<E: AnchoredSearch>(search: &E) -> usize
+fn past_end<E: SingleAttemptExecutor>(search: &E) -> usize
     ensures greatest { result ≡ usize.MAX }
     ensures past { units (E.text search.now) < result }
 {

@@ -2,7 +2,7 @@
 
 ghost use Rattle.std.specs.Prelude.{◌≡◌, ◌≤◌, ◌+◌, ◌++◌, Ok, Some, drop, length, option_map, take};
 ghost use Rattle.regress_c.specs.Replies.{left_by, reply_to, span_of, spans_of, written_over};
-ghost use Rattle.regress_exec.specs.MatchAnswers.{answer_of, range_of};
+ghost use Rattle.regress_exec.specs.MatchesAsSpecAnswers.{answer_of, range_as_pair};
 
 use crate::refusal::{DONE, NO_MATCH, Refusal};
 use regress_match::{Match, Range};
@@ -26,7 +26,7 @@ pub struct Reply {
 
 // Returns the span of a range, or that of a group that did not match.
 fn to_span(range: Option<Range<usize>>) -> Span
-    ensures { result ≡ span_of (option_map range_of range) }
+    ensures { result ≡ span_of (option_map range_as_pair range) }
 {
     match range {
         Some(range) => Span {

@@ -2,7 +2,7 @@
 
 ghost use Rattle.std.specs.Prelude.{◌≡◌};
 ghost use Rattle.regress_c.specs.{InWork.{FindsInWork, FindsInWorkBy, IsFirstInWork, Reckons, RepliesReckoned}, Searching.{can_start_utf8}};
-ghost use Rattle.regress_match.specs.WorkBounds.{IsWorkBoundOfBothPrograms};
+ghost use Rattle.regress_match.specs.WorkBounds.{IsHigherOfProgramWorkBounds};
 
 use crate::pattern::Pattern;
 use crate::refusal::{DONE, Refusal};
@@ -49,7 +49,7 @@ fn first_in_work(
     work: &mut u64,
 ) -> Result<Option<Match>, Refusal>
     requires start { can_start_utf8 text.now start }
-    requires enough { IsWorkBoundOfBothPrograms bounded.now.re bounded.now.per_unit }
+    requires enough { IsHigherOfProgramWorkBounds bounded.now.re bounded.now.per_unit }
     ensures { IsFirstInWork bounded.now.re text.now start work.old result work.new }
 {
     let mut matches = bounded.find_from(text, start, *work)?;

@@ -4,26 +4,29 @@ use crate::rows::{Row, compare};
 use regex_pattern_front::flags::Flags;
 use regex_pattern_front::ir::Regex;
 use regex_pattern_front::parse::try_parse;
-use regress_program::emit::emit;
-use regress_program::insn::StartPredicate;
+use regress_program::emit::{emit, emit_units};
 use std::alloc::{AllocError, Global};
 
-// Rows of three fields: a pattern, `m` or nothing for its flags, and whether its program is tried there alone.
+// Rows of three fields: a pattern, `m` or nothing for its flags, and whether its programs are anchored.
 pub const ANCHORED: &str = "\
 ^a~~true
 ^a~m~false
 ^a|b~~false
+^a|^b~~true
+(?<=^b)a~~false
+(?=^)a~~false
+(?:^a)+~~false
 (^a)b~~true";
 
-// Whether the program of a tree is one.
+// Returns whether the programs of a tree for bytes and for 16-bit units are anchored, or that only one is.
 fn anchored(alloc: Global, tree: &Regex) -> &'static str {
-    match emit(alloc, tree) {
-        Ok(program) => match program.start_pred() {
-            StartPredicate::StartAnchored => "true",
-            _ => "false",
-        },
-        Err(_) => "no program",
+    let (Ok(bytes), Ok(units)) = (emit(alloc, tree), emit_units(alloc, tree)) else {
+        return "no program";
+    };
+    if bytes.is_anchored() != units.is_anchored() {
+        return "one of two";
     }
+    if units.is_anchored() { "true" } else { "false" }
 }
 
 pub fn check_anchored(

@@ -1,4 +1,4 @@
-//! The texts of errors, and what is told of patterns that are refused.
+//! The texts of errors, and the diagnoses of patterns that are refused.
 
 use regress_match::emit::EmitError;
 use regress_match::{Error, Flags, Regex, ReplaceError, SearchError};
@@ -65,7 +65,7 @@ fn write_told(text: &mut String, pattern: &str, flags: &str) -> Result<(), Alloc
     }
 }
 
-// A pattern with its flags, and what is told of it.
+// A pattern, its flags, and the text of its diagnosis.
 const TOLD: [(&str, &str, &str); 6] = [
     (
         "é(a|b",

@@ -3,13 +3,13 @@
 use regress_match::backends::{emit, emit_units, optimize};
 use regress_match::{Error, Flags, Regex};
 use regress_program::emit::EmitError;
-use regress_program::insn::CompiledUnits;
+use regress_program::insn::CompiledRegexFor16BitUnits;
 use regress_trees::tree_of;
 use std::alloc::Global;
 
 // The program for 16-bit units of a tree in words. A tree with bytes has none, and is not to be searched for in them; it
 // gets that of the tree that has an empty match everywhere.
-fn units_of(alloc: Global, words: &str) -> Result<CompiledUnits, Error> {
+fn units_of(alloc: Global, words: &str) -> Result<CompiledRegexFor16BitUnits, Error> {
     let tree = tree_of(alloc, words).ok_or(Error::Memory)?;
     match emit_units(alloc, &tree) {
         Err(EmitError::BytesInUnits) => {

@@ -15,6 +15,8 @@ use std::alloc::Global;
 pub const REMEMBERED: &str = "\
 (?:a|a)*b~aaaaaaaaaaaaaaaaaaaaaaaaaaaaaaaaaaaaaaaaaaaaaaaaaaaaaaaaaaaa~
 (a*)*b~aaaaaaaaaaaaaaaaaaaaaaaaaaaaaaaaaaaaaaaaaaaaaaaaaaaaaaaaaaaa~
+.*.*.*.*.*.*.*.*x~aaaaaaaaaaaaaaaaaaaaaaaaaaaaaaaaaaaaaaaaaaaaaaaaaaaaaaaaaaaa~
+.*?.*?.*?.*?.*?.*?.*?.*?x~aaaaaaaaaaaaaaaaaaaaaaaaaaaaaaaaaaaaaaaaaaaaaaaaaaaaaaaaaaaa~
 (x+x+)+y~xxxxxxxxxxxxxxxxxxxxxxxxxxxxxxxxxxxxxxxxxxxxxxxxxxxxxxxxxxxx~
 (?:){4294967295}~~0..0
 (){4294967295}~a~0..0 0..0; 1..1 1..1

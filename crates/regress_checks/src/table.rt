@@ -111,6 +111,12 @@ a\B.~~aa~all~0..2
 ^a~m~ba~1~
 ^a~m~b␤a~1~2..3
 ^a|a~~ba~0~1..2
+^a|^b~~xb~0~
+^a|^b~~ab~1~
+^a|b~~ab~0~0..1; 1..2
+(?<=^)a~~aa~all~0..1
+(?<=^b)a~~baa~all~1..2
+(?<=^)a~m~b␤a~all~2..3
 b~~abéb~first~1..2
 b~~é~first~
 b~~abéb~all~1..2; 4..5

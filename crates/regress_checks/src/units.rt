@@ -40,6 +40,10 @@ b~~61 62 E9 62~both~3~3..4
 b~~61 62 E9 62~both~4~
 b~~61 62 E9 62~both~5~
 b|é~~61 62 E9 62~both~2~2..3; 3..4
+^.~~D800 61~both~0~0..1
+^a~~D800 61 61~both~0~
+^a~~61 61~both~1~
+^a~m~D800 A 61~both~0~2..3
 b~~E9~both~first~
 b~new~E9~both~first~
 cat:2 any goal~tree~E9 20AC~both~0~0..1; 1..2

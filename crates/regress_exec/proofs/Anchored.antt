@@ -1,42 +1,54 @@
--- Where the start predicate rules places out, no match begins there; and what stands one character on.
-use Rattle.std.proofs.Common.{◌≡◌, ℕ, ◌+◌, ◌<◌, ◌≤◌, List, [], ◌∷◌, Option, Some, None, Bool, true, false, refl, ap, sym, ◌∙◌, subst, arith, inl, inr}
-use Rattle.std.proofs.lemmas.Bool.{cases_lt, eqb-true}
-use Rattle.std.specs.Prelude.{option_map, option_and_then, IsTrue, is_some}
-use Rattle.std.specs.Option.{option_map_or}
+-- Where the start predicate rules places out, or the tree is anchored, no match begins there; and what stands one character on.
+use Rattle.std.proofs.Common.{◌≡◌, ℕ, zero, suc, ◌+◌, ◌<◌, ◌≤◌, List, [], ◌∷◌, ◌++◌, length, map, flat_map, slice_get, Some, None, Bool, true, false, refl, ap, ap₂, sym}
+use Rattle.std.proofs.Common.{subst, arith}
+use Rattle.std.proofs.Common.{inl, inr}
+use Rattle.std.proofs.lemmas.Bool.{cases_lt}
+use Rattle.std.specs.Prelude.{option_map, option_and_then, IsTrue}
 use Rattle.std.specs.List.{list_all}
-use Rattle.regex_meaning.specs.Tree.{Tree}
-use Rattle.regex_meaning.specs.Text.{Text, rightwards, last_place, is_scalar}
+use Rattle.regex_meaning.specs.Tree.{Node, alt, anchor, capture_group, cat, start_of_line, Tree}
+use Rattle.regex_meaning.specs.Text.{Text, rightwards, last_place, is_scalar, character_before}
 use Rattle.regex_meaning.specs.CodeUnitOffsets.{HasRisingPlaceOffsets, IsBoundary, place_at, offset, read, units}
-use Rattle.regex_meaning.specs.Outcomes.{Outcome, outcomes}
+use Rattle.regex_meaning.specs.Outcomes.{Groups, Outcome, captured, cleared, empty_match_if, is_line_boundary, outcomes}
 use Rattle.regex_meaning.specs.FirstAndAllMatches.{first_outcome, match_at, no_groups}
-use Rattle.regex_meaning.specs.StartPredicate.{StartPredicate, start_arbitrary, start_byte_set, start_byte_sequence, start_anchored, start_predicate}
+use Rattle.regex_meaning.specs.StartPredicate.{is_anchored, start_predicate}
 use Rattle.regex_meaning.specs.StartPredicate.{may_start}
 use Rattle.regex_meaning.specs.WellFormedTrees.{is_well_formed}
+use Rattle.regex_meaning.proofs.Booleans.{and-left, and-right}
 use Rattle.regex_meaning.proofs.TextLemmas.{IsBoundary-place, offset-IsBoundary, offset-less, offset-le, place-less}
 use Rattle.regex_meaning.proofs.Sound.{predicate-holds}
 use Rattle.regress_program.specs.CompilationOfTreesAsFunction.{compiled}
-use Rattle.regress_exec.specs.Attempts.{is_anchored_predicate, offset_after_failed_attempt, NextStartSkipsNoMatch, NoMatchAt, NoMatchStartsBetween, match_end_and_groups_at}
+use Rattle.regress_program.specs.StartPredicatesAndWhenTheyAllocate.{is_anchored_tree}
+use Rattle.regress_exec.specs.AttemptResultsAndStartsToTry.{offset_after_failed_attempt, NextStartSkipsNoMatch, NoMatchAt, NoMatchStartsBetween, match_end_and_groups_at}
 use Rattle.regress_exec.proofs.FirstMatch.{vain-at, read-inside, read-end}
 
 pub predicate-compiled : (tree : Tree) → (compiled tree).start_pred ≡ start_predicate tree
 unfolding compiled
 predicate-compiled tree = refl
 
-anchors-is : (p : StartPredicate) → is_anchored_predicate p ≡ true → p ≡ start_anchored
-anchors-is start_arbitrary e = cc
-anchors-is (start_byte_set members) e = cc
-anchors-is (start_byte_sequence bytes) e = cc
-anchors-is start_anchored e = refl
+-- ---- Anchored nodes
 
--- a predicate that is known says whether matches stand at the left end alone
-pub anchored-by : {X : Type 0} (o : Option X) (f : X → StartPredicate) (p : StartPredicate) (anchored : Bool) → anchored ≡ option_map_or (λ x. is_anchored_predicate (f x)) o false
-    → option_map f o ≡ option_map (λ x. p) o → anchored ≡ true → (p ≡ start_anchored) × IsTrue (is_some o)
-anchored-by None f p anchored e same is = cc
-anchored-by (Some x) f p anchored e same is = (let known : f x ≡ p = cc in anchors-is p (ap is_anchored_predicate (sym known) ∙ sym e ∙ is), refl)
+no-boundary : (text : Text) (p : ℕ) → 0 < p → p ≤ last_place text → is_line_boundary (character_before text p) false ≡ false
+no-boundary text zero some within = absurd (omega (arith, some))
+no-boundary text (suc p) some within = go text.characters p within
+  where
+    go : (cs : List ℕ) (i : ℕ) → suc i ≤ length cs → is_line_boundary (slice_get cs i) false ≡ false
+    go [] i l = absurd (omega (arith, l))
+    go (c ∷ cs) zero l = refl
+    go (c ∷ cs) (suc i) l = go cs i (omega (arith, l))
 
-left-end : (text : Text) (place : ℕ) → IsTrue (may_start start_anchored text place) → place ≡ 0
-unfolding may_start
-left-end text place h = eqb-true place 0 h
+-- an anchored node has no outcome behind the left end
+nothing-behind : (text : Text) (node : Node) → is_anchored node ≡ true → (p : ℕ) (groups : Groups) → 0 < p → p ≤ last_place text
+    → outcomes text node rightwards p groups ≡ []
+unfolding outcomes
+nothing-behind text (anchor start_of_line false) h p groups some within =
+    ap (λ holds. empty_match_if holds p groups) (no-boundary text p some within)
+nothing-behind text (cat first rest) h p groups some within =
+    ap (flat_map (λ o. outcomes text rest rightwards o.end o.groups)) (nothing-behind text first h p groups some within)
+nothing-behind text (capture_group id name contents) h p groups some within =
+    ap (map (captured id p)) (nothing-behind text contents h p (cleared id 1 groups) some within)
+nothing-behind text (alt left right) h p groups some within =
+    ap₂ (λ (xs ys : List Outcome). xs ++ ys) (nothing-behind text left (and-left _ _ h) p groups some within) (nothing-behind text right (and-right _ _ h) p groups some within)
+nothing-behind text _ h p groups some within = grind arith
 
 module _ (tree : Tree) (text : Text) (is : HasRisingPlaceOffsets text) where
   -- what the predicate does not let through has no match
@@ -48,16 +60,20 @@ module _ (tree : Tree) (text : Text) (is : HasRisingPlaceOffsets text) where
       by [] e = refl
       by (o ∷ os) e = absurd (out (predicate-holds tree w text p scalars inside (λ none. cc)))
 
-  -- where outcomes stand at the left end alone, none stands behind another place
-  pub anchored-behind : IsTrue (is_well_formed tree.root) → IsTrue (list_all is_scalar text.characters) → start_predicate tree ≡ start_anchored
-      → (at : ℕ) → NextStartSkipsNoMatch tree text (at + 1) None
-  anchored-behind w scalars anchored at = λ x on le less.
+  -- an anchored tree has no match behind another offset
+  pub anchored-behind : is_anchored_tree tree ≡ true → (at : ℕ) → NextStartSkipsNoMatch tree text (at + 1) None
+  anchored-behind anchored at = λ x on le less.
       let p = IsBoundary-place text x is on in
-      ruled-out w scalars x p.0 p.1 p.3 (λ may.
-      let zero_is = left-end text p.0 (subst (λ q. IsTrue (may_start q text p.0)) anchored may) in
-      let here = ap (offset text) zero_is in
-      let first = is.from_zero in
-      absurd (omega (arith, le, p.2, here, first)))
+      let some : 0 < p.0 = elim (cases_lt 0 p.0) [
+        | inl some ↦ some
+        | inr none ↦
+            let here : p.0 ≡ 0 = omega (arith, none) in
+            let place = ap (offset text) here in
+            let first = is.from_zero in
+            absurd (omega (arith, le, p.2, place, first))
+      ] in
+      let nothing = nothing-behind text tree.root (and-right _ _ anchored) p.0 (no_groups tree.root) some p.3 in
+      vain-at tree text is x p.0 p.1 (ap (first_outcome p.0) nothing)
 
   -- nothing stands between an offset and one character on
   pub one-on : (at : ℕ) → IsBoundary text at → NextStartSkipsNoMatch tree text (at + 1) (option_map (λ (r : ℕ × ℕ). r.1) (read text rightwards at))

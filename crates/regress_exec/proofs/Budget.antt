@@ -12,12 +12,15 @@ use Rattle.regex_meaning.specs.Outcomes.{Groups, Outcome}
 use Rattle.regex_meaning.specs.StartPredicate.{StartPredicate, start_arbitrary, start_byte_set, start_byte_sequence, start_anchored, start_predicate}
 use Rattle.regex_meaning.specs.StartPredicate.{may_start}
 use Rattle.regex_meaning.specs.StepBudget.{IsBudgetAtMost, is_within, remaining_budget, need_from}
-use Rattle.regex_meaning.specs.OutcomesWithStepTicks.{TickOrOutcome, tick, pair, outcomes_without_ticks, has_no_outcome, items_at, need, ticks_at, ticks_to_first, tried_places}
+use Rattle.regex_meaning.specs.OutcomesWithStepTicks.{TickOrOutcome, tick, pair, outcomes_without_ticks, has_no_outcome, items_at, need, ticks_at, ticks_to_first}
+use Rattle.regex_meaning.specs.OutcomesWithStepTicks.{tried_places}
 use Rattle.regex_meaning.proofs.TextLemmas.{IsBoundary-place, offset-place_at, place_at-offset}
 use Rattle.regex_meaning.proofs.Options.{some-same}
-use Rattle.regress_machine.specs.SearchResults.{end_in_offsets, first_pair}
-use Rattle.regress_exec.specs.Attempts.{NoMatchAt, filtered_start_after, match_end_and_groups_at, first_of_places, first_filtered_start, next_filtered_start, ticks_of_attempt_at}
-use Rattle.regress_exec.specs.BudgetAndContinuationAfterSearch.{SpendsNeedOrReachesLimit}
+use Rattle.regress_machine.specs.SearchFindsFirstOutcomeAtPlace.{end_in_offsets, first_pair}
+use Rattle.regress_exec.specs.AttemptResultsAndStartsToTry.{NoMatchAt, filtered_start_after, match_end_and_groups_at, first_of_places, first_filtered_start}
+use Rattle.regress_exec.specs.AttemptResultsAndStartsToTry.{next_filtered_start}
+use Rattle.regress_exec.specs.AttemptResultsAndStartsToTry.{ticks_of_attempt_at}
+use Rattle.regress_exec.specs.StepBudgetAndContinuationAfterSearch.{SpendsNeedOrReachesLimit}
 use Rattle.regress_exec.specs.declared.exec.SearchError.{SearchError}
 use Rattle.regress_exec.specs.declared.exec.SearchError.TheVariants.{Memory, StepLimit}
 use Rattle.regress_exec.proofs.FirstMatch.{found-on, read-inside, read-end}

@@ -7,7 +7,7 @@ use Rattle.std.specs.Option.{option_map_or}
 use Rattle.regex_meaning.specs.Tree.{Tree}
 use Rattle.regex_meaning.specs.Text.{Text}
 use Rattle.regex_meaning.specs.CodeUnitOffsets.{HasRisingPlaceOffsets, IsBoundary, place_at, units}
-use Rattle.regex_meaning.specs.GroupsByNumberAndName.{Answer, answers_from}
+use Rattle.regex_meaning.specs.MatchGroupsByNumberAndName.{Answer, answers_from}
 use Rattle.regex_meaning.specs.SearchAnswers.{first_answer, next_start}
 use Rattle.regex_meaning.specs.StepBudget.{is_within, remaining_budget, need_from, answers_within, finishes_within, answers_next, end_next}
 use Rattle.regex_meaning.specs.OutcomesWithStepTicks.{needs}
@@ -16,7 +16,7 @@ use Rattle.regex_meaning.proofs.TextLemmas.{place_at-past}
 use Rattle.regex_meaning.proofs.AnswerLemmas.{next_start-ahead}
 use Rattle.regress_exec.specs.declared.exec.SearchError.{SearchError}
 use Rattle.regress_exec.specs.declared.exec.SearchError.TheVariants.{Memory, StepLimit}
-use Rattle.regress_exec.specs.BudgetAndContinuationAfterSearch.{SpendsNeedOrReachesLimit}
+use Rattle.regress_exec.specs.StepBudgetAndContinuationAfterSearch.{SpendsNeedOrReachesLimit}
 use Rattle.regress_exec.specs.RemainingAnswers.{NextYields, EndsAfterMatchStartingAtTextEnd, MayRefuse, RemainingView, remaining_answers_from, items_left}
 use Rattle.regress_exec.specs.declared.exec.Match.{Match}
 use Rattle.regress_exec.proofs.LastMatch.{ends-behind}

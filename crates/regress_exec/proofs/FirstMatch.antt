@@ -10,7 +10,7 @@ use Rattle.regex_meaning.specs.Text.{Text, rightwards, last_place}
 use Rattle.regex_meaning.specs.CodeUnitOffsets.{HasRisingPlaceOffsets, IsBoundary, offset, place_at, read, read_at, units}
 use Rattle.regex_meaning.specs.Outcomes.{Groups, Outcome}
 use Rattle.regex_meaning.specs.FirstAndAllMatches.{Found, first_outcome, match_at, first_match, place_behind, no_groups}
-use Rattle.regex_meaning.specs.GroupsByNumberAndName.{Answer, answer, group_names_by_id}
+use Rattle.regex_meaning.specs.MatchGroupsByNumberAndName.{Answer, answer, group_names_by_id}
 use Rattle.regex_meaning.specs.SearchAnswers.{first_found, first_answer, next_start}
 use Rattle.regex_meaning.specs.OutcomesWithStepTicks.{TickOrOutcome, tick, pair, outcomes_without_ticks, items_at}
 use Rattle.regex_meaning.proofs.Ticked.{pairs-ticked}
@@ -19,9 +19,9 @@ use Rattle.regex_meaning.proofs.TextLemmas.{place_at-offset, offset-place_at, of
 use Rattle.regex_pattern_front.specs.AstToSpecTree.{tree_of}
 use Rattle.regex_pattern_front.specs.declared.ir.Regex.{Regex}
 use Rattle.regress_program.specs.CompilationOfTreesAsFunction.{compiled}
-use Rattle.regress_machine.specs.SearchResults.{first_pair, end_in_offsets, groups_in_offsets}
-use Rattle.regress_exec.specs.MatchAnswers.{answer_from_parts}
-use Rattle.regress_exec.specs.Attempts.{match_end_and_groups_at, next_search_offset}
+use Rattle.regress_machine.specs.SearchFindsFirstOutcomeAtPlace.{first_pair, end_in_offsets, groups_in_offsets}
+use Rattle.regress_exec.specs.MatchesAsSpecAnswers.{answer_from_parts}
+use Rattle.regress_exec.specs.AttemptResultsAndStartsToTry.{match_end_and_groups_at, next_search_offset}
 
 -- ---- Records
 

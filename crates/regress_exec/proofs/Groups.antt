@@ -4,7 +4,7 @@ use Rattle.std.proofs.Common.{unwrap_or, ap₂, arith, refl, sym, ◌∙◌, ap,
 use Rattle.std.proofs.lemmas.List.{drop_more, drop-map}
 use Rattle.std.specs.Option.{option_or}
 use Rattle.regex_meaning.specs.Outcomes.{group_range}
-use Rattle.regex_meaning.specs.GroupsByNumberAndName.{Answer, first_range, ids_named, ids_where}
+use Rattle.regex_meaning.specs.MatchGroupsByNumberAndName.{Answer, first_range, ids_named, ids_where}
 
 -- an image is there exactly where its source is
 pub is_some-image : {A B : Type 0} (f : A → B) (a : Option A) (b : Option B) (there : Bool) → option_map f a ≡ b

@@ -6,7 +6,7 @@ use Rattle.std.proofs.lemmas.List.{drop_more, map_more, take-map}
 use Rattle.std.proofs.lemmas.List.Folds.{list_any-append}
 use Rattle.std.proofs.lemmas.Option.{unwrap_or-slice_get}
 use Rattle.std.proofs.lemmas.Slice.Eq.{bytes_eq-Decides}
-use Rattle.regex_meaning.specs.GroupsByNumberAndName.{Answer, first_appearances, group}
+use Rattle.regex_meaning.specs.MatchGroupsByNumberAndName.{Answer, first_appearances, group}
 use Rattle.regress_exec.specs.GroupIterators.{all_groups, is_new, distinct_names_from}
 use Rattle.regress_exec.proofs.Groups.{images-here}
 

@@ -5,8 +5,9 @@ use Rattle.std.proofs.lemmas.Bool.{and_from, and_parts, le-leb, leb-true}
 use Rattle.regex_meaning.specs.Tree.{Tree}
 use Rattle.regex_meaning.specs.Text.{Text, rightwards}
 use Rattle.regex_meaning.specs.CodeUnitOffsets.{IsBoundary, HasRisingPlaceOffsets, read}
-use Rattle.regress_exec.specs.Attempts.{NextStartSkipsNoMatch, next_search_offset}
-use Rattle.regress_exec.specs.WorkLimits.{OrderedAttemptKeepsWorkEnough, IsOrderedAttempt, offset_after_attempt, least_offset_after_match, is_work_enough}
+use Rattle.regress_exec.specs.AttemptResultsAndStartsToTry.{NextStartSkipsNoMatch, next_search_offset}
+use Rattle.regress_exec.specs.AttemptsAndMatchesWithinWork.{OrderedAttemptKeepsWorkEnough, IsOrderedAttempt, offset_after_attempt, least_offset_after_match}
+use Rattle.regress_exec.specs.AttemptsAndMatchesWithinWork.{is_work_enough}
 use Rattle.regress_exec.proofs.Anchored.{one-on}
 
 -- who counts no work has enough

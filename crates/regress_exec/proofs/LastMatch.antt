@@ -7,7 +7,7 @@ use Rattle.regex_meaning.specs.Tree.{Node}
 use Rattle.regex_meaning.specs.Text.{Text, last_place}
 use Rattle.regex_meaning.specs.CodeUnitOffsets.{HasRisingPlaceOffsets, offset, place_at, units}
 use Rattle.regex_meaning.specs.FirstAndAllMatches.{Found, first_match, place_behind}
-use Rattle.regex_meaning.specs.GroupsByNumberAndName.{Answer, answer}
+use Rattle.regex_meaning.specs.MatchGroupsByNumberAndName.{Answer, answer}
 use Rattle.regex_meaning.specs.SearchAnswers.{first_answer, next_start}
 use Rattle.regex_meaning.proofs.Matches.{StandsFrom, stands-first}
 use Rattle.regex_meaning.proofs.TextLemmas.{offset-less}

@@ -7,15 +7,15 @@ use Rattle.regex_meaning.specs.Text.{Text}
 use Rattle.regex_meaning.specs.CodeUnitOffsets.{HasRisingPlaceOffsets, place_at, units}
 use Rattle.regex_meaning.specs.Outcomes.{Groups, Outcome}
 use Rattle.regex_meaning.specs.FirstAndAllMatches.{match_at}
-use Rattle.regex_meaning.specs.GroupsByNumberAndName.{Answer, answer, group_names_by_id}
+use Rattle.regex_meaning.specs.MatchGroupsByNumberAndName.{Answer, answer, group_names_by_id}
 use Rattle.regex_meaning.specs.SearchAnswers.{answer_at}
 use Rattle.regex_meaning.specs.StepBudget.{is_within, remaining_budget}
 use Rattle.regex_meaning.specs.OutcomesWithStepTicks.{items_at, ticks_to_first}
 use Rattle.std.specs.Option.{option_map_or}
 use Rattle.regex_meaning.proofs.TextLemmas.{offset-place_at, place_at-past}
-use Rattle.regress_machine.specs.SearchResults.{end_in_offsets, first_pair}
-use Rattle.regress_exec.specs.MatchAnswers.{answer_from_parts}
-use Rattle.regress_exec.specs.Attempts.{match_end_and_groups_at, end_with_groups, ticks_of_attempt_at}
+use Rattle.regress_machine.specs.SearchFindsFirstOutcomeAtPlace.{end_in_offsets, first_pair}
+use Rattle.regress_exec.specs.MatchesAsSpecAnswers.{answer_from_parts}
+use Rattle.regress_exec.specs.AttemptResultsAndStartsToTry.{match_end_and_groups_at, end_with_groups, ticks_of_attempt_at}
 use Rattle.regress_exec.proofs.FirstMatch.{found_by, match-first, same-answer}
 
 -- the position of an offset is at it

@@ -9,7 +9,7 @@ use Rattle.regex_meaning.specs.WellFormedTrees.{is_well_formed}
 use Rattle.regress_program.specs.CompilationOfTreesAsFunction.{compiled}
 use Rattle.regress_program.proofs.CodeLemmas.{compiled-is_code}
 use Rattle.regress_machine.specs.TextsForBytePrograms.{HasUtf8CharactersAndOffsets, tree_contains_byte_nodes}
-use Rattle.regress_machine.specs.SearchResults.{TreeProgramCanSearchText}
+use Rattle.regress_machine.specs.SearchFindsFirstOutcomeAtPlace.{TreeProgramCanSearchText}
 use Rattle.std.proofs.lemmas.Bool.{and_from, lt-ltb}
 
 pub can-search : (tree : Tree) (text : Text) → IsTrue (is_well_formed tree.root) → HasRisingPlaceOffsets text → text.unicode ≡ tree.flags.unicode

@@ -5,12 +5,14 @@ use Rattle.regex_meaning.specs.Tree.{Tree}
 use Rattle.regex_meaning.specs.Text.{Text}
 use Rattle.regex_meaning.specs.CodeUnitOffsets.{HasRisingPlaceOffsets, IsBoundary}
 use Rattle.regex_meaning.specs.Outcomes.{Groups}
-use Rattle.regex_meaning.specs.GroupsByNumberAndName.{group_names_by_id}
+use Rattle.regex_meaning.specs.MatchGroupsByNumberAndName.{group_names_by_id}
 use Rattle.regex_meaning.specs.SearchAnswers.{first_answer, next_start}
 use Rattle.regex_meaning.specs.StepBudget.{is_within, remaining_budget, need_from}
-use Rattle.regress_exec.specs.MatchAnswers.{answer_from_parts}
-use Rattle.regress_exec.specs.Attempts.{NextStartSkipsNoMatch, NoMatchAt, end_with_groups, match_end_and_groups_at, next_filtered_start, next_search_offset, ticks_of_attempt_at}
-use Rattle.regress_exec.specs.BudgetAndContinuationAfterSearch.{SpendsNeedOrReachesLimit}
+use Rattle.regress_exec.specs.MatchesAsSpecAnswers.{answer_from_parts}
+use Rattle.regress_exec.specs.AttemptResultsAndStartsToTry.{NextStartSkipsNoMatch, NoMatchAt, end_with_groups, match_end_and_groups_at, next_filtered_start}
+use Rattle.regress_exec.specs.AttemptResultsAndStartsToTry.{next_search_offset}
+use Rattle.regress_exec.specs.AttemptResultsAndStartsToTry.{ticks_of_attempt_at}
+use Rattle.regress_exec.specs.StepBudgetAndContinuationAfterSearch.{SpendsNeedOrReachesLimit}
 use Rattle.regress_exec.specs.declared.exec.SearchError.{SearchError}
 use Rattle.regress_exec.proofs.Budget.{IsSpent, refused, spent-found, spent-goes, taken}
 use Rattle.regress_exec.proofs.FirstMatch.{found-first}

@@ -1,7 +1,7 @@
 -- What the iterators over a match's groups have still to yield.
 use Rattle.std.specs.Prelude.{ℕ, Bool, false, not, List, [], ◌∷◌, map, take, drop, Option, Some, bytes_eq}
 use Rattle.std.specs.List.{list_any}
-use Rattle.regex_meaning.specs.GroupsByNumberAndName.{Answer, first_appearances, first_range, ids_named}
+use Rattle.regex_meaning.specs.MatchGroupsByNumberAndName.{Answer, first_appearances, first_range, ids_named}
 
 -- the ranges of the groups by number, the whole match first
 abbrev pub all_groups : Answer → List (Option (ℕ × ℕ))

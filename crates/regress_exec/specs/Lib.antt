@@ -1,8 +1,8 @@
-pub mod MatchAnswers
+pub mod MatchesAsSpecAnswers
 pub mod RemainingAnswers
-pub mod Attempts
+pub mod AttemptResultsAndStartsToTry
 pub mod GroupIterators
-pub mod PositionOffsets
-pub mod BudgetAndContinuationAfterSearch
-pub mod WorkLimits
-pub mod Executors
+pub mod OffsetRangeOfPositions
+pub mod StepBudgetAndContinuationAfterSearch
+pub mod AttemptsAndMatchesWithinWork
+pub mod NewExecutorsAndAsciiTexts

@@ -4,13 +4,13 @@ use Rattle.std.specs.Prelude.{if◌then◌else◌}
 use Rattle.regex_meaning.specs.Tree.{Tree}
 use Rattle.regex_meaning.specs.Text.{Text}
 use Rattle.regex_meaning.specs.CodeUnitOffsets.{units}
-use Rattle.regex_meaning.specs.GroupsByNumberAndName.{Answer}
+use Rattle.regex_meaning.specs.MatchGroupsByNumberAndName.{Answer}
 use Rattle.regex_meaning.specs.StepBudget.{answers_next, end_next}
 use Rattle.regress_exec.specs.declared.exec.Match.{Match}
 use Rattle.regress_exec.specs.declared.exec.SearchError.{SearchError}
 use Rattle.regress_exec.specs.declared.exec.SearchError.TheVariants.{Memory, StepLimit}
-use Rattle.regress_exec.specs.MatchAnswers.{answer_of}
-use Rattle.regress_exec.specs.BudgetAndContinuationAfterSearch.{step_limit_or_memory_error}
+use Rattle.regress_exec.specs.MatchesAsSpecAnswers.{answer_of}
+use Rattle.regress_exec.specs.StepBudgetAndContinuationAfterSearch.{step_limit_error_else_memory_error}
 
 -- The answers still to come, and whether a step limit follows them instead of the end of the list.
 -- An iterator that has ended yields no more. The view also has the end of the text, in code units,
@@ -50,7 +50,7 @@ NextYields s None t = (s.answers ≡ []) × (s.limited ≡ false) × HasEnded t
 NextYields s (Some (Ok m)) t =
     (s.answers ≡ answer_of m ∷ t.answers) × (s.limited ≡ t.limited) × (s.ended ≡ false)
     × (t.text_end ≡ s.text_end) × (t.ended ≡ (m.range.start == s.text_end))
-NextYields s (Some (Err e)) t = MayRefuse e s × (s.ended ≡ false) × HasEnded t × (e ≡ step_limit_or_memory_error t.out_of_steps)
+NextYields s (Some (Err e)) t = MayRefuse e s × (s.ended ≡ false) × HasEnded t × (e ≡ step_limit_error_else_memory_error t.out_of_steps)
 
 -- an upper bound of the number of items still to be yielded, where an error counts as an item
 abbrev pub items_left : RemainingView → ℕ

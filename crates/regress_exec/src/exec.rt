@@ -1,13 +1,15 @@
 //! Finding matches one after another.
 
-ghost use Rattle.std.specs.Prelude.{◌≡◌, ◌<◌, ◌≤◌, ◌⊎◌, ℕ, Bool, true, false, Option, map, option_map, IfOk, IfErr, OnErr, OnSome, IfNone, if◌then◌else◌, nat_le, not, Some, None, string_bytes};
+ghost use Rattle.std.specs.Prelude.{◌≡◌, ◌<◌, ◌≤◌, ◌⊎◌, ℕ, Bool, true, false, Option, map, option_map, IfOk, IfErr, OnErr, OnSome, IfNone, if◌then◌else◌, nat_le, not};
+ghost use Rattle.std.specs.Prelude.{Some, None, string_bytes};
 ghost use Rattle.std.specs.Iterator.{at_most};
 ghost use Rattle.std.specs.Option.{ForSome};
 ghost use Rattle.regex_meaning.specs.{Tree.{Tree}, Text.{Text}, CodeUnitOffsets.{HasRisingPlaceOffsets, IsBoundary, units}, SearchAnswers.{first_answer}};
 ghost use Rattle.regex_meaning.specs.StepBudget.{answers_within, finishes_within, need_from};
 ghost use Rattle.regex_pattern_front.specs.AstToSpecTree.{tree_of};
-ghost use Rattle.regress_exec.specs.{BudgetAndContinuationAfterSearch.{ListContinuesAt, SpendsNeedOrReachesLimit, step_limit_or_memory_error}, RemainingAnswers.{RemainingView, remaining_answers_from, NextYields, EndsAfterMatchStartingAtTextEnd, items_left}};
-ghost use Rattle.regress_exec.specs.WorkLimits.{CallKeepsWorkEnough, OrderedSearchKeepsWorkEnough, is_work_enough};
+ghost use Rattle.regress_exec.specs.StepBudgetAndContinuationAfterSearch.{IsNextStartAfterFirstMatch, SpendsNeedOrReachesLimit, step_limit_error_else_memory_error};
+ghost use Rattle.regress_exec.specs.RemainingAnswers.{RemainingView, remaining_answers_from, NextYields, EndsAfterMatchStartingAtTextEnd, items_left};
+ghost use Rattle.regress_exec.specs.AttemptsAndMatchesWithinWork.{CallKeepsWorkEnough, OrderedSearchKeepsWorkEnough, is_work_enough};
 
 use regress_input::position::PositionType;
 use regress_program::insn::{CompiledRegex, GroupNames};
@@ -55,7 +57,7 @@ pub struct Match {
 }
 
 impl Match {
-    ghost use Rattle.regress_exec.specs.MatchAnswers.{answer_of, range_of};
+    ghost use Rattle.regress_exec.specs.MatchesAsSpecAnswers.{answer_of, range_as_pair};
 
     /// Makes a match from its range, the ranges of its groups and the names by id, as they are
     /// given.
@@ -65,8 +67,8 @@ impl Match {
         names: Vec<String>,
     ) -> Self
         ensures { answer_of result ≡ record {
-          range = range_of range;
-          captures = map (option_map range_of) captures.items;
+          range = range_as_pair range;
+          captures = map (option_map range_as_pair) captures.items;
           names = map string_bytes names.items;
         } }
     {
@@ -80,8 +82,8 @@ impl Match {
         names: GroupNames,
     ) -> Self
         ensures { answer_of result ≡ record {
-          range = range_of range;
-          captures = map (option_map range_of) captures.items;
+          range = range_as_pair range;
+          captures = map (option_map range_as_pair) captures.items;
           names = names;
         } }
     {
@@ -97,7 +99,7 @@ impl Match {
 /// tree, the text, the steps that it may still take (none if there is no limit), and whether its
 /// last search reached the step limit.
 pub trait MatchProducer {
-    ghost use Rattle.regress_exec.specs.MatchAnswers.{answer_of};
+    ghost use Rattle.regress_exec.specs.MatchesAsSpecAnswers.{answer_of};
 
     /// A position at which a search can continue.
     type Position: PositionType;
@@ -143,13 +145,15 @@ pub trait MatchProducer {
         requires { IsBoundary (text self.old) (Self.Position.offset pos) }
         ensures found { let at = Self.Position.offset in IfOk result (λ m.
             (option_map answer_of m ≡ first_answer (tree self.old).root (text self.old) (at pos))
-            × OnSome m (ListContinuesAt (tree self.old) (text self.old) (at pos) (option_map at next_start.new))) }
+            × OnSome m (IsNextStartAfterFirstMatch (tree self.old) (text self.old) (at pos)
+            (option_map at next_start.new))) }
         ensures stays { IfOk result (λ m. IfNone m (next_start.new ≡ next_start.old))
             × OnErr result (next_start.new ≡ next_start.old) }
         ensures steps { SpendsNeedOrReachesLimit (need_from (tree self.old) (text self.old) (Self.Position.offset pos))
             (budget self.old) result (budget self.new) }
-        ensures cause { IfErr result (λ e. e ≡ step_limit_or_memory_error (out_of_steps self.new)) }
-        ensures work { let at = Self.Position.offset in OrderedSearchKeepsWorkEnough (enough self.old) (ahead self.old) (at pos)
+        ensures cause { IfErr result (λ e. e ≡ step_limit_error_else_memory_error (out_of_steps self.new)) }
+        ensures work { let at = Self.Position.offset in OrderedSearchKeepsWorkEnough (enough self.old)
+            (ahead self.old) (at pos)
             result (enough self.new) (ahead self.new) (option_map at next_start.new) (out_of_work self.new) }
         ensures left { left self.new ≤ left self.old }
         ensures same { (tree self.new ≡ tree self.old) × (text self.new ≡ text self.old) };
@@ -270,6 +274,6 @@ fn advance_matches<P: MatchProducer>(
 
 /// After a match at the end of the text, which is empty, nothing more is searched: the next call
 /// returns `None` and allocates no memory.
-pub fn last_match_ends_the_list()
+pub fn match_at_text_end_is_last()
     ensures { EndsAfterMatchStartingAtTextEnd }
 {}

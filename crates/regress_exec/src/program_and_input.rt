@@ -1,32 +1,28 @@
 //! A program together with the text that it searches.
 
-ghost use Rattle.std.specs.Prelude.{◌≡◌, ◌+◌, IsAscii, IsTrue, IsSome, false, option_map};
-ghost use Rattle.std.specs.Option.{option_map_or};
+ghost use Rattle.std.specs.Prelude.{◌≡◌, ◌+◌, IsAscii, IsTrue, option_map};
 ghost use Rattle.regex_meaning.specs.{Text.{ascii_text, ucs2_text, utf16_text, utf8_text}, WellFormedTrees.{is_well_formed}, CodeUnitOffsets.{IsBoundary}};
 ghost use Rattle.regex_pattern_front.specs.AstToSpecTree.{tree_of};
-ghost use Rattle.regress_program.specs.{CompilationOfTreesAsFunction.{compiled}, InsnMeanings.{spec_start_predicate_of}, TextsSearchableByBytePrograms.{IsByteText}};
-ghost use Rattle.regress_machine.specs.TextsForBytePrograms.{HasUtf8CharactersAndOffsets, tree_contains_byte_nodes};
-ghost use Rattle.regress_exec.specs.Attempts.{is_anchored_predicate, NextStartSkipsNoMatch, offset_after_failed_attempt};
+ghost use Rattle.regress_program.specs.{StartPredicatesAndWhenTheyAllocate.{is_anchored_tree}, TextsSearchableByBytePrograms.{IsByteText}};
+ghost use Rattle.regress_machine.specs.TextsForBytePrograms.{tree_contains_byte_nodes};
+ghost use Rattle.regress_exec.specs.AttemptResultsAndStartsToTry.{NextStartSkipsNoMatch, offset_after_failed_attempt};
 
 use regress_input::indexing::{AsciiInput, InputIndexer, Ucs2Input, Utf8Input, Utf16Input};
-use regress_program::insn::{CompiledRegex, CompiledUnits, Program, StartPredicate};
+use regress_program::insn::{CompiledRegex, CompiledRegexFor16BitUnits, Program};
 
 /// A program, and a text that it can search. Characters are folded as the program's flags say. If
-/// the program reads bytes, the text is one of bytes. With a start predicate, which is a predicate
-/// on bytes, the text always is one of bytes.
+/// the program reads bytes, the text is one of bytes.
 #[derive(Drop)]
 pub struct ProgramAndInput<'r, Input: InputIndexer> {
     pub program: &'r Program,
-    /// What the text has to start with wherever the pattern matches, if that is known.
-    pub start_pred: Option<&'r StartPredicate>,
+    /// Whether every alternative of the pattern begins with `^`, without the flag `m` (`is_anchored_tree`).
+    pub anchored: bool,
     pub input: Input,
     ghost unicode: { (Input.text input).unicode ≡ (tree_of program.now).flags.unicode },
     ghost well_formed: { IsTrue (is_well_formed (tree_of program.now).root) },
     ghost bytes: { IsTrue (tree_contains_byte_nodes (tree_of program.now).root)
         → IsByteText (Input.text input) Input.Units.ARE_BYTES },
-    ghost predicted: { option_map (λ p. spec_start_predicate_of p.now) start_pred
-        ≡ option_map (λ _. (compiled (tree_of program.now)).start_pred) start_pred },
-    ghost scalars: { IsSome start_pred → HasUtf8CharactersAndOffsets (Input.text input) },
+    ghost anchors: { anchored ≡ is_anchored_tree (tree_of program.now) },
 }
 
 impl<'r, Input: InputIndexer> ProgramAndInput<'r, Input> {
@@ -34,9 +30,9 @@ impl<'r, Input: InputIndexer> ProgramAndInput<'r, Input> {
     /// position without a match there is none.
     #[inline(always)]
     pub fn is_anchored(&self) -> bool
-        ensures { result ≡ option_map_or (λ p. is_anchored_predicate (spec_start_predicate_of p.now)) self.now.start_pred false }
+        ensures { result ≡ is_anchored_tree (tree_of self.now.program.now) }
     {
-        matches!(self.start_pred, Some(StartPredicate::StartAnchored))
+        self.anchored
     }
 
     /// Returns the position to try after one where no match begins. Returns `None` if it is known
@@ -49,13 +45,13 @@ impl<'r, Input: InputIndexer> ProgramAndInput<'r, Input> {
             NextStartSkipsNoMatch (tree_of self.now.program.now)
             (Input.text self.now.input) (at tried + 1) (option_map at result) }
     {
-        behind_tried(&self.input, self.is_anchored(), tried)
+        position_after_failed(&self.input, self.is_anchored(), tried)
     }
 }
 
 // Returns the position to try after one where no match begins.
 #[inline(always)]
-fn behind_tried<Input: InputIndexer>(
+fn position_after_failed<Input: InputIndexer>(
     input: &Input,
     anchored: bool,
     tried: Input::Position,
@@ -83,7 +79,7 @@ impl<'r, Input: InputIndexer> ProgramAndInput<'r, Input> {
         let _well_formed = program.insns();
         ProgramAndInput {
             program,
-            start_pred: Some(re.start_pred()),
+            anchored: re.is_anchored(),
             input,
         }
     }
@@ -120,7 +116,7 @@ impl<'r, 't> ProgramAndInput<'r, AsciiInput<'t>> {
 
 impl<'r, Input: InputIndexer> ProgramAndInput<'r, Input> {
     // Pairs a program for 16-bit code units with an input of any kind.
-    fn pair_with_units(re: &'r CompiledUnits, input: Input) -> Self
+    fn pair_with_units(re: &'r CompiledRegexFor16BitUnits, input: Input) -> Self
         requires { (Input.text input).unicode ≡ (tree_of re.now).flags.unicode }
         ensures same { result.program.now ≡ re.now }
         ensures input { result.input ≡ input }
@@ -129,7 +125,7 @@ impl<'r, Input: InputIndexer> ProgramAndInput<'r, Input> {
         let _well_formed = program.insns();
         ProgramAndInput {
             program,
-            start_pred: None,
+            anchored: re.is_anchored(),
             input,
         }
     }
@@ -137,7 +133,7 @@ impl<'r, Input: InputIndexer> ProgramAndInput<'r, Input> {
 
 impl<'r, 't> ProgramAndInput<'r, Utf16Input<'t>> {
     /// Pairs a program for 16-bit code units with a text in UTF-16.
-    pub fn pair_with_utf16_text(re: &'r CompiledUnits, text: &'t [u16]) -> Self
+    pub fn pair_with_utf16_text(re: &'r CompiledRegexFor16BitUnits, text: &'t [u16]) -> Self
         ensures same { result.program.now ≡ re.now }
         ensures text { ⟦<Utf16Input<'t> as InputIndexer>⟧.text result.input
             ≡ utf16_text text.now (tree_of re.now).flags.unicode }
@@ -151,7 +147,7 @@ impl<'r, 't> ProgramAndInput<'r, Utf16Input<'t>> {
 
 impl<'r, 't> ProgramAndInput<'r, Ucs2Input<'t>> {
     /// Pairs a program for 16-bit code units with a text in UCS-2.
-    pub fn pair_with_ucs2_text(re: &'r CompiledUnits, text: &'t [u16]) -> Self
+    pub fn pair_with_ucs2_text(re: &'r CompiledRegexFor16BitUnits, text: &'t [u16]) -> Self
         ensures same { result.program.now ≡ re.now }
         ensures text { ⟦<Ucs2Input<'t> as InputIndexer>⟧.text result.input
             ≡ ucs2_text text.now (tree_of re.now).flags.unicode }

@@ -2,11 +2,16 @@
 
 ghost use Rattle.std.specs.Prelude.{◌≡◌, ◌+◌, ◌<◌, ◌≤◌, ◌⊎◌, ℕ, ⊤, Bool, true, false, IfErr, IfOk, IsSome, None, Option, map, option_map, length};
 ghost use Rattle.regex_meaning.specs.{Tree.{Tree}, Text.{Text}, CodeUnitOffsets.{HasRisingPlaceOffsets, IsBoundary, units}, SearchAnswers.{answer_at}};
-ghost use Rattle.regex_meaning.specs.{Outcomes.{Groups, group_range}, GroupsByNumberAndName.{group_names_by_id}};
+ghost use Rattle.regex_meaning.specs.{Outcomes.{Groups, group_range}, MatchGroupsByNumberAndName.{group_names_by_id}};
 ghost use Rattle.regex_pattern_front.specs.AstToSpecTree.{tree_of};
-ghost use Rattle.regress_exec.specs.MatchAnswers.{answer_from_parts, answer_of, range_of};
-ghost use Rattle.regress_exec.specs.Attempts.{NextStartSkipsNoMatch, NoMatchAt, end_with_groups, match_end_and_groups_at, first_filtered_start, next_filtered_start, next_search_offset, ticks_of_attempt_at};
-ghost use Rattle.regress_exec.specs.{PositionOffsets.{offset_range_of_positions}, BudgetAndContinuationAfterSearch.{SpendsNeedOrReachesLimit, AllocFailureCostsOneStep, ResultTellsIfStepLimitReached, step_limit_or_memory_error}, WorkLimits.{OrderedAttemptKeepsWorkEnough}};
+ghost use Rattle.regress_exec.specs.MatchesAsSpecAnswers.{answer_from_parts, answer_of, range_as_pair};
+ghost use Rattle.regress_exec.specs.AttemptResultsAndStartsToTry.{NextStartSkipsNoMatch, NoMatchAt, end_with_groups, match_end_and_groups_at, first_filtered_start};
+ghost use Rattle.regress_exec.specs.AttemptResultsAndStartsToTry.{next_filtered_start};
+ghost use Rattle.regress_exec.specs.AttemptResultsAndStartsToTry.{next_search_offset, ticks_of_attempt_at};
+ghost use Rattle.regress_exec.specs.OffsetRangeOfPositions.{offset_range_of_positions};
+ghost use Rattle.regress_exec.specs.StepBudgetAndContinuationAfterSearch.{SpendsNeedOrReachesLimit, AllocFailureCostsAtLeastOneStep, ResultTellsIfStepLimitReached};
+ghost use Rattle.regress_exec.specs.StepBudgetAndContinuationAfterSearch.{step_limit_error_else_memory_error};
+ghost use Rattle.regress_exec.specs.AttemptsAndMatchesWithinWork.{OrderedAttemptKeepsWorkEnough};
 
 use crate::exec::{Match, MatchProducer, SearchError};
 use regress_input::indexing::InputIndexer;
@@ -23,7 +28,7 @@ use std::ops::Range;
 /// the next such attempt, and whether the last attempt reached the work limit.
 ///
 /// Where steps are counted, the positions that are tried are those that the start predicate admits.
-pub trait AnchoredSearch {
+pub trait SingleAttemptExecutor {
     /// The text that is searched.
     type Input: InputIndexer;
 
@@ -71,12 +76,16 @@ pub trait AnchoredSearch {
     ) -> Result<Option<<Self::Input as InputIndexer>::Position>, SearchError>
         requires { IsBoundary (text self.old) (Self.Input.Position.offset pos) }
         ensures found { let at = Self.Input.Position.offset in IfOk result (λ end.
-            end_with_groups at end (groups self.new) ≡ match_end_and_groups_at (tree self.old) (text self.old) (at pos)) }
+            end_with_groups at end (groups self.new) ≡ match_end_and_groups_at (tree self.old)
+            (text self.old) (at pos)) }
         ensures steps { let ticks = ticks_of_attempt_at (tree self.old) (text self.old) in
-            SpendsNeedOrReachesLimit (ticks (Self.Input.Position.offset pos)) (budget self.old) result (budget self.new) }
-        ensures begun { AllocFailureCostsOneStep (has_begun self.new) (budget self.old) result (budget self.new) }
+            SpendsNeedOrReachesLimit (ticks (Self.Input.Position.offset pos)) (budget self.old) result
+            (budget self.new) }
+        ensures begun { AllocFailureCostsAtLeastOneStep (has_begun self.new) (budget self.old) result
+            (budget self.new) }
         ensures cause { ResultTellsIfStepLimitReached result (out_of_steps self.new) }
-        ensures work { let at = Self.Input.Position.offset in OrderedAttemptKeepsWorkEnough at (enough self.old) (ahead self.old)
+        ensures work { let at = Self.Input.Position.offset in OrderedAttemptKeepsWorkEnough at (enough self.old)
+            (ahead self.old)
             (at pos) result (enough self.new) (ahead self.new) (out_of_work self.new) }
         ensures left { left self.new ≤ left self.old }
         ensures same { (tree self.new ≡ tree self.old) × (text self.new ≡ text self.old) };
@@ -113,7 +122,7 @@ pub trait AnchoredSearch {
 
     /// Returns the first position to try after one where no match begins. No match begins between
     /// them. Returns `None` if no match begins after it.
-    fn next_start_to_try_after(
+    fn next_start_after_failed_attempt(
         &self,
         tried: <Self::Input as InputIndexer>::Position,
     ) -> Option<<Self::Input as InputIndexer>::Position>
@@ -144,7 +153,7 @@ fn range_in_offsets<Input: InputIndexer>(
     input: &Input,
     range: Option<(Input::Position, Input::Position)>,
 ) -> Option<Range<usize>>
-    ensures { option_map range_of result ≡ option_map (offset_range_of_positions Input.Position.offset) range }
+    ensures { option_map range_as_pair result ≡ option_map (offset_range_of_positions Input.Position.offset) range }
 {
     match range {
         None => None,
@@ -153,8 +162,10 @@ fn range_in_offsets<Input: InputIndexer>(
 }
 
 // Returns the groups of the last attempt that found an end, in offsets.
-fn captures_of<A: AnchoredSearch>(executor: &A) -> Result<Vec<Option<Range<usize>>>, AllocError>
-    ensures { IfOk result (λ v. map (option_map range_of) v.items ≡ A.groups executor.now) }
+fn captures_of<A: SingleAttemptExecutor>(
+    executor: &A,
+) -> Result<Vec<Option<Range<usize>>>, AllocError>
+    ensures { IfOk result (λ v. map (option_map range_as_pair) v.items ≡ A.groups executor.now) }
 {
     let input = executor.input();
     let count = executor.group_count();
@@ -166,13 +177,14 @@ fn captures_of<A: AnchoredSearch>(executor: &A) -> Result<Vec<Option<Range<usize
 }
 
 // Returns the match between two positions, with the groups of the last attempt.
-fn successful_match<A: AnchoredSearch>(
+fn successful_match<A: SingleAttemptExecutor>(
     executor: &A,
     start: <A::Input as InputIndexer>::Position,
     end: <A::Input as InputIndexer>::Position,
 ) -> Result<Match, AllocError>
     ensures { let at = A.Input.Position.offset in IfOk result (λ m. answer_of m
-        ≡ answer_from_parts (at start) (at end) (A.groups executor.now) (group_names_by_id (A.tree executor.now).root)) }
+        ≡ answer_from_parts (at start) (at end) (A.groups executor.now)
+        (group_names_by_id (A.tree executor.now).root)) }
 {
     let captures = captures_of(executor)?;
     let names = executor.program().shared_names().clone()?;
@@ -199,7 +211,7 @@ fn next_search_pos<Input: InputIndexer>(
     }
 }
 
-impl<A: AnchoredSearch> MatchProducer for A {
+impl<A: SingleAttemptExecutor> MatchProducer for A {
     type Position = <A::Input as InputIndexer>::Position;
 
     ghost tree = { A.tree };
@@ -237,7 +249,7 @@ impl<A: AnchoredSearch> MatchProducer for A {
                 *next_start = next_search_pos(self.input(), start, end);
                 return Ok(Some(found));
             }
-            next = self.next_start_to_try_after(start);
+            next = self.next_start_after_failed_attempt(start);
         }
         Ok(None)
     }
@@ -251,7 +263,7 @@ impl<A: AnchoredSearch> MatchProducer for A {
 ///
 /// Returns `StepLimit` if more steps are needed than are left, and then none are left. Returns
 /// `Memory` if an allocation fails, and the steps taken until then stay spent.
-pub fn match_at<A: AnchoredSearch>(
+pub fn match_at<A: SingleAttemptExecutor>(
     executor: &mut A,
     at: usize,
 ) -> Result<Option<Match>, SearchError>
@@ -260,7 +272,7 @@ pub fn match_at<A: AnchoredSearch>(
         ≡ answer_at (A.tree executor.old).root (A.text executor.old) at) }
     ensures steps { SpendsNeedOrReachesLimit (ticks_of_attempt_at (A.tree executor.old) (A.text executor.old) at)
         (A.budget executor.old) result (A.budget executor.new) }
-    ensures cause { IfErr result (λ e. e ≡ step_limit_or_memory_error (A.out_of_steps executor.new)) }
+    ensures cause { IfErr result (λ e. e ≡ step_limit_error_else_memory_error (A.out_of_steps executor.new)) }
 {
     let Some(start) = executor.initial_position(at) else {
         return Ok(None);

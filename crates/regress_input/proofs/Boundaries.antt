@@ -12,7 +12,7 @@ use Rattle.regex_meaning.specs.Text.{Text, rightwards, leftwards, offsets_from}
 use Rattle.regex_meaning.specs.CodeUnitOffsets.{HasRisingPlaceOffsets, offset, units, place_at, read}
 use Rattle.regex_meaning.specs.CodeUnits.{Encoding, utf8, utf16, ucs2, spelled_in, text_units_in_encoding, IsSpelledIn}
 use Rattle.regress_input.specs.Utf8.{is_continuation_byte}
-use Rattle.regress_input.specs.ValidlyEncodedTexts.{sized_utf8, sized_utf16}
+use Rattle.regress_input.specs.TextSpellingAndOffsetLimit.{sized_utf8, sized_utf16}
 use Rattle.regress_input.proofs.Lists.{get-cons, get-front, get-behind}
 use Rattle.regress_input.proofs.Places.{HasPlace, step_right, step_left}
 use Rattle.regress_input.proofs.Spelled.{offset-spelling, offset-behind}

@@ -17,7 +17,7 @@ use Rattle.regex_meaning.specs.Text.{Text, Direction, rightwards, leftwards}
 use Rattle.regex_meaning.specs.Tree.{byte_sequence}
 use Rattle.regex_meaning.specs.Outcomes.{accepts}
 use Rattle.regex_meaning.specs.CodeUnitOffsets.{HasRisingPlaceOffsets, IsBoundary, units, read}
-use Rattle.regress_input.specs.ReadsFromOffset.{IsInUtf8, bytes_of, adjacent_byte, moved_by_unit, end_if_matched, past_if, past_bytes_if_next}
+use Rattle.regress_input.specs.CharAndByteReadsFromOffset.{IsInUtf8, bytes_of, adjacent_byte, moved_by_unit, end_if_matched, past_if, past_bytes_if_next}
 use Rattle.regress_input.specs.Utf8.{IsEncodedAt, IsEncodedBefore}
 use Rattle.regress_input.proofs.Spelled.{ReadsRight, ReadsLeft, reads_right, reads_left, at_end, before_character, at_start, behind_character}
 use Rattle.regress_input.proofs.Spelled.{text_of, length-units}

@@ -9,7 +9,7 @@ use Rattle.std.proofs.lemmas.Option.{slice_get_within}
 use Rattle.regex_meaning.specs.Text.{Text, Direction, rightwards, leftwards, next_character, moved, characters_ahead, next_characters}
 use Rattle.regex_meaning.specs.CodeUnitOffsets.{HasRisingPlaceOffsets, IsBoundary, offset, read}
 use Rattle.regex_meaning.proofs.TextLemmas.{offset-injective, offset-less, offset-le, place-le}
-use Rattle.regress_input.specs.ReadsFromOffset.{direction_of_forward_flag, place, characters_between, past_spelled_if_next}
+use Rattle.regress_input.specs.CharAndByteReadsFromOffset.{direction_of_forward_flag, place, characters_between, past_spelled_if_next}
 use Rattle.regress_input.proofs.Places.{HasPlace, place_of_boundary, pair, step_right, step_left, read-place}
 use Rattle.regress_input.proofs.Slices.{place_is}
 use Rattle.regress_input.proofs.Lists.{slice-first, slice-last, pointwise-snoc, le_same}

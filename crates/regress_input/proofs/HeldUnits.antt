@@ -7,7 +7,7 @@ use lib.Pointwise.{pointwise}
 use Rattle.regex_meaning.specs.Text.{Text, Direction, rightwards, leftwards}
 use Rattle.regex_meaning.specs.CodeUnitOffsets.{units, IsBoundary}
 use Rattle.regex_meaning.specs.CodeUnits.{Encoding, utf8, utf16, ucs2, text_units_in_encoding, IsSpelledIn}
-use Rattle.regress_input.specs.ReadsFromOffset.{has_byte_units, bytes_if, past_units_if_next, past_bytes_if_next, past_range_if_next}
+use Rattle.regress_input.specs.CharAndByteReadsFromOffset.{is_byte_encoding, bytes_if, past_units_if_next, past_bytes_if_next, past_repeated_range_if_next}
 use Rattle.regress_input.specs.TextCodeUnits.{as_bytes, unless_splitting_pair, UnitsOccurWhereCharactersDo}
 use Rattle.regress_input.proofs.Boundaries.{units-length}
 use Rattle.regress_input.proofs.UnitsIn.{utf8-units}
@@ -23,12 +23,12 @@ module _ {Unit : Type 0} (number : Unit → ℕ) where
   pub count-is : (e : Encoding) (text : Text) → IsSpelledIn e text → (held : List Unit) → map number held ≡ text_units_in_encoding e text → length held ≡ units text
   count-is e text s held h = sym (length-map held number) ∙ ap length h ∙ sym (units-length e text s)
 
-  bytes-by : (e : Encoding) (text : Text) (held : List Unit) → map number held ≡ text_units_in_encoding e text → as_bytes (has_byte_units e) number held ≡ bytes_if (has_byte_units e) text
+  bytes-by : (e : Encoding) (text : Text) (held : List Unit) → map number held ≡ text_units_in_encoding e text → as_bytes (is_byte_encoding e) number held ≡ bytes_if (is_byte_encoding e) text
   bytes-by utf8 text held h = ap Some (h ∙ utf8-units text.characters)
   bytes-by utf16 text held h = refl
   bytes-by ucs2 text held h = refl
 
-  pub bytes-are : (e : Encoding) (is are : Bool) → is ≡ has_byte_units e → are ≡ has_byte_units e → (text : Text) (held : List Unit) → map number held ≡ text_units_in_encoding e text
+  pub bytes-are : (e : Encoding) (is are : Bool) → is ≡ is_byte_encoding e → are ≡ is_byte_encoding e → (text : Text) (held : List Unit) → map number held ≡ text_units_in_encoding e text
       → as_bytes is number held ≡ bytes_if are text
   bytes-are e is are a b text held h = ap (λ x. as_bytes x number held) a ∙ bytes-by e text held h ∙ ap (λ x. bytes_if x text) (sym b)
 
@@ -69,7 +69,7 @@ module _ {Unit : Type 0} (number : Unit → ℕ) where
       → (same : Unit → Unit → Bool) → ((a b : Unit) → same a b ≡ nat_eq (number a) (number b))
       → (d d' : Direction) → d' ≡ d → (at at' a a' b b' : ℕ) → at' ≡ at → a' ≡ a → b' ≡ b
       → IsBoundary text at → IsBoundary text a → IsBoundary text b → a ≤ b
-      → (to : Option ℕ) → to ≡ past_units_if_next same held (slice_range held a' b') d' at' → unless_splitting_pair e (map number held) to ≡ past_range_if_next text a b d at
+      → (to : Option ℕ) → to ≡ past_units_if_next same held (slice_range held a' b') d' at' → unless_splitting_pair e (map number held) to ≡ past_repeated_range_if_next text a b d at
   again-is e text held again same equal d d' ed at at' a a' b b' eat ea eb f g h l to found =
       let us = map number held in
       ap (unless_splitting_pair e us)

@@ -2,7 +2,7 @@
 use Rattle.std.proofs.Common.{◌≡◌, ℕ, ◌≤◌, Bool, true, false, List, length, Option, Some, IsTrue, refl, ap, arith}
 use Rattle.regex_meaning.specs.Text.{Text}
 use Rattle.regex_meaning.specs.CodeUnitOffsets.{HasRisingPlaceOffsets, units}
-use Rattle.regress_input.specs.ReadsFromOffset.{read_if_units_are_bytes, bytes_if, IsInUtf8}
+use Rattle.regress_input.specs.CharAndByteReadsFromOffset.{read_if_units_are_bytes, bytes_if, IsInUtf8}
 use Rattle.regress_input.proofs.ByteTests.{units-bytes_of}
 
 -- a byte is read only where units are bytes

@@ -5,7 +5,7 @@ use Rattle.std.proofs.lemmas.Option.{slice_get-get_or, slice_get_past}
 use Rattle.regex_meaning.specs.Text.{Text, Direction, rightwards, leftwards, one_unit}
 use Rattle.regex_meaning.specs.CodeUnitOffsets.{HasRisingPlaceOffsets, IsBoundary, offset, units, place_at, read}
 use Rattle.regex_meaning.proofs.TextLemmas.{place_at-offset, offset-IsBoundary}
-use Rattle.regress_input.specs.ReadsFromOffset.{part, characters_between, past_spelled_if_next, past_bytes_if_next}
+use Rattle.regress_input.specs.CharAndByteReadsFromOffset.{part, characters_between, past_spelled_if_next, past_bytes_if_next}
 use Rattle.regress_input.proofs.Places.{place_of_boundary, pair, read-place}
 use Rattle.regress_input.proofs.Spelled.{text_of, is_text, offset-spelling}
 use Rattle.regress_input.proofs.Slices.{part-is, literal-right, literal-left, IsInjective, place_is}

@@ -8,7 +8,7 @@ use lib.Pointwise.{pointwise, bytes_decides}
 use Rattle.regex_meaning.specs.Text.{Text, Direction, rightwards, leftwards, offsets_from, moved, characters_ahead, next_characters}
 use Rattle.regex_meaning.specs.CodeUnitOffsets.{offset, IsBoundary, place_at}
 use Rattle.regex_meaning.proofs.TextLemmas.{place-le, offset-IsBoundary}
-use Rattle.regress_input.specs.ReadsFromOffset.{place, part, characters_between, past_spelled_if_next, past_bytes_if_next}
+use Rattle.regress_input.specs.CharAndByteReadsFromOffset.{place, part, characters_between, past_spelled_if_next, past_bytes_if_next}
 use Rattle.regress_input.proofs.Places.{HasPlace}
 use Rattle.regress_input.proofs.Spelled.{text_of, is_text, spelling, Cut, cut, cut_at, offset-spelling}
 

@@ -11,8 +11,8 @@ use Rattle.regex_meaning.specs.CodeUnits.{utf16, spelled_in}
 use Rattle.regex_meaning.specs.Laws.{is_within_pair}
 use Rattle.regex_meaning.proofs.TextLemmas.{utf16_text-IsText}
 use Rattle.regex_meaning.proofs.UnitLemmas.{unit_boundary-place_at, unit_boundary-between, units-utf16}
-use Rattle.regress_input.specs.ValidlyEncodedTexts.{sized_utf16}
-use Rattle.regress_input.specs.Utf16.{AreU16Units, is_surrogate_pair_at, pair_at, character_starting_at, character_before}
+use Rattle.regress_input.specs.TextSpellingAndOffsetLimit.{sized_utf16}
+use Rattle.regress_input.specs.Utf16CharactersAtOffsets.{AreU16Units, is_surrogate_pair_at, pair_at, character_starting_at, character_before}
 use Rattle.regress_input.proofs.Places.{pair, right_boundary, left_boundary, boundary_inside}
 use Rattle.regress_input.proofs.Spelled.{ReadsRight, ReadsLeft, reads_right, reads_left, at_end, before_character, at_start, behind_character}
 

@@ -3,8 +3,8 @@ use Rattle.std.proofs.Common.{◌≡◌, ℕ, ◌-◌, ◌≤◌, List, drop, sl
 use Rattle.regex_meaning.specs.Text.{Text, Direction, rightwards, leftwards, utf16_width, utf16_characters, utf16_text, is_unit_boundary}
 use Rattle.regex_meaning.specs.Text.{fold_code_point}
 use Rattle.regex_meaning.specs.CodeUnitOffsets.{IsBoundary}
-use Rattle.regress_input.specs.ReadsFromOffset.{part, characters_between, past_spelled_if_next, past_bytes_if_next}
-use Rattle.regress_input.specs.Utf16.{AreU16Units, if_boundary}
+use Rattle.regress_input.specs.CharAndByteReadsFromOffset.{part, characters_between, past_spelled_if_next, past_bytes_if_next}
+use Rattle.regress_input.specs.Utf16CharactersAtOffsets.{AreU16Units, if_boundary}
 use Rattle.regress_input.proofs.Spelled.{text_of}
 use Rattle.regress_input.proofs.Slices.{range-units, part-is, found-right, found-left, IsInjective, past_bytes-right, right-past_bytes}
 use Rattle.regress_input.proofs.Slices.{past_bytes-left, left-past_bytes, chosen}

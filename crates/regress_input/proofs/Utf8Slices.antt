@@ -9,7 +9,7 @@ use lib.Utf8.{scalars, encode, encodes}
 use Rattle.regex_meaning.specs.Text.{Text, Direction, rightwards, leftwards, utf8_text, fold_char}
 use Rattle.regex_meaning.specs.CodeUnitOffsets.{IsBoundary, offset}
 use Rattle.regex_meaning.proofs.TextLemmas.{utf8_text-IsText, offset-IsBoundary, len_utf8-positive}
-use Rattle.regress_input.specs.ReadsFromOffset.{part, characters_between, past_spelled_if_next, past_bytes_if_next}
+use Rattle.regress_input.specs.CharAndByteReadsFromOffset.{part, characters_between, past_spelled_if_next, past_bytes_if_next}
 use Rattle.regress_input.proofs.Places.{HasPlace}
 use Rattle.regress_input.proofs.Spelled.{text_of, cut_at, offset-spelling, Cut}
 use Rattle.regress_input.proofs.Slices.{StandBehind, StandBefore, range-units, part-is, literal-right, literal-left, IsInjective, take-slice}

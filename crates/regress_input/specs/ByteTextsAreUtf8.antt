@@ -4,7 +4,7 @@ use Rattle.std.proofs.Common.{refl, sym, ap, ap₂, subst}
 use Rattle.std.proofs.lemmas.Str.{encodes-chars, encodes-IsAscii, IsUtf8-from_ascii, IsUtf8-had, len_utf8_ascii}
 use Rattle.std.specs.Char.{len_utf8}
 use Rattle.regex_meaning.specs.Text.{offsets_from, one_unit, utf8_text, ascii_text}
-use Rattle.regress_input.specs.ReadsFromOffset.{IsInUtf8}
+use Rattle.regress_input.specs.CharAndByteReadsFromOffset.{IsInUtf8}
 
 -- The text of UTF-8 bytes is encoded in UTF-8.
 pub utf8_text-IsInUtf8 : (bytes : List ℕ) (unicode : Bool) → ∥ IsUtf8 bytes ∥₁ → IsInUtf8 (utf8_text bytes unicode)

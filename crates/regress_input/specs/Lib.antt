@@ -1,6 +1,6 @@
 pub mod Utf8
-pub mod ReadsFromOffset
+pub mod CharAndByteReadsFromOffset
 pub mod ByteTextsAreUtf8
-pub mod Utf16
-pub mod ValidlyEncodedTexts
+pub mod Utf16CharactersAtOffsets
+pub mod TextSpellingAndOffsetLimit
 pub mod TextCodeUnits

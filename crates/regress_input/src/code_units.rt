@@ -3,10 +3,10 @@
 ghost use Rattle.std.specs.Prelude.{◌≡◌, ◌==◌, ℕ, Bool, true, false, refl, map, option_map};
 ghost use Rattle.std.proofs.Common.{rules};
 ghost use Rattle.regex_meaning.specs.CodeUnits.{Encoding, utf8, utf16, ucs2};
-ghost use Rattle.regress_input.specs.ReadsFromOffset.{has_byte_units};
+ghost use Rattle.regress_input.specs.CharAndByteReadsFromOffset.{is_byte_encoding};
 ghost use Rattle.regress_input.specs.TextCodeUnits.{unless_splitting_pair as is_if_whole, as_bytes as as_bytes_if};
 
-use crate::utf16;
+use crate::utf16_decoding;
 
 /// A code unit as texts store it: a byte or a 16-bit number.
 pub trait CodeUnit: Copy + PartialEq {
@@ -62,7 +62,7 @@ impl CodeUnit for u16 {
 }
 
 /// The code units in which offsets are counted, identified by their encoding.
-pub trait CodeUnitKind {
+pub trait CodeUnitEncoding {
     ghost encoding: { Encoding };
 
     /// The type of a code unit as a text stores it.
@@ -73,26 +73,26 @@ pub trait CodeUnitKind {
     /// Whether the code units are bytes.
     const ARE_BYTES: bool;
 
-    ghost by_encoding: { ARE_BYTES ≡ has_byte_units encoding };
+    ghost by_encoding: { ARE_BYTES ≡ is_byte_encoding encoding };
 
     /// Returns `to`, the offset past code units that encode characters. Returns `None` if `to` is
     /// `None` or splits a surrogate pair.
     fn unless_splitting_pair(all: &[Self::Unit], to: Option<usize>) -> Option<usize>
         ensures { result ≡ is_if_whole encoding (map Self.Unit.number all.now) to };
 
-    ghost by_unit: { Self.Unit.is_byte ≡ has_byte_units encoding };
+    ghost by_unit: { Self.Unit.is_byte ≡ is_byte_encoding encoding };
 }
 
 /// Bytes of UTF-8, which includes ASCII.
-pub struct ByteUnitKind;
+pub struct ByteCodeUnitEncoding;
 
 /// 16-bit code units of UTF-16.
-pub struct Utf16UnitKind;
+pub struct Utf16CodeUnitEncoding;
 
 /// 16-bit code units, each of which is a character.
-pub struct Ucs2UnitKind;
+pub struct Ucs2CodeUnitEncoding;
 
-impl CodeUnitKind for ByteUnitKind {
+impl CodeUnitEncoding for ByteCodeUnitEncoding {
     ghost encoding = { utf8 };
 
     type Unit = u8;
@@ -111,7 +111,7 @@ impl CodeUnitKind for ByteUnitKind {
     }
 }
 
-impl CodeUnitKind for Utf16UnitKind {
+impl CodeUnitEncoding for Utf16CodeUnitEncoding {
     ghost encoding = { utf16 };
 
     type Unit = u16;
@@ -126,11 +126,11 @@ impl CodeUnitKind for Utf16UnitKind {
 
     #[inline(always)]
     fn unless_splitting_pair(all: &[u16], to: Option<usize>) -> Option<usize> {
-        utf16::offset_if_boundary(all, to)
+        utf16_decoding::offset_if_boundary(all, to)
     }
 }
 
-impl CodeUnitKind for Ucs2UnitKind {
+impl CodeUnitEncoding for Ucs2CodeUnitEncoding {
     ghost encoding = { ucs2 };
 
     type Unit = u16;
@@ -152,12 +152,12 @@ impl CodeUnitKind for Ucs2UnitKind {
 /// A type with code units.
 pub trait HasUnitType {
     /// The code units in which its offsets are counted.
-    type Units: CodeUnitKind;
+    type Units: CodeUnitEncoding;
 }
 
-/// States whether code units are bytes. Each type with `HasUnitType` implements it, and none can say
-/// otherwise.
-pub trait DeclaresByteUnits: HasUnitType {
+/// States whether code units are bytes. Each type with `HasUnitType` implements it, and has no
+/// other implementation.
+pub trait DeclaresWhetherUnitsAreBytes: HasUnitType {
     ghost CODE_UNITS_ARE_BYTES: { Bool };
 
     /// Whether code units are bytes, so that the text can be read byte by byte.
@@ -166,7 +166,7 @@ pub trait DeclaresByteUnits: HasUnitType {
     ghost by_units: { CODE_UNITS_ARE_BYTES ≡ Self.Units.ARE_BYTES };
 }
 
-impl<Text: HasUnitType> DeclaresByteUnits for Text {
+impl<Text: HasUnitType> DeclaresWhetherUnitsAreBytes for Text {
     ghost CODE_UNITS_ARE_BYTES = { Text.Units.ARE_BYTES };
 
     const CODE_UNITS_ARE_BYTES: bool = Text::Units::ARE_BYTES;

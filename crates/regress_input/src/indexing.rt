@@ -4,9 +4,11 @@ ghost use Rattle.std.specs.Prelude.{◌≡◌, ◌<◌, ◌≤◌, ◌^◌, map,
 ghost use Rattle.std.specs.List.{list_all};
 ghost use Rattle.regex_meaning.specs.{Text.{Text, rightwards, leftwards}, CodeUnitOffsets.{HasRisingPlaceOffsets, IsBoundary, units, read}};
 ghost use Rattle.regex_meaning.specs.CodeUnits.{text_units_in_encoding, IsSpelledIn, is_character_in_encoding};
-ghost use Rattle.regress_input.specs.ReadsFromOffset.{direction_of_forward_flag, end_if_matched, same_fold, character, past as past_character, past_range_if_next, part, IsReadBack, moved_by_units};
+ghost use Rattle.regress_input.specs.CharAndByteReadsFromOffset.{direction_of_forward_flag, end_if_matched, same_fold, character, past as past_character};
+ghost use Rattle.regress_input.specs.CharAndByteReadsFromOffset.{past_repeated_range_if_next, part};
+ghost use Rattle.regress_input.specs.CharAndByteReadsFromOffset.{IsReadBack, moved_by_units};
 ghost use Rattle.regress_input.specs.TextCodeUnits.{UnitsOccurWhereCharactersDo};
-ghost use Rattle.regress_input.specs.ReadsFromOffset.{bytes_of, bytes_if, IsInUtf8, adjacent_byte, past_bytes_if_next, read_if_units_are_bytes, IsFoundFrom};
+ghost use Rattle.regress_input.specs.CharAndByteReadsFromOffset.{bytes_of, bytes_if, IsInUtf8, adjacent_byte, past_bytes_if_next, read_if_units_are_bytes, IsFoundFrom};
 
 mod ascii_input;
 mod ucs2_input;
@@ -18,19 +20,19 @@ pub use self::ucs2_input::{Ucs2Input, Utf16CharProperties};
 pub use self::utf8_input::{UTF8CharProperties, Utf8Input};
 pub use self::utf16_input::Utf16Input;
 pub use crate::characters_and_properties::{CharProperties, ElementType};
-use crate::code_unit_reads;
+use crate::code_unit_slices;
 pub use crate::code_units::{
-    ByteUnitKind, CodeUnit, CodeUnitKind, DeclaresByteUnits, HasUnitType, Ucs2UnitKind,
-    Utf16UnitKind,
+    ByteCodeUnitEncoding, CodeUnit, CodeUnitEncoding, DeclaresWhetherUnitsAreBytes, HasUnitType,
+    Ucs2CodeUnitEncoding, Utf16CodeUnitEncoding,
 };
 use crate::front::ByteSearcher;
 use crate::position::{Direction, PositionType};
-pub use crate::utf16::is_unit_boundary;
+pub use crate::utf16_decoding::is_unit_boundary;
 use std::fmt::Debug;
 use std::ops::Range;
 
 /// A text that can be read from any boundary. Contracts see the text (`text`).
-pub trait InputIndexer: Copy + Debug + DeclaresByteUnits {
+pub trait InputIndexer: Copy + Debug + DeclaresWhetherUnitsAreBytes {
     /// The type of its characters, which are read one at a time.
     type Element: ElementType;
 
@@ -48,7 +50,7 @@ pub trait InputIndexer: Copy + Debug + DeclaresByteUnits {
 
     /// Returns the code units that encode the characters. A range of them occurs again where its
     /// characters do.
-    fn code_units(&self) -> &[<Self::Units as CodeUnitKind>::Unit]
+    fn code_units(&self) -> &[<Self::Units as CodeUnitEncoding>::Unit]
         ensures units { map Self.Units.Unit.number result.now
             ≡ text_units_in_encoding Self.Units.encoding (text self.now) }
         ensures again { UnitsOccurWhereCharactersDo Self.Units.encoding
@@ -56,7 +58,7 @@ pub trait InputIndexer: Copy + Debug + DeclaresByteUnits {
 
     /// Returns the character to the right of a boundary that is not the right end, and the position
     /// past it.
-    fn character_right(&self, pos: Self::Position) -> (Self::Element, Self::Position)
+    fn read_existing_char_right(&self, pos: Self::Position) -> (Self::Element, Self::Position)
         requires at { IsBoundary (text self.now) (Self.Position.offset pos) }
         requires inside { Self.Position.offset pos < units (text self.now) }
         ensures { let at = Self.Position.offset in
@@ -64,7 +66,7 @@ pub trait InputIndexer: Copy + Debug + DeclaresByteUnits {
 
     /// Returns the character to the left of a boundary that is not the left end, and the position
     /// before it.
-    fn character_left(&self, pos: Self::Position) -> (Self::Element, Self::Position)
+    fn read_existing_char_left(&self, pos: Self::Position) -> (Self::Element, Self::Position)
         requires at { IsBoundary (text self.now) (Self.Position.offset pos) }
         requires inside { 0 < Self.Position.offset pos }
         ensures { let at = Self.Position.offset in
@@ -112,7 +114,7 @@ pub trait InputIndexer: Copy + Debug + DeclaresByteUnits {
     final fn as_bytes(&self) -> Option<&[u8]>
         ensures { option_map (λ all. all.now) result ≡ bytes_if Self.Units.ARE_BYTES (text self.now) }
     {
-        <Self::Units as CodeUnitKind>::Unit::as_bytes(self.code_units())
+        <Self::Units as CodeUnitEncoding>::Unit::as_bytes(self.code_units())
     }
 
     /// Returns the code unit at any offset that is not the right end.
@@ -135,7 +137,7 @@ pub trait InputIndexer: Copy + Debug + DeclaresByteUnits {
         ensures { let at = Self.Position.offset in
             past_character (text self.now) rightwards (at pos) ≡ Some (at result) }
     {
-        let (_c, to) = self.character_right(pos);
+        let (_c, to) = self.read_existing_char_right(pos);
         to
     }
 
@@ -148,7 +150,7 @@ pub trait InputIndexer: Copy + Debug + DeclaresByteUnits {
         ensures { let at = Self.Position.offset in
             past_character (text self.now) leftwards (at pos) ≡ Some (at result) }
     {
-        let (_c, to) = self.character_left(pos);
+        let (_c, to) = self.read_existing_char_left(pos);
         to
     }
 
@@ -168,18 +170,19 @@ pub trait InputIndexer: Copy + Debug + DeclaresByteUnits {
         requires to { IsBoundary (text self.now) (Self.Position.offset end) }
         requires in_order { Self.Position.offset start ≤ Self.Position.offset end }
         ensures { let at = Self.Position.offset in option_map at result
-            ≡ past_range_if_next (text self.now) (at start) (at end) (direction_of_forward_flag Dir.FORWARD) (at pos) }
+            ≡ past_repeated_range_if_next (text self.now) (at start) (at end)
+            (direction_of_forward_flag Dir.FORWARD) (at pos) }
     {
         let all = self.code_units();
         let at = pos.to_offset();
-        let to = code_unit_reads::past_range_if_next(
+        let to = code_unit_slices::past_repeated_range_if_next(
             all,
             Dir::FORWARD,
             at,
             start.to_offset(),
             end.to_offset(),
         );
-        code_unit_reads::position_at(Self::Units::unless_splitting_pair(all, to))
+        code_unit_slices::position_at(Self::Units::unless_splitting_pair(all, to))
     }
 
     /// Checks whether two characters are equal or have equal folds.
@@ -245,7 +248,7 @@ pub trait InputIndexer: Copy + Debug + DeclaresByteUnits {
         if pos.to_offset() == self.unit_count() {
             return None;
         }
-        let (c, to) = self.character_right(*pos);
+        let (c, to) = self.read_existing_char_right(*pos);
         *pos = to;
         Some(c)
     }
@@ -266,7 +269,7 @@ pub trait InputIndexer: Copy + Debug + DeclaresByteUnits {
         if pos.to_offset() == 0 {
             return None;
         }
-        let (c, to) = self.character_left(*pos);
+        let (c, to) = self.read_existing_char_left(*pos);
         *pos = to;
         Some(c)
     }
@@ -332,7 +335,7 @@ pub trait InputIndexer: Copy + Debug + DeclaresByteUnits {
         requires inside { Self.Position.offset pos < units (text self.now) }
         ensures { character (text self.now) rightwards (Self.Position.offset pos) ≡ Some result }
     {
-        let (c, _to) = self.character_right(pos);
+        let (c, _to) = self.read_existing_char_right(pos);
         c.as_u32()
     }
 
@@ -345,7 +348,7 @@ pub trait InputIndexer: Copy + Debug + DeclaresByteUnits {
             (adjacent_byte (bytes_of (text self.now)) rightwards (Self.Position.offset pos)) }
     {
         match self.as_bytes() {
-            Some(all) => code_unit_reads::byte_right(all, pos.to_offset()),
+            Some(all) => code_unit_slices::byte_right(all, pos.to_offset()),
             None => None,
         }
     }
@@ -359,7 +362,7 @@ pub trait InputIndexer: Copy + Debug + DeclaresByteUnits {
             (adjacent_byte (bytes_of (text self.now)) leftwards (Self.Position.offset pos)) }
     {
         match self.as_bytes() {
-            Some(all) => code_unit_reads::byte_left(all, pos.to_offset()),
+            Some(all) => code_unit_slices::byte_left(all, pos.to_offset()),
             None => None,
         }
     }
@@ -371,8 +374,8 @@ pub trait InputIndexer: Copy + Debug + DeclaresByteUnits {
         ensures { let at = Self.Position.offset in
             option_map at result ≡ moved_by_units (units (text self.now)) rightwards amt (at pos) }
     {
-        let to = code_unit_reads::offset_moved_right(self.unit_count(), pos.to_offset(), amt);
-        code_unit_reads::position_at(to)
+        let to = code_unit_slices::offset_moved_right(self.unit_count(), pos.to_offset(), amt);
+        code_unit_slices::position_at(to)
     }
 
     /// Returns the position `amt` code units to the left, or `None` if that is past the left end.
@@ -383,8 +386,8 @@ pub trait InputIndexer: Copy + Debug + DeclaresByteUnits {
         ensures { let at = Self.Position.offset in
             option_map at result ≡ moved_by_units (units (text self.now)) leftwards amt (at pos) }
     {
-        let to = code_unit_reads::offset_moved_left(self.unit_count(), pos.to_offset(), amt);
-        code_unit_reads::position_at(to)
+        let to = code_unit_slices::offset_moved_left(self.unit_count(), pos.to_offset(), amt);
+        code_unit_slices::position_at(to)
     }
 
     /// Returns the first position, from any offset on, at which the searched bytes occur. Returns
@@ -401,7 +404,7 @@ pub trait InputIndexer: Copy + Debug + DeclaresByteUnits {
             (bytes_of (text self.now)) (at pos) (option_map at result) }
     {
         match self.as_bytes() {
-            Some(all) => code_unit_reads::position_at(code_unit_reads::find_bytes_from(
+            Some(all) => code_unit_slices::position_at(code_unit_slices::find_by_byte_searcher_from(
                 all,
                 pos.to_offset(),
                 search,
@@ -424,10 +427,11 @@ pub trait InputIndexer: Copy + Debug + DeclaresByteUnits {
         requires to { IsBoundary (text self.now) (Self.Position.offset range.end) }
         requires in_order { Self.Position.offset range.start ≤ Self.Position.offset range.end }
         ensures { let at = Self.Position.offset in end_if_matched result (at pos.new)
-            ≡ past_range_if_next (text self.now) (at range.start) (at range.end) (direction_of_forward_flag Dir.FORWARD) (at pos.old) }
+            ≡ past_repeated_range_if_next (text self.now) (at range.start) (at range.end)
+            (direction_of_forward_flag Dir.FORWARD) (at pos.old) }
     {
         let to = self.past_again(dir, *pos, range.start, range.end);
-        code_unit_reads::move_position_if_some(pos, to)
+        code_unit_slices::move_position_if_some(pos, to)
     }
 
     /// Checks whether `bytes` occur next to any offset in the direction, read left to right. They
@@ -443,20 +447,21 @@ pub trait InputIndexer: Copy + Debug + DeclaresByteUnits {
         requires inside { Self.Position.offset pos.old ≤ units (text self.now) }
         ensures { let at = Self.Position.offset in
             end_if_matched result (at pos.new) ≡ read_if_units_are_bytes Self.Units.ARE_BYTES
-            (past_bytes_if_next (bytes_of (text self.now)) bytes.now (direction_of_forward_flag Dir.FORWARD) (at pos.old)) }
+            (past_bytes_if_next (bytes_of (text self.now)) bytes.now (direction_of_forward_flag Dir.FORWARD)
+            (at pos.old)) }
     {
         let Some(all) = self.as_bytes() else {
             return false;
         };
-        let to = code_unit_reads::past_units_if_next(all, Dir::FORWARD, pos.to_offset(), bytes);
-        code_unit_reads::move_position_if_some(pos, code_unit_reads::position_at(to))
+        let to = code_unit_slices::past_units_if_next(all, Dir::FORWARD, pos.to_offset(), bytes);
+        code_unit_slices::move_position_if_some(pos, code_unit_slices::position_at(to))
     }
 }
 
 /// States a law and does nothing: a read to the right and a read to the left are inverse to each
 /// other. Each returns the character that the other returned, and goes back to where the other
 /// began.
-pub fn reads_are_inverse<Input: InputIndexer>(_input: &Input)
+pub fn law_reads_are_inverse<Input: InputIndexer>(_input: &Input)
     ensures right_then_left { IsReadBack (Input.text _input.now) rightwards leftwards }
     ensures left_then_right { IsReadBack (Input.text _input.now) leftwards rightwards }
 {}

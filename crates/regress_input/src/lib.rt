@@ -3,7 +3,7 @@
 #![tactic(auto)]
 
 mod characters_and_properties;
-mod code_unit_reads;
+mod code_unit_slices;
 mod code_units;
 pub mod cursor;
 pub mod front;
@@ -11,5 +11,5 @@ pub mod indexing;
 pub mod matchers;
 pub mod position;
 pub mod scm;
-mod utf16;
-mod utf8;
+mod utf16_decoding;
+mod utf8_decoding;

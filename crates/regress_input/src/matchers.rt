@@ -2,7 +2,7 @@
 
 ghost use Rattle.std.specs.Prelude.{◌≡◌, ◌≤◌};
 ghost use Rattle.regex_meaning.specs.CodeUnitOffsets.{IsBoundary};
-ghost use Rattle.regress_input.specs.ReadsFromOffset.{direction_of_forward_flag, end_if_matched, past_range_if_next, past_range_icase};
+ghost use Rattle.regress_input.specs.CharAndByteReadsFromOffset.{direction_of_forward_flag, end_if_matched, past_repeated_range_if_next, past_repeated_range_icase};
 
 use crate::cursor::{self, Direction};
 use crate::indexing::InputIndexer;
@@ -26,7 +26,7 @@ pub fn backref<Input: InputIndexer, Dir: Direction>(
     requires to { IsBoundary (Input.text input.now) (Input.Position.offset orig_range.end) }
     requires in_order { Input.Position.offset orig_range.start ≤ Input.Position.offset orig_range.end }
     ensures { let at = Input.Position.offset in
-        end_if_matched result (at pos.new) ≡ past_range_if_next (Input.text input.now)
+        end_if_matched result (at pos.new) ≡ past_repeated_range_if_next (Input.text input.now)
         (at orig_range.start) (at orig_range.end) (direction_of_forward_flag Dir.FORWARD) (at pos.old) }
 {
     input.subrange_eq(dir, pos, orig_range)
@@ -46,7 +46,7 @@ pub fn backref_icase<Input: InputIndexer, Dir: Direction>(
     requires to { IsBoundary (Input.text input.now) (Input.Position.offset orig_range.end) }
     requires in_order { Input.Position.offset orig_range.start ≤ Input.Position.offset orig_range.end }
     ensures { let at = Input.Position.offset in
-        end_if_matched result (at pos.new) ≡ past_range_icase (Input.text input.now)
+        end_if_matched result (at pos.new) ≡ past_repeated_range_icase (Input.text input.now)
         (at orig_range.start) (at orig_range.end) (direction_of_forward_flag Dir.FORWARD) (at pos.old) }
 {
     let start = orig_range.start;

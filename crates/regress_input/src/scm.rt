@@ -5,12 +5,12 @@ ghost use Rattle.std.specs.Char.{IsScalar};
 ghost use Rattle.regex_meaning.specs.{NumberListHelpers.{contains}, Tree.{bracket, byte_sequence}, Text.{is_line_terminator}, Outcomes.{accepts}};
 ghost use Rattle.regex_meaning.specs.CodeUnitOffsets.{IsBoundary};
 ghost use Rattle.regex_pattern_front.specs.AstToSpecTree.{class_as_spec};
-ghost use Rattle.regress_input.specs.ReadsFromOffset.{direction_of_forward_flag, end_if_matched, past_if};
+ghost use Rattle.regress_input.specs.CharAndByteReadsFromOffset.{direction_of_forward_flag, end_if_matched, past_if};
 
 use crate::cursor::{self, Direction};
 use crate::front::{BracketContents, ByteArraySet, ByteSet, MAX_CHAR_SET_LENGTH, SmallArraySet};
-use crate::indexing::{CharProperties, CodeUnitKind, ElementType, InputIndexer};
-use crate::utf8;
+use crate::indexing::{CharProperties, CodeUnitEncoding, ElementType, InputIndexer};
+use crate::utf8_decoding;
 
 /// A matcher of one character. Contracts see which characters it accepts (`accepted`), and what it
 /// requires of itself (`can_match`) and of its input.
@@ -149,7 +149,7 @@ impl<'a, Input: InputIndexer, Dir: Direction, Bytes: ByteSet> SingleCharMatcher<
 
     #[inline(always)]
     fn matches(&self, input: &Input, dir: Dir, pos: &mut Input::Position) -> bool {
-        matches_ascii(self.bytes, input, dir, pos)
+        matches_ascii_byte_set(self.bytes, input, dir, pos)
     }
 }
 
@@ -165,14 +165,14 @@ impl<Input: InputIndexer, Dir: Direction, ArraySet: SmallArraySet> SingleCharMat
 
     #[inline(always)]
     fn matches(&self, input: &Input, dir: Dir, pos: &mut Input::Position) -> bool {
-        matches_ascii(&self.0, input, dir, pos)
+        matches_ascii_byte_set(&self.0, input, dir, pos)
     }
 }
 
 // Matches a character of a set of ASCII bytes. An ASCII character is one byte, so a byte is read if
 // code units are bytes; otherwise a character is read.
 #[inline(always)]
-fn matches_ascii<Bytes: ByteSet, Input: InputIndexer, Dir: Direction>(
+fn matches_ascii_byte_set<Bytes: ByteSet, Input: InputIndexer, Dir: Direction>(
     bytes: &Bytes,
     input: &Input,
     dir: Dir,
@@ -226,6 +226,6 @@ fn is_spelled(bytes: &[u8], c: u32) -> bool
     requires { (d : ℕ) × IsScalar d × (bytes.now ≡ encode_utf8 d) }
     ensures { result ≡ accepts (byte_sequence bytes.now) c }
 {
-    let (spelled, _) = utf8::character_at(bytes, 0);
+    let (spelled, _) = utf8_decoding::character_at(bytes, 0);
     spelled as u32 == c
 }

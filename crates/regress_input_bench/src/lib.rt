@@ -4,7 +4,7 @@
 
 ghost use Rattle.std.specs.Prelude.{◌<◌, ◌≤◌, All, IfSome, IsAscii, IsUtf8};
 ghost use Rattle.regex_meaning.specs.CodeUnitOffsets.{IsBoundary, units};
-ghost use Rattle.regex_pattern_front.specs.ByteSetMembers.{ascii_bitmap_bytes};
+ghost use Rattle.regex_pattern_front.specs.ByteSetMembers.{member_bytes_of_ascii_bitmap};
 
 use regress_input::cursor::{self, Direction, Forward};
 use regress_input::front::{
@@ -208,7 +208,7 @@ pub extern "C" fn regress_input_bench_ucs2_bracket(alloc: Global, units: &[u16])
 // The lower letters.
 #[inline(always)]
 fn lower_letters() -> AsciiBitmap
-    ensures { All (λ b. b < 128) (ascii_bitmap_bytes result) }
+    ensures { All (λ b. b < 128) (member_bytes_of_ascii_bitmap result) }
 {
     let mut set = AsciiBitmap::default();
     for byte in 0x61..0x7B {

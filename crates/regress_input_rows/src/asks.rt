@@ -7,7 +7,7 @@ use crate::answers::{
 use crate::matches::{matching, past_char};
 use regress_input::cursor::{Backward, Direction, Forward};
 use regress_input::front::BracketContents;
-use regress_input::indexing::{InputIndexer, reads_are_inverse};
+use regress_input::indexing::{InputIndexer, law_reads_are_inverse};
 use std::alloc::AllocError;
 
 #[derive(Clone, Copy)]
@@ -136,7 +136,7 @@ pub(crate) fn write_answer<Input: InputIndexer>(
     input: &Input,
     ask: &Ask<'_>,
 ) -> Result<(), AllocError> {
-    reads_are_inverse(input);
+    law_reads_are_inverse(input);
     if ask.name == "matchers" {
         return write_matchers(line, &matchers(input, ask));
     }

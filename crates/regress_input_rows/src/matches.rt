@@ -1,7 +1,7 @@
 //! The matchers of one character.
 
 ghost use Rattle.std.specs.Prelude.{◌<◌, All};
-ghost use Rattle.regex_pattern_front.specs.ByteSetMembers.{ascii_bitmap_bytes};
+ghost use Rattle.regex_pattern_front.specs.ByteSetMembers.{member_bytes_of_ascii_bitmap};
 
 use crate::answers::past_match;
 use regress_input::cursor::Direction;
@@ -15,7 +15,7 @@ use std::alloc::{AllocError, Global};
 
 // The set of one byte of ASCII.
 fn ascii_set(byte: u8) -> AsciiBitmap
-    ensures { All (λ b. b < 128) (ascii_bitmap_bytes result) }
+    ensures { All (λ b. b < 128) (member_bytes_of_ascii_bitmap result) }
 {
     let mut set = AsciiBitmap::default();
     set.set(byte);

@@ -13,7 +13,7 @@ use Rattle.regex_meaning.specs.Tree.{byte_set, byte_sequence}
 use Rattle.regex_meaning.specs.Text.{Text, Direction, rightwards, leftwards, last_place, next_character, moved, characters_ahead}
 use Rattle.regex_meaning.specs.CodeUnitOffsets.{HasRisingPlaceOffsets, offset}
 use Rattle.regex_meaning.specs.Outcomes.{Groups, Outcome, is_some_and, spelled, outcomes}
-use Rattle.regex_meaning.specs.WellFormedTrees.{has_text_in_sequence, sets_and_strings_fit_instructions}
+use Rattle.regex_meaning.specs.WellFormedTrees.{has_text_in_sequence, set_sizes_and_characters_fit_instructions}
 use Rattle.regex_meaning.specs.OutcomesWithStepTicks.{TickOrOutcome, tick, pair, ticks, outcomes_replaced_by_lists, nearest_first, compared_chunks, byte_tries, ticked}
 use Rattle.regex_meaning.specs.CompilationRelation.{Program, Counters, counters_after_insn, HasInsnsBetween, IsCode, ByteSeq, ordered, chunks}
 use Rattle.regex_meaning.proofs.FirstBytes.{encode-1}
@@ -287,7 +287,7 @@ module _ (program : Program) (text : Text) (is_text : HasRisingPlaceOffsets text
       subst (λ (d : Direction). Finds program text is_text d behind (byte_sequence bs)) (sym same)
       (in_direction_finds behind bs reads (and-right (nat_lt 0 (length bs)) _ spelt))
 
-  pub byte_set_finds : (d : Direction) (behind : Bool) (members : List ℕ) → HasUtf8CharactersAndOffsets text → sets_and_strings_fit_instructions (byte_set members) ≡ true
+  pub byte_set_finds : (d : Direction) (behind : Bool) (members : List ℕ) → HasUtf8CharactersAndOffsets text → set_sizes_and_characters_fit_instructions (byte_set members) ≡ true
       → Finds program text is_text d behind (byte_set members)
   unfolding IsCode ticked outcomes
   byte_set_finds d behind [] reads fits E m n p g s ls k code enters on = none_finds program text is_text d E m n p g s ls k code

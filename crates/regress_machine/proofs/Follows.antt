@@ -9,7 +9,8 @@ use Rattle.regex_meaning.specs.OutcomesWithStepTicks.{TickOrOutcome, tick, pair,
 use Rattle.regex_meaning.specs.CompilationRelation.{Program}
 use Rattle.regex_meaning.proofs.Ticked.{pairs-ticked}
 use Rattle.regress_machine.specs.Machine.{running, Found, search}
-use Rattle.regress_machine.specs.SearchResults.{state_before_first_insn, end_of, end_in_offsets, match_in_offsets, first_pair, turns_at, TreeProgramCanSearchText}
+use Rattle.regress_machine.specs.SearchFindsFirstOutcomeAtPlace.{state_before_first_insn, end_of, end_in_offsets, match_in_offsets, first_pair, turns_at}
+use Rattle.regress_machine.specs.SearchFindsFirstOutcomeAtPlace.{TreeProgramCanSearchText}
 use Rattle.regress_machine.proofs.Search.{search_more}
 use Rattle.regress_machine.proofs.Whole.{searches-find}
 

@@ -6,10 +6,11 @@ use Rattle.regex_meaning.specs.Tree.{Lookaround, Node, lookaround, group_ids}
 use Rattle.regex_meaning.specs.Text.{Text, Direction, rightwards, leftwards}
 use Rattle.regex_meaning.specs.CodeUnitOffsets.{HasRisingPlaceOffsets}
 use Rattle.regex_meaning.specs.Outcomes.{Groups, Outcome, lookaround_outcomes, direction_of}
-use Rattle.regex_meaning.specs.OutcomesWithStepTicks.{TickOrOutcome, tick, pair, outcomes_without_ticks, ticks, ticks_to_first, outcomes_replaced_by_lists, ticks_before_outcomes, ticked}
+use Rattle.regex_meaning.specs.OutcomesWithStepTicks.{TickOrOutcome, tick, pair, outcomes_without_ticks, ticks, ticks_to_first, outcomes_replaced_by_lists}
+use Rattle.regex_meaning.specs.OutcomesWithStepTicks.{ticks_before_outcomes, ticked}
 use Rattle.regex_meaning.specs.CompilationRelation.{Program, Counters, counters_after_insn, IsCode, Goal, Lookahead, Lookbehind, lookaround_insn}
 use Rattle.regex_meaning.proofs.Onward.{IsOnward-refl}
-use Rattle.regress_machine.specs.Machine.{LoopData, State, running, asks, state_at_ip, state_at_next_ip, after_lookaround, act_on}
+use Rattle.regress_machine.specs.Machine.{LoopData, State, running, asks, state_with_ip, state_at_next_ip, after_lookaround, act_on}
 use Rattle.regress_machine.proofs.Yields.{Ending, EndIs, first_pair, Yields, yields_none, yields_same, yields_end, yields_asks}
 use Rattle.regress_machine.proofs.Frames.{Kept, kept_itself, kept_more, inside_itself}
 use Rattle.regress_machine.proofs.Nodes.{and_then-ticks, state_at, Reached, GoesOn, Enters, here, act_at, Finds}
@@ -36,7 +37,7 @@ module _ (program : Program) (text : Text) (is_text : HasRisingPlaceOffsets text
 
   asks-if : (d : Direction) (backwards negate : Bool) (start_group end_group c : ℕ) (t : State)
       → act_on program text d (Some (if backwards then Lookbehind negate start_group end_group c else Lookahead negate start_group end_group c)) t
-      ≡ asks (if backwards then leftwards else rightwards) negate (state_at_next_ip t) (state_at_ip c t)
+      ≡ asks (if backwards then leftwards else rightwards) negate (state_at_next_ip t) (state_with_ip c t)
   asks-if d true negate start_group end_group c t = refl
   asks-if d false negate start_group end_group c t = refl
 

@@ -12,10 +12,12 @@ use Rattle.regex_meaning.specs.Text.{Text, Direction, rightwards, leftwards, las
 use Rattle.regex_meaning.specs.CodeUnitOffsets.{HasRisingPlaceOffsets, offset}
 use Rattle.regex_meaning.specs.Outcomes.{Groups, Outcome, cleared, max_iterations, Repetition, repetition}
 use Rattle.regex_meaning.specs.OutcomesWithStepTicks.{TickOrOutcome, tick, pair, ticks, outcomes_replaced_by_lists, ticked_preferred, ticked_bounded_repeat, ticked}
-use Rattle.regex_meaning.specs.CompilationRelation.{Program, LoopFields, Insn, Counters, counters_after_insn, HasInsnsBetween, IsCode, ResetCaptureGroup, EnterLoop, LoopAgain}
+use Rattle.regex_meaning.specs.CompilationRelation.{Program, LoopFields, Insn, Counters, counters_after_insn, HasInsnsBetween, IsCode, ResetCaptureGroup, EnterLoop}
+use Rattle.regex_meaning.specs.CompilationRelation.{LoopAgain}
 use Rattle.regex_meaning.proofs.TextLemmas.{offset-injective}
-use Rattle.regress_machine.specs.Machine.{LoopData, State, Thread, running, waiting, goes, go, with_some, only_if, first_runs_others_wait, preferring, iterate_or_leave_loop}
-use Rattle.regress_machine.specs.Machine.{next_iteration_unless_empty, loop_repeated, act}
+use Rattle.regress_machine.specs.Machine.{LoopData, State, Thread, running, waiting, goes, go, with_some, only_if, first_running_and_others_waiting, preferring}
+use Rattle.regress_machine.specs.Machine.{iterate_or_leave_at_loop_head}
+use Rattle.regress_machine.specs.Machine.{effect_at_iteration_end, loop_again_effect, act}
 use Rattle.regress_machine.proofs.Yields.{Ending, Yields, yields_none, yields_append, yields_same, yields_turn, yields_wait}
 use Rattle.regress_machine.proofs.Frames.{Kept, kept_itself, kept_more, kept_both, inside_itself, slice_get-set_same, slice_get-set_other}
 use Rattle.regress_machine.proofs.Nodes.{over, state_at, RangeFits, Fit, Reached, GoesOn, Enters, here, reached_both, act_at, Finds, at_mark, Rising}
@@ -80,7 +82,7 @@ module _ (program : Program) (text : Text) (is_text : HasRisingPlaceOffsets text
   -- both ways of a loop
   ways_yield : (d : Direction) (E : Ending) (a b greedy : Bool) (again leave : State) (xs ys : List TickOrOutcome)
       → (a ≡ true → Yields program text d E (running again ∷ []) xs) → (b ≡ true → Yields program text d E (running leave ∷ []) ys)
-      → Yields program text d E (first_runs_others_wait (preferring greedy (if a then again ∷ [] else []) (if b then leave ∷ [] else []))) (ticked_preferred a b greedy xs ys)
+      → Yields program text d E (first_running_and_others_waiting (preferring greedy (if a then again ∷ [] else []) (if b then leave ∷ [] else []))) (ticked_preferred a b greedy xs ys)
   ways_yield d E false false true again leave xs ys p q = yields_none program text d E
   ways_yield d E false false false again leave xs ys p q = yields_none program text d E
   ways_yield d E true false true again leave xs ys p q = p refl
@@ -139,7 +141,7 @@ module _ (program : Program) (text : Text) (is_text : HasRisingPlaceOffsets text
 
     abbrev pub threads : (i p : ℕ) → Groups → List ℕ → List LoopData → List Thread
     threads i p g s ls =
-        first_runs_others_wait (preferring q.greedy (if nat_lt i (max_iterations q) then again_state i p g s ls ∷ [] else []) (if nat_le q.min i then leave_state p g s ls ∷ [] else []))
+        first_running_and_others_waiting (preferring q.greedy (if nat_lt i (max_iterations q) then again_state i p g s ls ∷ [] else []) (if nat_le q.min i then leave_state p g s ls ∷ [] else []))
 
     -- between two iterations
     pub record Stands (p : ℕ) (g : Groups) (s : List ℕ) (ls : List LoopData) : Type 0 where
@@ -156,10 +158,10 @@ module _ (program : Program) (text : Text) (is_text : HasRisingPlaceOffsets text
     in_loops ls e = let a = rise j l body in omega (arith, j_loop, l_loop, enters.loops)
 
     turn_is : (i : ℕ) (t : State) → m.loop < length t.loops
-        → iterate_or_leave_loop fields m.insn i t
-        ≡ goes (first_runs_others_wait (preferring q.greedy (if nat_lt i (max_iterations q) then record t { ip = m.insn + 1; loops = slice_set t.loops m.loop (record { iters = i; entry = t.pos }) } ∷ [] else []) (if nat_le q.min i then record t { ip = n.insn } ∷ [] else [])))
+        → iterate_or_leave_at_loop_head fields m.insn i t
+        ≡ goes (first_running_and_others_waiting (preferring q.greedy (if nat_lt i (max_iterations q) then record t { ip = m.insn + 1; loops = slice_set t.loops m.loop (record { iters = i; entry = t.pos }) } ∷ [] else []) (if nat_le q.min i then record t { ip = n.insn } ∷ [] else [])))
     turn_is i t h =
-        ap (λ b. only_if b (goes (first_runs_others_wait (preferring q.greedy (if nat_lt i (max_iterations q) then record t { ip = m.insn + 1; loops = slice_set t.loops m.loop (record { iters = i; entry = t.pos }) } ∷ [] else []) (if nat_le q.min i then record t { ip = n.insn } ∷ [] else []))))) (lt-ltb m.loop (length t.loops) h)
+        ap (λ b. only_if b (goes (first_running_and_others_waiting (preferring q.greedy (if nat_lt i (max_iterations q) then record t { ip = m.insn + 1; loops = slice_set t.loops m.loop (record { iters = i; entry = t.pos }) } ∷ [] else []) (if nat_le q.min i then record t { ip = n.insn } ∷ [] else []))))) (lt-ltb m.loop (length t.loops) h)
 
     leaves : (p : ℕ) (g : Groups) (s : List ℕ) (ls : List LoopData) → Stands p g s ls
         → Yields program text d E (running (leave_state p g s ls) ∷ []) (outcomes_replaced_by_lists (pair (record { end = p; groups = g }) ∷ []) k)
@@ -229,10 +231,10 @@ module _ (program : Program) (text : Text) (is_text : HasRisingPlaceOffsets text
         ≡ (if nat_eq e p && nat_lt q.min (i + 1) then goes [] else goes (threads (i + 1) e h s' ls'))
     again_is i p e h s' ls' few in_p in_e len got =
         let v = state_at program text is_text l.insn e h s' ls' in
-        let more = iterate_or_leave_loop fields m.insn (i + 1) v in
+        let more = iterate_or_leave_at_loop_head fields m.insn (i + 1) v in
         act_at program text is_text d v (LoopAgain m.insn) jump
-        ∙ ap (λ o. loop_repeated o m.insn v) enter
-        ∙ ap (λ o. with_some o (λ x. next_iteration_unless_empty fields m.insn x v)) got
+        ∙ ap (λ o. loop_again_effect o m.insn v) enter
+        ∙ ap (λ o. with_some o (λ x. effect_at_iteration_end fields m.insn x v)) got
         ∙ ap (λ b. only_if b (if offset text p == offset text e && nat_lt q.min (i + 1) then goes [] else more)) few
         ∙ ap (λ b. if b && nat_lt q.min (i + 1) then goes [] else more) (same_place p e in_p in_e)
         ∙ ap (λ x. if nat_eq e p && nat_lt q.min (i + 1) then goes [] else x) (turn_is (i + 1) v (in_loops ls' len))

@@ -12,12 +12,12 @@ use Rattle.regex_meaning.specs.Tree.{loop_1_char_body, group_ids}
 use Rattle.regex_meaning.specs.Text.{Text, Direction, rightwards, leftwards, last_place, next_character, moved, characters_ahead, next_characters}
 use Rattle.regex_meaning.specs.CodeUnitOffsets.{HasRisingPlaceOffsets, offset, place_at}
 use Rattle.regex_meaning.specs.Outcomes.{Groups, Outcome, accepts, is_some_and, max_iterations, repetition, repeat, one_character, spelled, outcomes}
-use Rattle.regex_meaning.specs.WellFormedTrees.{is_one_character, has_text_in_sequence, sets_and_strings_fit_instructions}
+use Rattle.regex_meaning.specs.WellFormedTrees.{is_one_character, has_text_in_sequence, set_sizes_and_characters_fit_instructions}
 use Rattle.regex_meaning.specs.OutcomesWithStepTicks.{TickOrOutcome, tick, ticks, outcomes_replaced_by_lists, with_ticks_between, nearest_first, body_tries, ticked}
 use Rattle.regex_meaning.specs.CompilationRelation.{Program, Counters, counters_after_insn, HasInsnAt, IsCode, Loop1CharBody}
 use Rattle.regex_meaning.proofs.Each.{Each-map, Each-drop, Each-take, Each-reverse}
 use Rattle.regex_meaning.proofs.TextLemmas.{place_at-offset}
-use Rattle.regress_machine.specs.Machine.{LoopData, State, running, waiting, first_runs_others_wait, with_some, run_states, scan, scans, act}
+use Rattle.regress_machine.specs.Machine.{LoopData, State, running, waiting, first_running_and_others_waiting, with_some, run_states, scan, scans, act}
 use Rattle.regress_machine.specs.TextsForBytePrograms.{HasUtf8CharactersAndOffsets, tree_contains_byte_nodes}
 use Rattle.regress_machine.proofs.Yields.{Ending, Yields, yields_none, yields_append, yields_same, yields_wait, yields_scan}
 use Rattle.regress_machine.proofs.Frames.{kept_itself}
@@ -78,7 +78,7 @@ module _ (program : Program) (text : Text) (is_text : HasRisingPlaceOffsets text
   -- one thread after another, of which all but the first wait
   turns_yield : (d : Direction) (E : Ending) (st : ℕ → State) (out : ℕ → Outcome) (k : Outcome → List TickOrOutcome) (ns : List ℕ)
       → Each (λ n. Yields program text d E (running (st n) ∷ []) (k (out n))) ns
-      → Yields program text d E (first_runs_others_wait (map st ns)) (outcomes_replaced_by_lists (with_ticks_between (map out ns)) k)
+      → Yields program text d E (first_running_and_others_waiting (map st ns)) (outcomes_replaced_by_lists (with_ticks_between (map out ns)) k)
   turns_yield d E st out k [] h = yields_none program text d E
   turns_yield d E st out k (n ∷ []) h = yields_same program text d E _ _ _ (sym (append-nil (k (out n)))) h.0
   turns_yield d E st out k (n ∷ m ∷ ns) h =
@@ -113,11 +113,11 @@ module _ (program : Program) (text : Text) (is_text : HasRisingPlaceOffsets text
       let few = prefix_len-le-length (accepts node) near in
       let left = length-nearest text d p enters.inside in
       let end : n.insn ≡ m.insn + 2 = let e = reads.end in omega (arith, e) in
-      let turn : act program text d t ≡ scans (min most (len + 1)) (first_runs_others_wait (map st ns)) =
+      let turn : act program text d t ≡ scans (min most (len + 1)) (first_running_and_others_waiting (map st ns)) =
       act_at program text is_text d t (Loop1CharBody q.min most q.greedy) has
       ∙ ap (λ o. with_some o (λ test. with_some (place_at text t.pos) (λ p. scan text q.min most q.greedy test d p t))) reads.test_is
       ∙ ap (λ o. with_some o (λ p. scan text q.min most q.greedy reads.test d p t)) (place_at-offset text p is_text enters.inside)
-      ∙ ap (λ i. scans (min most (i + 1)) (first_runs_others_wait (run_states text q.greedy d q.min (min most i) p t))) same_len in
+      ∙ ap (λ i. scans (min most (i + 1)) (first_running_and_others_waiting (run_states text q.greedy d q.min (min most i) p t))) same_len in
       let yields : Each (λ i. Yields program text d E (running (st i) ∷ []) (k (outcome_at text d p g i))) ns =
       each_in_turns (λ i. Yields program text d E (running (st i) ∷ []) (k (outcome_at text d p g i))) q.greedy (numbers_from q.min (min most len + 1 - q.min))
       (Each-map (λ i. (q.min ≤ i) × (i < q.min + (min most len + 1 - q.min))) (λ i. Yields program text d E (running (st i) ∷ []) (k (outcome_at text d p g i)))
@@ -132,11 +132,11 @@ module _ (program : Program) (text : Text) (is_text : HasRisingPlaceOffsets text
       yields_same program text d E _ _ _
       (ap (λ os. tick ∷ (ticks (min most (len + 1)) ++ outcomes_replaced_by_lists (with_ticks_between os) k))
       (sym (repeat_run text d (accepts node) (repetition q (outcomes text node d)) (body_is_one text d node one) p g enters.inside)))
-      (yields_scan program text d E t (min most (len + 1)) (first_runs_others_wait (map st ns)) (outcomes_replaced_by_lists (with_ticks_between (run text d p g ns)) k) turn
+      (yields_scan program text d E t (min most (len + 1)) (first_running_and_others_waiting (map st ns)) (outcomes_replaced_by_lists (with_ticks_between (run text d p g ns)) k) turn
       (turns_yield d E st (outcome_at text d p g) k ns yields))
 
   pub loop_1_char_body_finds : (d : Direction) (behind : Bool) (q : Quantifier) (loopee : Node) → is_one_character loopee ≡ true → has_text_in_sequence loopee ≡ true
-      → sets_and_strings_fit_instructions loopee ≡ true → (tree_contains_byte_nodes loopee ≡ true → HasUtf8CharactersAndOffsets text) → Finds program text is_text d behind (loop_1_char_body q loopee)
+      → set_sizes_and_characters_fit_instructions loopee ≡ true → (tree_contains_byte_nodes loopee ≡ true → HasUtf8CharactersAndOffsets text) → Finds program text is_text d behind (loop_1_char_body q loopee)
   unfolding IsCode ticked outcomes
   loop_1_char_body_finds d behind q loopee one spelt fits reads E m n p g s ls k code enters on =
       yields_same program text d E _ _ _

@@ -18,9 +18,9 @@ use Rattle.regex_meaning.specs.Tree.{match_any_except_line_terminator}
 use Rattle.regex_meaning.specs.Text.{Text, is_scalar}
 use Rattle.regex_meaning.specs.Outcomes.{accepts, exclusive_or, in_intervals}
 use Rattle.regex_meaning.specs.StartPredicate.{bytes_that_pass}
-use Rattle.regex_meaning.specs.WellFormedTrees.{is_one_character, has_text_in_sequence, sets_and_strings_fit_instructions}
+use Rattle.regex_meaning.specs.WellFormedTrees.{is_one_character, has_text_in_sequence, set_sizes_and_characters_fit_instructions}
 use Rattle.regex_meaning.specs.CompilationRelation.{Program, Insn, Counters, HasInsnsBetween, IsCode, JustFail, Char, CharSet, ByteSet, ByteSeq, AsciiBracket, Bracket}
-use Rattle.regex_meaning.specs.CompilationRelation.{MatchAny, MatchAnyExceptLineTerminator, padded, ordered, is_ascii_set, chunks, chunks_of}
+use Rattle.regex_meaning.specs.CompilationRelation.{MatchAny, MatchAnyExceptLineTerminator, padded, ordered, is_uninverted_ascii_class, chunks, chunks_of}
 use Rattle.regex_meaning.proofs.FirstBytes.{true-in_range, encode-1}
 use Rattle.regress_machine.specs.Machine.{test_of}
 use Rattle.regress_machine.specs.TextsForBytePrograms.{HasUtf8CharactersAndOffsets, tree_contains_byte_nodes}
@@ -149,7 +149,7 @@ module _ (program : Program) (text : Text) where
       reads_by (byte_set (b ∷ [])) (ByteSeq (b ∷ [])) (λ d. pointwise nat_eq (encode_utf8_all (d ∷ [])) (b ∷ [])) m n has refl
       (each_scalar (λ d. pointwise nat_eq (encode_utf8_all (d ∷ [])) (b ∷ []) ≡ contains (b ∷ []) d) (byte_test b low) text.characters reads.scalars)
 
-  bracket_reads : (contents : BracketContents) (m n : Counters) (b : Bool) → is_ascii_set contents ≡ b
+  bracket_reads : (contents : BracketContents) (m n : Counters) (b : Bool) → is_uninverted_ascii_class contents ≡ b
       → MatchBool b (HasInsnsBetween program (AsciiBracket (bytes_that_pass (in_intervals contents.intervals)) ∷ []) m n)
       (HasInsnsBetween program (Bracket m.bracket ∷ []) (record m { bracket = m.bracket + 1 }) n × (slice_get program.brackets m.bracket ≡ Some contents))
       → ReadsOne (bracket contents) m n
@@ -165,7 +165,7 @@ module _ (program : Program) (text : Text) where
     end = end_of (Bracket m.bracket) (record m { bracket = m.bracket + 1 }) n has.0;
   }
 
-  pub reads_one : (behind : Bool) (node : Node) → is_one_character node ≡ true → has_text_in_sequence node ≡ true → sets_and_strings_fit_instructions node ≡ true
+  pub reads_one : (behind : Bool) (node : Node) → is_one_character node ≡ true → has_text_in_sequence node ≡ true → set_sizes_and_characters_fit_instructions node ≡ true
       → (tree_contains_byte_nodes node ≡ true → HasUtf8CharactersAndOffsets text) → (m n : Counters) → IsCode program behind node m n → ReadsOne node m n
   unfolding IsCode
   reads_one behind (char c) one spelt fits reads m n code = reads_by (char c) (Char c) (accepts (char c)) m n code refl (exactly (char c))
@@ -180,7 +180,7 @@ module _ (program : Program) (text : Text) where
       reads_by (byte_set (b ∷ c ∷ bytes)) (ByteSet (b ∷ c ∷ bytes)) (contains (b ∷ c ∷ bytes)) m n code refl (exactly (byte_set (b ∷ c ∷ bytes)))
   reads_one behind (byte_sequence bytes) one spelt fits reads m n code =
       sequence_reads behind bytes m n (and-right (nat_lt 0 (length bytes)) _ spelt) one (reads refl) code
-  reads_one behind (bracket contents) one spelt fits reads m n code = bracket_reads contents m n (is_ascii_set contents) refl code
+  reads_one behind (bracket contents) one spelt fits reads m n code = bracket_reads contents m n (is_uninverted_ascii_class contents) refl code
   reads_one behind match_any one spelt fits reads m n code = reads_by match_any MatchAny (accepts match_any) m n code refl (exactly match_any)
   reads_one behind match_any_except_line_terminator one spelt fits reads m n code =
       reads_by match_any_except_line_terminator MatchAnyExceptLineTerminator (accepts match_any_except_line_terminator) m n code refl (exactly match_any_except_line_terminator)

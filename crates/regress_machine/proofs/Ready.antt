@@ -11,7 +11,7 @@ use Rattle.regex_meaning.specs.Tree.{Node, char, char_set, byte_set, byte_sequen
 use Rattle.regex_meaning.specs.Tree.{capture_group, back_ref, lookaround, loop, loop_1_char_body, group_ids, every_node_passes}
 use Rattle.regex_meaning.specs.Text.{Text}
 use Rattle.regex_meaning.specs.WellFormedTrees.{IsWellFormed, encloses, names_the_groups_inside, refers_to_a_group, is_one_character}
-use Rattle.regex_meaning.specs.WellFormedTrees.{has_one_character_body, has_text_in_sequence, sets_and_strings_fit_instructions}
+use Rattle.regex_meaning.specs.WellFormedTrees.{has_one_character_body, has_text_in_sequence, set_sizes_and_characters_fit_instructions}
 use Rattle.regex_meaning.proofs.WellFormedLemmas.{clauses}
 use Rattle.regress_machine.specs.TextsForBytePrograms.{HasUtf8CharactersAndOffsets, tree_contains_byte_nodes}
 use Rattle.regress_machine.proofs.Loops.{AreBelow}
@@ -19,7 +19,7 @@ use Rattle.regex_meaning.proofs.Booleans.{or-false-left, or-false-right, and-lef
 
 -- what the proofs of a node rest on, where there are n groups
 abbrev pub Ready : Text → (n : ℕ) → Node → Type 0
-Ready text n (byte_set members) = HasUtf8CharactersAndOffsets text × (sets_and_strings_fit_instructions (byte_set members) ≡ true)
+Ready text n (byte_set members) = HasUtf8CharactersAndOffsets text × (set_sizes_and_characters_fit_instructions (byte_set members) ≡ true)
 Ready text n (byte_sequence bytes) = HasUtf8CharactersAndOffsets text × (has_text_in_sequence (byte_sequence bytes) ≡ true)
 Ready text n (cat first rest) = Ready text n first × Ready text n rest
 Ready text n (alt left right) = Ready text n left × Ready text n right
@@ -28,7 +28,7 @@ Ready text n (back_ref group icase) = group - 1 < n
 Ready text n (lookaround l contents) = Ready text n contents
 Ready text n (loop q first end loopee) = AreBelow first (end - first) n × Ready text n loopee
 Ready text n (loop_1_char_body q loopee) =
-    (is_one_character loopee ≡ true) × (has_text_in_sequence loopee ≡ true) × (sets_and_strings_fit_instructions loopee ≡ true)
+    (is_one_character loopee ≡ true) × (has_text_in_sequence loopee ≡ true) × (set_sizes_and_characters_fit_instructions loopee ≡ true)
     × (tree_contains_byte_nodes loopee ≡ true → HasUtf8CharactersAndOffsets text) × Ready text n loopee
 Ready text n _ = Unit {0}
 
@@ -180,7 +180,7 @@ pub record Sound (text : Text) (n : ℕ) (node : Node) : Type 0 where
   pub refers : every_node_passes (refers_to_a_group n) node ≡ true
   pub bodies : every_node_passes has_one_character_body node ≡ true
   pub sequences : every_node_passes has_text_in_sequence node ≡ true
-  pub sets : every_node_passes sets_and_strings_fit_instructions node ≡ true
+  pub sets : every_node_passes set_sizes_and_characters_fit_instructions node ≡ true
   pub bytes : tree_contains_byte_nodes node ≡ true → HasUtf8CharactersAndOffsets text
   pub below : AllBelow n (group_ids node)
   pub distinct : Distinct (group_ids node)
@@ -204,7 +204,7 @@ sound_part text n node a holds reads below distinct s = record {
   refers = holds (refers_to_a_group n) s.refers;
   bodies = holds has_one_character_body s.bodies;
   sequences = holds has_text_in_sequence s.sequences;
-  sets = holds sets_and_strings_fit_instructions s.sets;
+  sets = holds set_sizes_and_characters_fit_instructions s.sets;
   bytes = λ h. s.bytes (reads h);
   below = below;
   distinct = distinct;
@@ -281,7 +281,7 @@ module _ (text : Text) (n : ℕ) where
       let inside = sound_inside text n (loop_1_char_body q loopee) loopee (λ test. refl) refl s.below s.distinct s in (
         one,
         of_one has_text_in_sequence loopee one inside.sequences,
-        of_one sets_and_strings_fit_instructions loopee one inside.sets,
+        of_one set_sizes_and_characters_fit_instructions loopee one inside.sets,
         s.bytes,
         ready loopee inside,
       )

@@ -12,8 +12,9 @@ use Rattle.regex_meaning.specs.CodeUnitOffsets.{HasRisingPlaceOffsets}
 use Rattle.regex_meaning.specs.Outcomes.{Groups, Outcome, accepts, exclusive_or, in_intervals, is_some_and, one_character, outcomes}
 use Rattle.regex_meaning.specs.StartPredicate.{bytes_that_pass}
 use Rattle.regex_meaning.specs.OutcomesWithStepTicks.{TickOrOutcome, tick, pair, outcomes_replaced_by_lists, ticked}
-use Rattle.regex_meaning.specs.CompilationRelation.{Program, Insn, Counters, counters_after_insn, HasInsnsBetween, IsCode, JustFail, Char, CharSet, ByteSet, AsciiBracket, Bracket, MatchAny}
-use Rattle.regex_meaning.specs.CompilationRelation.{MatchAnyExceptLineTerminator, padded, char_set_insn, byte_set_insn, is_ascii_set}
+use Rattle.regex_meaning.specs.CompilationRelation.{Program, Insn, Counters, counters_after_insn, HasInsnsBetween, IsCode, JustFail, Char, CharSet, ByteSet}
+use Rattle.regex_meaning.specs.CompilationRelation.{AsciiBracket, Bracket, MatchAny}
+use Rattle.regex_meaning.specs.CompilationRelation.{MatchAnyExceptLineTerminator, padded, char_set_insn, byte_set_insn, is_uninverted_ascii_class}
 use Rattle.regex_meaning.proofs.FirstBytes.{true-in_range, contains-bytes_where}
 use Rattle.regress_machine.specs.Machine.{LoopData, State, running, with_some, read_one, act_on}
 use Rattle.regress_machine.proofs.Yields.{Ending, Yields, yields_none, yields_same, yields_turn}
@@ -88,7 +89,7 @@ low_intervals (i ∷ ivs) c h t =
     go true e t later = low (nat_lt i.1 128) refl (and-left (nat_lt i.1 128 || nat_lt i.1 i.0) _ h) (true-in_range i.0 i.1 c e)
     go false e t later = later t
 
-pub ascii_accepts : (contents : BracketContents) → is_ascii_set contents ≡ true → (c : ℕ)
+pub ascii_accepts : (contents : BracketContents) → is_uninverted_ascii_class contents ≡ true → (c : ℕ)
     → contains (bytes_that_pass (in_intervals contents.intervals)) c ≡ accepts (bracket contents) c
 ascii_accepts contents h c =
     let plain = not-true contents.invert (and-left (not contents.invert) _ h) in
@@ -165,7 +166,7 @@ module _ (program : Program) (text : Text) (is_text : HasRisingPlaceOffsets text
       Yields program text d E (running (state_at program text is_text m.insn p g s ls) ∷ []) (outcomes_replaced_by_lists (one_items (accepts (bracket contents)) d p g) k)
 
   ascii_bracket_finds : (d : Direction) (contents : BracketContents) (E : Ending) (m n : Counters) (p : ℕ) (g : Groups) (s : List ℕ) (ls : List LoopData) (k : Outcome → List TickOrOutcome)
-      → is_ascii_set contents ≡ true → HasInsnsBetween program (AsciiBracket (bytes_that_pass (in_intervals contents.intervals)) ∷ []) m n
+      → is_uninverted_ascii_class contents ≡ true → HasInsnsBetween program (AsciiBracket (bytes_that_pass (in_intervals contents.intervals)) ∷ []) m n
       → Enters program text is_text p g s ls n.loop → GoesOn program text is_text d E n.insn p [] m.loop n.loop g s ls k → BracketYields d contents E m n p g s ls k
   ascii_bracket_finds d contents E m n p g s ls k ascii code enters on =
       let members = bytes_that_pass (in_intervals contents.intervals) in
@@ -181,9 +182,9 @@ module _ (program : Program) (text : Text) (is_text : HasRisingPlaceOffsets text
 
   pub bracket_finds : (d : Direction) (behind : Bool) (contents : BracketContents) → Finds program text is_text d behind (bracket contents)
   unfolding IsCode ticked outcomes
-  bracket_finds d behind contents E m n p g s ls k code enters on = by (is_ascii_set contents) refl code
+  bracket_finds d behind contents E m n p g s ls k code enters on = by (is_uninverted_ascii_class contents) refl code
     where
-      by : (b : Bool) → is_ascii_set contents ≡ b
+      by : (b : Bool) → is_uninverted_ascii_class contents ≡ b
           → MatchBool b (HasInsnsBetween program (AsciiBracket (bytes_that_pass (in_intervals contents.intervals)) ∷ []) m n)
           (HasInsnsBetween program (Bracket m.bracket ∷ []) (record m { bracket = m.bracket + 1 }) n × (slice_get program.brackets m.bracket ≡ Some contents))
           → BracketYields d contents E m n p g s ls k
@@ -218,7 +219,7 @@ module _ (program : Program) (text : Text) (is_text : HasRisingPlaceOffsets text
 
   pub bracket_rising : (behind : Bool) (contents : BracketContents) → Rising program text is_text behind (bracket contents)
   unfolding IsCode
-  bracket_rising behind contents m n code = by (is_ascii_set contents) code
+  bracket_rising behind contents m n code = by (is_uninverted_ascii_class contents) code
     where
       by : (b : Bool) → MatchBool b (HasInsnsBetween program (AsciiBracket (bytes_that_pass (in_intervals contents.intervals)) ∷ []) m n)
           (HasInsnsBetween program (Bracket m.bracket ∷ []) (record m { bracket = m.bracket + 1 }) n × (slice_get program.brackets m.bracket ≡ Some contents))

@@ -8,9 +8,11 @@ use Rattle.regex_meaning.specs.Tree.{string_set}
 use Rattle.regex_meaning.specs.Text.{Text, Direction, rightwards, leftwards, last_place, next_character, moved, characters_ahead, expand_code_point}
 use Rattle.regex_meaning.specs.CodeUnitOffsets.{HasRisingPlaceOffsets}
 use Rattle.regex_meaning.specs.Outcomes.{Groups, Outcome, is_some_and, is_case_variant, spelled}
-use Rattle.regex_meaning.specs.OutcomesWithStepTicks.{TickOrOutcome, tick, pair, ticks, compared_count, outcomes_replaced_by_lists, ticks_before_outcomes, nearest_first, string_tries, ticked_string}
+use Rattle.regex_meaning.specs.OutcomesWithStepTicks.{TickOrOutcome, tick, pair, ticks, compared_count, outcomes_replaced_by_lists, ticks_before_outcomes, nearest_first}
+use Rattle.regex_meaning.specs.OutcomesWithStepTicks.{string_tries, ticked_string}
 use Rattle.regex_meaning.specs.OutcomesWithStepTicks.{ticked_strings, ticked}
-use Rattle.regex_meaning.specs.CompilationRelation.{Program, Insn, Counters, counters_after_insn, HasInsnAt, HasInsnsBetween, IsCode, IsStringCode, AreStringsCode, JustFail, Char, CharSet, Alt}
+use Rattle.regex_meaning.specs.CompilationRelation.{Program, Insn, Counters, counters_after_insn, HasInsnAt, HasInsnsBetween, IsCode, IsStringCode, AreStringsCode}
+use Rattle.regex_meaning.specs.CompilationRelation.{JustFail, Char, CharSet, Alt}
 use Rattle.regex_meaning.specs.CompilationRelation.{Jump, padded, ordered, case_variants_insn}
 use Rattle.regex_meaning.proofs.TextLemmas.{place_at-offset}
 use Rattle.regress_machine.specs.Machine.{LoopData, State, running, waiting, with_some, go_if, on_to, read_one, act_on, act}
@@ -155,8 +157,8 @@ module _ (program : Program) (text : Text) (is_text : HasRisingPlaceOffsets text
           ∙ ap (λ (l : List TickOrOutcome). ticks (string_tries text icase string d p) ++ l) (sym (items_if-pair _ o k))
           ∙ sym (and_then-ticks (string_tries text icase string d p) (map pair (spelled text same string d p g)) k))
           (row_yields E same (λ c. case_variants_insn (expand_code_point c icase program.flags.unicode))
-          (λ c ip q within state_at_ip. subst (λ (u : Bool). Reads ip q (contains (expand_code_point c icase u))) (sym unicode)
-          (spelling_reads (expand_code_point c icase program.flags.unicode) ip q within state_at_ip))
+          (λ c ip q within state_with_ip. subst (λ (u : Bool). Reads ip q (contains (expand_code_point c icase u))) (sym unicode)
+          (spelling_reads (expand_code_point c icase program.flags.unicode) ip q within state_with_ip))
           cs m n p (k o) inside has
           (λ all.
           let enough = stands-length same cs near all in

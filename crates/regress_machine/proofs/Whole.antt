@@ -14,7 +14,8 @@ use Rattle.regex_meaning.specs.OutcomesWithStepTicks.{TickOrOutcome, tick, pair,
 use Rattle.regex_meaning.specs.WellFormedTrees.{number_of_goal_nodes, is_end_of_cat, ends_in_goal}
 use Rattle.regex_meaning.specs.CompilationRelation.{Program, Counters, counters_after_insn, counters_at_start, IsCode, Goal, anchor_insn, word_boundary_insn, BackRef}
 use Rattle.regress_machine.specs.Machine.{LoopData, State, running, result_without_threads, search}
-use Rattle.regress_machine.specs.SearchResults.{state_before_first_insn, end_in_offsets, end_of, first_pair, TreeProgramCanSearchText, turns_at, FindsFirstOutcome}
+use Rattle.regress_machine.specs.SearchFindsFirstOutcomeAtPlace.{state_before_first_insn, end_in_offsets, end_of, first_pair, TreeProgramCanSearchText, turns_at}
+use Rattle.regress_machine.specs.SearchFindsFirstOutcomeAtPlace.{FindsFirstOutcome}
 use Rattle.regress_machine.proofs.Search.{search_enough}
 use Rattle.regress_machine.proofs.Yields.{Ending, EndIs, found_first, Yields, yields_same, yields_end}
 use Rattle.regress_machine.proofs.Nodes.{direction_at, state_at, RangeFits, Enters, act_at, Finds, Rising, nothing_finds, cat_finds, alt_finds}

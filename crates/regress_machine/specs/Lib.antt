@@ -1,4 +1,4 @@
 pub mod Machine
 pub mod TextsForBytePrograms
-pub mod SearchResults
+pub mod SearchFindsFirstOutcomeAtPlace
 pub mod InsnEffects

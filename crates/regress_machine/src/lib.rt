@@ -6,18 +6,19 @@
 //! tree's list has ticks up to that outcome.
 #![tactic(auto)]
 
-ghost use Rattle.regress_machine.specs.{TextsForBytePrograms.{ByteTextsHaveUtf8Offsets}, SearchResults.{SearchesFindFirst, SearchFindsMatchAtPlace, TicksAreSteps}};
+ghost use Rattle.regress_machine.specs.TextsForBytePrograms.{ByteTextsHaveUtf8Offsets};
+ghost use Rattle.regress_machine.specs.SearchFindsFirstOutcomeAtPlace.{SearchesFindFirstOutcome, SearchResultIsMatchAtPlace, TicksAreSteps};
 
 /// A search of a tree's program from a place takes one step for each tick of the tree's list up to
 /// the first outcome. It ends with that outcome, or with none if the list has none.
-pub fn searches_find_first()
-    ensures { SearchesFindFirst }
+pub fn searches_find_first_outcome()
+    ensures { SearchesFindFirstOutcome }
 {}
 
 /// A search of a tree's program from a place ends with the match there, or with none if there is
 /// none.
 pub fn searches_find_matches()
-    ensures { SearchFindsMatchAtPlace }
+    ensures { SearchResultIsMatchAtPlace }
 {}
 
 /// The ticks of places that are tried one after another are the steps of a search from the first

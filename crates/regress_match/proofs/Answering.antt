@@ -4,11 +4,11 @@ use Rattle.std.proofs.lemmas.List.{map-append}
 use Rattle.std.specs.Borrow.{Bor}
 use Rattle.std.specs.Prelude.{Result, Ok, Err, IfErr, slice_range}
 use Rattle.std.specs.Result.{IsErrAnd, IsOkAnd}
-use Rattle.regex_meaning.specs.GroupsByNumberAndName.{Answer}
+use Rattle.regex_meaning.specs.MatchGroupsByNumberAndName.{Answer}
 use Rattle.regex_meaning.specs.Replace.{replaced}
 use Rattle.regex_meaning.proofs.Each.{Each-append}
 use Rattle.regress_exec.specs.declared.exec.Match.{Match}
-use Rattle.regress_match.specs.ClosureReplacements.{Answered, AllAnswered, IsClosureErrorOrOutOfMemory, CanRefuseWith, IsReplacedBy, IsRefusedAt}
+use Rattle.regress_match.specs.ClosureReplacementForAnyResultType.{Answered, AllAnswered, IsClosureErrorOrOutOfMemory, CanRefuseWith, IsReplacedBy, IsRefusedAt}
 use Rattle.regress_match.specs.declared.api.compile_and_replace_errors.ReplaceError.{ReplaceError}
 use Rattle.regress_match.specs.declared.api.compile_and_replace_errors.ReplaceError.TheVariants.{Search, Closure}
 

@@ -6,21 +6,21 @@ use Rattle.std.specs.Prelude.{slice_get, unwrap_or}
 use Rattle.std.specs.Option.{option_or}
 use Rattle.regex_meaning.specs.Tree.{Node}
 use Rattle.regex_meaning.specs.Text.{utf8_text}
-use Rattle.regex_meaning.specs.Laws.{Each, StandInOrder, IsAnswerOf, IsRange}
+use Rattle.regex_meaning.specs.Laws.{Each, AreAscendingDisjointAnswersFrom, IsAnswerOf, IsRange}
 use Rattle.regex_meaning.specs.Outcomes.{group_range}
-use Rattle.regex_meaning.specs.GroupsByNumberAndName.{Answer, answers_from, first_appearances, first_range, ids_named, named_groups}
+use Rattle.regex_meaning.specs.MatchGroupsByNumberAndName.{Answer, answers_from, first_appearances, first_range, ids_named, named_groups}
 use Rattle.regex_meaning.specs.StepBudget.{those_within}
 use Rattle.regex_meaning.proofs.Encodings.{ascii-utf8}
 use Rattle.regex_meaning.proofs.Ordered.{answers-IsAnswerOf, answers-StandInOrder}
 use Rattle.regex_meaning.proofs.TextLemmas.{utf8_text-IsText}
 use Rattle.regress_input.proofs.Utf8Slices.{char_boundary}
-use Rattle.regress_exec.specs.MatchAnswers.{answer_of}
+use Rattle.regress_exec.specs.MatchesAsSpecAnswers.{answer_of}
 use Rattle.regress_exec.specs.RemainingAnswers.{RemainingView, NextYields}
 use Rattle.regress_exec.specs.declared.exec.Match.{Match}
 use Rattle.regress_exec.specs.declared.exec.SearchError.{SearchError}
 use Rattle.regress_match.specs.Laws.{MatchesStandInText}
-use Rattle.regress_match.specs.ProgramTreesAndAnswers.{byte_tree, ascii_answers}
-use Rattle.regress_match.specs.ExpansionsAndMatchRanges.{IsCharBoundaryRange, MatchFitsText, MatchesAreOrderedFrom}
+use Rattle.regress_match.specs.ProgramTreesAndAnswers.{tree_for_byte_units, ascii_answers}
+use Rattle.regress_match.specs.ExpansionsAndMatchRanges.{IsCharBoundaryRange, MatchFitsText, MatchesFitTextInOrderFrom}
 use Rattle.regress_match.specs.declared.api.regex.Regex.{Regex}
 
 -- ---- Where matches stand
@@ -34,37 +34,37 @@ module _ (bytes : List ℕ) (unicode : Bool) (is_utf8 : IsUtf8 bytes) where
   slices_of (None ∷ groups) h = (tt, slices_of groups h.1)
   slices_of (Some range ∷ groups) h = (slice_of range h.0, slices_of groups h.1)
 
-  stand : (root : Node) (low from : ℕ) (ms : List Answer) → from ≤ low → StandInOrder low ms → Each (IsAnswerOf root (utf8_text bytes unicode)) ms → MatchesAreOrderedFrom bytes from ms
+  stand : (root : Node) (low from : ℕ) (ms : List Answer) → from ≤ low → AreAscendingDisjointAnswersFrom low ms → Each (IsAnswerOf root (utf8_text bytes unicode)) ms → MatchesFitTextInOrderFrom bytes from ms
   stand root low from [] le h k = tt
   stand root low from (m ∷ ms) le h k =
       (omega (arith, h.0), record { whole = slice_of m.range k.0.whole; groups = slices_of m.captures k.0.groups }, stand root (max (m.range.0 + 1) m.range.1) m.range.1 ms (omega arith) h.2 k.1)
 
-  answers-stand : (root : Node) (start : ℕ) → MatchesAreOrderedFrom bytes start (answers_from root (utf8_text bytes unicode) start)
+  answers-stand : (root : Node) (start : ℕ) → MatchesFitTextInOrderFrom bytes start (answers_from root (utf8_text bytes unicode) start)
   answers-stand root start =
       stand root start start _ (omega arith) (answers-StandInOrder root (utf8_text bytes unicode) (utf8_text-IsText bytes unicode) start)
       (answers-IsAnswerOf root (utf8_text bytes unicode) (utf8_text-IsText bytes unicode) start)
 
 -- the matches of a search stand in the text, from the start on
 pub matches-stand : MatchesStandInText
-matches-stand re text start is_utf8 = answers-stand text (byte_tree re).flags.unicode is_utf8 (byte_tree re).root start
+matches-stand re text start is_utf8 = answers-stand text (tree_for_byte_units re).flags.unicode is_utf8 (tree_for_byte_units re).root start
 
 -- so do those of a text of ASCII
-pub ascii-stand : (re : Regex) (text : List ℕ) (start : ℕ) → IsUtf8 text → IsAscii text → MatchesAreOrderedFrom text start (ascii_answers re text start)
+pub ascii-stand : (re : Regex) (text : List ℕ) (start : ℕ) → IsUtf8 text → IsAscii text → MatchesFitTextInOrderFrom text start (ascii_answers re text start)
 ascii-stand re text start is_utf8 ascii =
-    subst (MatchesAreOrderedFrom text start) (sym (ascii-utf8 (byte_tree re).root text (byte_tree re).flags.unicode ascii start)) (matches-stand re text start is_utf8)
+    subst (MatchesFitTextInOrderFrom text start) (sym (ascii-utf8 (tree_for_byte_units re).root text (tree_for_byte_units re).flags.unicode ascii start)) (matches-stand re text start is_utf8)
 
 -- and those that so many steps are enough for
-pub within-stand : (text : List ℕ) (from steps : ℕ) (needs : List ℕ) (ms : List Answer) → MatchesAreOrderedFrom text from ms → MatchesAreOrderedFrom text from (those_within steps needs ms)
+pub within-stand : (text : List ℕ) (from steps : ℕ) (needs : List ℕ) (ms : List Answer) → MatchesFitTextInOrderFrom text from ms → MatchesFitTextInOrderFrom text from (those_within steps needs ms)
 within-stand text from steps [] ms h = tt
 within-stand text from steps (n ∷ needs) [] h = tt
 within-stand text from steps (n ∷ needs) (m ∷ ms) h = by (nat_le n steps) (within-stand text m.range.1 steps needs ms h.2)
   where
-    by : (b : Bool) → MatchesAreOrderedFrom text m.range.1 (those_within steps needs ms) → MatchesAreOrderedFrom text from (if b then m ∷ those_within steps needs ms else [])
+    by : (b : Bool) → MatchesFitTextInOrderFrom text m.range.1 (those_within steps needs ms) → MatchesFitTextInOrderFrom text from (if b then m ∷ those_within steps needs ms else [])
     by true rest = (h.0, h.1, rest)
     by false rest = tt
 
 -- and the first one
-pub first-fits : (text : List ℕ) (start : ℕ) (ms : List Answer) (first : Option Match) → MatchesAreOrderedFrom text start ms → option_map answer_of first ≡ slice_get ms 0
+pub first-fits : (text : List ℕ) (start : ℕ) (ms : List Answer) (first : Option Match) → MatchesFitTextInOrderFrom text start ms → option_map answer_of first ≡ slice_get ms 0
     → IfSome first (λ m. MatchFitsText text (answer_of m))
 first-fits text start ms None h e = tt
 first-fits text start [] (Some m) h e = absurd (cc e)
@@ -105,7 +105,7 @@ named-fit text m fits = named-each (IsCharBoundaryRange text) m (first_appearanc
 -- limit of steps stands behind them or does not.
 pub record IsReached (text : List ℕ) (limited : Bool) (from : ℕ) (left : RemainingView) : Type 0 where
   pub boundary : IsCharBoundary text from
-  pub stand : MatchesAreOrderedFrom text from left.answers
+  pub stand : MatchesFitTextInOrderFrom text from left.answers
   pub limit : left.limited ≡ limited
 
 -- What one turn knows of the match that it takes: it is the next one, it stands in the text behind the offset reached, and so
@@ -116,27 +116,27 @@ pub record TakesNext (text : List ℕ) (limited : Bool) (from : ℕ) (left rest 
   pub fits : MatchFitsText text m
   pub reached : (to : ℕ) → to ≡ m.range.1 → IsReached text limited to rest
 
-stand-lower : (text : List ℕ) (low from : ℕ) (ms : List Answer) → low ≤ from → MatchesAreOrderedFrom text from ms → MatchesAreOrderedFrom text low ms
+stand-lower : (text : List ℕ) (low from : ℕ) (ms : List Answer) → low ≤ from → MatchesFitTextInOrderFrom text from ms → MatchesFitTextInOrderFrom text low ms
 stand-lower text low from [] le h = tt
 stand-lower text low from (m ∷ ms) le h = (omega (arith, h.0), h.1, h.2)
 
 -- before the first turn the left end is reached
-pub reached-none : (text : List ℕ) (start : ℕ) (all left : RemainingView) → IsUtf8 text → MatchesAreOrderedFrom text start all.answers → left ≡ all → IsReached text all.limited 0 left
+pub reached-none : (text : List ℕ) (start : ℕ) (all left : RemainingView) → IsUtf8 text → MatchesFitTextInOrderFrom text start all.answers → left ≡ all → IsReached text all.limited 0 left
 reached-none text start all left is_utf8 h e = record {
   boundary = IsCharBoundary-start text is_utf8;
-  stand = stand-lower text 0 start left.answers (omega arith) (subst (λ (it : RemainingView). MatchesAreOrderedFrom text start it.answers) (sym e) h);
+  stand = stand-lower text 0 start left.answers (omega arith) (subst (λ (it : RemainingView). MatchesFitTextInOrderFrom text start it.answers) (sym e) h);
   limit = ap (λ (it : RemainingView). it.limited) e;
 }
 
 -- with no limit on the steps
-pub reached-unlimited : (text : List ℕ) (all left : RemainingView) → IsUtf8 text → all.limited ≡ false → MatchesAreOrderedFrom text 0 all.answers → left ≡ all → IsReached text false 0 left
+pub reached-unlimited : (text : List ℕ) (all left : RemainingView) → IsUtf8 text → all.limited ≡ false → MatchesFitTextInOrderFrom text 0 all.answers → left ≡ all → IsReached text false 0 left
 reached-unlimited text all left is_utf8 unlimited h e = subst (λ b. IsReached text b 0 left) unlimited (reached-none text 0 all left is_utf8 h e)
 
 pub takes-next : (text : List ℕ) (limited : Bool) (from : ℕ) (left rest : RemainingView) (r : Result Match SearchError) (m : Match)
     → IsReached text limited from left → NextYields left (Some r) rest → r ≡ Ok m → TakesNext text limited from left rest (answer_of m)
 takes-next text limited from left rest r m reached gives is =
     let h : NextYields left (Some (Ok m)) rest = subst (λ x. NextYields left (Some x) rest) is gives in
-    let stands = subst (MatchesAreOrderedFrom text from) h.0 reached.stand in
+    let stands = subst (MatchesFitTextInOrderFrom text from) h.0 reached.stand in
     record {
       next = h.0;
       before = (stands.0, reached.boundary, stands.1.whole.1);

@@ -9,8 +9,10 @@ use Rattle.std.proofs.lemmas.Bool.{eqb-true}
 use Rattle.std.proofs.lemmas.Str.{IsCharBoundary-after_ascii, encode_ascii}
 use Rattle.regex_meaning.specs.Laws.{Each}
 use Rattle.regex_meaning.specs.Outcomes.{group_range}
-use Rattle.regex_meaning.specs.GroupsByNumberAndName.{Answer, group, named_group, first_range, ids_named}
-use Rattle.regex_meaning.specs.Replace.{ReplacementPart, literal, group_part, named_part, ParsedPart, single_replacement_part_and_rest, parse_digits_of_group_number, parse_braced_name, parse_after_dollar, parse_replacement, text_of}
+use Rattle.regex_meaning.specs.MatchGroupsByNumberAndName.{Answer, group, named_group, first_range, ids_named}
+use Rattle.regex_meaning.specs.Replace.{ReplacementPart, literal, group_part, named_part, ParsedPart, parsed_part_from_single_replacement_part}
+use Rattle.regex_meaning.specs.Replace.{parse_digits_of_group_number}
+use Rattle.regex_meaning.specs.Replace.{parse_braced_name, parse_after_dollar, parse_replacement, text_of}
 use Rattle.regex_meaning.specs.Replace.{text_of_part, text_of_parts, expansion, max_capture_groups}
 use Rattle.regress_match.specs.ExpansionsAndMatchRanges.{IsCharBoundaryRange, MatchFitsText}
 
@@ -25,7 +27,7 @@ numbered-rest : (value : ℕ) (bytes : List ℕ) → length (parse_digits_of_gro
 numbered-rest value [] = omega arith
 numbered-rest value (b ∷ bytes) =
     let more : length (parse_digits_of_group_number (value * 10 + digit_value b) bytes).rest ≤ length bytes = numbered-rest (value * 10 + digit_value b) bytes in
-    either-rest (is_ascii_digit b && nat_le value max_capture_groups) (parse_digits_of_group_number (value * 10 + digit_value b) bytes) (single_replacement_part_and_rest (group_part value) (b ∷ bytes)) (length (b ∷ bytes))
+    either-rest (is_ascii_digit b && nat_le value max_capture_groups) (parse_digits_of_group_number (value * 10 + digit_value b) bytes) (parsed_part_from_single_replacement_part (group_part value) (b ∷ bytes)) (length (b ∷ bytes))
     (omega (arith, more)) (omega arith)
 
 drop-rest : (k : ℕ) (bytes : List ℕ) → length (drop k bytes) ≤ length bytes
@@ -35,7 +37,7 @@ drop-rest (suc k) (b ∷ bytes) = let h = drop-rest k bytes in omega (arith, h)
 
 braced-rest : (bytes : List ℕ) → length (parse_braced_name bytes).rest ≤ length bytes
 braced-rest bytes =
-    either-rest (list_any (λ b. b == 125) bytes) (single_replacement_part_and_rest (named_part (before_first (λ b. b == 125) bytes)) (after_first (λ b. b == 125) bytes))
+    either-rest (list_any (λ b. b == 125) bytes) (parsed_part_from_single_replacement_part (named_part (before_first (λ b. b == 125) bytes)) (after_first (λ b. b == 125) bytes))
     (record { parts = literal 36 ∷ literal 123 ∷ map literal bytes; rest = [] }) (length bytes)
     (drop-rest (position_or_len (λ b. b == 125) bytes + 1) bytes) (omega arith)
 
@@ -44,19 +46,19 @@ dollar-rest [] = omega arith
 dollar-rest (b ∷ bytes) =
     let whole = length (b ∷ bytes) in
     let named : length (parse_braced_name bytes).rest ≤ length bytes = braced-rest bytes in
-    let alone = single_replacement_part_and_rest (literal 36) (b ∷ bytes) in
+    let alone = parsed_part_from_single_replacement_part (literal 36) (b ∷ bytes) in
     let name_or_alone = if b == 123 then parse_braced_name bytes else alone in
     let digits_or = if is_ascii_digit b then parse_digits_of_group_number 0 (b ∷ bytes) else name_or_alone in
-    either-rest (b == 36) (single_replacement_part_and_rest (literal 36) bytes) digits_or whole (omega arith)
+    either-rest (b == 36) (parsed_part_from_single_replacement_part (literal 36) bytes) digits_or whole (omega arith)
     (either-rest (is_ascii_digit b) (parse_digits_of_group_number 0 (b ∷ bytes)) name_or_alone whole (numbered-rest 0 (b ∷ bytes))
     (either-rest (b == 123) (parse_braced_name bytes) alone whole (omega (arith, named)) (omega arith)))
 
 -- the part at the head of a replacement
 abbrev begun : ℕ → List ℕ → ParsedPart
-begun b bytes = if b == 36 then parse_after_dollar bytes else single_replacement_part_and_rest (literal b) bytes
+begun b bytes = if b == 36 then parse_after_dollar bytes else parsed_part_from_single_replacement_part (literal b) bytes
 
 begun-rest : (b : ℕ) (bytes : List ℕ) → length (begun b bytes).rest ≤ length bytes
-begun-rest b bytes = either-rest (b == 36) (parse_after_dollar bytes) (single_replacement_part_and_rest (literal b) bytes) (length bytes) (dollar-rest bytes) (omega arith)
+begun-rest b bytes = either-rest (b == 36) (parse_after_dollar bytes) (parsed_part_from_single_replacement_part (literal b) bytes) (length bytes) (dollar-rest bytes) (omega arith)
 
 -- any number of steps that is enough
 enough : (n k : ℕ) (bytes : List ℕ) → length bytes ≤ n → length bytes ≤ k → parse_replacement n bytes ≡ parse_replacement k bytes
@@ -90,7 +92,7 @@ module _ (text : List ℕ) (m : Answer) where
   expansion-literal : (b : ℕ) (bytes : List ℕ) → (b == 36) ≡ false → expansion text m (b ∷ bytes) ≡ b ∷ expansion text m bytes
   expansion-literal b bytes e =
       expansion-step b bytes
-      ∙ ap (λ (x : ParsedPart). text_of_parts text m x.parts ++ expansion text m x.rest) (ap (λ c. if c then parse_after_dollar bytes else single_replacement_part_and_rest (literal b) bytes) e)
+      ∙ ap (λ (x : ParsedPart). text_of_parts text m x.parts ++ expansion text m x.rest) (ap (λ c. if c then parse_after_dollar bytes else parsed_part_from_single_replacement_part (literal b) bytes) e)
 
   pub expansion-dollar : (bytes : List ℕ) → expansion text m (36 ∷ bytes) ≡ text_of_parts text m (parse_after_dollar bytes).parts ++ expansion text m (parse_after_dollar bytes).rest
   expansion-dollar bytes = expansion-step 36 bytes
@@ -221,14 +223,14 @@ first-is [] first h = absurd (cc h)
 first-is (b ∷ bytes) first h = ap (λ x. x ∷ bytes) (cc h)
 
 pub name-read : (bytes rest name left : List ℕ) → slice_get bytes 0 ≡ Some 123 → rest ≡ drop 1 bytes → position_or_len is_brace rest < length rest
-    → name ≡ before_first is_brace rest → left ≡ after_first is_brace rest → single_replacement_part_and_rest (named_part name) left ≡ parse_after_dollar bytes
+    → name ≡ before_first is_brace rest → left ≡ after_first is_brace rest → parsed_part_from_single_replacement_part (named_part name) left ≡ parse_after_dollar bytes
 name-read bytes rest name left h r inside n l =
-    rw (first-is bytes 123 h, ← r, n, l) (ap (λ c. if c then single_replacement_part_and_rest (named_part (before_first is_brace rest)) (after_first is_brace rest) else record { parts = literal 36 ∷ literal 123 ∷ map literal rest; rest = [] }) (sym (any-first is_brace rest inside)))
+    rw (first-is bytes 123 h, ← r, n, l) (ap (λ c. if c then parsed_part_from_single_replacement_part (named_part (before_first is_brace rest)) (after_first is_brace rest) else record { parts = literal 36 ∷ literal 123 ∷ map literal rest; rest = [] }) (sym (any-first is_brace rest inside)))
 
 pub name-unclosed : (bytes rest : List ℕ) → slice_get bytes 0 ≡ Some 123 → rest ≡ drop 1 bytes → position_or_len is_brace rest ≡ length rest
     → record { parts = literal 36 ∷ map literal bytes; rest = [] } ≡ parse_after_dollar bytes
 name-unclosed bytes rest h r none =
-    rw (first-is bytes 123 h, ← r) (ap (λ c. if c then single_replacement_part_and_rest (named_part (before_first is_brace rest)) (after_first is_brace rest) else record { parts = literal 36 ∷ literal 123 ∷ map literal rest; rest = [] }) (sym (any-none is_brace rest none)))
+    rw (first-is bytes 123 h, ← r) (ap (λ c. if c then parsed_part_from_single_replacement_part (named_part (before_first is_brace rest)) (after_first is_brace rest) else record { parts = literal 36 ∷ literal 123 ∷ map literal rest; rest = [] }) (sym (any-none is_brace rest none)))
 
 -- less is left to be read
 pub left-less : (rest behind left : List ℕ) (parts : List ReplacementPart) → position_or_len is_dollar rest < length rest → behind ≡ after_first is_dollar rest

@@ -6,16 +6,16 @@ use Rattle.regex_pattern_front.specs.AstToSpecTree.{tree_of}
 use Rattle.regex_pattern_front.specs.declared.ir.Regex.{Regex}
 use Rattle.regex_meaning.specs.Text.{Text, last_place}
 use Rattle.regex_meaning.specs.CodeUnitOffsets.{IsBoundary, HasRisingPlaceOffsets, units}
-use Rattle.regex_meaning.specs.GroupsByNumberAndName.{Answer, answers_from}
+use Rattle.regex_meaning.specs.MatchGroupsByNumberAndName.{Answer, answers_from}
 use Rattle.regex_meaning.specs.SearchAnswers.{answer_at, answer_then_list, answers_on, first_answer, next_start}
 use Rattle.regex_meaning.specs.Laws.{Each, IsAnswerOf, IsRange}
 use Rattle.regex_meaning.proofs.AnswerLemmas.{answers-go_on, first_answer-stands}
 use Rattle.regex_meaning.proofs.AtOnePlace.{matches_at-first}
 use Rattle.regex_meaning.proofs.Ordered.{answers-IsAnswerOf}
 use Rattle.regex_meaning.proofs.TextLemmas.{IsBoundary-place, offset-le}
-use Rattle.regress_exec.specs.MatchAnswers.{answer_of}
+use Rattle.regress_exec.specs.MatchesAsSpecAnswers.{answer_of}
 use Rattle.regress_exec.specs.declared.exec.Match.{Match}
-use Rattle.regress_match.specs.ExpansionsAndMatchRanges.{MatchFitsText, MatchFitsCodeUnits, IsRangeWithinUnits, MatchesAreOrderedFrom}
+use Rattle.regress_match.specs.ExpansionsAndMatchRanges.{MatchFitsText, MatchRangesLieWithinUnits, IsRangeWithinUnits, MatchesFitTextInOrderFrom}
 
 module _ (root : Node) (text : Text) (is : HasRisingPlaceOffsets text) where
   -- the first answer is the head of the list
@@ -54,27 +54,27 @@ module _ (root : Node) (text : Text) (is : HasRisingPlaceOffsets text) where
     all-within (Some range ∷ groups) h = (within range h.0, all-within groups h.1)
 
     -- the first match from an offset on stands in the text, behind that
-    pub first-fits_units : (start : ℕ) (m : Answer) → first_answer root text start ≡ Some m → MatchFitsCodeUnits us m
+    pub first-fits_units : (start : ℕ) (m : Answer) → first_answer root text start ≡ Some m → MatchRangesLieWithinUnits us m
     first-fits_units start m e =
         let answer = (subst (Each (IsAnswerOf root text)) (first-heads start m e) (answers-IsAnswerOf root text is start)).0 in
         record { whole = within m.range answer.whole; groups = all-within m.captures answer.groups }
 
     pub found-fits_units : (start : ℕ) (found : Option Match) → option_map answer_of found ≡ first_answer root text start
-        → IfSome found (λ m. MatchFitsCodeUnits us (answer_of m))
+        → IfSome found (λ m. MatchRangesLieWithinUnits us (answer_of m))
     found-fits_units start None e = tt
     found-fits_units start (Some m) e = first-fits_units start (answer_of m) (sym e)
 
     -- so does the match at an offset
     pub at-fits_units : (at : ℕ) (found : Option Match) → option_map answer_of found ≡ answer_at root text at
-        → IfSome found (λ m. MatchFitsCodeUnits us (answer_of m))
+        → IfSome found (λ m. MatchRangesLieWithinUnits us (answer_of m))
     at-fits_units at None e = tt
     at-fits_units at (Some m) e = first-fits_units at (answer_of m) (at-first at (answer_of m) (sym e))
 
   -- a match at an offset is of whole characters where those from there are
-  pub at-fits_text : (bytes : List ℕ) (at : ℕ) (found : Option Match) → MatchesAreOrderedFrom bytes at (answers_from root text at) → option_map answer_of found ≡ answer_at root text at
+  pub at-fits_text : (bytes : List ℕ) (at : ℕ) (found : Option Match) → MatchesFitTextInOrderFrom bytes at (answers_from root text at) → option_map answer_of found ≡ answer_at root text at
       → IfSome found (λ m. MatchFitsText bytes (answer_of m))
   at-fits_text bytes at None stand e = tt
-  at-fits_text bytes at (Some m) stand e = (subst (MatchesAreOrderedFrom bytes at) (first-heads at (answer_of m) (at-first at (answer_of m) (sym e))) stand).1
+  at-fits_text bytes at (Some m) stand e = (subst (MatchesFitTextInOrderFrom bytes at) (first-heads at (answer_of m) (at-first at (answer_of m) (sym e))) stand).1
 
 -- what was found at a place by an executor is what is at it, by the program and the text that it was made of
 pub at-found : (make : Bool → Text) (re program : Regex) (tree : Tree) (text : Text) (at : ℕ) (found : Option Answer) → tree ≡ tree_of program

@@ -9,10 +9,10 @@ use Rattle.regress_program.specs.declared.emit.EmitError.TheVariants as emit
 use Rattle.regex_meaning.specs.Tree.{Node, Tree, Flags, group_ids}
 use Rattle.regex_meaning.specs.CompilationRelation.{tree_contains_byte_nodes}
 use Rattle.regress_match.specs.declared.api.compile_and_replace_errors.Error.{Error}
-use Rattle.regress_program.specs.CompileRefusals.{IsByteCompileErrorCause}
+use Rattle.regress_program.specs.CompileRefusals.{TreeHasByteCompileErrorCause}
 use Rattle.regex_grammar.specs.Grammar.{Parses}
-use Rattle.regex_grammar.specs.ParserInvariants.{OpensTooManyGroups, group_names_of}
-use Rattle.regex_grammar.proofs.Trees.{groups_are_counted}
+use Rattle.regex_grammar.specs.ParserInvariants.{OpensTooManyGroups, group_names_found_by_scan}
+use Rattle.regex_grammar.proofs.Trees.{scan_counts_pattern_groups}
 use Rattle.regex_pattern_front.specs.ParseErrors.{IsParseErrorOf}
 use Rattle.regress_match.specs.CompileErrors.{error_of_parse, error_of_emit, IsPatternRefusedWith}
 
@@ -24,10 +24,10 @@ module _ (flags : Flags) (pattern : List ℕ) where
 
   -- a tree with too many groups is that of a pattern that opens as many
   opens-many : (tree : Tree) → Parses flags pattern tree → 2 ^ 16 ≤ length (group_ids tree.root) → OpensTooManyGroups pattern
-  opens-many tree parsed many = let same : length (group_ids tree.root) ≡ length (group_names_of pattern) = (groups_are_counted flags pattern tree parsed).0 in omega (arith, same, many)
+  opens-many tree parsed many = let same : length (group_ids tree.root) ≡ length (group_names_found_by_scan pattern) = (scan_counts_pattern_groups flags pattern tree parsed).0 in omega (arith, same, many)
 
   pub emit-refuses : (tree : Tree) → Parses flags pattern tree → (e : EmitError)
-      → ¬ (e ≡ emit.NotWellFormed) → ¬ (e ≡ emit.BytesInUnits) → IsByteCompileErrorCause e tree
+      → ¬ (e ≡ emit.NotWellFormed) → ¬ (e ≡ emit.BytesInUnits) → TreeHasByteCompileErrorCause e tree
       → IsPatternRefusedWith flags pattern (error_of_emit e)
   emit-refuses tree parsed emit.NotWellFormed h k refused = h refl
   emit-refuses tree parsed emit.BytesInUnits h k refused = k refl

@@ -3,15 +3,15 @@ use Rattle.std.proofs.Common.{◌≡◌, ℕ, suc, List, [], ◌∷◌, ◌++◌
 use Rattle.std.specs.Prelude.{slice_range}
 use Rattle.std.specs.Borrow.{Bor}
 use Rattle.std.specs.List.{Contains}
-use Rattle.regex_meaning.specs.Laws.{StandInOrder}
-use Rattle.regex_meaning.specs.GroupsByNumberAndName.{Answer}
+use Rattle.regex_meaning.specs.Laws.{AreAscendingDisjointAnswersFrom}
+use Rattle.regex_meaning.specs.MatchGroupsByNumberAndName.{Answer}
 use Rattle.regex_meaning.specs.Replace.{replaced}
-use Rattle.regress_exec.specs.MatchAnswers.{answer_of}
+use Rattle.regress_exec.specs.MatchesAsSpecAnswers.{answer_of}
 use Rattle.regress_exec.specs.declared.exec.Match.{Match}
-use Rattle.regress_match.specs.ReplacementClosures.{ClosureCanBeCalled}
+use Rattle.regress_match.specs.ReplacementClosuresReturningStrings.{ClosureCanBeCalled}
 
 -- the first of the matches alone
-pub first-stands : (from : ℕ) (ms : List Answer) → StandInOrder from ms → StandInOrder from (take 1 ms)
+pub first-stands : (from : ℕ) (ms : List Answer) → AreAscendingDisjointAnswersFrom from ms → AreAscendingDisjointAnswersFrom from (take 1 ms)
 first-stands from [] h = tt
 first-stands from (m ∷ ms) h = (h.0, h.1, tt)
 

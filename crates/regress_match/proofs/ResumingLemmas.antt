@@ -7,7 +7,7 @@ use Rattle.std.specs.Option.{option_map_or}
 use Rattle.std.specs.Result.{IsErrAnd}
 use Rattle.regex_meaning.specs.SearchAnswers.{first_answer, next_start, answer_then_list}
 use Rattle.regex_meaning.specs.Laws.{Each, IsAnswerOf}
-use Rattle.regex_meaning.specs.GroupsByNumberAndName.{Answer, answers_from}
+use Rattle.regex_meaning.specs.MatchGroupsByNumberAndName.{Answer, answers_from}
 use Rattle.regex_meaning.specs.CodeUnitOffsets.{IsBoundary, HasRisingPlaceOffsets, place_at, units}
 use Rattle.regex_meaning.specs.OutcomesWithStepTicks.{need}
 use Rattle.regex_meaning.specs.StepBudget.{answers_next, answers_within, end_next, finishes_within, is_within, remaining_budget, need_from}
@@ -17,8 +17,8 @@ use Rattle.regex_meaning.proofs.AnswerLemmas.{answers-go_on, next_start-ahead}
 use Rattle.regex_meaning.proofs.Ordered.{answers-IsAnswerOf}
 use Rattle.regex_meaning.proofs.StepLemmas.{within-some, within-none, beyond}
 use Rattle.regex_meaning.proofs.TextLemmas.{place_at-past}
-use Rattle.regress_exec.specs.MatchAnswers.{answer_of}
-use Rattle.regress_exec.specs.BudgetAndContinuationAfterSearch.{SpendsNeedOrReachesLimit}
+use Rattle.regress_exec.specs.MatchesAsSpecAnswers.{answer_of}
+use Rattle.regress_exec.specs.StepBudgetAndContinuationAfterSearch.{SpendsNeedOrReachesLimit}
 use Rattle.regress_exec.specs.declared.exec.Match.{Match}
 use Rattle.regress_exec.specs.declared.exec.SearchError.{SearchError}
 use Rattle.regress_exec.specs.declared.exec.SearchError.TheVariants.{Memory, StepLimit}

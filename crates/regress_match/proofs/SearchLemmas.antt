@@ -3,16 +3,16 @@ use Rattle.std.proofs.Common.{◌≡◌, List, [], ◌∷◌, true, false, refl,
 use Rattle.std.specs.Prelude.{Some, None, Ok, Err}
 use Rattle.regress_exec.specs.RemainingAnswers.{RemainingView}
 use Rattle.regress_exec.specs.declared.exec.SearchError.TheVariants.{Memory, StepLimit}
-use Rattle.regress_match.specs.SearchResults.{NextResult, CallsYield, AllNone, AnswerInTurn, SearchesAnswerInTurn}
+use Rattle.regress_match.specs.SearchResults.{NextResult, NextCallsYield, AllNone, AnswerInTurn, SearchesAnswerInTurn}
 
 -- what has ended answers nothing
-ended-AllNone : (s t : RemainingView) (rs : List NextResult) → s.ended ≡ true → CallsYield s rs t → AllNone rs
+ended-AllNone : (s t : RemainingView) (rs : List NextResult) → s.ended ≡ true → NextCallsYield s rs t → AllNone rs
 ended-AllNone s t [] e h = tt
 ended-AllNone s t (None ∷ rs) e (u, h, k) = (refl, ended-AllNone u t rs h.2.2 k)
 ended-AllNone s t (Some (Ok m) ∷ rs) e (u, h, k) = absurd (cc (sym e ∙ h.2))
 ended-AllNone s t (Some (Err x) ∷ rs) e (u, h, k) = absurd (cc (sym e ∙ h.1))
 
-calls-AnswerInTurn : (s t : RemainingView) (rs : List NextResult) → s.limited ≡ false → CallsYield s rs t → AnswerInTurn s.answers rs
+calls-AnswerInTurn : (s t : RemainingView) (rs : List NextResult) → s.limited ≡ false → NextCallsYield s rs t → AnswerInTurn s.answers rs
 calls-AnswerInTurn s t [] e h = tt
 calls-AnswerInTurn s t (None ∷ rs) e (u, h, k) = (h.0, ended-AllNone u t rs h.2.2 k)
 calls-AnswerInTurn s t (Some (Ok m) ∷ rs) e (u, h, k) = (u.answers, h.0, calls-AnswerInTurn u t rs (sym h.1 ∙ e) k)

@@ -1,5 +1,6 @@
 -- Searches in so much work: what they yield, and what their calls answer in a row.
-use Rattle.std.proofs.Common.{◌≡◌, ◌≤◌, ◌<◌, ◌⊎◌, ◌+◌, ◌*◌, ℕ, suc, Bool, List, [], ◌∷◌, length, max, true, false, refl, sym, ap, ◌∙◌, subst, inl, inr, nat_le, nat_lt, if◌then◌else◌, arith}
+use Rattle.std.proofs.Common.{◌≡◌, ◌≤◌, ◌<◌, ◌⊎◌, ◌+◌, ◌*◌, ℕ, suc, Bool, List, [], ◌∷◌, length, max, true, false, refl, sym, ap, ◌∙◌, subst, inl, inr, nat_le, nat_lt}
+use Rattle.std.proofs.Common.{if◌then◌else◌, arith}
 use Rattle.std.specs.Arc.{arc_value}
 use Rattle.std.specs.List.{fold}
 use Rattle.std.specs.Prelude.{Option, Some, None, Ok, Err, IfSome, slice_get, unwrap_or}
@@ -12,31 +13,32 @@ use Rattle.regex_meaning.specs.Laws.{Each}
 use Rattle.regex_meaning.specs.CodeUnitOffsets.{units}
 use Rattle.regex_meaning.specs.Text.{Text}
 use Rattle.regex_meaning.specs.Tree.{Tree}
-use Rattle.regress_exec.specs.WorkLimits.{WorkView}
+use Rattle.regress_exec.specs.AttemptsAndMatchesWithinWork.{RemainingAnswersAndWork}
 use Rattle.regress_exec.specs.declared.exec.work_matches.WorkError.TheVariants.{Memory, WorkLimit}
-use Rattle.regress_memo_analysis.specs.AnalysisContents.{no_insn_analysis}
-use Rattle.regress_memo_analysis.specs.CheckedAnalysis.{AreCodesCountedAndDisjoint}
-use Rattle.regress_memo_analysis.specs.declared.analysis.InsnAnalysis.{InsnAnalysis}
-use Rattle.regress_memo_analysis.specs.declared.analysis.MemoAnalysis.{MemoAnalysis}
+use Rattle.regress_memo_analysis.specs.AnalysisAsLivenessAndPotentials.{no_insn_analysis}
+use Rattle.regress_memo_analysis.specs.CheckedAnalysis.{AreInsnCodesCountedAndDisjoint}
+use Rattle.regress_memo_analysis.specs.declared.analysis_result.InsnAnalysis.{InsnAnalysis}
+use Rattle.regress_memo_analysis.specs.declared.analysis_result.MemoAnalysis.{MemoAnalysis}
 use Rattle.regress_program.specs.CompilationOfTreesAsFunction.{compiled}
-use Rattle.regress_bounded.specs.ProgramWorkBounds.{IsBoundOf, IsWorkBoundOfTree, most_memo_codes_per_insn, program_size}
+use Rattle.regress_bounded.specs.ProgramWorkBoundForAllMatches.{TreeHasWorkBound, IsWorkBoundOfTree, most_memo_codes_per_insn, program_size}
 use Rattle.regress_bounded.specs.declared.work_bound.WorkBound.{WorkBound}
-use Rattle.regress_match.specs.WorkBounds.{NextResultWithinWork, AnswerInWork, BoundedView, CallsYieldWithinWork, SearchesAnswerInWork, WorkBoundsAreLimited, YieldsWithinWork, total_work, higher, work_per_unit_limit}
-use Rattle.regress_match.specs.ProgramTreesAndAnswers.{byte_tree, unit_tree}
+use Rattle.regress_match.specs.WorkBounds.{WorkMatchesNextResultType, AnswerInWork, BoundedView, NextCallsYieldWithinWork, SearchesAnswerInWork, WorkPerUnitLimitSuffices}
+use Rattle.regress_match.specs.WorkBounds.{YieldsMatchesIfWorkSuffices, enough_work_for_text, higher, work_per_unit_limit}
+use Rattle.regress_match.specs.ProgramTreesAndAnswers.{tree_for_byte_units, tree_for_16_bit_units}
 use Rattle.regress_match.specs.declared.api.regex.Regex.{Regex}
 
 -- ---- Calls in a row
 
 -- what has ended answers nothing
-ended-None : (s t : WorkView) (rs : List NextResultWithinWork) → s.come.ended ≡ true → CallsYieldWithinWork s rs t → Each (λ r. r ≡ None) rs
+ended-None : (s t : RemainingAnswersAndWork) (rs : List WorkMatchesNextResultType) → s.come.ended ≡ true → NextCallsYieldWithinWork s rs t → Each (λ r. r ≡ None) rs
 ended-None s t [] e h = tt
 ended-None s t (None ∷ rs) e (u, h, k) = (refl, ended-None u t rs h.0.1.2 k)
 ended-None s t (Some (Ok m) ∷ rs) e (u, h, k) = absurd (cc (sym e ∙ h.0.1))
 ended-None s t (Some (Err x) ∷ rs) e (u, h, k) = absurd (cc (sym e ∙ h.0.1))
 
 -- it is enough, or there is too little
-calls-Answer : (too_little : Type 0) (s t : WorkView) (rs : List NextResultWithinWork)
-    → (s.enough ≡ true) ⊎ too_little → CallsYieldWithinWork s rs t → AnswerInWork too_little s.come.answers rs
+calls-Answer : (too_little : Type 0) (s t : RemainingAnswersAndWork) (rs : List WorkMatchesNextResultType)
+    → (s.enough ≡ true) ⊎ too_little → NextCallsYieldWithinWork s rs t → AnswerInWork too_little s.come.answers rs
 calls-Answer too_little s t [] e h = tt
 calls-Answer too_little s t (None ∷ rs) e (u, h, k) = (h.0.0, ended-None u t rs h.0.1.2 k)
 calls-Answer too_little s t (Some (Ok m) ∷ rs) (inl e) (u, h, k) = (u.come.answers, h.0.0, calls-Answer too_little u t rs (inl (h.0.4 e)) k)
@@ -46,27 +48,27 @@ calls-Answer too_little s t (Some (Err WorkLimit) ∷ rs) (inl e) (u, h, k) = ab
 calls-Answer too_little s t (Some (Err WorkLimit) ∷ rs) (inr l) (u, h, k) = (l, ended-None u t rs h.0.2.2 k)
 
 -- no call gives back work that was done
-calls-left : (s t : WorkView) (rs : List NextResultWithinWork) → CallsYieldWithinWork s rs t → t.left ≤ s.left
-calls-left s t [] e = subst (λ (x : WorkView). t.left ≤ x.left) e (omega arith)
+calls-left : (s t : RemainingAnswersAndWork) (rs : List WorkMatchesNextResultType) → NextCallsYieldWithinWork s rs t → t.left ≤ s.left
+calls-left s t [] e = subst (λ (x : RemainingAnswersAndWork). t.left ≤ x.left) e (omega arith)
 calls-left s t (r ∷ rs) (u, h, k) = let less : t.left ≤ u.left = calls-left u t rs k in let fewer : u.left ≤ s.left = h.1 in omega (arith, less, fewer)
 
 pub searches-AnswerInWork : SearchesAnswerInWork
 searches-AnswerInWork tree text start per_unit work it t rs y k = (
-  subst (λ ms. AnswerInWork (work < total_work per_unit text) ms rs) y.answers (calls-Answer _ it t rs (by (leb_tells (total_work per_unit text) work)) k),
+  subst (λ ms. AnswerInWork (work < enough_work_for_text per_unit text) ms rs) y.answers (calls-Answer _ it t rs (by (leb_tells (enough_work_for_text per_unit text) work)) k),
   subst (λ n. t.left ≤ n) y.left (calls-left it t rs k),
 )
   where
-    by : ((nat_le (total_work per_unit text) work ≡ true) × (total_work per_unit text ≤ work)) ⊎ ((nat_le (total_work per_unit text) work ≡ false) × (work < total_work per_unit text))
-        → (it.enough ≡ true) ⊎ (work < total_work per_unit text)
+    by : ((nat_le (enough_work_for_text per_unit text) work ≡ true) × (enough_work_for_text per_unit text ≤ work)) ⊎ ((nat_le (enough_work_for_text per_unit text) work ≡ false) × (work < enough_work_for_text per_unit text))
+        → (it.enough ≡ true) ⊎ (work < enough_work_for_text per_unit text)
     by (inl (e, l)) = inl (y.enough l)
     by (inr (e, l)) = inr l
 
 -- ---- What is enough
 
 -- a bound that was reckoned of a program, which is a pattern's
-pub bound-came : {X : Type 0} (of : X → Tree) (program own : X) (found : Option WorkBound) (bound : WorkBound) → IfSome found (IsBoundOf (of program)) → found ≡ Some bound → program ≡ own
-    → IsBoundOf (of own) bound
-bound-came of program own found bound each is same = subst (λ p. IsBoundOf (of p) bound) same (subst (λ o. IfSome o (IsBoundOf (of program))) is each)
+pub bound-came : {X : Type 0} (of : X → Tree) (program own : X) (found : Option WorkBound) (bound : WorkBound) → IfSome found (TreeHasWorkBound (of program)) → found ≡ Some bound → program ≡ own
+    → TreeHasWorkBound (of own) bound
+bound-came of program own found bound each is same = subst (λ p. TreeHasWorkBound (of p) bound) same (subst (λ o. IfSome o (TreeHasWorkBound (of program))) is each)
 
 -- either number is at most the higher one
 pub higher-left : (a b : ℕ) → a ≤ higher a b
@@ -84,24 +86,24 @@ higher-right a b = by (nat_lt a b) refl
     by false e = ltb-false a b e
 
 -- What is yielded within a bound is yielded within a higher one.
-more-Yields : {tree : Tree} {text : Text} {few many work start : ℕ} {it : WorkView} → few ≤ many → YieldsWithinWork tree text start few work it
-    → YieldsWithinWork tree text start many work it
+more-Yields : {tree : Tree} {text : Text} {few many work start : ℕ} {it : RemainingAnswersAndWork} → few ≤ many → YieldsMatchesIfWorkSuffices tree text start few work it
+    → YieldsMatchesIfWorkSuffices tree text start many work it
 more-Yields {tree} {text} {few} {many} {work} {start} {it} l y = record {
   answers = y.answers;
   unlimited = y.unlimited;
   text_end = y.text_end;
   left = y.left;
-  enough = λ e. let less : total_work few text ≤ total_work many text = mul-le-mul_right (units text + 1) l in y.enough (omega (arith, less, e));
+  enough = λ e. let less : enough_work_for_text few text ≤ enough_work_for_text many text = mul-le-mul_right (units text + 1) l in y.enough (omega (arith, less, e));
 }
 
 -- The same of a pattern with its number, as its fields show it, by a program of one of its trees (`of`).
-pub bound-Yields : {b : BoundedView} {own : Tree} {few many work start : ℕ} {it : WorkView}
+pub bound-Yields : {b : BoundedView} {own : Tree} {few many work start : ℕ} {it : RemainingAnswersAndWork}
     (of : Regex → Tree) (re : Regex) (text_of : Bool → Text) → few ≤ many → record { re = re; per_unit = many } ≡ b → own ≡ of re
-    → YieldsWithinWork own (text_of own.flags.unicode) start few work it
-    → YieldsWithinWork (of b.re) (text_of (of b.re).flags.unicode) start b.per_unit work it
+    → YieldsMatchesIfWorkSuffices own (text_of own.flags.unicode) start few work it
+    → YieldsMatchesIfWorkSuffices (of b.re) (text_of (of b.re).flags.unicode) start b.per_unit work it
 bound-Yields {b} {own} {few} {many} {work} {start} {it} of re text_of l view same y =
-    subst (λ (v : BoundedView). YieldsWithinWork (of v.re) (text_of (of v.re).flags.unicode) start v.per_unit work it) view
-    (subst (λ (t : Tree). YieldsWithinWork t (text_of t.flags.unicode) start many work it) same (more-Yields l y))
+    subst (λ (v : BoundedView). YieldsMatchesIfWorkSuffices (of v.re) (text_of (of v.re).flags.unicode) start v.per_unit work it) view
+    (subst (λ (t : Tree). YieldsMatchesIfWorkSuffices t (text_of t.flags.unicode) start many work it) same (more-Yields l y))
 
 -- ---- What no bound exceeds
 
@@ -114,10 +116,10 @@ codes-most : (xs : List InsnAnalysis) (most : ℕ) → most ≤ 64 → Each (λ 
 codes-most [] most l h = l
 codes-most (x ∷ xs) most l h = let few : x.codes ≤ 64 = h.0 in codes-most xs (max most x.codes) (omega (arith, l, few)) h.1
 
-codes-few : (t : MemoAnalysis) → AreCodesCountedAndDisjoint t → most_memo_codes_per_insn t ≤ 64
+codes-few : (t : MemoAnalysis) → AreInsnCodesCountedAndDisjoint t → most_memo_codes_per_insn t ≤ 64
 codes-few t h = codes-most t.lines.items 0 (omega arith) (codes-each t.lines.items (λ i l. subst (λ n. n ≤ 64) (h.counted i l) (h.few i)))
 
-bound-limited : (tree : Tree) (bound : WorkBound) → IsBoundOf tree bound → bound.per_unit ≤ 64 * (64 * program_size (compiled tree))
+bound-limited : (tree : Tree) (bound : WorkBound) → TreeHasWorkBound tree bound → bound.per_unit ≤ 64 * (64 * program_size (compiled tree))
 bound-limited tree bound is = ∥∥₁_elim is (Prim.hlevel props) (λ (b : IsWorkBoundOfTree tree bound).
     let size = program_size (compiled tree) in
     let codes = most_memo_codes_per_insn (arc_value bound.memo_analysis) in
@@ -132,10 +134,10 @@ higher-most a b m n l k = by (nat_lt a b)
     by true = let more : n ≤ higher m n = higher-right m n in omega (arith, k, more)
     by false = let more : m ≤ higher m n = higher-left m n in omega (arith, l, more)
 
-pub bounds-limited : WorkBoundsAreLimited
+pub bounds-limited : WorkPerUnitLimitSuffices
 bounds-limited re per_unit (bytes, units', are, is) =
     let least : per_unit ≤ work_per_unit_limit re =
     subst (λ n. n ≤ work_per_unit_limit re) (sym is)
-    (higher-most bytes.per_unit units'.per_unit (program_size (compiled (byte_tree re))) (program_size (compiled (unit_tree re)))
-    (bound-limited (byte_tree re) bytes are.bound_for_bytes) (bound-limited (unit_tree re) units' are.bound_for_units)) in
+    (higher-most bytes.per_unit units'.per_unit (program_size (compiled (tree_for_byte_units re))) (program_size (compiled (tree_for_16_bit_units re)))
+    (bound-limited (tree_for_byte_units re) bytes are.bound_for_bytes) (bound-limited (tree_for_16_bit_units re) units' are.bound_for_units)) in
     (least, λ text. mul-le-mul_right (units text + 1) least)

@@ -3,7 +3,7 @@ use Rattle.std.specs.Prelude.{◌≡◌, ℕ, List, Option, Some, None}
 use Rattle.regex_meaning.specs.Tree.{Tree, Flags}
 use Rattle.regex_grammar.specs.Grammar.{Parses}
 use Rattle.regex_grammar.specs.ParserInvariants.{OpensTooManyGroups}
-use Rattle.regress_program.specs.CompileRefusals.{IsByteCompileErrorCause}
+use Rattle.regress_program.specs.CompileRefusals.{TreeHasByteCompileErrorCause}
 use Rattle.regex_pattern_front.specs.ParseErrors.{IsDiagnosisOf}
 use Rattle.regex_pattern_front.specs.declared.diagnosis.Diagnosis.{Diagnosis}
 use Rattle.regex_pattern_front.specs.declared.parse.ParseError.{ParseError}
@@ -23,9 +23,9 @@ error_of_parse parse.TooManyGroups = Emit emit.TooManyGroups
 error_of_parse e = Parse e
 
 -- The diagnosis in an error.
-abbrev pub diagnosis_of : Error → Option Diagnosis
-diagnosis_of (Parse (parse.Syntax diagnosis)) = Some diagnosis
-diagnosis_of _ = None
+abbrev pub diagnosis_in_error : Error → Option Diagnosis
+diagnosis_in_error (Parse (parse.Syntax diagnosis)) = Some diagnosis
+diagnosis_in_error _ = None
 
 -- The public error of an error of the emitter.
 abbrev pub error_of_emit : EmitError → Error
@@ -36,7 +36,7 @@ error_of_emit e = Emit e
 pub record ExceedsLimit (flags : Flags) (pattern : List ℕ) (e : EmitError) : Type 0 where
   pub tree : Tree
   pub parsed : Parses flags pattern tree
-  pub refused : IsByteCompileErrorCause e tree
+  pub refused : TreeHasByteCompileErrorCause e tree
 
 -- When a pattern is refused: the grammar has no tree for it, and the diagnosis is at a code point of
 -- it or at its end; it opens too many groups; its tree exceeds another limit; or an allocation

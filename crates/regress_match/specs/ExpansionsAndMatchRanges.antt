@@ -1,7 +1,7 @@
 -- Expansions of replacements, and conditions on the ranges of matches.
 use Rattle.std.specs.Prelude.{◌≤◌, ℕ, List, [], ◌∷◌, length, map, IsCharBoundary, IfSome}
 use Rattle.regex_meaning.specs.Laws.{Each}
-use Rattle.regex_meaning.specs.GroupsByNumberAndName.{Answer}
+use Rattle.regex_meaning.specs.MatchGroupsByNumberAndName.{Answer}
 use Rattle.regex_meaning.specs.Replace.{expansion}
 
 -- Each match, paired with the expansion of the replacement for it.
@@ -18,15 +18,15 @@ pub record MatchFitsText (text : List ℕ) (m : Answer) : Type 0 where
   pub groups : Each (λ g. IfSome g (IsCharBoundaryRange text)) m.captures
 
 -- Each match fits the text, and begins no earlier than `from` or the end of the match before it.
-abbrev pub MatchesAreOrderedFrom : (text : List ℕ) → (from : ℕ) → List Answer → Type 0
-MatchesAreOrderedFrom text from [] = Unit {0}
-MatchesAreOrderedFrom text from (m ∷ ms) = (from ≤ m.range.0) × MatchFitsText text m × MatchesAreOrderedFrom text m.range.1 ms
+abbrev pub MatchesFitTextInOrderFrom : (text : List ℕ) → (from : ℕ) → List Answer → Type 0
+MatchesFitTextInOrderFrom text from [] = Unit {0}
+MatchesFitTextInOrderFrom text from (m ∷ ms) = (from ≤ m.range.0) × MatchFitsText text m × MatchesFitTextInOrderFrom text m.range.1 ms
 
 -- The range lies within the code units of a text.
 abbrev pub IsRangeWithinUnits : (units : List ℕ) → ℕ × ℕ → Type 0
 IsRangeWithinUnits units range = (range.0 ≤ range.1) × (range.1 ≤ length units)
 
 -- The range of the match and the ranges of its groups lie within the code units of a text.
-pub record MatchFitsCodeUnits (units : List ℕ) (m : Answer) : Type 0 where
+pub record MatchRangesLieWithinUnits (units : List ℕ) (m : Answer) : Type 0 where
   pub whole : IsRangeWithinUnits units m.range
   pub groups : Each (λ g. IfSome g (IsRangeWithinUnits units)) m.captures

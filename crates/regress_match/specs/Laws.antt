@@ -2,11 +2,11 @@
 use Rattle.std.specs.Prelude.{◌≡◌, ℕ, List, IsUtf8, codes, take}
 use Rattle.regex_meaning.specs.Tree.{Tree, Flags}
 use Rattle.regex_meaning.specs.Text.{utf8_text, ascii_text, utf16_text, ucs2_text}
-use Rattle.regex_meaning.specs.GroupsByNumberAndName.{answers_from}
+use Rattle.regex_meaning.specs.MatchGroupsByNumberAndName.{answers_from}
 use Rattle.regex_meaning.specs.Replace.{replaced}
 use Rattle.regex_grammar.specs.Grammar.{Parses}
 use Rattle.regress_match.specs.ProgramTreesAndAnswers.{IsCompiledWith, utf8_answers, ascii_answers, utf16_answers, ucs2_answers}
-use Rattle.regress_match.specs.ExpansionsAndMatchRanges.{MatchesAreOrderedFrom, matches_with_expansions}
+use Rattle.regress_match.specs.ExpansionsAndMatchRanges.{MatchesFitTextInOrderFrom, matches_with_expansions}
 use Rattle.regress_match.specs.declared.api.regex.Regex.{Regex}
 
 -- Replacing the first match, or all matches, by `$0` gives the text back.
@@ -28,4 +28,4 @@ SearchesFollowThePattern = (flags : Flags) (pattern : List ℕ) (re : Regex) (tr
 -- The matches from a start on lie in the text, in order and without overlap, and each match and
 -- each of its groups is a range of whole characters.
 abbrev pub MatchesStandInText : Type 0
-MatchesStandInText = (re : Regex) (text : List ℕ) (start : ℕ) → IsUtf8 text → MatchesAreOrderedFrom text start (utf8_answers re text start)
+MatchesStandInText = (re : Regex) (text : List ℕ) (start : ℕ) → IsUtf8 text → MatchesFitTextInOrderFrom text start (utf8_answers re text start)

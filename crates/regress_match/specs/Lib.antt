@@ -1,9 +1,9 @@
-pub mod ClosureReplacements
-pub mod ReplacementClosures
+pub mod ClosureReplacementForAnyResultType
+pub mod ReplacementClosuresReturningStrings
 pub mod PublicFlagsAsSpecFlags
 pub mod Laws
 pub mod ProgramTreesAndAnswers
-pub mod ReplacementParts
+pub mod ReplacementPartsAsSpecParts
 pub mod CompileErrors
 pub mod ExpansionsAndMatchRanges
 pub mod SearchResults

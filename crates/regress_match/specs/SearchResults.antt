@@ -3,8 +3,8 @@ use Rattle.std.specs.Prelude.{◌≡◌, ℕ, List, [], ◌∷◌, false, Option
 use Rattle.regex_meaning.specs.Tree.{Tree}
 use Rattle.regex_meaning.specs.Text.{Text}
 use Rattle.regex_meaning.specs.CodeUnitOffsets.{units}
-use Rattle.regex_meaning.specs.GroupsByNumberAndName.{Answer, answers_from}
-use Rattle.regress_exec.specs.MatchAnswers.{answer_of}
+use Rattle.regex_meaning.specs.MatchGroupsByNumberAndName.{Answer, answers_from}
+use Rattle.regress_exec.specs.MatchesAsSpecAnswers.{answer_of}
 use Rattle.regress_exec.specs.RemainingAnswers.{RemainingView, NextYields}
 use Rattle.regress_exec.specs.declared.exec.Match.{Match}
 use Rattle.regress_exec.specs.declared.exec.SearchError.{SearchError}
@@ -26,9 +26,9 @@ NextResult = Option (Result Match SearchError)
 
 -- Successive calls of `next` return these results, and take the iterator from the view `before` to
 -- the view `behind`.
-abbrev pub CallsYield : (before : RemainingView) → List NextResult → (behind : RemainingView) → Type 0
-CallsYield before [] behind = behind ≡ before
-CallsYield before (r ∷ rs) behind = (next : RemainingView) × NextYields before r next × CallsYield next rs behind
+abbrev pub NextCallsYield : (before : RemainingView) → List NextResult → (behind : RemainingView) → Type 0
+NextCallsYield before [] behind = behind ≡ before
+NextCallsYield before (r ∷ rs) behind = (next : RemainingView) × NextYields before r next × NextCallsYield next rs behind
 
 -- All results are `None`.
 abbrev pub AllNone : List NextResult → Type 0
@@ -47,4 +47,4 @@ AnswerInTurn matches (Some (Err e) ∷ rs) = IsOutOfMemory e × AllNone rs
 -- The results of a search, however often it is called.
 abbrev pub SearchesAnswerInTurn : Type 0
 SearchesAnswerInTurn = (tree : Tree) (text : Text) (start : ℕ) (it behind : RemainingView) (rs : List NextResult)
-    → YieldsMatches tree text start it → CallsYield it rs behind → AnswerInTurn (answers_from tree.root text start) rs
+    → YieldsMatches tree text start it → NextCallsYield it rs behind → AnswerInTurn (answers_from tree.root text start) rs

@@ -1,20 +1,20 @@
 -- Work bounds of patterns, and what a search within a work budget yields.
 use Rattle.std.specs.Prelude.{◌≡◌, ◌≤◌, ◌<◌, ◌*◌, ℕ, List, [], ◌∷◌, Option, Some, None, Result, Ok, Err, if◌then◌else◌, nat_lt}
 use Rattle.regex_meaning.specs.Laws.{Each}
-use Rattle.regex_meaning.specs.GroupsByNumberAndName.{Answer, answers_from}
+use Rattle.regex_meaning.specs.MatchGroupsByNumberAndName.{Answer, answers_from}
 use Rattle.regex_meaning.specs.Text.{Text}
 use Rattle.regex_meaning.specs.Tree.{Tree}
-use Rattle.regress_exec.specs.MatchAnswers.{answer_of}
-use Rattle.regress_exec.specs.WorkLimits.{WorkView, NextYieldsWithinWork}
+use Rattle.regress_exec.specs.MatchesAsSpecAnswers.{answer_of}
+use Rattle.regress_exec.specs.AttemptsAndMatchesWithinWork.{RemainingAnswersAndWork, NextYieldsWithinWork}
 use Rattle.regress_exec.specs.declared.exec.Match.{Match}
 use Rattle.regress_exec.specs.declared.exec.work_matches.WorkError.{WorkError}
 use Rattle.regress_exec.specs.declared.exec.work_matches.WorkError.TheVariants.{Memory, WorkLimit}
 use Rattle.regress_program.specs.CompilationOfTreesAsFunction.{compiled}
-use Rattle.regress_bounded.specs.ProgramWorkBounds.{IsBoundOf, program_size}
-pub use Rattle.regress_bounded.specs.ProgramWorkBounds.{YieldsWithinWork, total_work}
+use Rattle.regress_bounded.specs.ProgramWorkBoundForAllMatches.{TreeHasWorkBound, program_size}
+pub use Rattle.regress_bounded.specs.ProgramWorkBoundForAllMatches.{YieldsMatchesIfWorkSuffices, enough_work_for_text}
 use Rattle.regress_bounded.specs.declared.work_bound.WorkBound.{WorkBound}
 use Rattle.regress_match.specs.declared.api.regex.Regex.{Regex}
-use Rattle.regress_match.specs.ProgramTreesAndAnswers.{byte_tree, unit_tree}
+use Rattle.regress_match.specs.ProgramTreesAndAnswers.{tree_for_byte_units, tree_for_16_bit_units}
 
 -- ---- Bounds
 
@@ -34,40 +34,40 @@ higher_of bytes units = higher bytes.per_unit units.per_unit
 
 -- The bounds are those of the pattern's two programs.
 pub record AreBoundsOf (re : Regex) (bytes units : WorkBound) : Type 0 where
-  pub bound_for_bytes : IsBoundOf (byte_tree re) bytes
-  pub bound_for_units : IsBoundOf (unit_tree re) units
+  pub bound_for_bytes : TreeHasWorkBound (tree_for_byte_units re) bytes
+  pub bound_for_units : TreeHasWorkBound (tree_for_16_bit_units re) units
 
 -- The number is the higher of the bounds of the pattern's two programs.
-abbrev pub IsWorkBoundOfBothPrograms : Regex → ℕ → Type 0
-IsWorkBoundOfBothPrograms re per_unit = (bytes : WorkBound) × (units : WorkBound) × AreBoundsOf re bytes units × (per_unit ≡ higher_of bytes units)
+abbrev pub IsHigherOfProgramWorkBounds : Regex → ℕ → Type 0
+IsHigherOfProgramWorkBounds re per_unit = (bytes : WorkBound) × (units : WorkBound) × AreBoundsOf re bytes units × (per_unit ≡ higher_of bytes units)
 
 -- A number that no bound of the pattern exceeds, by its two programs alone: 64 for each unit of the
 -- greater program's size, for each of the 64 codes that an instruction may have.
 abbrev pub work_per_unit_limit : Regex → ℕ
-work_per_unit_limit re = 64 * (64 * higher (program_size (compiled (byte_tree re))) (program_size (compiled (unit_tree re))))
+work_per_unit_limit re = 64 * (64 * higher (program_size (compiled (tree_for_byte_units re))) (program_size (compiled (tree_for_16_bit_units re))))
 
 -- Whatever bound of the pattern a search answers by, this much work for each unit of a text, and
 -- once more, is enough.
-abbrev pub WorkBoundsAreLimited : Type 0
-WorkBoundsAreLimited = (re : Regex) (per_unit : ℕ) → IsWorkBoundOfBothPrograms re per_unit
-    → (per_unit ≤ work_per_unit_limit re) × ((text : Text) → total_work per_unit text ≤ total_work (work_per_unit_limit re) text)
+abbrev pub WorkPerUnitLimitSuffices : Type 0
+WorkPerUnitLimitSuffices = (re : Regex) (per_unit : ℕ) → IsHigherOfProgramWorkBounds re per_unit
+    → (per_unit ≤ work_per_unit_limit re) × ((text : Text) → enough_work_for_text per_unit text ≤ enough_work_for_text (work_per_unit_limit re) text)
 
 -- ---- Results of its calls
 
 -- The result of one call of `next`.
-abbrev pub NextResultWithinWork : Type 0
-NextResultWithinWork = Option (Result Match WorkError)
+abbrev pub WorkMatchesNextResultType : Type 0
+WorkMatchesNextResultType = Option (Result Match WorkError)
 
 -- Successive calls of `next` return these results, and take the iterator from the view `before` to
 -- the view `behind`.
-abbrev pub CallsYieldWithinWork : (before : WorkView) → List NextResultWithinWork → (behind : WorkView) → Type 0
-CallsYieldWithinWork before [] behind = behind ≡ before
-CallsYieldWithinWork before (r ∷ rs) behind = (next : WorkView) × NextYieldsWithinWork before r next × CallsYieldWithinWork next rs behind
+abbrev pub NextCallsYieldWithinWork : (before : RemainingAnswersAndWork) → List WorkMatchesNextResultType → (behind : RemainingAnswersAndWork) → Type 0
+NextCallsYieldWithinWork before [] behind = behind ≡ before
+NextCallsYieldWithinWork before (r ∷ rs) behind = (next : RemainingAnswersAndWork) × NextYieldsWithinWork before r next × NextCallsYieldWithinWork next rs behind
 
 -- The results are the matches of the list one after another. `None` is returned at the end of the
 -- list, or after an error, and nowhere else, and then for good. The error is an allocation failure,
 -- or `WorkLimit` where `too_little` holds.
-abbrev pub AnswerInWork : (too_little : Type 0) → List Answer → List NextResultWithinWork → Type 0
+abbrev pub AnswerInWork : (too_little : Type 0) → List Answer → List WorkMatchesNextResultType → Type 0
 AnswerInWork too_little matches [] = Unit {0}
 AnswerInWork too_little matches (Some (Ok m) ∷ rs) =
     (rest : List Answer) × (matches ≡ answer_of m ∷ rest) × AnswerInWork too_little rest rs
@@ -78,6 +78,6 @@ AnswerInWork too_little matches (Some (Err WorkLimit) ∷ rs) = too_little × Ea
 -- The results of a search within a work budget, however often it is called. No more work is left
 -- than it had.
 abbrev pub SearchesAnswerInWork : Type 0
-SearchesAnswerInWork = (tree : Tree) (text : Text) (start per_unit work : ℕ) (it behind : WorkView) (rs : List NextResultWithinWork)
-    → YieldsWithinWork tree text start per_unit work it → CallsYieldWithinWork it rs behind
-    → AnswerInWork (work < total_work per_unit text) (answers_from tree.root text start) rs × (behind.left ≤ work)
+SearchesAnswerInWork = (tree : Tree) (text : Text) (start per_unit work : ℕ) (it behind : RemainingAnswersAndWork) (rs : List WorkMatchesNextResultType)
+    → YieldsMatchesIfWorkSuffices tree text start per_unit work it → NextCallsYieldWithinWork it rs behind
+    → AnswerInWork (work < enough_work_for_text per_unit text) (answers_from tree.root text start) rs × (behind.left ≤ work)

@@ -10,7 +10,7 @@
 
 pub mod api;
 pub mod backends;
-mod executors;
+mod executor_aliases_per_encoding;
 pub mod program;
 
 pub use crate::api::{
@@ -18,7 +18,7 @@ pub use crate::api::{
     LimitedMatches, Match, Matches, MatchesInWork, NamedGroups, Range, Regex, ReplaceError,
     SearchError, Step, WorkError, escape, is_unit_boundary, next_from,
 };
-pub use regex_pattern_front::parenthesis_depth::nesting;
+pub use regex_pattern_front::greatest_parenthesis_depth_of_pattern::nesting;
 pub use regress_backtrack::classicalbacktrack;
 pub use regress_exec::{exec, search_loop};
 pub use regress_input::{cursor, front, indexing, matchers, position, scm};

@@ -13,29 +13,31 @@ use Rattle.regex_meaning.specs.CodeUnitOffsets.{place_at, offset, units}
 use Rattle.regex_meaning.specs.CompilationRelation.{Program}
 use Rattle.regress_machine.specs.Machine.{State, LoopData, Thread, running, test_of}
 use Rattle.regress_machine.proofs.Beside.{moved-zero}
-use Rattle.regress_simulation.specs.CharLoopExitStates.{behind}
+use Rattle.regress_simulation.specs.CharLoopExitStatesByPreference.{behind}
 use Rattle.regress_memo_laws.specs.Liveness.{Agree, outermost}
 use Rattle.regress_memo_laws.specs.DistinctLists.{IsIn, IsNew, AreDistinct}
-use Rattle.regress_memo_laws.specs.LoopDataKeyCodes.{Question, is_empty, how_many, number_of_possible_answers, bool_as_digit, answer_to_loop_question, code_of, plan_code, plan_codes, key_of, own_row}
+use Rattle.regress_memo_laws.specs.LoopDataKeyCodes.{Question, is_empty, how_many, number_of_possible_answers, bool_as_digit, answer_to_loop_question, code_of}
+use Rattle.regress_memo_laws.specs.LoopDataKeyCodes.{plan_code, plan_codes, key_of, own_row}
 use Rattle.regress_memo_laws.specs.LoopDataKeyCodes.{HasSlotsOfProgram}
-use Rattle.regress_memo_laws.specs.CharLoopMemoKeys.{row_by, plan_rows, char_loop_greediness_at, insn_before, CharLoopRecords, run_key}
+use Rattle.regress_memo_laws.specs.UnboundedCharLoopMemoKeys.{row_by, plan_rows, char_loop_greediness_at, insn_before, CharLoopRecords, run_key}
 use Rattle.regress_memo_laws.specs.MemoPlanChecksAndGuarantees.{plan_taken}
 use Rattle.regress_memo_laws.specs.MemoSearch.{Key, KeyStandsFor, IsKnown, known_to_fail, known_to_reach}
 use Rattle.regress_memo_laws.specs.ThreadPotentials.{is_one_of}
 use Rattle.regress_memo_laws.proofs.Codes.{plans-tell}
 use Rattle.regress_memo_laws.proofs.Weights.{in-places}
-use Rattle.regress_memo_analysis.specs.declared.analysis.MemoAnalysis.{MemoAnalysis}
-use Rattle.regress_memo_analysis.specs.AnalysisContents.{insn_analysis_of, liveness_of, key_code_questions_of, insn_direction, recorded}
-use Rattle.regress_memo_analysis.specs.CheckedAnalysis.{MemoKeyHasBit, IsAnalysisOf}
+use Rattle.regress_memo_analysis.specs.declared.analysis_result.MemoAnalysis.{MemoAnalysis}
+use Rattle.regress_memo_analysis.specs.AnalysisAsLivenessAndPotentials.{insn_analysis_of, analysis_as_liveness, key_code_questions_of, insn_direction, recorded}
+use Rattle.regress_memo_analysis.specs.CheckedAnalysis.{IsRecordableMemoKey, IsAnalysisOf}
 use Rattle.regress_memo_analysis.proofs.WholeLemmas.{recorded-is, not-recorded}
 use Rattle.regress_memo.specs.MemoContractView.{MemoView}
 use Rattle.regress_memo.specs.MemoContents.{same_key, memo_key_at, has_failure, has_success, knows, IsEmptyMemo, RecordsFailure, RecordsSuccess}
-use Rattle.regress_memo.specs.Laws.{analysis_keys, KeyFails, KeyReaches, IsTrueOf, Holds, HasMemory, RecordingAddsKnownKeys, MemosAreSound, AnalysisKeysAreThoseAssignedBits}
+use Rattle.regress_memo.specs.Laws.{analysis_keys, KeyFails, KeyReaches, IsTrueOf, ListsExactlyKnownKeys, HasMemory, RecordingAddsKnownKeys, MemosAreSound}
+use Rattle.regress_memo.specs.Laws.{AnalysisKeysAreThoseAssignedBits}
 use Rattle.regress_memo.proofs.MemoLemmas.{same-is, same-itself, bit-there, line-there}
 
 -- ---- Lists
 
-hold-none : (known : Key → Bool) → ((k : Key) → known k ≡ false) → Holds known []
+hold-none : (known : Key → Bool) → ((k : Key) → known k ≡ false) → ListsExactlyKnownKeys known []
 hold-none known none = record { only = λ k h. absurd h; all = λ k h. both_ways (known k) (none k) h }
 
 new-key : (known : Key → Bool) (k : Key) → known k ≡ false → (memory : List Key) → ((j : Key) → IsIn j memory → known j ≡ true) → IsNew k memory
@@ -46,7 +48,7 @@ new-key known k unknown (j ∷ memory) only = (
 )
 
 hold-more : (k : Key) (before after : Key → Bool) (memory : List Key) → ((j : Key) → after j ≡ (before j || same_key j k))
-    → Holds before memory → Holds after (k ∷ memory)
+    → ListsExactlyKnownKeys before memory → ListsExactlyKnownKeys after (k ∷ memory)
 hold-more k before after memory more h = record { only = only; all = all }
   where
     only : (j : Key) → IsIn j (k ∷ memory) → after j ≡ true
@@ -59,7 +61,7 @@ hold-more k before after memory more h = record { only = only; all = all }
       | inr e ↦ inl (sym (same-is j k e))
     ]
 
-hold-same : (before after : Key → Bool) (memory : List Key) → ((j : Key) → after j ≡ before j) → Holds before memory → Holds after memory
+hold-same : (before after : Key → Bool) (memory : List Key) → ((j : Key) → after j ≡ before j) → ListsExactlyKnownKeys before memory → ListsExactlyKnownKeys after memory
 hold-same before after memory same h = record { only = λ j x. same j ∙ h.only j x; all = λ j known. h.all j (sym (same j) ∙ known) }
 
 or-last : (a b c : Bool) → ((a || c) || b) ≡ ((a || b) || c)
@@ -95,7 +97,7 @@ records-there t ip records = true_from_ne_false (is_one_of (recorded t) ip) (λ 
 
 module _ (program : Program) (text : Text) (t : MemoAnalysis) (of : IsAnalysisOf program t) where
   key-has-bit : (d : Direction) (k : Key) (ts : List Thread)
-      → KeyStandsFor program text (liveness_of t) (analysis_keys program text t) d k ts → MemoKeyHasBit t (units text + 1) k
+      → KeyStandsFor program text (analysis_as_liveness t) (analysis_keys program text t) d k ts → IsRecordableMemoKey t (units text + 1) k
   key-has-bit d k ts is =
       let h = is.is_of in
       let h1 = and-right (nat_lt k.code (plan_codes (key_code_questions_of t) k.ip)) _ h in
@@ -106,7 +108,7 @@ module _ (program : Program) (text : Text) (t : MemoAnalysis) (of : IsAnalysisOf
       let counted = of.coded.counted k.ip there in
       record { there = there; records = records; at = omega (arith, within); code = omega (arith, code, counted) }
 
-  key-inside : (k : Key) → MemoKeyHasBit t (units text + 1) k → IsIn k (analysis_keys program text t).all
+  key-inside : (k : Key) → IsRecordableMemoKey t (units text + 1) k → IsIn k (analysis_keys program text t).all
   key-inside k has =
       let counted = of.coded.counted k.ip has.there in
       let code = has.code in
@@ -116,12 +118,12 @@ module _ (program : Program) (text : Text) (t : MemoAnalysis) (of : IsAnalysisOf
 
 module _ (program : Program) (text : Text) (t : MemoAnalysis) where
   pub thread-key : (d : Direction) (s : State) (k : Key) → memo_key_at t s ≡ Some k → char_loop_greediness_at (insn_before program s.ip) ≡ None
-      → insn_direction t s.ip ≡ d → HasSlotsOfProgram program s → Agree (liveness_of t) (units text) outermost d s s
-      → KeyStandsFor program text (liveness_of t) (analysis_keys program text t) d k (running s ∷ [])
+      → insn_direction t s.ip ≡ d → HasSlotsOfProgram program s → Agree (analysis_as_liveness t) (units text) outermost d s s
+      → KeyStandsFor program text (analysis_as_liveness t) (analysis_keys program text t) d k (running s ∷ [])
   thread-key d s k is no_body way of_program sound = by (insn_analysis_of t s.ip).records refl is
     where
       by : (b : Bool) → (insn_analysis_of t s.ip).records ≡ b → (if b then Some (key_of (plan_code (key_code_questions_of t)) s) else None) ≡ Some k
-          → KeyStandsFor program text (liveness_of t) (analysis_keys program text t) d k (running s ∷ [])
+          → KeyStandsFor program text (analysis_as_liveness t) (analysis_keys program text t) d k (running s ∷ [])
       by false e h = cc
       by true e h =
           let key = key_of (plan_code (key_code_questions_of t)) s in
@@ -129,8 +131,8 @@ module _ (program : Program) (text : Text) (t : MemoAnalysis) where
           let rows = plan_rows program text (key_code_questions_of t) (insn_direction t) in
           let own : rows key ≡ own_row key =
           ap (λ o. row_by program text (key_code_questions_of t) (insn_direction t) o (test_of program (slice_get program.insns s.ip)) (place_at text s.pos) key) no_body in
-          subst (λ j. KeyStandsFor program text (liveness_of t) (analysis_keys program text t) d j (running s ∷ [])) same
-          (plans-tell.has_key program text (liveness_of t) (key_code_questions_of t) (insn_direction t) (recorded t) rows (plan_taken program) d s
+          subst (λ j. KeyStandsFor program text (analysis_as_liveness t) (analysis_keys program text t) d j (running s ∷ [])) same
+          (plans-tell.has_key program text (analysis_as_liveness t) (key_code_questions_of t) (insn_direction t) (recorded t) rows (plan_taken program) d s
           (records-there t s.ip e) way of_program sound own)
 
 -- a code asks for the offset and for what loops hold, and for nothing else
@@ -146,9 +148,9 @@ code-same (q ∷ qs) u v pos loops =
     ap (λ n. n + number_of_possible_answers q * code_of qs u) (answer-same q u v pos loops) ∙ ap (λ n. answer_to_loop_question q v + number_of_possible_answers q * n) (code-same qs u v pos loops)
 
 run-key-is : (program : Program) (text : Text) (t : MemoAnalysis) (d : Direction) (test : ℕ → Bool) (greedy : Bool) (s : State) (place : ℕ)
-    → CharLoopRecords program (liveness_of t) (key_code_questions_of t) (insn_direction t) (recorded t) d test greedy s.ip
+    → CharLoopRecords program (analysis_as_liveness t) (key_code_questions_of t) (insn_direction t) (recorded t) d test greedy s.ip
     → memo_key_at t (record s { ip = s.ip + 1; pos = offset text place })
-    ≡ Some (run_key program text (liveness_of t) (key_code_questions_of t) (insn_direction t) (recorded t) (plan_taken program) d place s)
+    ≡ Some (run_key program text (analysis_as_liveness t) (key_code_questions_of t) (insn_direction t) (recorded t) (plan_taken program) d place s)
 run-key-is program text t d test greedy s place r =
     let u : State = record s { ip = s.ip + 1; pos = offset text place } in
     let v : State = behind text d place s 0 in
@@ -260,15 +262,15 @@ chosen-distinct f (k ∷ ks) = by (chosen-distinct (λ i. f i && not (same_key i
     by others on false = on
 
 module _ (program : Program) (text : Text) (m : MemoView) (is : IsTrueOf program text m) where
-  known-has-bit : (k : Key) → knows m k ≡ true → MemoKeyHasBit m.memo_analysis (units text + 1) k
+  known-has-bit : (k : Key) → knows m k ≡ true → IsRecordableMemoKey m.memo_analysis (units text + 1) k
   known-has-bit k h =
-      subst (λ n. MemoKeyHasBit m.memo_analysis n k) is.places
+      subst (λ n. IsRecordableMemoKey m.memo_analysis n k) is.places
       (elim (or_cases (has_failure m k) (has_success m k) h) [
         | inl e ↦ bit-there m.memo_analysis m.places k (and-left _ _ e)
         | inr e ↦ bit-there m.memo_analysis m.places k (and-left _ _ (and-right _ _ e))
       ])
 
-  known-is : (k : Key) → knows m k ≡ true → IsKnown program text (liveness_of m.memo_analysis) (analysis_keys program text m.memo_analysis) k
+  known-is : (k : Key) → knows m k ≡ true → IsKnown program text (analysis_as_liveness m.memo_analysis) (analysis_keys program text m.memo_analysis) k
   known-is k h = elim (or_cases (has_failure m k) (has_success m k) h) [
     | inl e ↦ known_to_fail (is.fails k e)
     | inr e ↦ known_to_reach (is.reaches k e)
@@ -285,7 +287,7 @@ module _ (program : Program) (text : Text) (m : MemoView) (is : IsTrueOf program
         };
         is = record {
           known =
-              each-in (IsKnown program text (liveness_of m.memo_analysis) (analysis_keys program text m.memo_analysis)) (chosen known all)
+              each-in (IsKnown program text (analysis_as_liveness m.memo_analysis) (analysis_keys program text m.memo_analysis)) (chosen known all)
               (λ k h. known-is k (some k (chosen-are known all k h).0));
           distinct = chosen-distinct known all;
           inside = each-in (λ k. IsIn k all) (chosen known all) (λ k h. (chosen-are known all k h).1);

@@ -10,10 +10,10 @@ use Rattle.regress_machine.specs.Machine.{State, LoopData}
 use Rattle.regress_memo_laws.specs.MemoSearch.{Key}
 use Rattle.regress_memo_laws.specs.LoopDataKeyCodes.{code_of, plan_code, plan_codes, key_of}
 use Rattle.regress_memo_laws.proofs.Codes.{plans-tell}
-use Rattle.regress_memo_analysis.specs.declared.analysis.InsnAnalysis.{InsnAnalysis}
-use Rattle.regress_memo_analysis.specs.declared.analysis.MemoAnalysis.{MemoAnalysis}
-use Rattle.regress_memo_analysis.specs.AnalysisContents.{no_insn_analysis, insn_analysis_of, key_code_questions_of, bit_of}
-use Rattle.regress_memo_analysis.specs.CheckedAnalysis.{AreCodesCountedAndDisjoint, MemoKeyHasBit}
+use Rattle.regress_memo_analysis.specs.declared.analysis_result.InsnAnalysis.{InsnAnalysis}
+use Rattle.regress_memo_analysis.specs.declared.analysis_result.MemoAnalysis.{MemoAnalysis}
+use Rattle.regress_memo_analysis.specs.AnalysisAsLivenessAndPotentials.{no_insn_analysis, insn_analysis_of, key_code_questions_of, memo_bit_index_of_key}
+use Rattle.regress_memo_analysis.specs.CheckedAnalysis.{AreInsnCodesCountedAndDisjoint, IsRecordableMemoKey}
 use Rattle.regress_memo_analysis.proofs.Bits.{bits-apart}
 use Rattle.regress_memo.specs.BitSet.{is_set}
 use Rattle.regress_memo.specs.MemoContractView.{MemoView}
@@ -38,7 +38,7 @@ same-itself k =
 -- ---- Bits
 
 module _ (t : MemoAnalysis) (places : ℕ) where
-  pub bit-there : (k : Key) → has_bit t places k ≡ true → MemoKeyHasBit t places k
+  pub bit-there : (k : Key) → has_bit t places k ≡ true → IsRecordableMemoKey t places k
   bit-there k h =
       let h1 = and-right _ _ h in
       let h2 = and-right _ _ h1 in
@@ -49,26 +49,26 @@ module _ (t : MemoAnalysis) (places : ℕ) where
         code = ltb-true k.code (insn_analysis_of t k.ip).codes (and-right _ _ h2);
       }
 
-  pub bit-is : (k : Key) → MemoKeyHasBit t places k → has_bit t places k ≡ true
+  pub bit-is : (k : Key) → IsRecordableMemoKey t places k → has_bit t places k ≡ true
   bit-is k has =
       and_from (nat_lt k.ip (length t.lines.items)) _ (lt-ltb k.ip (length t.lines.items) has.there)
       (and_from (insn_analysis_of t k.ip).records _ has.records
       (and_from (nat_lt k.at places) _ (lt-ltb k.at places has.at) (lt-ltb k.code (insn_analysis_of t k.ip).codes has.code)))
 
   abbrev bit : Key → ℕ
-  bit k = bit_of t places k.ip k.at k.code
+  bit k = memo_bit_index_of_key t places k.ip k.at k.code
 
   pub none-noted : (words : List ℕ) → ((n : ℕ) → is_set words n ≡ false) → (k : Key) → is_noted t places words k ≡ false
   none-noted words none k = and_right (has_bit t places k) (is_set words (bit k)) (none (bit k))
 
-  module _ (k : Key) (has : MemoKeyHasBit t places k) where
+  module _ (k : Key) (has : IsRecordableMemoKey t places k) where
     -- a key that has a bit is noted if that is set
     pub noted-is : (words : List ℕ) → is_set words (bit k) ≡ is_noted t places words k
     noted-is words = sym (ap (λ b. b && is_set words (bit k)) (bit-is k has))
 
-    module _ (coded : AreCodesCountedAndDisjoint t) where
+    module _ (coded : AreInsnCodesCountedAndDisjoint t) where
       -- another key has another bit
-      bit-same : (j : Key) → MemoKeyHasBit t places j → (bit j == bit k) ≡ same_key j k
+      bit-same : (j : Key) → IsRecordableMemoKey t places j → (bit j == bit k) ≡ same_key j k
       bit-same j has_j =
           same-truth (bit j == bit k) (same_key j k)
           (λ e. subst (λ i. same_key i k ≡ true) (sym (bits-apart t coded places j k has_j has (eqb-true (bit j) (bit k) e))) (same-itself k))
@@ -83,7 +83,7 @@ module _ (t : MemoAnalysis) (places : ℕ) where
           by true e = more (bit j) ∙ ap (λ b. is_set old (bit j) || b) (bit-same j (bit-there j e))
           by false e =
               sym (false_from_ne_true (same_key j k)
-              (λ s. both_ways (has_bit t places j) e (bit-is j (subst (λ i. MemoKeyHasBit t places i) (sym (same-is j k s)) has))))
+              (λ s. both_ways (has_bit t places j) e (bit-is j (subst (λ i. IsRecordableMemoKey t places i) (sym (same-is j k s)) has))))
 
 -- ---- Codes
 
@@ -102,7 +102,7 @@ module _ (t : MemoAnalysis) (ip : ℕ) (x : InsnAnalysis) (is : x ≡ insn_analy
   records-so = ap (λ (y : InsnAnalysis). y.records) (sym is) ∙ records
 
   -- what a code tells is one of so many
-  code-few : AreCodesCountedAndDisjoint t → (s : State) → s.ip ≡ ip → code_of (key_code_questions_of t ip) s < x.codes
+  code-few : AreInsnCodesCountedAndDisjoint t → (s : State) → s.ip ≡ ip → code_of (key_code_questions_of t ip) s < x.codes
   code-few coded s at =
       let below : code_of (key_code_questions_of t ip) s < plan_codes (key_code_questions_of t) ip =
       subst (λ i. code_of (key_code_questions_of t i) s < plan_codes (key_code_questions_of t) i) at (plans-tell.below (key_code_questions_of t) s) in
@@ -110,7 +110,7 @@ module _ (t : MemoAnalysis) (ip : ℕ) (x : InsnAnalysis) (is : x ≡ insn_analy
       let same : x.codes ≡ (insn_analysis_of t ip).codes = ap (λ (y : InsnAnalysis). y.codes) is in
       omega (arith, below, counted, same)
 
-  pub one-code : AreCodesCountedAndDisjoint t → x.codes ≡ 1 → (s : State) → s.ip ≡ ip → 0 ≡ code_of (key_code_questions_of t ip) s
+  pub one-code : AreInsnCodesCountedAndDisjoint t → x.codes ≡ 1 → (s : State) → s.ip ≡ ip → 0 ≡ code_of (key_code_questions_of t ip) s
   one-code coded one s at = let few = code-few coded s at in omega (arith, few, one)
 
   pub key-is : (s : State) (at code : ℕ) → s.ip ≡ ip → s.pos ≡ at → code ≡ code_of (key_code_questions_of t ip) s
@@ -122,7 +122,7 @@ module _ (t : MemoAnalysis) (ip : ℕ) (x : InsnAnalysis) (is : x ≡ insn_analy
       ap (λ i. Some (make i at code)) (sym here) ∙ ap (λ a. Some (make s.ip a code)) (sym there) ∙ ap (λ c. Some (make s.ip s.pos c)) its
       ∙ ap (λ b. if b then Some (key_of (plan_code (key_code_questions_of t)) s) else None) (sym so)
 
-  pub code-bit : (places at code : ℕ) → code < x.codes → at < places → MemoKeyHasBit t places (record { ip = ip; at = at; code = code })
+  pub code-bit : (places at code : ℕ) → code < x.codes → at < places → IsRecordableMemoKey t places (record { ip = ip; at = at; code = code })
   code-bit places at code few within = record {
     there = line-there t ip x is records;
     records = records-so;
@@ -131,9 +131,9 @@ module _ (t : MemoAnalysis) (ip : ℕ) (x : InsnAnalysis) (is : x ≡ insn_analy
   }
 
   -- a code that is so of each state there
-  pub told-bit : AreCodesCountedAndDisjoint t → (places at code : ℕ) (loops : List LoopData)
+  pub told-bit : AreInsnCodesCountedAndDisjoint t → (places at code : ℕ) (loops : List LoopData)
       → ((s : State) → s.pos ≡ at → s.loops ≡ loops → code ≡ code_of (key_code_questions_of t ip) s)
-      → at < places → MemoKeyHasBit t places (record { ip = ip; at = at; code = code })
+      → at < places → IsRecordableMemoKey t places (record { ip = ip; at = at; code = code })
   told-bit coded places at code loops told within =
       let s : State = record { ip = ip; pos = at; groups = []; starts = []; loops = loops } in
       let is : code ≡ code_of (key_code_questions_of t ip) s = told s refl refl in
@@ -145,8 +145,8 @@ module _ (t : MemoAnalysis) (ip : ℕ) (x : InsnAnalysis) (is : x ≡ insn_analy
 abbrev pub known_by : MemoAnalysis → (places : ℕ) → (records_successes : Bool) → (failures ends : List ℕ) → MemoView
 known_by memo_analysis places records_successes failures ends = record { memo_analysis = memo_analysis; places = places; records_successes = records_successes; failures = failures; ends = ends }
 
-module _ (m : MemoView) (coded : AreCodesCountedAndDisjoint m.memo_analysis) (k : Key) (has : MemoKeyHasBit m.memo_analysis m.places k) (bit : ℕ)
-    (its : bit ≡ bit_of m.memo_analysis m.places k.ip k.at k.code) (new : List ℕ) where
+module _ (m : MemoView) (coded : AreInsnCodesCountedAndDisjoint m.memo_analysis) (k : Key) (has : IsRecordableMemoKey m.memo_analysis m.places k) (bit : ℕ)
+    (its : bit ≡ memo_bit_index_of_key m.memo_analysis m.places k.ip k.at k.code) (new : List ℕ) where
   pub notes-failure : ((i : ℕ) → is_set new i ≡ (is_set m.failures i || i == bit)) → RecordsFailure k m (record m { failures = new })
   notes-failure more = record {
     same = record { memo_analysis = refl; places = refl; records_successes = refl };

@@ -7,10 +7,10 @@ use Rattle.regex_meaning.proofs.Each.{Each-append}
 use Rattle.regex_meaning.specs.Text.{Text, Direction, rightwards}
 use Rattle.regex_meaning.specs.CodeUnitOffsets.{HasRisingPlaceOffsets, units}
 use Rattle.regex_meaning.specs.CompilationRelation.{Program}
-use Rattle.regress_machine.specs.SearchResults.{state_before_first_insn}
+use Rattle.regress_machine.specs.SearchFindsFirstOutcomeAtPlace.{state_before_first_insn}
 use Rattle.regress_machine.specs.Machine.{State, Thread, running, waiting, goes, act}
 use Rattle.regress_memo_laws.specs.Liveness.{Agree, outermost, ReadsAsBytes}
-use Rattle.regress_memo_laws.specs.Bisimulation.{AlikeThreads}
+use Rattle.regress_memo_laws.specs.ThreadBisimulation.{AlikeThreads}
 use Rattle.regress_memo_laws.specs.LoopDataKeyCodes.{HasSlotsOfProgram, plan_code, key_of}
 use Rattle.regress_memo_laws.specs.DistinctLists.{IsNew}
 use Rattle.regress_memo_laws.specs.PreservedSlotCounts.{state_of_thread}
@@ -24,10 +24,12 @@ use Rattle.regress_memo_laws.proofs.Looks.{soundness-stays}
 use Rattle.regress_memo_laws.proofs.Paid.{turns-paid}
 use Rattle.regress_memo_laws.proofs.Plans.{plans-take}
 use Rattle.regress_memo_laws.proofs.Turns.{threads-tries, threads-joined, turns-right}
-use Rattle.regress_memo_analysis.specs.declared.analysis.MemoAnalysis.{MemoAnalysis}
+use Rattle.regress_memo_analysis.specs.declared.analysis_result.MemoAnalysis.{MemoAnalysis}
 use Rattle.regress_memo_analysis.specs.UnreachedCharLoopBodies.{IsNotLoopBody}
 use Rattle.regress_memo_analysis.specs.WorkBound.{IsWorkBounded, first_row}
-use Rattle.regress_memo_analysis.specs.AnalysisContents.{insn_analysis_of, liveness_of, key_code_questions_of, recorded, potentials_of, key_cost_of, insn_direction}
+use Rattle.regress_memo_analysis.specs.AnalysisAsLivenessAndPotentials.{insn_analysis_of, analysis_as_liveness, key_code_questions_of, recorded, potentials_of}
+use Rattle.regress_memo_analysis.specs.AnalysisAsLivenessAndPotentials.{key_cost_of}
+use Rattle.regress_memo_analysis.specs.AnalysisAsLivenessAndPotentials.{insn_direction}
 use Rattle.regress_memo_analysis.specs.CheckedAnalysis.{IsAnalysisOf, ip_of, Serves}
 use Rattle.regress_memo_analysis.proofs.NoBodies.{bodies-apart}
 use Rattle.regress_memo_analysis.proofs.Outside.{starts-outside}
@@ -35,7 +37,7 @@ use Rattle.regress_memo_analysis.proofs.Ways.{ways-stay}
 use Rattle.regress_memo_analysis.proofs.WholeLemmas.{recorded-is, ledgers-serve}
 use Rattle.regress_memo.specs.Laws.{analysis_keys, KeyFails}
 use Rattle.regress_memo.specs.MemoContents.{memo_key_at}
-use Rattle.regress_memo.specs.MemoSearchCosts.{IsKeyed, AreKeyed, HasCome, ComesOn, WorkIsCoveredByKeyCosts}
+use Rattle.regress_memo.specs.AmortizedMemoSearchSteps.{IsKeyed, AreKeyed, HasCome, ComesOn, WorkIsCoveredByKeyCosts}
 use Rattle.regress_memo.proofs.LawLemmas.{thread-key, records-there}
 
 -- ---- Keys
@@ -66,7 +68,7 @@ has-key t s k is = by (insn_analysis_of t s.ip).records refl is
 -- ---- Threads that have keys
 
 module _ (program : Program) (text : Text) (t : MemoAnalysis) (d : Direction) where
-  all-keyed : (ts : List Thread) → Each (λ u. HasSlotsOfProgram program (state_of_thread u)) ts → AlikeThreads (Agree (liveness_of t) (units text) outermost d) ts ts
+  all-keyed : (ts : List Thread) → Each (λ u. HasSlotsOfProgram program (state_of_thread u)) ts → AlikeThreads (Agree (analysis_as_liveness t) (units text) outermost d) ts ts
       → Each (λ u. insn_direction t (ip_of u) ≡ d) ts → Each (λ u. IsNotLoopBody program (ip_of u)) ts → AreKeyed program text t d ts
   all-keyed [] of sound way apart = tt
   all-keyed (running s ∷ ts) of sound way apart =
@@ -98,7 +100,7 @@ module _ (program : Program) (t : MemoAnalysis) (of : IsAnalysisOf program t) (b
   left-keyed : (s : State) (ts : List Thread) → IsKeyed program text t d s → act program text d s ≡ goes ts → AreKeyed program text t d ts
   left-keyed s ts k turn =
       all-keyed program text t d ts (states-stay program text d s ts k.of turn)
-      ((soundness-stays program text (liveness_of t) served.plan.account d).goes outermost s ts k.sound turn)
+      ((soundness-stays program text (analysis_as_liveness t) served.plan.account d).goes outermost s ts k.sound turn)
       (ways-stay program t of text d s ts k.way turn) (bodies-apart program t of bounded.past text d s ts turn)
 
   turned : (s : State) (ts : List Thread) → act program text d s ≡ goes ts → memo_key_at t s ≡ None → Come work now (tried (running s) ∷ rest) → Come (work + 1) now (tries ts ++ rest)
@@ -115,7 +117,7 @@ module _ (program : Program) (t : MemoAnalysis) (of : IsAnalysisOf program t) (b
       let ips = recorded t in
       let keyed = h.keyed.0 in
       let there = records-there t s.ip has.records in
-      let rec : IsRecorded program text (liveness_of t) (key_code_questions_of t) (insn_direction t) ips (plan_taken program) d now s = record {
+      let rec : IsRecorded program text (analysis_as_liveness t) (key_code_questions_of t) (insn_direction t) ips (plan_taken program) d now s = record {
         records = there;
         goes = keyed.way;
         no_body = keyed.no_body;
@@ -146,7 +148,7 @@ module _ (program : Program) (t : MemoAnalysis) (of : IsAnalysisOf program t) (b
       let of_key = thread-key program text t d s k is keyed.no_body keyed.way keyed.of keyed.sound in
       record {
         comes = gives work 1 now (tried (running s) ∷ []) [] rest tt h.comes
-            ((turns-right program text (liveness_of t) (analysis_keys program text t) served.plan.account served.serves.keys d).dropped now k (running s ∷ []) fails of_key)
+            ((turns-right program text (analysis_as_liveness t) (analysis_keys program text t) served.plan.account served.serves.keys d).dropped now k (running s ∷ []) fails of_key)
             ((others-paid.ends program (potentials_of t) (key_cost_of t) (recorded t) s).known (bounded.ready s.ip));
         keyed = h.keyed.1;
       }
@@ -170,7 +172,7 @@ first-keyed : (program : Program) (t : MemoAnalysis) → IsAnalysisOf program t 
     → IsKeyed program text t rightwards (state_before_first_insn program at)
 first-keyed program t of text is_text bytes less at inside = record {
   of = record { groups = length-replicate _ _; starts = length-replicate _ _; loops = length-replicate _ _ };
-  sound = (soundness-stays program text (liveness_of t) (ledgers-serve program t of text is_text bytes less).plan.account rightwards).at_first at inside
+  sound = (soundness-stays program text (analysis_as_liveness t) (ledgers-serve program t of text is_text bytes less).plan.account rightwards).at_first at inside
       (starts-outside program t of);
   way = of.starts.forward;
   no_body = refl;

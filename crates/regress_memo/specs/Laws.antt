@@ -7,12 +7,12 @@ use Rattle.regress_machine.specs.Machine.{State, Thread, running}
 use Rattle.regress_memo_laws.specs.Liveness.{Agree, outermost}
 use Rattle.regress_memo_laws.specs.DistinctLists.{IsIn, IsNew}
 use Rattle.regress_memo_laws.specs.LoopDataKeyCodes.{HasSlotsOfProgram}
-use Rattle.regress_memo_laws.specs.CharLoopMemoKeys.{plan_keys, char_loop_greediness_at, insn_before, CharLoopRecords, run_key}
+use Rattle.regress_memo_laws.specs.UnboundedCharLoopMemoKeys.{plan_keys, char_loop_greediness_at, insn_before, CharLoopRecords, run_key}
 use Rattle.regress_memo_laws.specs.MemoPlanChecksAndGuarantees.{plan_taken}
 use Rattle.regress_memo_laws.specs.MemoSearch.{Key, Keys, KeyStandsFor, Fails, Succeeds, IsMemory}
-use Rattle.regress_memo_analysis.specs.declared.analysis.MemoAnalysis.{MemoAnalysis}
-use Rattle.regress_memo_analysis.specs.AnalysisContents.{liveness_of, key_code_questions_of, insn_direction, recorded}
-use Rattle.regress_memo_analysis.specs.CheckedAnalysis.{MemoKeyHasBit, IsAnalysisOf}
+use Rattle.regress_memo_analysis.specs.declared.analysis_result.MemoAnalysis.{MemoAnalysis}
+use Rattle.regress_memo_analysis.specs.AnalysisAsLivenessAndPotentials.{analysis_as_liveness, key_code_questions_of, insn_direction, recorded}
+use Rattle.regress_memo_analysis.specs.CheckedAnalysis.{IsRecordableMemoKey, IsAnalysisOf}
 use Rattle.regress_memo.specs.MemoContractView.{MemoView}
 use Rattle.regress_memo.specs.MemoContents.{memo_key_at, has_failure, has_success, knows, IsEmptyMemo, RecordsFailure, RecordsSuccess}
 
@@ -21,16 +21,16 @@ use Rattle.regress_memo.specs.MemoContents.{memo_key_at, has_failure, has_succes
 -- The keys that may be remembered of a program in a text, by its memo analysis.
 abbrev pub analysis_keys : Program → Text → MemoAnalysis → Keys
 analysis_keys program text t =
-    plan_keys program text (liveness_of t) (key_code_questions_of t) (insn_direction t) (recorded t) (plan_taken program)
+    plan_keys program text (analysis_as_liveness t) (key_code_questions_of t) (insn_direction t) (recorded t) (plan_taken program)
 
 module _ (program : Program) (text : Text) where
   -- The key fails: nothing that it stands for finds anything.
   abbrev pub KeyFails : MemoAnalysis → Key → Type 0
-  KeyFails t k = Fails program text (liveness_of t) (analysis_keys program text t) k
+  KeyFails t k = Fails program text (analysis_as_liveness t) (analysis_keys program text t) k
 
   -- The key succeeds: everything that it stands for finds an end.
   abbrev pub KeyReaches : MemoAnalysis → Key → Type 0
-  KeyReaches t k = Succeeds program text (liveness_of t) (analysis_keys program text t) k
+  KeyReaches t k = Succeeds program text (analysis_as_liveness t) (analysis_keys program text t) k
 
   -- The table belongs to an analysis of the program, covers each offset of the text, and knows only
   -- what is true.
@@ -41,7 +41,7 @@ module _ (program : Program) (text : Text) where
     pub reaches : (k : Key) → has_success m k ≡ true → KeyReaches m.memo_analysis k
 
 -- The list contains exactly the known keys.
-pub record Holds (known : Key → Bool) (memory : List Key) : Type 0 where
+pub record ListsExactlyKnownKeys (known : Key → Bool) (memory : List Key) : Type 0 where
   pub only : (k : Key) → IsIn k memory → known k ≡ true
   pub all : (k : Key) → known k ≡ true → IsIn k memory
 
@@ -51,24 +51,24 @@ pub record Holds (known : Key → Bool) (memory : List Key) : Type 0 where
 -- begin.
 pub record HasMemory (program : Program) (text : Text) (m : MemoView) (known : Key → Bool) : Type 0 where
   pub memory : List Key
-  pub holds : Holds known memory
-  pub is : IsMemory program text (liveness_of m.memo_analysis) (analysis_keys program text m.memo_analysis) memory
+  pub holds : ListsExactlyKnownKeys known memory
+  pub is : IsMemory program text (analysis_as_liveness m.memo_analysis) (analysis_keys program text m.memo_analysis) memory
 
 -- Recording a key adds it to the list of known keys. If successes are recorded, a search uses all
 -- known keys as its memory, otherwise those known to fail.
 pub record RecordingAddsKnownKeys : Type 0 where
   pub begun : (t : MemoAnalysis) (places : ℕ) (records_successes : Bool) (m : MemoView) → IsEmptyMemo t places records_successes m
-      → Holds (has_failure m) [] × Holds (knows m) []
+      → ListsExactlyKnownKeys (has_failure m) [] × ListsExactlyKnownKeys (knows m) []
   -- A key that is not known is not in the list.
-  pub new : (known : Key → Bool) (memory : List Key) (k : Key) → Holds known memory → known k ≡ false → IsNew k memory
+  pub new : (known : Key → Bool) (memory : List Key) (k : Key) → ListsExactlyKnownKeys known memory → known k ≡ false → IsNew k memory
   pub failure : (k : Key) (m n : MemoView) (memory : List Key) → RecordsFailure k m n
-      → Holds (has_failure m) memory → Holds (has_failure n) (k ∷ memory)
+      → ListsExactlyKnownKeys (has_failure m) memory → ListsExactlyKnownKeys (has_failure n) (k ∷ memory)
   pub known_failure : (k : Key) (m n : MemoView) (memory : List Key) → RecordsFailure k m n
-      → Holds (knows m) memory → Holds (knows n) (k ∷ memory)
+      → ListsExactlyKnownKeys (knows m) memory → ListsExactlyKnownKeys (knows n) (k ∷ memory)
   pub end : (k : Key) (m n : MemoView) (memory : List Key) → RecordsSuccess k m n
-      → Holds (has_failure m) memory → Holds (has_failure n) memory
+      → ListsExactlyKnownKeys (has_failure m) memory → ListsExactlyKnownKeys (has_failure n) memory
   pub known_end : (k : Key) (m n : MemoView) (memory : List Key) → RecordsSuccess k m n
-      → Holds (knows m) memory → Holds (knows n) (k ∷ memory)
+      → ListsExactlyKnownKeys (knows m) memory → ListsExactlyKnownKeys (knows n) (k ∷ memory)
 
 -- An empty table is true of the program and the text, and recording a true fact keeps it true.
 pub record MemosAreSound : Type 0 where
@@ -86,16 +86,16 @@ pub record AnalysisKeysAreThoseAssignedBits : Type 0 where
   -- A key that stands for threads has a bit.
   pub has_bit : (program : Program) (text : Text) (t : MemoAnalysis) → IsAnalysisOf program t
       → (d : Direction) (k : Key) (ts : List Thread)
-      → KeyStandsFor program text (liveness_of t) (analysis_keys program text t) d k ts → MemoKeyHasBit t (units text + 1) k
+      → KeyStandsFor program text (analysis_as_liveness t) (analysis_keys program text t) d k ts → IsRecordableMemoKey t (units text + 1) k
   pub inside : (program : Program) (text : Text) (t : MemoAnalysis) → IsAnalysisOf program t
-      → (k : Key) → MemoKeyHasBit t (units text + 1) k → IsIn k (analysis_keys program text t).all
+      → (k : Key) → IsRecordableMemoKey t (units text + 1) k → IsIn k (analysis_keys program text t).all
   -- A running thread has a key if its instruction records and is not the body of a char loop.
   pub thread : (program : Program) (text : Text) (t : MemoAnalysis) → IsAnalysisOf program t
       → (d : Direction) (s : State) (k : Key) → memo_key_at t s ≡ Some k → char_loop_greediness_at (insn_before program s.ip) ≡ None
-      → insn_direction t s.ip ≡ d → HasSlotsOfProgram program s → Agree (liveness_of t) (units text) outermost d s s
-      → KeyStandsFor program text (liveness_of t) (analysis_keys program text t) d k (running s ∷ [])
+      → insn_direction t s.ip ≡ d → HasSlotsOfProgram program s → Agree (analysis_as_liveness t) (units text) outermost d s s
+      → KeyStandsFor program text (analysis_as_liveness t) (analysis_keys program text t) d k (running s ∷ [])
   -- The key of a char loop from a place on is the key of a state at the loop's body there.
   pub run : (program : Program) (text : Text) (t : MemoAnalysis) (d : Direction) (test : ℕ → Bool) (greedy : Bool) (s : State)
-      (place : ℕ) → CharLoopRecords program (liveness_of t) (key_code_questions_of t) (insn_direction t) (recorded t) d test greedy s.ip
+      (place : ℕ) → CharLoopRecords program (analysis_as_liveness t) (key_code_questions_of t) (insn_direction t) (recorded t) d test greedy s.ip
       → memo_key_at t (record s { ip = s.ip + 1; pos = offset text place })
-      ≡ Some (run_key program text (liveness_of t) (key_code_questions_of t) (insn_direction t) (recorded t) (plan_taken program) d place s)
+      ≡ Some (run_key program text (analysis_as_liveness t) (key_code_questions_of t) (insn_direction t) (recorded t) (plan_taken program) d place s)

@@ -2,4 +2,4 @@ pub mod BitSet
 pub mod MemoContractView
 pub mod MemoContents
 pub mod Laws
-pub mod MemoSearchCosts
+pub mod AmortizedMemoSearchSteps

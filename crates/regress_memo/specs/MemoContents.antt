@@ -3,8 +3,8 @@ use Rattle.std.specs.Prelude.{◌≡◌, ℕ, Bool, false, if◌then◌else◌, 
 use Rattle.regress_machine.specs.Machine.{State}
 use Rattle.regress_memo_laws.specs.MemoSearch.{Key}
 use Rattle.regress_memo_laws.specs.LoopDataKeyCodes.{plan_code, key_of}
-use Rattle.regress_memo_analysis.specs.declared.analysis.MemoAnalysis.{MemoAnalysis}
-use Rattle.regress_memo_analysis.specs.AnalysisContents.{insn_analysis_of, key_code_questions_of, bit_of}
+use Rattle.regress_memo_analysis.specs.declared.analysis_result.MemoAnalysis.{MemoAnalysis}
+use Rattle.regress_memo_analysis.specs.AnalysisAsLivenessAndPotentials.{insn_analysis_of, key_code_questions_of, memo_bit_index_of_key}
 use Rattle.regress_memo.specs.declared.memo.ThreadMemoKey.{ThreadMemoKey as Stored}
 use Rattle.regress_memo.specs.BitSet.{is_set}
 use Rattle.regress_memo.specs.MemoContractView.{MemoView}
@@ -12,8 +12,8 @@ use Rattle.regress_memo.specs.MemoContractView.{MemoView}
 -- ---- Keys
 
 -- A `ThreadMemoKey` as a key of `regress_memo_laws`.
-abbrev pub as_key : Stored → Key
-as_key k = record { ip = k.ip; at = k.at; code = k.code }
+abbrev pub memo_key_as_spec : Stored → Key
+memo_key_as_spec k = record { ip = k.ip; at = k.at; code = k.code }
 
 -- Whether two keys are equal.
 abbrev pub same_key : Key → Key → Bool
@@ -23,7 +23,7 @@ same_key j k = (j.ip == k.ip) && ((j.at == k.at) && (j.code == k.code))
 abbrev pub memo_key_at : MemoAnalysis → State → Option Key
 memo_key_at t s = if (insn_analysis_of t s.ip).records then Some (key_of (plan_code (key_code_questions_of t)) s) else None
 
--- Whether a key has a bit (the test for `MemoKeyHasBit`).
+-- Whether a key has a bit (the test for `IsRecordableMemoKey`).
 abbrev pub has_bit : MemoAnalysis → (places : ℕ) → Key → Bool
 has_bit t places k =
     nat_lt k.ip (length t.lines.items)
@@ -31,7 +31,7 @@ has_bit t places k =
 
 -- Whether the key has a bit and that bit is set.
 abbrev pub is_noted : MemoAnalysis → (places : ℕ) → (words : List ℕ) → Key → Bool
-is_noted t places words k = has_bit t places k && is_set words (bit_of t places k.ip k.at k.code)
+is_noted t places words k = has_bit t places k && is_set words (memo_bit_index_of_key t places k.ip k.at k.code)
 
 -- ---- Known keys
 

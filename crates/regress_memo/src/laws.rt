@@ -1,6 +1,6 @@
 //! Laws of memo tables.
 
-ghost use Rattle.regress_memo.specs.{Laws.{RecordingAddsKnownKeys, MemosAreSound, AnalysisKeysAreThoseAssignedBits}, MemoSearchCosts.{WorkIsCoveredByKeyCosts}};
+ghost use Rattle.regress_memo.specs.{Laws.{RecordingAddsKnownKeys, MemosAreSound, AnalysisKeysAreThoseAssignedBits}, AmortizedMemoSearchSteps.{WorkIsCoveredByKeyCosts}};
 
 /// The contents of a memo table are a list of keys, and recording a key adds it to that list.
 pub fn recording_adds_known_keys()

@@ -3,13 +3,14 @@
 ghost use Rattle.std.specs.Prelude.{◌≡◌, ◌≤◌, ◌<◌, ◌*◌, ◌^◌, ◌↔◌, true, option_map, IfOk, IfSome, IsTrue, MatchOption};
 ghost use Rattle.std.specs.Arc.{arc_value};
 ghost use Rattle.regress_machine.specs.Machine.{State};
-ghost use Rattle.regress_memo_analysis.specs.{AnalysisContents.{bit_of as bit_of_key}, CheckedAnalysis.{AreCodesCountedAndDisjoint, MemoKeyHasBit}};
-ghost use Rattle.regress_memo.specs.MemoContents.{as_key, memo_key_at as key_of_state, has_failure, has_success, IsEmptyMemo, RecordsFailure, RecordsSuccess};
+ghost use Rattle.regress_memo_analysis.specs.AnalysisAsLivenessAndPotentials.{memo_bit_index_of_key as bit_of_key};
+ghost use Rattle.regress_memo_analysis.specs.CheckedAnalysis.{AreInsnCodesCountedAndDisjoint, IsRecordableMemoKey};
+ghost use Rattle.regress_memo.specs.MemoContents.{memo_key_as_spec, memo_key_at as key_of_state, has_failure, has_success, IsEmptyMemo, RecordsFailure, RecordsSuccess};
 ghost use Rattle.regress_memo.specs.MemoContractView.{MemoView, HasRoom};
 
 use crate::bit_set::Bits;
-use regress_memo_analysis::analysis::MemoAnalysis;
-use regress_memo_analysis::key_codes::IterationStatesOfAllLoops;
+use regress_memo_analysis::analysis_result::MemoAnalysis;
+use regress_memo_analysis::loop_data_key_codes::IterationStatesOfAllLoops;
 use std::alloc::{AllocError, Global};
 use std::marker::Model;
 use std::sync::Arc;
@@ -60,7 +61,7 @@ impl MemoTable {
         places: usize,
         records_successes: bool,
     ) -> Result<Option<MemoTable>, AllocError>
-        requires { AreCodesCountedAndDisjoint memo_analysis }
+        requires { AreInsnCodesCountedAndDisjoint memo_analysis }
         ensures { IfOk result (λ found. MatchOption found (2 ^ 64 ≤ memo_analysis.codes * places)
             (IsEmptyMemo memo_analysis places records_successes)) }
     {
@@ -79,7 +80,7 @@ impl MemoTable {
         places: usize,
         records_successes: bool,
     ) -> Result<Option<MemoTable>, AllocError>
-        requires { AreCodesCountedAndDisjoint (arc_value memo_analysis) }
+        requires { AreInsnCodesCountedAndDisjoint (arc_value memo_analysis) }
         ensures { IfOk result (λ found. MatchOption found (2 ^ 64 ≤ (arc_value memo_analysis).codes * places)
             (IsEmptyMemo (arc_value memo_analysis) places records_successes)) }
     {
@@ -123,9 +124,9 @@ impl MemoTable {
         rounds: &R,
     ) -> Option<ThreadMemoKey>
         ensures key { (s : State) → s.ip ≡ ip → s.pos ≡ at → s.loops ≡ R.rounds rounds.now
-            → option_map as_key result ≡ key_of_state self.now.memo_analysis s }
+            → option_map memo_key_as_spec result ≡ key_of_state self.now.memo_analysis s }
         ensures bit { at < self.now.places
-            → IfSome result (λ key. MemoKeyHasBit self.now.memo_analysis self.now.places (as_key key)) }
+            → IfSome result (λ key. IsRecordableMemoKey self.now.memo_analysis self.now.places (memo_key_as_spec key)) }
     {
         let line = self.memo_analysis.insn_analysis_at(ip);
         if !line.records {
@@ -142,7 +143,7 @@ impl MemoTable {
     /// Checks whether the key exists: its instruction records, and its offset and its code are in
     /// range.
     pub fn has(&self, key: ThreadMemoKey) -> bool
-        ensures { IsTrue result ↔ MemoKeyHasBit self.now.memo_analysis self.now.places (as_key key) }
+        ensures { IsTrue result ↔ IsRecordableMemoKey self.now.memo_analysis self.now.places (memo_key_as_spec key) }
     {
         let line = self.memo_analysis.insn_analysis_at(key.ip);
         key.ip < self.memo_analysis.lines.len()
@@ -154,30 +155,30 @@ impl MemoTable {
     /// Checks whether the key is known to fail.
     #[inline(always)]
     pub fn fails(&self, key: ThreadMemoKey) -> bool
-        requires { MemoKeyHasBit self.now.memo_analysis self.now.places (as_key key) }
-        ensures { result ≡ has_failure self.now (as_key key) }
+        requires { IsRecordableMemoKey self.now.memo_analysis self.now.places (memo_key_as_spec key) }
+        ensures { result ≡ has_failure self.now (memo_key_as_spec key) }
     {
-        let bit = bit_of(&self.memo_analysis, self.places, key);
+        let bit = memo_bit_index_of_key(&self.memo_analysis, self.places, key);
         self.failures.has(bit)
     }
 
     /// Checks whether the key is known to reach an end.
     #[inline(always)]
     pub fn is_known_to_reach_end(&self, key: ThreadMemoKey) -> bool
-        requires { MemoKeyHasBit self.now.memo_analysis self.now.places (as_key key) }
-        ensures { result ≡ has_success self.now (as_key key) }
+        requires { IsRecordableMemoKey self.now.memo_analysis self.now.places (memo_key_as_spec key) }
+        ensures { result ≡ has_success self.now (memo_key_as_spec key) }
     {
-        let bit = bit_of(&self.memo_analysis, self.places, key);
+        let bit = memo_bit_index_of_key(&self.memo_analysis, self.places, key);
         self.records_successes && self.ends.has(bit)
     }
 
     /// Records that the key fails.
     #[inline(always)]
     pub fn record_failure(&mut self, key: ThreadMemoKey)
-        requires { MemoKeyHasBit self.old.memo_analysis self.old.places (as_key key) }
-        ensures { RecordsFailure (as_key key) self.old self.new }
+        requires { IsRecordableMemoKey self.old.memo_analysis self.old.places (memo_key_as_spec key) }
+        ensures { RecordsFailure (memo_key_as_spec key) self.old self.new }
     {
-        let bit = bit_of(&self.memo_analysis, self.places, key);
+        let bit = memo_bit_index_of_key(&self.memo_analysis, self.places, key);
         self.failures.set(bit);
     }
 
@@ -185,19 +186,19 @@ impl MemoTable {
     #[inline(always)]
     pub fn record_success(&mut self, key: ThreadMemoKey)
         requires wanted { self.old.records_successes ≡ true }
-        requires key { MemoKeyHasBit self.old.memo_analysis self.old.places (as_key key) }
-        ensures { RecordsSuccess (as_key key) self.old self.new }
+        requires key { IsRecordableMemoKey self.old.memo_analysis self.old.places (memo_key_as_spec key) }
+        ensures { RecordsSuccess (memo_key_as_spec key) self.old self.new }
     {
-        let bit = bit_of(&self.memo_analysis, self.places, key);
+        let bit = memo_bit_index_of_key(&self.memo_analysis, self.places, key);
         self.ends.set(bit);
     }
 }
 
 // Returns the index of a key's bit.
 #[inline(always)]
-fn bit_of(memo_analysis: &MemoAnalysis, places: usize, key: ThreadMemoKey) -> usize
-    requires coded { AreCodesCountedAndDisjoint memo_analysis.now }
-    requires key { MemoKeyHasBit memo_analysis.now places (as_key key) }
+fn memo_bit_index_of_key(memo_analysis: &MemoAnalysis, places: usize, key: ThreadMemoKey) -> usize
+    requires coded { AreInsnCodesCountedAndDisjoint memo_analysis.now }
+    requires key { IsRecordableMemoKey memo_analysis.now places (memo_key_as_spec key) }
     requires fits { memo_analysis.now.codes * places < 2 ^ 64 }
     ensures bit { result ≡ bit_of_key memo_analysis.now places key.ip key.at key.code }
     ensures below { result < memo_analysis.now.codes * places }

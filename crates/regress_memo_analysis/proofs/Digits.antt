@@ -7,8 +7,8 @@ use Rattle.std.proofs.Math.Nat.{mul_assoc, mul-le-mul_left}
 use Rattle.std.proofs.lemmas.Bool.{ltb-false}
 use Rattle.regress_machine.specs.Machine.{LoopData, State}
 use Rattle.regress_memo_laws.specs.LoopDataKeyCodes.{Question, is_empty, how_many, bool_as_digit, answer_to_loop_question, code_of, codes_of}
-use Rattle.regress_memo_analysis.specs.declared.analysis.EnclosingLoop.{EnclosingLoop}
-use Rattle.regress_memo_analysis.specs.AnalysisContents.{with_empty, with_count, questions_on}
+use Rattle.regress_memo_analysis.specs.declared.analysis_result.EnclosingLoop.{EnclosingLoop}
+use Rattle.regress_memo_analysis.specs.AnalysisAsLivenessAndPotentials.{with_empty, with_count, questions_on}
 use Rattle.regress_memo_analysis.specs.CheckedAnalysis.{radix_of_loop_digit, digit_of}
 
 -- ---- How many codes

@@ -10,45 +10,45 @@ use Rattle.std.proofs.lemmas.List.Sums.{sum_by-cons}
 use Rattle.regex_meaning.specs.Laws.{Each}
 use Rattle.regex_meaning.specs.CompilationRelation.{Program, Insn, EnterLoop, Loop1CharBody}
 use Rattle.regress_machine.specs.Machine.{Thread, running, waiting}
-use Rattle.regress_plan.specs.InsnsAsSpecInsns.{spec_insn_of}
+use Rattle.regress_plan.specs.InsnsAsSpecInsns.{insn_as_spec_insn}
 use Rattle.regress_plan.specs.declared.insn.Insn as declared
-use Rattle.regress_memo_laws.specs.CharLoopMemoKeys.{char_loop_greediness_at, insn_before}
+use Rattle.regress_memo_laws.specs.UnboundedCharLoopMemoKeys.{char_loop_greediness_at, insn_before}
 use Rattle.regress_memo_laws.specs.ThreadPotentials.{Potentials, potential_of, CoversOne, CoversTwo, CoversRepeat, AreCovering}
 use Rattle.regress_memo_laws.proofs.Weights.{turns-weighed}
-use Rattle.regress_memo_analysis.specs.declared.analysis.MemoAnalysis.{MemoAnalysis}
+use Rattle.regress_memo_analysis.specs.declared.analysis_result.MemoAnalysis.{MemoAnalysis}
 use Rattle.regress_memo_analysis.specs.declared.successors.Successors.{Successors}
-use Rattle.regress_memo_analysis.specs.declared.successors.Successors.TheVariants.{Ends, One, Two, Enter, Again, Run, Look, Same}
+use Rattle.regress_memo_analysis.specs.declared.successors.Successors.TheVariants.{Ends, One, Two, Enter, Again, Run, LookaroundDirectionNegationAndContinuation, Same}
 use Rattle.regress_memo_analysis.specs.UnreachedCharLoopBodies.{are_char_loop_successors, IsNotLoopBody, EntersPastBodies, FlowsPastBodies, CharLoopBodiesAreUnreached}
-use Rattle.regress_memo_analysis.specs.Successors.{AreInsnsOfProgram, successors_in}
+use Rattle.regress_memo_analysis.specs.Successors.{AreInsnsOfProgram, successors_of_insn_if_any}
 use Rattle.regress_memo_analysis.specs.AnalysisChecks.{IsConsistentAt}
 use Rattle.regress_memo_analysis.specs.CheckedAnalysis.{IsAnalysisOf, ip_of}
 use Rattle.regress_memo_analysis.proofs.StepLemmas.{EnoughBy, has-enough}
 
 -- ---- What is checked
 
-no-run : (x : Option Insn) (ip : ℕ) → are_char_loop_successors (successors_in ip x) ≡ false → char_loop_greediness_at x ≡ None
+no-run : (x : Option Insn) (ip : ℕ) → are_char_loop_successors (successors_of_insn_if_any ip x) ≡ false → char_loop_greediness_at x ≡ None
 no-run (Some (Loop1CharBody least most greedy)) ip e = cc
 no-run _ ip e = refl
 
 -- an instruction behind no run, or the first one
 pub no-body : (program : Program) (insns : List declared.Insn) (ip : ℕ) → AreInsnsOfProgram program insns → 0 < ip
-    → are_char_loop_successors (successors_in (ip - 1) (slice_get (map spec_insn_of insns) (ip - 1))) ≡ false → IsNotLoopBody program ip
+    → are_char_loop_successors (successors_of_insn_if_any (ip - 1) (slice_get (map insn_as_spec_insn insns) (ip - 1))) ≡ false → IsNotLoopBody program ip
 no-body program insns zero has some e = absurd (omega (arith, some))
 no-body program insns (suc ip) has some e =
     let at : suc ip - 1 ≡ ip = omega arith in
     no-run (slice_get program.insns ip) ip
-    (ap (λ xs. are_char_loop_successors (successors_in ip (slice_get xs ip))) has ∙ subst (λ k. are_char_loop_successors (successors_in k (slice_get (map spec_insn_of insns) k)) ≡ false) at e)
+    (ap (λ xs. are_char_loop_successors (successors_of_insn_if_any ip (slice_get xs ip))) has ∙ subst (λ k. are_char_loop_successors (successors_of_insn_if_any k (slice_get (map insn_as_spec_insn insns) k)) ≡ false) at e)
 
 -- an instruction that there is not leads nowhere
 pub past-all : (program : Program) (insns : List declared.Insn) → AreInsnsOfProgram program insns
-    → ((k : ℕ) → k < length insns → FlowsPastBodies program (successors_in k (slice_get program.insns k)) k)
-    → (ip : ℕ) → FlowsPastBodies program (successors_in ip (slice_get program.insns ip)) ip
+    → ((k : ℕ) → k < length insns → FlowsPastBodies program (successors_of_insn_if_any k (slice_get program.insns k)) k)
+    → (ip : ℕ) → FlowsPastBodies program (successors_of_insn_if_any ip (slice_get program.insns ip)) ip
 past-all program insns has each ip = elim (cases_lt ip (length insns)) [
   | inl less ↦ each ip less
   | inr past ↦
-      let long = length-map insns spec_insn_of in
-      let none : slice_get (map spec_insn_of insns) ip ≡ None = slice_get_past (map spec_insn_of insns) ip (omega (arith, past, long)) in
-      subst (λ o. FlowsPastBodies program (successors_in ip o) ip) (sym (ap (λ xs. slice_get xs ip) has ∙ none)) tt
+      let long = length-map insns insn_as_spec_insn in
+      let none : slice_get (map insn_as_spec_insn insns) ip ≡ None = slice_get_past (map insn_as_spec_insn insns) ip (omega (arith, past, long)) in
+      subst (λ o. FlowsPastBodies program (successors_of_insn_if_any ip o) ip) (sym (ap (λ xs. slice_get xs ip) has ∙ none)) tt
 ]
 
 -- ---- Turns
@@ -86,15 +86,15 @@ module _ (program : Program) where
     enough-by (Enter f) ip r h = two ip (ip + 1) f.exit h.0 h.1
     enough-by (Again begin) ip r h = repeated (slice_get program.insns begin) ip begin h
     enough-by (Run b) ip r h = tt
-    enough-by (Look l) ip r h = one ip l.past h.1
+    enough-by (LookaroundDirectionNegationAndContinuation l) ip r h = one ip l.past h.1
     enough-by Same ip r h = absurd r
 
-    all-enough : IsAnalysisOf program t → ((ip : ℕ) → FlowsPastBodies program (successors_in ip (slice_get program.insns ip)) ip)
+    all-enough : IsAnalysisOf program t → ((ip : ℕ) → FlowsPastBodies program (successors_of_insn_if_any ip (slice_get program.insns ip)) ip)
         → AreCovering (bodies-weigh program) program
     all-enough of past = record {
       enough = λ ip.
           has-enough (bodies-weigh program) program (slice_get program.insns ip) ip
-          (enough-by (successors_in ip (slice_get program.insns ip)) ip (of.steps ip) (past ip));
+          (enough-by (successors_of_insn_if_any ip (slice_get program.insns ip)) ip (of.steps ip) (past ip));
     }
 
   light : (ts : List Thread) → sum_by (potential_of (bodies-weigh program)) ts ≤ 1 → Each (λ u. IsNotLoopBody program (ip_of u)) ts

@@ -6,12 +6,13 @@ use mathlib.Core.Logic.{inl, inr}
 use Rattle.std.proofs.lemmas.Bool.{cases_lt, eq-eqb, eqb-true, le-leb, lt-leb, and_parts}
 use Rattle.std.proofs.lemmas.Option.{slice_get-get_or, slice_get_within}
 use Rattle.regex_meaning.specs.Text.{rightwards, leftwards}
-use Rattle.regress_memo_analysis.specs.declared.analysis.EnclosingLoop.{EnclosingLoop}
-use Rattle.regress_memo_analysis.specs.declared.analysis.InsnAnalysis.{InsnAnalysis}
-use Rattle.regress_memo_analysis.specs.declared.analysis.MemoAnalysis.{MemoAnalysis}
-use Rattle.regress_memo_analysis.specs.declared.analysis.LoopFact.{LoopFact}
-use Rattle.regress_memo_analysis.specs.declared.analysis.LoopFact.TheVariants.{Inside, Moved, Empty}
-use Rattle.regress_memo_analysis.specs.AnalysisContents.{insn_analysis_of, enclosing_loops_of, enclosing_loop_entry_has_fact, states_loop_fact, iteration_read_known_or_distinguished, groups_stay_unchanged_from}
+use Rattle.regress_memo_analysis.specs.declared.analysis_result.EnclosingLoop.{EnclosingLoop}
+use Rattle.regress_memo_analysis.specs.declared.analysis_result.InsnAnalysis.{InsnAnalysis}
+use Rattle.regress_memo_analysis.specs.declared.analysis_result.MemoAnalysis.{MemoAnalysis}
+use Rattle.regress_memo_analysis.specs.declared.analysis_result.EnclosingLoopProgressFactKind.{EnclosingLoopProgressFactKind}
+use Rattle.regress_memo_analysis.specs.declared.analysis_result.EnclosingLoopProgressFactKind.TheVariants.{Inside, Moved, Empty}
+use Rattle.regress_memo_analysis.specs.AnalysisAsLivenessAndPotentials.{insn_analysis_of, enclosing_loops_of, enclosing_loop_has_fact, states_loop_fact}
+use Rattle.regress_memo_analysis.specs.AnalysisAsLivenessAndPotentials.{iteration_char_read_known_or_distinguished, groups_stay_unchanged_from}
 use Rattle.regress_memo_analysis.specs.AnalysisChecks.{is_entered, LoopFactsFlow, AllLoopFactsFlow, IsConsistentFlow}
 
 or-left : (a b : Bool) → a ≡ true → (a || b) ≡ true
@@ -24,34 +25,34 @@ or-right false b e = e
 
 -- ---- One of them says it
 
-pub holds-there : (said : LoopFact) (l : ℕ) (rows : List EnclosingLoop) (k : ℕ) (r : EnclosingLoop) → slice_get rows k ≡ Some r → r.id ≡ l → enclosing_loop_entry_has_fact said r ≡ true
+pub holds-there : (said : EnclosingLoopProgressFactKind) (l : ℕ) (rows : List EnclosingLoop) (k : ℕ) (r : EnclosingLoop) → slice_get rows k ≡ Some r → r.id ≡ l → enclosing_loop_has_fact said r ≡ true
     → states_loop_fact said l rows ≡ true
 holds-there said l [] k r there is h = cc
 holds-there said l (x ∷ rows) zero r there is h =
     let same : x ≡ r = cc in
-    or-left ((x.id == l) && enclosing_loop_entry_has_fact said x) (states_loop_fact said l rows)
-    (subst (λ (y : EnclosingLoop). ((y.id == l) && enclosing_loop_entry_has_fact said y) ≡ true) (sym same) (ap (λ b. b && enclosing_loop_entry_has_fact said r) (eq-eqb r.id l is) ∙ h))
+    or-left ((x.id == l) && enclosing_loop_has_fact said x) (states_loop_fact said l rows)
+    (subst (λ (y : EnclosingLoop). ((y.id == l) && enclosing_loop_has_fact said y) ≡ true) (sym same) (ap (λ b. b && enclosing_loop_has_fact said r) (eq-eqb r.id l is) ∙ h))
 holds-there said l (x ∷ rows) (suc k) r there is h =
-    or-right ((x.id == l) && enclosing_loop_entry_has_fact said x) (states_loop_fact said l rows) (holds-there said l rows k r there is h)
+    or-right ((x.id == l) && enclosing_loop_has_fact said x) (states_loop_fact said l rows) (holds-there said l rows k r there is h)
 
-pub holds-more : (said : LoopFact) (l : ℕ) (r : EnclosingLoop) (rows : List EnclosingLoop) → states_loop_fact said l rows ≡ true → states_loop_fact said l (r ∷ rows) ≡ true
-holds-more said l r rows h = or-right ((r.id == l) && enclosing_loop_entry_has_fact said r) (states_loop_fact said l rows) h
+pub holds-more : (said : EnclosingLoopProgressFactKind) (l : ℕ) (r : EnclosingLoop) (rows : List EnclosingLoop) → states_loop_fact said l rows ≡ true → states_loop_fact said l (r ∷ rows) ≡ true
+holds-more said l r rows h = or-right ((r.id == l) && enclosing_loop_has_fact said r) (states_loop_fact said l rows) h
 
 -- the row that does
-pub record Says (said : LoopFact) (l : ℕ) (rows : List EnclosingLoop) : Type 0 where
+pub record Says (said : EnclosingLoopProgressFactKind) (l : ℕ) (rows : List EnclosingLoop) : Type 0 where
   pub k : ℕ
   pub row : EnclosingLoop
   pub there : slice_get rows k ≡ Some row
   pub is : row.id ≡ l
-  pub says_it : enclosing_loop_entry_has_fact said row ≡ true
+  pub says_it : enclosing_loop_has_fact said row ≡ true
 
-pub holds-in : (said : LoopFact) (l : ℕ) (rows : List EnclosingLoop) → states_loop_fact said l rows ≡ true → Says said l rows
+pub holds-in : (said : EnclosingLoopProgressFactKind) (l : ℕ) (rows : List EnclosingLoop) → states_loop_fact said l rows ≡ true → Says said l rows
 holds-in said l [] h = cc
-holds-in said l (x ∷ rows) h = by (λ k. holds-in said l rows k) ((x.id == l) && enclosing_loop_entry_has_fact said x) refl
+holds-in said l (x ∷ rows) h = by (λ k. holds-in said l rows k) ((x.id == l) && enclosing_loop_has_fact said x) refl
   where
-    by : (states_loop_fact said l rows ≡ true → Says said l rows) → (b : Bool) → ((x.id == l) && enclosing_loop_entry_has_fact said x) ≡ b → Says said l (x ∷ rows)
+    by : (states_loop_fact said l rows ≡ true → Says said l rows) → (b : Bool) → ((x.id == l) && enclosing_loop_has_fact said x) ≡ b → Says said l (x ∷ rows)
     by on true e =
-        let both = and_parts (x.id == l) (enclosing_loop_entry_has_fact said x) e in
+        let both = and_parts (x.id == l) (enclosing_loop_has_fact said x) e in
         record { k = 0; row = x; there = refl; is = eqb-true x.id l both.0; says_it = both.1 }
     by on false e =
         let rest : states_loop_fact said l rows ≡ true = sym (ap (λ b. b || states_loop_fact said l rows) e) ∙ h in
@@ -87,7 +88,7 @@ below-from a b l le h = elim (cases_lt l a) [
 
 module _ (t : MemoAnalysis) (reads : Bool) (entered : Option ℕ) (ip next : ℕ) (rows : AllLoopFactsFlow t reads entered ip next) where
   -- of the row that says something of a loop
-  at-row : (said : LoopFact) (l : ℕ) (found : Says said l (enclosing_loops_of t next)) → LoopFactsFlow t reads entered ip found.row
+  at-row : (said : EnclosingLoopProgressFactKind) (l : ℕ) (found : Says said l (enclosing_loops_of t next)) → LoopFactsFlow t reads entered ip found.row
   at-row said l found = rows found.k found.row found.there
 
   not-entered : (l i : ℕ) → i ≡ l → is_entered entered l ≡ false → is_entered entered i ≡ false
@@ -116,7 +117,7 @@ module _ (t : MemoAnalysis) (reads : Bool) (entered : Option ℕ) (ip next : ℕ
           ((at-row Moved l found).moved (not-entered l found.row.id found.is e) r found.says_it);
       empty = λ l h e r.
           let found = holds-in Empty l (enclosing_loops_of t next) h in
-          subst (λ i. iteration_read_known_or_distinguished i (enclosing_loops_of t ip) ≡ true) found.is
+          subst (λ i. iteration_char_read_known_or_distinguished i (enclosing_loops_of t ip) ≡ true) found.is
           ((at-row Empty l found).empty (not-entered l found.row.id found.is e) r found.says_it);
       fresh = λ l h. fresh l h (states_loop_fact Moved l (enclosing_loops_of t next)) refl;
       writes = λ l h. below-from (insn_analysis_of t ip).from (insn_analysis_of t next).from l from h;

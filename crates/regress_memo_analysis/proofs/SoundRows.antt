@@ -4,11 +4,12 @@ use Rattle.regex_meaning.specs.Text.{Direction}
 use Rattle.regress_machine.specs.Machine.{LoopData, State}
 use Rattle.regress_memo_laws.specs.Liveness.{left_from, IsSound}
 use Rattle.regress_memo_laws.specs.MemoKeys.{IsSoundState}
-use Rattle.regress_memo_analysis.specs.declared.analysis.EnclosingLoop.{EnclosingLoop}
-use Rattle.regress_memo_analysis.specs.declared.analysis.MemoAnalysis.{MemoAnalysis}
-use Rattle.regress_memo_analysis.specs.declared.analysis.LoopFact.TheVariants.{Inside, Moved}
-use Rattle.regress_memo_analysis.specs.AnalysisContents.{insn_analysis_of, enclosing_loops_of, states_loop_fact, count_bound_of, liveness_of, insn_direction}
-use Rattle.regress_memo_analysis.specs.LoopStateReachabilityCheck.{direction_from_forward, IsAtMost, IsSoundEnclosingLoopState}
+use Rattle.regress_memo_analysis.specs.declared.analysis_result.EnclosingLoop.{EnclosingLoop}
+use Rattle.regress_memo_analysis.specs.declared.analysis_result.MemoAnalysis.{MemoAnalysis}
+use Rattle.regress_memo_analysis.specs.declared.analysis_result.EnclosingLoopProgressFactKind.TheVariants.{Inside, Moved}
+use Rattle.regress_memo_analysis.specs.AnalysisAsLivenessAndPotentials.{insn_analysis_of, enclosing_loops_of, states_loop_fact, count_bound_of, analysis_as_liveness}
+use Rattle.regress_memo_analysis.specs.AnalysisAsLivenessAndPotentials.{insn_direction}
+use Rattle.regress_memo_analysis.specs.ReachableThreadLoopStates.{direction_from_forward, IsAtMost, ThreadLoopStateFitsAnalysis}
 use Rattle.regress_memo_analysis.proofs.Rows.{holds-there, holds-in}
 
 -- ---- Iterations
@@ -32,11 +33,11 @@ at-most false up_to d top x all few = few refl
 module _ (t : MemoAnalysis) (top : ℕ) where
   abbrev pub AreSoundRows : (ip at : ℕ) → List LoopData → Direction → Type 0
   AreSoundRows ip at loops d = (k : ℕ) (row : EnclosingLoop) → slice_get (enclosing_loops_of t ip) k ≡ Some row
-      → IsSoundEnclosingLoopState t d top at (slice_get loops row.id) row
+      → ThreadLoopStateFitsAnalysis t d top at (slice_get loops row.id) row
 
   module _ (s : State) (d : Direction) where
     loop-sound : AreSoundRows s.ip s.pos s.loops d → (l : ℕ) (x : LoopData) → states_loop_fact Inside l (enclosing_loops_of t s.ip) ≡ true
-        → slice_get s.loops l ≡ Some x → IsSound (liveness_of t) top d s.pos s.ip l x
+        → slice_get s.loops l ≡ Some x → IsSound (analysis_as_liveness t) top d s.pos s.ip l x
     loop-sound rows l x inside held =
         let found = holds-in Inside l (enclosing_loops_of t s.ip) inside in
         let here = rows found.k found.row found.there x (ap (λ i. slice_get s.loops i) found.is ∙ held) in
@@ -50,10 +51,10 @@ module _ (t : MemoAnalysis) (top : ℕ) where
           few = λ e. few-asked (count_bound_of t l).counted (count_bound_of t l).up_to d top x few e;
         }
 
-    state-sound : AreSoundRows s.ip s.pos s.loops d → s.pos ≤ top → IsSoundState (liveness_of t) top d s
+    state-sound : AreSoundRows s.ip s.pos s.loops d → s.pos ≤ top → IsSoundState (analysis_as_liveness t) top d s
     state-sound rows within = record { within = within; loops = λ l x inside held. loop-sound rows l x inside held }
 
-    rows-sound : IsSoundState (liveness_of t) top d s → AreSoundRows s.ip s.pos s.loops d
+    rows-sound : IsSoundState (analysis_as_liveness t) top d s → AreSoundRows s.ip s.pos s.loops d
     rows-sound sound k row there x held =
         let here = sound.loops row.id x (holds-there Inside row.id (enclosing_loops_of t s.ip) k row there refl refl) held in
         record {
@@ -68,7 +69,7 @@ module _ (t : MemoAnalysis) (top : ℕ) where
     direction : direction_from_forward forward ≡ insn_direction t ip
     direction = ap (λ b. direction_from_forward b) is
 
-    pub sound-all : at ≤ top → AreSoundRows ip at loops (direction_from_forward forward) → IsSoundState (liveness_of t) top (insn_direction t ip) s
+    pub sound-all : at ≤ top → AreSoundRows ip at loops (direction_from_forward forward) → IsSoundState (analysis_as_liveness t) top (insn_direction t ip) s
     sound-all within rows =
         state-sound s (insn_direction t ip)
         (subst (λ i. AreSoundRows i s.pos s.loops (insn_direction t ip)) (sym same_ip)
@@ -76,10 +77,10 @@ module _ (t : MemoAnalysis) (top : ℕ) where
         (subst (λ ls. AreSoundRows ip at ls (insn_direction t ip)) (sym same_loops) (subst (λ d. AreSoundRows ip at loops d) direction rows))))
         (subst (λ p. p ≤ top) (sym same_at) within)
 
-    pub sound-within : IsSoundState (liveness_of t) top (insn_direction t ip) s → at ≤ top
+    pub sound-within : IsSoundState (analysis_as_liveness t) top (insn_direction t ip) s → at ≤ top
     sound-within sound = subst (λ p. p ≤ top) same_at sound.within
 
-    pub sound-rows : IsSoundState (liveness_of t) top (insn_direction t ip) s → AreSoundRows ip at loops (direction_from_forward forward)
+    pub sound-rows : IsSoundState (analysis_as_liveness t) top (insn_direction t ip) s → AreSoundRows ip at loops (direction_from_forward forward)
     sound-rows sound =
         subst (λ d. AreSoundRows ip at loops d) (sym direction)
         (subst (λ ls. AreSoundRows ip at ls (insn_direction t ip)) same_loops
@@ -87,6 +88,6 @@ module _ (t : MemoAnalysis) (top : ℕ) where
         (subst (λ i. AreSoundRows i s.pos s.loops (insn_direction t ip)) same_ip (rows-sound s (insn_direction t ip) sound))))
 
     -- that of a row at hand
-    pub sound-row-there : (rows : List EnclosingLoop) → rows ≡ enclosing_loops_of t ip → IsSoundState (liveness_of t) top (insn_direction t ip) s → (k : ℕ) (row : EnclosingLoop)
-        → slice_get rows k ≡ Some row → IsSoundEnclosingLoopState t (direction_from_forward forward) top at (slice_get loops row.id) row
+    pub sound-row-there : (rows : List EnclosingLoop) → rows ≡ enclosing_loops_of t ip → IsSoundState (analysis_as_liveness t) top (insn_direction t ip) s → (k : ℕ) (row : EnclosingLoop)
+        → slice_get rows k ≡ Some row → ThreadLoopStateFitsAnalysis t (direction_from_forward forward) top at (slice_get loops row.id) row
     sound-row-there rows same sound k row there = sound-rows sound k row (ap (λ xs. slice_get xs k) (sym same) ∙ there)

@@ -4,34 +4,36 @@ use Rattle.std.proofs.lemmas.Bool.{le-leb, lt-leb}
 use Rattle.regex_meaning.specs.CompilationRelation.{Program, Insn, Goal, JustFail, Alt, EnterLoop, LoopAgain, ResetCaptureGroup, Loop1CharBody, BeginCaptureGroup}
 use Rattle.regex_meaning.specs.CompilationRelation.{EndCaptureGroup, BackRef, Lookahead, Lookbehind}
 use Rattle.regex_meaning.specs.CompilationRelation as layout
-use Rattle.regress_plan.specs.InsnsAsSpecInsns.{spec_insn_of}
+use Rattle.regress_plan.specs.InsnsAsSpecInsns.{insn_as_spec_insn}
 use Rattle.regress_plan.specs.declared.insn.Insn as declared
 use Rattle.regress_memo_laws.specs.Liveness.{Enters, IsRepeated, IsConsistentLookaround, IsSoundLivenessAt}
-use Rattle.regress_memo_laws.specs.LookaroundContinuations.{lookaround_at}
-use Rattle.regress_memo_laws.specs.LookaroundContinuations as behind
+use Rattle.regress_memo_laws.specs.EquivalenceAfterSkippingSucceedingLookarounds.{lookaround_at}
+use Rattle.regress_memo_laws.specs.EquivalenceAfterSkippingSucceedingLookarounds as behind
 use Rattle.regress_memo_laws.specs.GroupPreservingInsns.{IsSilentAt, IsSilentAgain}
 use Rattle.regress_memo_laws.specs.ThreadPotentials.{Potentials, CoversOne, CoversTwo, CoversRepeat, CoversInsn}
-use Rattle.regress_memo_analysis.specs.declared.analysis.MemoAnalysis.{MemoAnalysis}
-use Rattle.regress_memo_analysis.specs.declared.analysis.LoopFact.TheVariants.{Inside}
-use Rattle.regress_memo_analysis.specs.declared.successors.Look as look
+use Rattle.regress_memo_analysis.specs.declared.analysis_result.MemoAnalysis.{MemoAnalysis}
+use Rattle.regress_memo_analysis.specs.declared.analysis_result.EnclosingLoopProgressFactKind.TheVariants.{Inside}
+use Rattle.regress_memo_analysis.specs.declared.successors.LookaroundDirectionNegationAndContinuation as look
 use Rattle.regress_memo_analysis.specs.declared.successors.Successors.{Successors}
-use Rattle.regress_memo_analysis.specs.declared.successors.Successors.TheVariants.{Ends, One, Two, Enter, Again, Run, Look, Same}
-use Rattle.regress_memo_analysis.specs.AnalysisContents.{insn_analysis_of, enclosing_loops_of, states_loop_fact, liveness_of, potentials_of, groups_stay_unchanged_from, insn_direction}
-use Rattle.regress_memo_analysis.specs.Successors.{AreInsnsOfProgram, successors_in}
+use Rattle.regress_memo_analysis.specs.declared.successors.Successors.TheVariants.{Ends, One, Two, Enter, Again, Run, LookaroundDirectionNegationAndContinuation, Same}
+use Rattle.regress_memo_analysis.specs.AnalysisAsLivenessAndPotentials.{insn_analysis_of, enclosing_loops_of, states_loop_fact, analysis_as_liveness, potentials_of}
+use Rattle.regress_memo_analysis.specs.AnalysisAsLivenessAndPotentials.{groups_stay_unchanged_from}
+use Rattle.regress_memo_analysis.specs.AnalysisAsLivenessAndPotentials.{insn_direction}
+use Rattle.regress_memo_analysis.specs.Successors.{AreInsnsOfProgram, successors_of_insn_if_any}
 use Rattle.regress_memo_analysis.specs.AnalysisChecks.{MayBeginIteration, MayRepeatLoopAt, IsolatesLookaround, IsConsistentAt, IsCoveredAt}
 use Rattle.regress_memo_analysis.proofs.Rows.{holds-in, below-from}
 
 pub at-step : (P : Successors → Type 0) (program : Program) (insns : List declared.Insn) (ip : ℕ) (s : Successors) → AreInsnsOfProgram program insns
-    → s ≡ successors_in ip (slice_get (map spec_insn_of insns) ip) → P s → P (successors_in ip (slice_get program.insns ip))
+    → s ≡ successors_of_insn_if_any ip (slice_get (map insn_as_spec_insn insns) ip) → P s → P (successors_of_insn_if_any ip (slice_get program.insns ip))
 at-step P program insns ip s has is p =
-    let e : s ≡ successors_in ip (slice_get program.insns ip) = is ∙ ap (λ xs. successors_in ip (slice_get xs ip)) (sym has) in
+    let e : s ≡ successors_of_insn_if_any ip (slice_get program.insns ip) = is ∙ ap (λ xs. successors_of_insn_if_any ip (slice_get xs ip)) (sym has) in
     subst P e p
 
 module _ (t : MemoAnalysis) (program : Program) where
   -- ---- The account
 
   module _ (top : ℕ) (less : top < 2 ^ 63) where
-    enters : (f : layout.LoopFields) (ip begin : ℕ) → MayBeginIteration t f ip begin → Enters (liveness_of t) f ip begin
+    enters : (f : layout.LoopFields) (ip begin : ℕ) → MayBeginIteration t f ip begin → Enters (analysis_as_liveness t) f ip begin
     enters f ip begin h = record {
       again = h.again.account;
       leave = h.leave.account;
@@ -39,7 +41,7 @@ module _ (t : MemoAnalysis) (program : Program) where
       few = h.few;
     }
 
-    repeated : (x : Option Insn) (ip begin : ℕ) → MayRepeatLoopAt t x ip begin → IsRepeated (liveness_of t) top x ip begin
+    repeated : (x : Option Insn) (ip begin : ℕ) → MayRepeatLoopAt t x ip begin → IsRepeated (analysis_as_liveness t) top x ip begin
     repeated (Some (EnterLoop f)) ip begin h = record {
       enters = enters f ip begin h.begins;
       inside = h.loop_iteration_state.inside;
@@ -48,7 +50,7 @@ module _ (t : MemoAnalysis) (program : Program) where
     }
     repeated _ ip begin h = tt
 
-    looks : (l : look.Look) (ip : ℕ) → IsolatesLookaround t l ip → IsConsistentLookaround (liveness_of t) ip l.past
+    looks : (l : look.LookaroundDirectionNegationAndContinuation) (ip : ℕ) → IsolatesLookaround t l ip → IsConsistentLookaround (analysis_as_liveness t) ip l.past
     looks l ip h = record {
       on = h.on.account;
       start = λ id e. cc;
@@ -60,7 +62,7 @@ module _ (t : MemoAnalysis) (program : Program) where
       writes = λ i e. below-from (insn_analysis_of t ip).from (insn_analysis_of t (ip + 1)).from i h.from e;
     }
 
-    pub right-at : (x : Option Insn) (ip : ℕ) → IsConsistentAt t program (successors_in ip x) ip → IsSoundLivenessAt (liveness_of t) top program x ip
+    pub right-at : (x : Option Insn) (ip : ℕ) → IsConsistentAt t program (successors_of_insn_if_any ip x) ip → IsSoundLivenessAt (analysis_as_liveness t) top program x ip
     right-at None ip h = tt
     right-at (Some Goal) ip h = tt
     right-at (Some JustFail) ip h = tt
@@ -94,11 +96,11 @@ EnoughBy w program (Two other) ip = CoversTwo w ip (ip + 1) other
 EnoughBy w program (Enter f) ip = CoversTwo w ip (ip + 1) f.exit
 EnoughBy w program (Again begin) ip = CoversRepeat w (slice_get program.insns begin) ip begin
 EnoughBy w program (Run b) ip = Unit {0}
-EnoughBy w program (Look l) ip = CoversOne w ip l.past
+EnoughBy w program (LookaroundDirectionNegationAndContinuation l) ip = CoversOne w ip l.past
 EnoughBy w program Same ip = CoversOne w ip (ip + 1)
 
 module _ (w : Potentials) (program : Program) where
-  pub has-enough : (x : Option Insn) (ip : ℕ) → EnoughBy w program (successors_in ip x) ip → CoversInsn w program x ip
+  pub has-enough : (x : Option Insn) (ip : ℕ) → EnoughBy w program (successors_of_insn_if_any ip x) ip → CoversInsn w program x ip
   has-enough None ip h = tt
   has-enough (Some Goal) ip h = tt
   has-enough (Some JustFail) ip h = tt
@@ -112,11 +114,11 @@ module _ (t : MemoAnalysis) (program : Program) where
   enough-by (Two other) ip h = h
   enough-by (Enter f) ip h = h
   enough-by (Again begin) ip h = h
-  enough-by (Look l) ip h = h
+  enough-by (LookaroundDirectionNegationAndContinuation l) ip h = h
   enough-by Same ip h = h
 
-  pub enough-at : (x : Option Insn) (ip : ℕ) → IsCoveredAt t program (successors_in ip x) ip → CoversInsn (potentials_of t) program x ip
-  enough-at x ip h = has-enough (potentials_of t) program x ip (enough-by (successors_in ip x) ip h)
+  pub enough-at : (x : Option Insn) (ip : ℕ) → IsCoveredAt t program (successors_of_insn_if_any ip x) ip → CoversInsn (potentials_of t) program x ip
+  enough-at x ip h = has-enough (potentials_of t) program x ip (enough-by (successors_of_insn_if_any ip x) ip h)
 
   -- ---- Groups
 
@@ -124,7 +126,7 @@ module _ (t : MemoAnalysis) (program : Program) where
   silent-again (Some (EnterLoop f)) ip begin h s = (h.begins.again.silent s, h.begins.leave.silent s)
   silent-again _ ip begin h s = tt
 
-  pub silent-at : (x : Option Insn) (ip : ℕ) → IsConsistentAt t program (successors_in ip x) ip → groups_stay_unchanged_from t ip ≡ true
+  pub silent-at : (x : Option Insn) (ip : ℕ) → IsConsistentAt t program (successors_of_insn_if_any ip x) ip → groups_stay_unchanged_from t ip ≡ true
       → IsSilentAt (groups_stay_unchanged_from t) program x ip
   silent-at None ip h s = tt
   silent-at (Some Goal) ip h s = tt
@@ -147,7 +149,7 @@ module _ (t : MemoAnalysis) (program : Program) where
     pub way : insn_direction t (ip + 1) ≡ l.inner
     pub quiet : l.negate ≡ false → groups_stay_unchanged_from t (ip + 1) ≡ true
 
-  pub look-right : (x : Option Insn) (l : behind.LookaroundInsn) (ip : ℕ) → lookaround_at x ≡ Some l → IsConsistentAt t program (successors_in ip x) ip → LookIsRight l ip
+  pub look-right : (x : Option Insn) (l : behind.LookaroundInsn) (ip : ℕ) → lookaround_at x ≡ Some l → IsConsistentAt t program (successors_of_insn_if_any ip x) ip → LookIsRight l ip
   look-right (Some (Lookahead negate start_group end_group continuation)) l ip e h =
       subst (λ l. LookIsRight l ip) (some-is _ _ e) (record { way = h.way; quiet = h.quiet })
     where

@@ -9,11 +9,11 @@ use Rattle.regex_meaning.specs.CompilationRelation.{Program, Insn, EnterLoop}
 use Rattle.regress_machine.specs.Machine.{Thread, running, waiting}
 use Rattle.regress_memo_laws.specs.ThreadPotentials.{Potentials, potential_of, CoversOne, CoversTwo, CoversRepeat, AreCovering, is_way}
 use Rattle.regress_memo_laws.proofs.Weights.{turns-weighed}
-use Rattle.regress_memo_analysis.specs.declared.analysis.MemoAnalysis.{MemoAnalysis}
+use Rattle.regress_memo_analysis.specs.declared.analysis_result.MemoAnalysis.{MemoAnalysis}
 use Rattle.regress_memo_analysis.specs.declared.successors.Successors.{Successors}
-use Rattle.regress_memo_analysis.specs.declared.successors.Successors.TheVariants.{Ends, One, Two, Enter, Again, Run, Look, Same}
-use Rattle.regress_memo_analysis.specs.AnalysisContents.{insn_direction}
-use Rattle.regress_memo_analysis.specs.Successors.{successors_in}
+use Rattle.regress_memo_analysis.specs.declared.successors.Successors.TheVariants.{Ends, One, Two, Enter, Again, Run, LookaroundDirectionNegationAndContinuation, Same}
+use Rattle.regress_memo_analysis.specs.AnalysisAsLivenessAndPotentials.{insn_direction}
+use Rattle.regress_memo_analysis.specs.Successors.{successors_of_insn_if_any}
 use Rattle.regress_memo_analysis.specs.AnalysisChecks.{MayRepeatLoopAt, IsConsistentAt}
 use Rattle.regress_memo_analysis.specs.CheckedAnalysis.{IsAnalysisOf, ip_of, DirectionsAreKept}
 use Rattle.regress_memo_analysis.proofs.StepLemmas.{EnoughBy, has-enough}
@@ -67,13 +67,13 @@ module _ (t : MemoAnalysis) (d : Direction) (program : Program) where
   enough-by (Enter f) ip h = two ip (ip + 1) f.exit h.again.way h.leave.way
   enough-by (Again begin) ip h = repeated (slice_get program.insns begin) ip begin h
   enough-by (Run b) ip h = tt
-  enough-by (Look l) ip h = one ip l.past h.on.way
+  enough-by (LookaroundDirectionNegationAndContinuation l) ip h = one ip l.past h.on.way
   enough-by Same ip h = absurd h
 
   all-enough : IsAnalysisOf program t → AreCovering (ways-weigh t d) program
   all-enough of = record {
     enough = λ ip.
-        has-enough (ways-weigh t d) program (slice_get program.insns ip) ip (enough-by (successors_in ip (slice_get program.insns ip)) ip (of.steps ip));
+        has-enough (ways-weigh t d) program (slice_get program.insns ip) ip (enough-by (successors_of_insn_if_any ip (slice_get program.insns ip)) ip (of.steps ip));
   }
 
   light-way : (v : Direction) → heavy d v ≤ 1 → (b : Bool) → is_way v d ≡ b → v ≡ d

@@ -8,22 +8,24 @@ use Rattle.std.proofs.lemmas.Option.{slice_get_past}
 use Rattle.std.proofs.lemmas.List.{length-map}
 use Rattle.regex_meaning.specs.StartPredicate.{start_arbitrary}
 use Rattle.regex_meaning.specs.CompilationRelation.{Program, Insn}
-use Rattle.regress_plan.specs.InsnsAsSpecInsns.{spec_insn_of}
+use Rattle.regress_plan.specs.InsnsAsSpecInsns.{insn_as_spec_insn}
 use Rattle.regress_plan.specs.declared.insn.Insn as declared
 use Rattle.regress_memo_laws.specs.LoopDataKeyCodes.{Question, is_empty, how_many, codes_of, plan_codes}
 use Rattle.regress_memo_laws.specs.DistinctLists.{IsIn}
 use Rattle.regress_memo_laws.specs.MemoPlanChecksAndGuarantees.{IsPlan, plan_taken}
 use Rattle.regress_memo_laws.proofs.Plans.{plans-serve}
 use Rattle.regress_memo_laws.specs.ThreadPotentials.{is_one_of}
-use Rattle.regress_memo_analysis.specs.declared.analysis.EnclosingLoop.{EnclosingLoop}
-use Rattle.regress_memo_analysis.specs.declared.analysis.InsnAnalysis.{InsnAnalysis}
-use Rattle.regress_memo_analysis.specs.declared.analysis.MemoAnalysis.{MemoAnalysis}
-use Rattle.regress_memo_analysis.specs.declared.analysis.LoopFact.TheVariants.{Inside, Empty}
-use Rattle.regress_memo_analysis.specs.AnalysisContents.{no_insn_analysis, insn_analysis_of, rows_in, enclosing_loops_of, states_loop_fact, count_bound_of, liveness_of, with_count, questions_on, key_code_questions_of}
-use Rattle.regress_memo_analysis.specs.AnalysisContents.{recorded_from, recorded, insn_direction}
-use Rattle.regress_memo_analysis.specs.Successors.{AreInsnsOfProgram, successors_in}
+use Rattle.regress_memo_analysis.specs.declared.analysis_result.EnclosingLoop.{EnclosingLoop}
+use Rattle.regress_memo_analysis.specs.declared.analysis_result.InsnAnalysis.{InsnAnalysis}
+use Rattle.regress_memo_analysis.specs.declared.analysis_result.MemoAnalysis.{MemoAnalysis}
+use Rattle.regress_memo_analysis.specs.declared.analysis_result.EnclosingLoopProgressFactKind.TheVariants.{Inside, Empty}
+use Rattle.regress_memo_analysis.specs.AnalysisAsLivenessAndPotentials.{no_insn_analysis, insn_analysis_of, rows_in, enclosing_loops_of, states_loop_fact, count_bound_of}
+use Rattle.regress_memo_analysis.specs.AnalysisAsLivenessAndPotentials.{analysis_as_liveness}
+use Rattle.regress_memo_analysis.specs.AnalysisAsLivenessAndPotentials.{with_count, questions_on, key_code_questions_of}
+use Rattle.regress_memo_analysis.specs.AnalysisAsLivenessAndPotentials.{recorded_from, recorded, insn_direction}
+use Rattle.regress_memo_analysis.specs.Successors.{AreInsnsOfProgram, successors_of_insn_if_any}
 use Rattle.regress_memo_analysis.specs.AnalysisChecks.{IsConsistentAt, IsCoveredAt, IsInsnCostCovered, IsInsnChecked}
-use Rattle.regress_memo_analysis.specs.CheckedAnalysis.{IsAnalysisOf, StartsAtTopLevel, AnalysesAreMemoPlans}
+use Rattle.regress_memo_analysis.specs.CheckedAnalysis.{IsAnalysisOf, FirstInsnForwardOutsideLoops, AnalysesAreMemoPlans}
 use Rattle.regress_memo_analysis.proofs.Rows.{holds-there, holds-more}
 use Rattle.regress_memo_analysis.proofs.StepLemmas.{right-at, enough-at, silent-at, look-right}
 
@@ -193,10 +195,10 @@ module _ (up : ℕ → ℕ) where
 
 -- ---- The whole
 
-module _ (t : MemoAnalysis) (program : Program) (insns : List declared.Insn) (starts : StartsAtTopLevel t) (long : length t.lines.items ≡ length insns) (has : AreInsnsOfProgram program insns)
-    (written : (ip : ℕ) → ip < length insns → IsInsnChecked t program (successors_in ip (slice_get program.insns ip)) ip) where
+module _ (t : MemoAnalysis) (program : Program) (insns : List declared.Insn) (starts : FirstInsnForwardOutsideLoops t) (long : length t.lines.items ≡ length insns) (has : AreInsnsOfProgram program insns)
+    (written : (ip : ℕ) → ip < length insns → IsInsnChecked t program (successors_of_insn_if_any ip (slice_get program.insns ip)) ip) where
   as-long : length program.insns ≡ length insns
-  as-long = ap (λ (xs : List Insn). length xs) has ∙ length-map insns spec_insn_of
+  as-long = ap (λ (xs : List Insn). length xs) has ∙ length-map insns insn_as_spec_insn
 
   no-insn : (ip : ℕ) → length insns ≤ ip → slice_get program.insns ip ≡ None
   no-insn ip past = slice_get_past program.insns ip (let l = as-long in omega (arith, past, l))
@@ -204,16 +206,16 @@ module _ (t : MemoAnalysis) (program : Program) (insns : List declared.Insn) (st
   none-there : (ip : ℕ) → length insns ≤ ip → insn_analysis_of t ip ≡ no_insn_analysis
   none-there ip past = ap (λ o. unwrap_or o no_insn_analysis) (slice_get_past t.lines.items ip (omega (arith, past, long)))
 
-  steps : (ip : ℕ) → IsConsistentAt t program (successors_in ip (slice_get program.insns ip)) ip
+  steps : (ip : ℕ) → IsConsistentAt t program (successors_of_insn_if_any ip (slice_get program.insns ip)) ip
   steps ip = elim (cases_lt ip (length insns)) [
     | inl less ↦ (written ip less).right
-    | inr past ↦ subst (λ o. IsConsistentAt t program (successors_in ip o) ip) (sym (no-insn ip past)) tt
+    | inr past ↦ subst (λ o. IsConsistentAt t program (successors_of_insn_if_any ip o) ip) (sym (no-insn ip past)) tt
   ]
 
-  have-enough : (ip : ℕ) → IsCoveredAt t program (successors_in ip (slice_get program.insns ip)) ip
+  have-enough : (ip : ℕ) → IsCoveredAt t program (successors_of_insn_if_any ip (slice_get program.insns ip)) ip
   have-enough ip = elim (cases_lt ip (length insns)) [
     | inl less ↦ (written ip less).enough
-    | inr past ↦ subst (λ o. IsCoveredAt t program (successors_in ip o) ip) (sym (no-insn ip past)) tt
+    | inr past ↦ subst (λ o. IsCoveredAt t program (successors_of_insn_if_any ip o) ip) (sym (no-insn ip past)) tt
   ]
 
   no-rows : (b : Bool) (rows : List EnclosingLoop) → (if b then take 0 rows else []) ≡ []
@@ -255,7 +257,7 @@ module _ (t : MemoAnalysis) (program : Program) (insns : List declared.Insn) (st
       recorded = λ ip h. (paid-for ip).recorded (recorded-is t ip h);
       passed = λ ip h. (paid-for ip).passed (not-recorded t ip h (insn_analysis_of t ip).records refl);
     };
-    runs = λ ip least most greedy e. subst (λ o. IsCoveredAt t program (successors_in ip o) ip) e (have-enough ip);
+    runs = λ ip least most greedy e. subst (λ o. IsCoveredAt t program (successors_of_insn_if_any ip o) ip) e (have-enough ip);
     silent = record { silent_at = λ ip s. silent-at t program (slice_get program.insns ip) ip (steps ip) s };
     quiet = λ ip look e n. (look-right t program (slice_get program.insns ip) look ip e (steps ip)).quiet n;
     ways = λ ip look e. (look-right t program (slice_get program.insns ip) look ip e (steps ip)).way;
@@ -265,7 +267,7 @@ module _ (t : MemoAnalysis) (program : Program) (insns : List declared.Insn) (st
 pub some-program : (insns : List declared.Insn) → (program : Program) × AreInsnsOfProgram program insns
 some-program insns = (
   record {
-    insns = map spec_insn_of insns;
+    insns = map insn_as_spec_insn insns;
     brackets = [];
     loops = 0;
     groups = 0;
@@ -281,7 +283,7 @@ some-program insns = (
 pub ledgers-serve : AnalysesAreMemoPlans
 ledgers-serve program t of text is_text bytes less =
     let up : ℕ → ℕ = λ l. (count_bound_of t l).up_to in
-    let plan : IsPlan program text (liveness_of t) (key_code_questions_of t) (insn_direction t) (recorded t) (plan_taken program) = record {
+    let plan : IsPlan program text (analysis_as_liveness t) (key_code_questions_of t) (insn_direction t) (recorded t) (plan_taken program) = record {
       account = record { is_text = is_text; bytes = bytes; right = of.right _ less };
       no_groups = record { groups = refl; start = λ ip id. refl };
       asks = record {
@@ -293,7 +295,7 @@ ledgers-serve program t of text is_text bytes less =
     } in
     record {
       plan = plan;
-      serves = plans-serve program text (liveness_of t) (key_code_questions_of t) (insn_direction t) (recorded t) (plan_taken program) plan;
+      serves = plans-serve program text (analysis_as_liveness t) (key_code_questions_of t) (insn_direction t) (recorded t) (plan_taken program) plan;
       only = record {
         only = λ ip. record {
           empty = λ l h. empty-asked up l (enclosing_loops_of t ip) h;

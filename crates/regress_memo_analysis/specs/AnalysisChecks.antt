@@ -4,20 +4,23 @@ use Rattle.std.specs.Prelude.{slice_get}
 use Rattle.regex_meaning.specs.Text.{rightwards, leftwards}
 use Rattle.regex_meaning.specs.CompilationRelation.{Program, Insn, EnterLoop}
 use Rattle.regex_meaning.specs.CompilationRelation as layout
-use Rattle.regress_plan.specs.InsnsAsSpecInsns.{spec_loop_fields_of}
+use Rattle.regress_plan.specs.InsnsAsSpecInsns.{loop_fields_as_spec}
 use Rattle.regress_memo_laws.specs.Liveness.{IsConsistentEdge, none, Decides}
 use Rattle.regress_memo_laws.specs.LoopDataKeyCodes.{plan_codes}
 use Rattle.regress_memo_laws.specs.ThreadPotentials.{CoversOne, CoversTwo, CoversRepeat}
 use Rattle.regress_memo_laws.specs.AmortizedStepCosts.{GreedyLoopIsCovered, LazyLoopIsCovered}
-use Rattle.regress_memo_analysis.specs.declared.analysis.EnclosingLoop.{EnclosingLoop}
-use Rattle.regress_memo_analysis.specs.declared.analysis.MemoAnalysis.{MemoAnalysis}
-use Rattle.regress_memo_analysis.specs.declared.analysis.LoopFact.TheVariants.{Inside, Moved}
+use Rattle.regress_memo_analysis.specs.declared.analysis_result.EnclosingLoop.{EnclosingLoop}
+use Rattle.regress_memo_analysis.specs.declared.analysis_result.MemoAnalysis.{MemoAnalysis}
+use Rattle.regress_memo_analysis.specs.declared.analysis_result.EnclosingLoopProgressFactKind.TheVariants.{Inside, Moved}
 use Rattle.regress_memo_analysis.specs.declared.successors.Successors.{Successors}
-use Rattle.regress_memo_analysis.specs.declared.successors.Successors.TheVariants.{Ends, One, Two, Enter, Again, Run, Look, Same}
-use Rattle.regress_memo_analysis.specs.declared.successors.Look as look
+use Rattle.regress_memo_analysis.specs.declared.successors.Successors.TheVariants.{Ends, One, Two, Enter, Again, Run, LookaroundDirectionNegationAndContinuation, Same}
+use Rattle.regress_memo_analysis.specs.declared.successors.LookaroundDirectionNegationAndContinuation as look
 use Rattle.regress_memo_analysis.specs.declared.successors.CharLoopMinMaxAndGreed as bounds
-use Rattle.regress_memo_analysis.specs.AnalysisContents.{insn_analysis_of, enclosing_loops_of, states_loop_fact, iteration_read_known_or_distinguished, count_bound_of, liveness_of, key_code_questions_of, recorded, potentials_of, key_cost_of, insn_direction}
-use Rattle.regress_memo_analysis.specs.AnalysisContents.{groups_stay_unchanged_from, code_base_of, code_width_of}
+use Rattle.regress_memo_analysis.specs.AnalysisAsLivenessAndPotentials.{insn_analysis_of, enclosing_loops_of, states_loop_fact}
+use Rattle.regress_memo_analysis.specs.AnalysisAsLivenessAndPotentials.{iteration_char_read_known_or_distinguished}
+use Rattle.regress_memo_analysis.specs.AnalysisAsLivenessAndPotentials.{count_bound_of}
+use Rattle.regress_memo_analysis.specs.AnalysisAsLivenessAndPotentials.{analysis_as_liveness, key_code_questions_of, recorded, potentials_of, key_cost_of, insn_direction}
+use Rattle.regress_memo_analysis.specs.AnalysisAsLivenessAndPotentials.{groups_stay_unchanged_from, number_of_memo_codes_before_insn, number_of_memo_codes_at_insn}
 
 -- The loop is the one that is entered, if one is.
 abbrev pub is_entered : Option ℕ → (l : ℕ) → Bool
@@ -42,7 +45,7 @@ module _ (t : MemoAnalysis) where
     pub moved : is_entered entered row.id ≡ false → reads ≡ false → row.moved ≡ true
         → states_loop_fact Moved row.id (enclosing_loops_of t ip) ≡ true
     pub empty : is_entered entered row.id ≡ false → reads ≡ false → row.empty ≡ true
-        → iteration_read_known_or_distinguished row.id (enclosing_loops_of t ip) ≡ true
+        → iteration_char_read_known_or_distinguished row.id (enclosing_loops_of t ip) ≡ true
 
   -- All entries of the successor follow.
   abbrev pub AllLoopFactsFlow : (reads : Bool) (entered : Option ℕ) (ip next : ℕ) → Type 0
@@ -51,7 +54,7 @@ module _ (t : MemoAnalysis) where
 
   -- The facts are consistent along this edge, the direction stays, and unchanged groups stay so.
   pub record IsConsistentFlow (reads : Bool) (entered : Option ℕ) (ip next : ℕ) : Type 0 where
-    pub account : IsConsistentEdge (liveness_of t) reads (none (liveness_of t)) (is_entered entered) ip next
+    pub account : IsConsistentEdge (analysis_as_liveness t) reads (none (analysis_as_liveness t)) (is_entered entered) ip next
     pub way : insn_direction t next ≡ insn_direction t ip
     pub silent : groups_stay_unchanged_from t ip ≡ true → groups_stay_unchanged_from t next ≡ true
 
@@ -59,7 +62,7 @@ module _ (t : MemoAnalysis) where
 
   -- The distinguished iteration counts decide how the loop continues, in each text.
   abbrev pub CountDecides : (f : layout.LoopFields) (moved : Bool) → Type 0
-  CountDecides f moved = (top : ℕ) → top < 2 ^ 63 → Decides (liveness_of t) top f moved
+  CountDecides f moved = (top : ℕ) → top < 2 ^ 63 → Decides (analysis_as_liveness t) top f moved
 
   -- An iteration may begin, or the loop may be left.
   pub record MayBeginIteration (f : layout.LoopFields) (ip begin : ℕ) : Type 0 where
@@ -71,7 +74,7 @@ module _ (t : MemoAnalysis) where
   -- An iteration may end, and all is known that decides how the loop continues.
   pub record MayEndIteration (f : layout.LoopFields) (ip : ℕ) : Type 0 where
     pub inside : states_loop_fact Inside f.loop_id (enclosing_loops_of t ip) ≡ true
-    pub empty : iteration_read_known_or_distinguished f.loop_id (enclosing_loops_of t ip) ≡ true
+    pub empty : iteration_char_read_known_or_distinguished f.loop_id (enclosing_loops_of t ip) ≡ true
     pub decides : CountDecides f (states_loop_fact Moved f.loop_id (enclosing_loops_of t ip))
 
   -- An iteration may end and another one may begin.
@@ -92,7 +95,7 @@ module _ (t : MemoAnalysis) where
 
   -- The contents of a lookaround are isolated: they are in no loop around it and write none of
   -- them, and those of a positive lookaround leave groups unchanged.
-  pub record IsolatesLookaround (l : look.Look) (ip : ℕ) : Type 0 where
+  pub record IsolatesLookaround (l : look.LookaroundDirectionNegationAndContinuation) (ip : ℕ) : Type 0 where
     pub on : IsConsistentFlow false None ip l.past
     pub apart : enclosing_loops_of t (ip + 1) ≡ []
     pub left : LoopsAreBefore l.past (insn_analysis_of t (ip + 1)).from
@@ -136,10 +139,10 @@ module _ (t : MemoAnalysis) where
     pub passed : (insn_analysis_of t ip).records ≡ false → (insn_analysis_of t ip).left + 1 ≤ (insn_analysis_of t ip).ready
 
   -- The codes of an instruction are counted and few, and its bits are before those of the next one.
-  pub record AreCodesCountedAndDisjointAt (ip : ℕ) : Type 0 where
+  pub record AreInsnCodesCountedAndDisjointAt (ip : ℕ) : Type 0 where
     pub codes : plan_codes (key_code_questions_of t) ip ≡ (insn_analysis_of t ip).codes
     pub few : (insn_analysis_of t ip).codes ≤ max_codes_per_insn
-    pub apart : code_base_of t ip + code_width_of t ip ≤ code_base_of t (ip + 1)
+    pub apart : number_of_memo_codes_before_insn t ip + number_of_memo_codes_at_insn t ip ≤ number_of_memo_codes_before_insn t (ip + 1)
 
   module _ (program : Program) where
     -- The facts at an instruction are consistent with those at its successors.
@@ -147,10 +150,10 @@ module _ (t : MemoAnalysis) where
     IsConsistentAt Ends ip = Unit {0}
     IsConsistentAt (One n) ip = IsConsistentFlow n.reads None ip n.to × (groups_stay_unchanged_from t ip ≡ true → n.silent ≡ true)
     IsConsistentAt (Two other) ip = IsConsistentFlow false None ip (ip + 1) × IsConsistentFlow false None ip other
-    IsConsistentAt (Enter f) ip = MayBeginIteration (spec_loop_fields_of f) ip ip
+    IsConsistentAt (Enter f) ip = MayBeginIteration (loop_fields_as_spec f) ip ip
     IsConsistentAt (Again begin) ip = MayRepeatLoopAt (slice_get program.insns begin) ip begin
     IsConsistentAt (Run b) ip = IsConsistentFlow (nat_lt 0 b.least) None ip (ip + 2)
-    IsConsistentAt (Look l) ip = IsolatesLookaround l ip
+    IsConsistentAt (LookaroundDirectionNegationAndContinuation l) ip = IsolatesLookaround l ip
     IsConsistentAt Same ip = ⊥
 
     -- The potential covers the successors of an instruction.
@@ -161,7 +164,7 @@ module _ (t : MemoAnalysis) where
     IsCoveredAt (Enter f) ip = CoversTwo (potentials_of t) ip (ip + 1) f.exit
     IsCoveredAt (Again begin) ip = CoversRepeat (potentials_of t) (slice_get program.insns begin) ip begin
     IsCoveredAt (Run b) ip = IsCharLoopChecked program b ip
-    IsCoveredAt (Look l) ip = CoversOne (potentials_of t) ip l.past
+    IsCoveredAt (LookaroundDirectionNegationAndContinuation l) ip = CoversOne (potentials_of t) ip l.past
     IsCoveredAt Same ip = CoversOne (potentials_of t) ip (ip + 1)
 
     -- All checks of an instruction succeed.
@@ -169,4 +172,4 @@ module _ (t : MemoAnalysis) where
       pub right : IsConsistentAt step ip
       pub enough : IsCoveredAt step ip
       pub paid : IsInsnCostCovered ip
-      pub codes : AreCodesCountedAndDisjointAt ip
+      pub codes : AreInsnCodesCountedAndDisjointAt ip

@@ -7,28 +7,31 @@ use Rattle.regex_meaning.specs.CodeUnitOffsets.{HasRisingPlaceOffsets, units}
 use Rattle.regex_meaning.specs.CompilationRelation.{Program, Loop1CharBody}
 use Rattle.regress_machine.specs.Machine.{State, Thread, running, waiting, LoopData, goes, act}
 use Rattle.regress_memo_laws.specs.Liveness.{IsSoundLiveness, ReadsAsBytes}
-use Rattle.regress_memo_laws.specs.LookaroundContinuations.{LookaroundInsn, lookaround_at, AsksOnly}
+use Rattle.regress_memo_laws.specs.EquivalenceAfterSkippingSucceedingLookarounds.{LookaroundInsn, lookaround_at, AsksOnly}
 use Rattle.regress_memo_laws.specs.LoopDataKeyCodes.{bool_as_digit, plan_codes}
 use Rattle.regress_memo_laws.specs.AmortizedStepCosts.{AreCostsCovered}
 use Rattle.regress_memo_laws.specs.MemoPlanChecksAndGuarantees.{IsPlan, PlanServes, plan_taken}
 use Rattle.regress_memo_laws.specs.GroupPreservingInsns.{AreGroupPreserving}
 use Rattle.regress_memo_laws.specs.MemoSearch.{Key}
-use Rattle.regress_memo_analysis.specs.declared.analysis.MemoAnalysis.{MemoAnalysis}
-use Rattle.regress_memo_analysis.specs.declared.key_codes.LoopCountAndIterationStart.{LoopCountAndIterationStart}
-use Rattle.regress_memo_analysis.specs.declared.analysis.EnclosingLoop.{EnclosingLoop}
-use Rattle.regress_memo_analysis.specs.AnalysisContents.{insn_analysis_of, enclosing_loops_of, liveness_of, key_code_questions_of, recorded, potentials_of, key_cost_of, insn_direction, groups_stay_unchanged_from, code_base_of}
-use Rattle.regress_memo_analysis.specs.AnalysisContents.{code_width_of, bit_of}
+use Rattle.regress_memo_analysis.specs.declared.analysis_result.MemoAnalysis.{MemoAnalysis}
+use Rattle.regress_memo_analysis.specs.declared.loop_data_key_codes.LoopCountAndIterationStart.{LoopCountAndIterationStart}
+use Rattle.regress_memo_analysis.specs.declared.analysis_result.EnclosingLoop.{EnclosingLoop}
+use Rattle.regress_memo_analysis.specs.AnalysisAsLivenessAndPotentials.{insn_analysis_of, enclosing_loops_of, analysis_as_liveness, key_code_questions_of, recorded}
+use Rattle.regress_memo_analysis.specs.AnalysisAsLivenessAndPotentials.{potentials_of}
+use Rattle.regress_memo_analysis.specs.AnalysisAsLivenessAndPotentials.{key_cost_of}
+use Rattle.regress_memo_analysis.specs.AnalysisAsLivenessAndPotentials.{insn_direction, groups_stay_unchanged_from, number_of_memo_codes_before_insn}
+use Rattle.regress_memo_analysis.specs.AnalysisAsLivenessAndPotentials.{number_of_memo_codes_at_insn, memo_bit_index_of_key}
 use Rattle.regress_memo_analysis.specs.AnalysisChecks.{IsCharLoopChecked, IsConsistentAt, max_codes_per_insn}
-use Rattle.regress_memo_analysis.specs.Successors.{successors_in}
+use Rattle.regress_memo_analysis.specs.Successors.{successors_of_insn_if_any}
 
 -- Codes are counted and few, and the bits of each instruction are before those of the next one.
-pub record AreCodesCountedAndDisjoint (t : MemoAnalysis) : Type 0 where
+pub record AreInsnCodesCountedAndDisjoint (t : MemoAnalysis) : Type 0 where
   pub few : (ip : ℕ) → plan_codes (key_code_questions_of t) ip ≤ max_codes_per_insn
   pub counted : (ip : ℕ) → ip < length t.lines.items → plan_codes (key_code_questions_of t) ip ≡ (insn_analysis_of t ip).codes
-  pub apart : (ip : ℕ) → ip < length t.lines.items → code_base_of t ip + code_width_of t ip ≤ code_base_of t (ip + 1)
+  pub apart : (ip : ℕ) → ip < length t.lines.items → number_of_memo_codes_before_insn t ip + number_of_memo_codes_at_insn t ip ≤ number_of_memo_codes_before_insn t (ip + 1)
 
 -- The first instruction has no enclosing loop and is searched to the right.
-pub record StartsAtTopLevel (t : MemoAnalysis) : Type 0 where
+pub record FirstInsnForwardOutsideLoops (t : MemoAnalysis) : Type 0 where
   pub rows : enclosing_loops_of t 0 ≡ []
   pub forward : insn_direction t 0 ≡ rightwards
 
@@ -36,10 +39,10 @@ module _ (program : Program) (t : MemoAnalysis) where
   -- The analysis of the program is correct: its facts are sound, codes are few, records cover
   -- costs, and positive lookarounds contain no capture groups.
   pub record IsAnalysisOf : Type 0 where
-    pub starts : StartsAtTopLevel t
-    pub steps : (ip : ℕ) → IsConsistentAt t program (successors_in ip (slice_get program.insns ip)) ip
-    pub right : (top : ℕ) → top < 2 ^ 63 → IsSoundLiveness (liveness_of t) top program
-    pub coded : AreCodesCountedAndDisjoint t
+    pub starts : FirstInsnForwardOutsideLoops t
+    pub steps : (ip : ℕ) → IsConsistentAt t program (successors_of_insn_if_any ip (slice_get program.insns ip)) ip
+    pub right : (top : ℕ) → top < 2 ^ 63 → IsSoundLiveness (analysis_as_liveness t) top program
+    pub coded : AreInsnCodesCountedAndDisjoint t
     pub paid : AreCostsCovered program (potentials_of t) (key_cost_of t) (recorded t)
     pub runs : (ip least most : ℕ) (greedy : Bool) → slice_get program.insns ip ≡ Some (Loop1CharBody least most greedy)
         → IsCharLoopChecked t program (record { least = least; most = most; greedy = greedy }) ip
@@ -51,13 +54,13 @@ module _ (program : Program) (t : MemoAnalysis) where
 
   -- The analysis is a memo plan of the program in a text of fewer than 2^63 code units.
   pub record Serves (text : Text) : Type 0 where
-    pub plan : IsPlan program text (liveness_of t) (key_code_questions_of t) (insn_direction t) (recorded t) (plan_taken program)
-    pub serves : PlanServes program text (liveness_of t) (key_code_questions_of t) (insn_direction t) (recorded t) (plan_taken program)
-    pub only : AsksOnly (key_code_questions_of t) (liveness_of t)
+    pub plan : IsPlan program text (analysis_as_liveness t) (key_code_questions_of t) (insn_direction t) (recorded t) (plan_taken program)
+    pub serves : PlanServes program text (analysis_as_liveness t) (key_code_questions_of t) (insn_direction t) (recorded t) (plan_taken program)
+    pub only : AsksOnly (key_code_questions_of t) (analysis_as_liveness t)
 
 -- A loop's number of finished iterations, and the offset at which the current iteration began.
-abbrev pub spec_count_and_iteration_start_of : LoopCountAndIterationStart → LoopData
-spec_count_and_iteration_start_of r = record { iters = r.iters; entry = r.entry }
+abbrev pub loop_iteration_state_as_spec : LoopCountAndIterationStart → LoopData
+loop_iteration_state_as_spec r = record { iters = r.iters; entry = r.entry }
 
 -- The number of digits of an entry whose loop's counts are distinguished up to `up_to`.
 abbrev pub radix_of_loop_digit : (up_to : ℕ) → EnclosingLoop → ℕ
@@ -69,7 +72,7 @@ digit_of up_to at None r = 0
 digit_of up_to at (Some x) r = if r.empty then bool_as_digit (x.entry == at) + 2 * min x.iters up_to else min x.iters up_to
 
 -- The key's instruction exists and records, and its offset and its code are in range.
-pub record MemoKeyHasBit (t : MemoAnalysis) (places : ℕ) (k : Key) : Type 0 where
+pub record IsRecordableMemoKey (t : MemoAnalysis) (places : ℕ) (k : Key) : Type 0 where
   pub there : k.ip < length t.lines.items
   pub records : (insn_analysis_of t k.ip).records ≡ true
   pub at : k.at < places
@@ -96,5 +99,5 @@ DirectionsAreKept = (program : Program) (t : MemoAnalysis) → IsAnalysisOf prog
 -- Different keys have different bits.
 abbrev pub KeysHaveDistinctBits : Type 0
 KeysHaveDistinctBits = (program : Program) (t : MemoAnalysis) → IsAnalysisOf program t → (places : ℕ) (j k : Key)
-    → MemoKeyHasBit t places j → MemoKeyHasBit t places k
-    → bit_of t places j.ip j.at j.code ≡ bit_of t places k.ip k.at k.code → j ≡ k
+    → IsRecordableMemoKey t places j → IsRecordableMemoKey t places k
+    → memo_bit_index_of_key t places j.ip j.at j.code ≡ memo_bit_index_of_key t places k.ip k.at k.code → j ≡ k

@@ -1,7 +1,7 @@
-pub mod AnalysisContents
+pub mod AnalysisAsLivenessAndPotentials
 pub mod Successors
 pub mod AnalysisChecks
 pub mod CheckedAnalysis
-pub mod LoopStateReachabilityCheck
+pub mod ReachableThreadLoopStates
 pub mod UnreachedCharLoopBodies
 pub mod WorkBound

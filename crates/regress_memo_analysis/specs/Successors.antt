@@ -3,14 +3,14 @@ use Rattle.std.specs.Prelude.{◌≡◌, ℕ, ◌+◌, Bool, true, false, List, 
 use Rattle.regex_meaning.specs.CompilationRelation.{Program, Insn, Goal, JustFail, Char, CharSet, ByteSet, ByteSeq, AsciiBracket, Bracket, MatchAny}
 use Rattle.regex_meaning.specs.CompilationRelation.{MatchAnyExceptLineTerminator, Alt, Jump, EnterLoop, LoopAgain, ResetCaptureGroup, Loop1CharBody}
 use Rattle.regex_meaning.specs.CompilationRelation.{BeginCaptureGroup, EndCaptureGroup, BackRef, Lookahead, Lookbehind}
-use Rattle.regress_plan.specs.InsnsAsSpecInsns.{spec_insn_of}
+use Rattle.regress_plan.specs.InsnsAsSpecInsns.{insn_as_spec_insn}
 use Rattle.regress_plan.specs.declared.insn.Insn as declared
 use Rattle.regress_memo_analysis.specs.declared.successors.Successors.{Successors}
-use Rattle.regress_memo_analysis.specs.declared.successors.Successors.TheVariants.{Ends, One, Two, Enter, Again, Run, Look, Same}
+use Rattle.regress_memo_analysis.specs.declared.successors.Successors.TheVariants.{Ends, One, Two, Enter, Again, Run, LookaroundDirectionNegationAndContinuation, Same}
 
 -- The program has these instructions.
 abbrev pub AreInsnsOfProgram : Program → List declared.Insn → Type 0
-AreInsnsOfProgram program insns = program.insns ≡ map spec_insn_of insns
+AreInsnsOfProgram program insns = program.insns ≡ map insn_as_spec_insn insns
 
 -- The next instruction is the only successor.
 abbrev pub fall_through : (ip : ℕ) → (reads silent : Bool) → Successors
@@ -40,9 +40,9 @@ successors_of ip (BeginCaptureGroup id) = fall_through ip false false
 successors_of ip (EndCaptureGroup id) = fall_through ip false false
 successors_of ip (BackRef group icase) = Same
 successors_of ip (Lookahead negate start_group end_group continuation) =
-    Look (record { forward = true; negate = negate; past = continuation })
+    LookaroundDirectionNegationAndContinuation (record { forward = true; negate = negate; past = continuation })
 successors_of ip (Lookbehind negate start_group end_group continuation) =
-    Look (record { forward = false; negate = negate; past = continuation })
+    LookaroundDirectionNegationAndContinuation (record { forward = false; negate = negate; past = continuation })
 successors_of ip _ = fall_through ip false true
 
 -- The instruction has no bytes and is neither an end nor a jump, an alternation or a loop.
@@ -58,6 +58,6 @@ is_fall_through_insn (Loop1CharBody least most greedy) = false
 is_fall_through_insn _ = true
 
 -- The successors of an instruction, or none if it does not exist.
-abbrev pub successors_in : (ip : ℕ) → Option Insn → Successors
-successors_in ip None = Ends
-successors_in ip (Some x) = successors_of ip x
+abbrev pub successors_of_insn_if_any : (ip : ℕ) → Option Insn → Successors
+successors_of_insn_if_any ip None = Ends
+successors_of_insn_if_any ip (Some x) = successors_of ip x

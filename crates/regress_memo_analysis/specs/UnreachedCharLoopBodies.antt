@@ -4,11 +4,11 @@ use Rattle.regex_meaning.specs.Laws.{Each}
 use Rattle.regex_meaning.specs.Text.{Text, Direction}
 use Rattle.regex_meaning.specs.CompilationRelation.{Program, Insn, EnterLoop}
 use Rattle.regress_machine.specs.Machine.{State, Thread, goes, act}
-use Rattle.regress_memo_laws.specs.CharLoopMemoKeys.{char_loop_greediness_at, insn_before}
-use Rattle.regress_memo_analysis.specs.declared.analysis.MemoAnalysis.{MemoAnalysis}
+use Rattle.regress_memo_laws.specs.UnboundedCharLoopMemoKeys.{char_loop_greediness_at, insn_before}
+use Rattle.regress_memo_analysis.specs.declared.analysis_result.MemoAnalysis.{MemoAnalysis}
 use Rattle.regress_memo_analysis.specs.declared.successors.Successors.{Successors}
-use Rattle.regress_memo_analysis.specs.declared.successors.Successors.TheVariants.{Ends, One, Two, Enter, Again, Run, Look, Same}
-use Rattle.regress_memo_analysis.specs.Successors.{successors_in}
+use Rattle.regress_memo_analysis.specs.declared.successors.Successors.TheVariants.{Ends, One, Two, Enter, Again, Run, LookaroundDirectionNegationAndContinuation, Same}
+use Rattle.regress_memo_analysis.specs.Successors.{successors_of_insn_if_any}
 use Rattle.regress_memo_analysis.specs.CheckedAnalysis.{IsAnalysisOf, ip_of}
 
 -- These are the successors of a char loop.
@@ -37,7 +37,7 @@ module _ (program : Program) where
   FlowsPastBodies (Enter f) ip = IsNotLoopBody (ip + 1) × IsNotLoopBody f.exit
   FlowsPastBodies (Again begin) ip = EntersPastBodies (slice_get program.insns begin) begin
   FlowsPastBodies (Run b) ip = IsNotLoopBody (ip + 2)
-  FlowsPastBodies (Look l) ip = IsNotLoopBody (ip + 1) × IsNotLoopBody l.past
+  FlowsPastBodies (LookaroundDirectionNegationAndContinuation l) ip = IsNotLoopBody (ip + 1) × IsNotLoopBody l.past
   FlowsPastBodies Same ip = Unit {0}
 
 -- ---- Laws
@@ -45,6 +45,6 @@ module _ (program : Program) where
 -- If no instruction leads to a char loop's body, no step leaves a thread at one.
 abbrev pub CharLoopBodiesAreUnreached : Type 0
 CharLoopBodiesAreUnreached = (program : Program) (t : MemoAnalysis) → IsAnalysisOf program t
-    → ((ip : ℕ) → FlowsPastBodies program (successors_in ip (slice_get program.insns ip)) ip)
+    → ((ip : ℕ) → FlowsPastBodies program (successors_of_insn_if_any ip (slice_get program.insns ip)) ip)
     → (text : Text) (d : Direction) (s : State) (ts : List Thread)
     → act program text d s ≡ goes ts → Each (λ u. IsNotLoopBody program (ip_of u)) ts

@@ -4,34 +4,36 @@ use Rattle.std.specs.List.{sum_by}
 use Rattle.regex_meaning.specs.Text.{Text}
 use Rattle.regex_meaning.specs.CodeUnitOffsets.{HasRisingPlaceOffsets, units}
 use Rattle.regex_meaning.specs.CompilationRelation.{Program, Insn, Loop1CharBody}
-use Rattle.regress_machine.specs.SearchResults.{state_before_first_insn}
+use Rattle.regress_machine.specs.SearchFindsFirstOutcomeAtPlace.{state_before_first_insn}
 use Rattle.regress_machine.specs.Machine.{Thread, running}
 use Rattle.regress_memo_laws.specs.Liveness.{ReadsAsBytes}
-use Rattle.regress_memo_laws.specs.LookaroundContinuations.{LookaroundInsn, lookaround_at}
-use Rattle.regress_memo_laws.specs.AllSearchesWorkBudget.{AreInTwoStages}
+use Rattle.regress_memo_laws.specs.EquivalenceAfterSkippingSucceedingLookarounds.{LookaroundInsn, lookaround_at}
+use Rattle.regress_memo_laws.specs.DelayedMemoizationWorkBudget.{AreInTwoStages}
 use Rattle.regress_memo_laws.specs.AmortizedStepCosts.{potential_by}
 use Rattle.regress_memo_laws.specs.MemoPlanChecksAndGuarantees.{plan_taken}
-use Rattle.regress_memo_analysis.specs.declared.analysis.MemoAnalysis.{MemoAnalysis}
-use Rattle.regress_memo_analysis.specs.declared.analysis.InsnAnalysis.{InsnAnalysis}
+use Rattle.regress_memo_analysis.specs.declared.analysis_result.MemoAnalysis.{MemoAnalysis}
+use Rattle.regress_memo_analysis.specs.declared.analysis_result.InsnAnalysis.{InsnAnalysis}
 use Rattle.regress_memo_analysis.specs.declared.successors.Successors.{Successors}
-use Rattle.regress_memo_analysis.specs.declared.successors.Successors.TheVariants.{Run as AsRun, Look as AsLook}
+use Rattle.regress_memo_analysis.specs.declared.successors.Successors.TheVariants.{Run as AsRun, LookaroundDirectionNegationAndContinuation as AsLook}
 use Rattle.regress_memo_analysis.specs.UnreachedCharLoopBodies.{FlowsPastBodies}
 use Rattle.regress_memo_analysis.specs.AnalysisChecks.{unlimited}
-use Rattle.regress_memo_analysis.specs.AnalysisContents.{insn_analysis_of, liveness_of, key_code_questions_of, recorded, potentials_of, key_cost_of, insn_direction}
-use Rattle.regress_memo_analysis.specs.Successors.{successors_in}
+use Rattle.regress_memo_analysis.specs.AnalysisAsLivenessAndPotentials.{insn_analysis_of, analysis_as_liveness, key_code_questions_of, recorded, potentials_of}
+use Rattle.regress_memo_analysis.specs.AnalysisAsLivenessAndPotentials.{key_cost_of}
+use Rattle.regress_memo_analysis.specs.AnalysisAsLivenessAndPotentials.{insn_direction}
+use Rattle.regress_memo_analysis.specs.Successors.{successors_of_insn_if_any}
 use Rattle.regress_memo_analysis.specs.CheckedAnalysis.{IsAnalysisOf}
 
 -- The cost of an instruction's keys at one position, if it records.
-abbrev pub insn_key_cost : InsnAnalysis → ℕ
-insn_key_cost x = if x.records then x.price * x.codes else 0
+abbrev pub insn_keys_cost_per_position : InsnAnalysis → ℕ
+insn_keys_cost_per_position x = if x.records then x.price * x.codes else 0
 
 -- The cost of all keys at one position.
-abbrev pub cost_of_all_keys : MemoAnalysis → ℕ
-cost_of_all_keys t = sum_by insn_key_cost t.lines.items
+abbrev pub all_keys_cost_per_position : MemoAnalysis → ℕ
+all_keys_cost_per_position t = sum_by insn_keys_cost_per_position t.lines.items
 
 -- The work per position if failures are remembered from the first attempt on.
 abbrev pub work_per_position : MemoAnalysis → ℕ
-work_per_position t = (cost_of_all_keys t + (insn_analysis_of t 0).ready) * 3
+work_per_position t = (all_keys_cost_per_position t + (insn_analysis_of t 0).ready) * 3
 
 -- ---- What a work bound requires in addition to a correct analysis
 
@@ -60,7 +62,7 @@ module _ (t : MemoAnalysis) where
   -- loop.
   pub record IsWorkBounded (program : Program) : Type 0 where
     pub ready : (ip : ℕ) → 1 ≤ (insn_analysis_of t ip).ready
-    pub past : (ip : ℕ) → FlowsPastBodies program (successors_in ip (slice_get program.insns ip)) ip
+    pub past : (ip : ℕ) → FlowsPastBodies program (successors_of_insn_if_any ip (slice_get program.insns ip)) ip
     pub insns : (ip : ℕ) → InsnIsBounded (slice_get program.insns ip) ip
 
 -- ---- Laws
@@ -74,6 +76,6 @@ first_row program at = running (state_before_first_insn program at) ∷ []
 abbrev pub AnalysesBoundTotalWork : Type 0
 AnalysesBoundTotalWork = (program : Program) (t : MemoAnalysis) → IsAnalysisOf program t
     → (text : Text) → HasRisingPlaceOffsets text → ReadsAsBytes program text → units text < 2 ^ 63 → (at_first work : ℕ)
-    → AreInTwoStages program text (liveness_of t) (key_code_questions_of t) (insn_direction t) (recorded t) (plan_taken program) (key_cost_of t)
+    → AreInTwoStages program text (analysis_as_liveness t) (key_code_questions_of t) (insn_direction t) (recorded t) (plan_taken program) (key_cost_of t)
     (potential_by program (potentials_of t) (key_cost_of t) (recorded t)) (first_row program) at_first work
     → work ≤ (at_first + 1 + work_per_position t) * (units text + 1)

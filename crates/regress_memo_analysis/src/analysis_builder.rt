@@ -2,13 +2,15 @@
 
 ghost use Rattle.std.specs.Prelude.{◌<◌, ◌^◌, length, IfOk, IfSome};
 ghost use Rattle.regex_meaning.specs.CompilationRelation.{Program};
-ghost use Rattle.regress_memo_analysis.specs.{Successors.{AreInsnsOfProgram}, CheckedAnalysis.{IsAnalysisOf, AreCodesCountedAndDisjoint}};
+ghost use Rattle.regress_memo_analysis.specs.{Successors.{AreInsnsOfProgram}, CheckedAnalysis.{IsAnalysisOf, AreInsnCodesCountedAndDisjoint}};
 
-use crate::analysis::{
-    EnclosingLoop, InsnAnalysis, LoopCountsDistinguishedUpTo, LoopFact, MemoAnalysis,
-    bound_of_undistinguished_loop_count, default_insn_analysis,
+use crate::analysis_result::{
+    EnclosingLoop, EnclosingLoopProgressFactKind, InsnAnalysis, LoopCountsDistinguishedUpTo,
+    MemoAnalysis, bound_of_undistinguished_loop_count, default_insn_analysis,
 };
-use crate::flow_edges::{FlowEdge, enters_loop, flow_edges_from, loop_ending_at};
+use crate::flow_edges::{
+    FlowEdge, edge_enters_loop, flow_edges_skipping_lookaround_contents, loop_ending_at,
+};
 use crate::successors::{Successors, successors_at};
 use regex_pattern_front::types::LoopID;
 use regress_plan::insn::{Insn, LoopFields};
@@ -25,7 +27,7 @@ const DEEPEST: usize = 64;
 enum EnclosingLoopOrLookaround {
     Loop(LoopID),
     /// The analysis of the first instruction of the lookaround's contents.
-    Look(InsnAnalysis),
+    LookaroundDirectionNegationAndContinuation(InsnAnalysis),
 }
 
 /// An open scope, which ends at instruction `end`.
@@ -52,7 +54,7 @@ impl MemoAnalysis {
     ) -> Result<Option<MemoAnalysis>, AllocError>
         ensures of { IfOk result (λ found. IfSome found (λ memo_analysis. (program : Program)
             → AreInsnsOfProgram program insns.now → IsAnalysisOf program memo_analysis)) }
-        ensures coded { IfOk result (λ found. IfSome found AreCodesCountedAndDisjoint) }
+        ensures coded { IfOk result (λ found. IfSome found AreInsnCodesCountedAndDisjoint) }
     {
         let made = MemoAnalysis::build_unchecked_analysis(alloc, insns, loops)?;
         if made.is_analysis_of_program(insns) {
@@ -102,13 +104,15 @@ impl MemoAnalysis {
                         end: fields.exit as usize,
                     })?;
                 }
-                Successors::Look(look) => {
+                Successors::LookaroundDirectionNegationAndContinuation(look) => {
                     let mut line = self.insn_analysis_at(ip);
                     line.from = from;
                     line.forward = look.forward;
                     line.silent |= !look.negate;
                     levels.push(EnclosingScopeWithEnd {
-                        open: EnclosingLoopOrLookaround::Look(line),
+                        open: EnclosingLoopOrLookaround::LookaroundDirectionNegationAndContinuation(
+                            line,
+                        ),
                         end: look.past,
                     })?;
                 }
@@ -134,10 +138,11 @@ impl MemoAnalysis {
                         moved: true,
                         empty: false,
                     })?,
-                    EnclosingLoopOrLookaround::Look(inner) => {
-                        self.rows.truncate(first);
-                        line = inner;
-                    }
+                    EnclosingLoopOrLookaround::LookaroundDirectionNegationAndContinuation(inner) =>
+                        {
+                            self.rows.truncate(first);
+                            line = inner;
+                        }
                 }
             }
         }
@@ -154,7 +159,7 @@ impl MemoAnalysis {
         for _pass in 0..PASSES {
             let mut changed = false;
             for ip in 0..insns.len() {
-                let [first, second] = flow_edges_from(insns, ip);
+                let [first, second] = flow_edges_skipping_lookaround_contents(insns, ip);
                 changed |= self.spread(first);
                 changed |= self.spread(second);
             }
@@ -184,15 +189,20 @@ impl MemoAnalysis {
 
     // Checks whether a character has been read in a loop's iteration after this edge is taken.
     fn is_moved_along(&self, edge: FlowEdge, id: LoopID) -> bool {
-        !enters_loop(edge, id)
-            && (edge.reads || self.states_loop_fact(edge.ip, LoopFact::Moved, id))
+        !edge_enters_loop(edge, id)
+            && (edge.reads
+                || self.states_loop_fact(edge.ip, EnclosingLoopProgressFactKind::Moved, id))
     }
 
     // Sets the count bound of each loop.
     fn set_count_bounds(&mut self, insns: &[Insn]) {
         for ip in 0..insns.len() {
             if let Some(fields) = loop_ending_at(insns, ip) {
-                let moved = self.states_loop_fact(ip, LoopFact::Moved, fields.loop_id);
+                let moved = self.states_loop_fact(
+                    ip,
+                    EnclosingLoopProgressFactKind::Moved,
+                    fields.loop_id,
+                );
                 if let Some(count) = self.counts.get_mut(usize::from(fields.loop_id)) {
                     *count = count_for(&fields, moved);
                 }
@@ -205,7 +215,7 @@ impl MemoAnalysis {
         for _pass in 0..PASSES {
             let mut changed = false;
             for ip in (0..insns.len()).rev() {
-                let [first, second] = flow_edges_from(insns, ip);
+                let [first, second] = flow_edges_skipping_lookaround_contents(insns, ip);
                 changed |= self.ask_at_end(insns, ip);
                 changed |= self.ask_before(first);
                 changed |= self.ask_before(second);
@@ -233,7 +243,7 @@ impl MemoAnalysis {
         let mut changed = false;
         for number in line.first..line.end {
             if let Some(row) = self.rows.get(number).copied() {
-                let asks = row.empty && !edge.reads && !enters_loop(edge, row.id);
+                let asks = row.empty && !edge.reads && !edge_enters_loop(edge, row.id);
                 changed |= asks && self.distinguish_empty_iterations(edge.ip, row.id);
             }
         }

@@ -2,24 +2,35 @@
 
 ghost use Rattle.std.specs.Prelude.{◌≡◌, ◌≤◌, ◌<◌, ◌+◌, ◌^◌, ◌||◌, ℕ, Bool, true, false, None, Some, length, map, slice_get};
 ghost use Rattle.regex_meaning.specs.CompilationRelation.{Program};
-ghost use Rattle.regress_plan.specs.InsnsAsSpecInsns.{spec_insn_of, spec_loop_fields_of};
+ghost use Rattle.regress_plan.specs.InsnsAsSpecInsns.{insn_as_spec_insn, loop_fields_as_spec};
 ghost use Rattle.regress_memo_laws.specs.ThreadPotentials.{CoversOne, CoversTwo};
-ghost use Rattle.regress_memo_analysis.specs.{AnalysisContents.{enclosing_loops_of, insn_analysis_of, groups_stay_unchanged_from, potentials_of, states_loop_fact, iteration_read_known_or_distinguished}, Successors.{AreInsnsOfProgram, successors_in}};
-ghost use Rattle.regress_memo_analysis.specs.AnalysisChecks.{is_entered, LoopFactsFlow, AllLoopFactsFlow, IsConsistentFlow, MayBeginIteration, MayRepeatLoop, MayEndIteration, MayRepeatLoopAt};
-ghost use Rattle.regress_memo_analysis.specs.AnalysisChecks.{CountDecides, LoopsAreBefore, IsolatesLookaround, IsConsistentAt, IsCoveredAt, IsInsnCostCovered, IsCharLoopChecked, IsInsnChecked};
-ghost use Rattle.regress_memo_analysis.specs.CheckedAnalysis.{IsAnalysisOf, AreCodesCountedAndDisjoint, StartsAtTopLevel};
+ghost use Rattle.regress_memo_analysis.specs.AnalysisAsLivenessAndPotentials.{enclosing_loops_of, insn_analysis_of, groups_stay_unchanged_from, potentials_of};
+ghost use Rattle.regress_memo_analysis.specs.AnalysisAsLivenessAndPotentials.{states_loop_fact};
+ghost use Rattle.regress_memo_analysis.specs.AnalysisAsLivenessAndPotentials.{iteration_char_read_known_or_distinguished};
+ghost use Rattle.regress_memo_analysis.specs.Successors.{AreInsnsOfProgram, successors_of_insn_if_any};
+ghost use Rattle.regress_memo_analysis.specs.AnalysisChecks.{is_entered, LoopFactsFlow, AllLoopFactsFlow, IsConsistentFlow, MayBeginIteration, MayRepeatLoop};
+ghost use Rattle.regress_memo_analysis.specs.AnalysisChecks.{MayEndIteration, MayRepeatLoopAt};
+ghost use Rattle.regress_memo_analysis.specs.AnalysisChecks.{CountDecides, LoopsAreBefore, IsolatesLookaround, IsConsistentAt, IsCoveredAt, IsInsnCostCovered};
+ghost use Rattle.regress_memo_analysis.specs.AnalysisChecks.{IsCharLoopChecked, IsInsnChecked};
+ghost use Rattle.regress_memo_analysis.specs.CheckedAnalysis.{IsAnalysisOf, AreInsnCodesCountedAndDisjoint, FirstInsnForwardOutsideLoops};
 
-use crate::analysis::{EnclosingLoop, InsnAnalysis, LoopFact, MemoAnalysis};
-use crate::flow_edges::{FlowEdge, enters_loop};
-use crate::successors::{Look, SingleSuccessorAndEffects, Successors, successors_at};
+use crate::analysis_result::{
+    EnclosingLoop, EnclosingLoopProgressFactKind, InsnAnalysis, MemoAnalysis,
+};
+use crate::flow_edges::{FlowEdge, edge_enters_loop};
+use crate::successors::{
+    LookaroundDirectionNegationAndContinuation, SingleSuccessorReadAndCaptureEffects, Successors,
+    successors_at,
+};
 use regex_pattern_front::types::LoopID;
 use regress_plan::insn::{Insn, LoopFields};
 
 impl MemoAnalysis {
     // Checks whether this is an analysis of the program with these instructions.
     pub(crate) fn is_analysis_of_program(&self, insns: &[Insn]) -> bool
-        ensures of { result ≡ true → (program : Program) → AreInsnsOfProgram program insns.now → IsAnalysisOf program self.now }
-        ensures coded { result ≡ true → AreCodesCountedAndDisjoint self.now }
+        ensures of { result ≡ true → (program : Program) → AreInsnsOfProgram program insns.now → IsAnalysisOf
+            program self.now }
+        ensures coded { result ≡ true → AreInsnCodesCountedAndDisjoint self.now }
     {
         if !self.starts_outside() {
             return false;
@@ -29,7 +40,7 @@ impl MemoAnalysis {
 
     // Checks that the first instruction has no enclosing loop and is not searched to the left.
     fn starts_outside(&self) -> bool
-        ensures { result ≡ true → StartsAtTopLevel self.now }
+        ensures { result ≡ true → FirstInsnForwardOutsideLoops self.now }
     {
         self.enclosing_loops(0).is_empty() && self.insn_analysis_at(0).forward
     }
@@ -37,7 +48,8 @@ impl MemoAnalysis {
     // Checks the analysis of each instruction.
     fn is_written(&self, insns: &[Insn]) -> bool
         ensures { result ≡ true → (program : Program) → AreInsnsOfProgram program insns.now → (ip : ℕ)
-            → ip < length insns.now → IsInsnChecked self.now program (successors_in ip (slice_get program.insns ip)) ip }
+            → ip < length insns.now → IsInsnChecked self.now program
+            (successors_of_insn_if_any ip (slice_get program.insns ip)) ip }
     {
         for ip in 0..insns.len() {
             if !self.is_written_at(insns, ip) {
@@ -51,10 +63,10 @@ impl MemoAnalysis {
     fn is_written_at(&self, insns: &[Insn], ip: usize) -> bool
         requires { ip < length insns.now }
         ensures { result ≡ true → (program : Program) → AreInsnsOfProgram program insns.now
-            → IsInsnChecked self.now program (successors_in ip (slice_get program.insns ip)) ip }
+            → IsInsnChecked self.now program (successors_of_insn_if_any ip (slice_get program.insns ip)) ip }
     {
         self.is_right_at(insns, ip)
-            && self.potential_covers_at(insns, ip)
+            && self.remaining_potential_covers_successors_at(insns, ip)
             && self.insn_cost_is_covered(ip)
             && self.are_codes_counted_and_disjoint_at(ip)
     }
@@ -65,7 +77,7 @@ impl MemoAnalysis {
     fn is_right_at(&self, insns: &[Insn], ip: usize) -> bool
         requires { ip < length insns.now }
         ensures { result ≡ true → (program : Program) → AreInsnsOfProgram program insns.now
-            → IsConsistentAt self.now program (successors_in ip (slice_get program.insns ip)) ip }
+            → IsConsistentAt self.now program (successors_of_insn_if_any ip (slice_get program.insns ip)) ip }
     {
         match successors_at(insns, ip) {
             Successors::Ends => true,
@@ -80,13 +92,17 @@ impl MemoAnalysis {
                 reads: bounds.least > 0,
                 entered: None,
             }),
-            Successors::Look(look) => self.looks_on(look, ip),
+            Successors::LookaroundDirectionNegationAndContinuation(look) => self.looks_on(look, ip),
             Successors::Same => false,
         }
     }
 
     // Checks consistency with the only successor.
-    fn agrees_with_only_successor(&self, ip: usize, next: SingleSuccessorAndEffects) -> bool
+    fn agrees_with_only_successor(
+        &self,
+        ip: usize,
+        next: SingleSuccessorReadAndCaptureEffects,
+    ) -> bool
         ensures next { result ≡ true → IsConsistentFlow self.now next.reads None ip next.to }
         ensures silent { result ≡ true → groups_stay_unchanged_from self.now ip ≡ true → next.silent ≡ true }
     {
@@ -137,30 +153,33 @@ impl MemoAnalysis {
     fn row_leads(&self, edge: FlowEdge, row: &EnclosingLoop) -> bool
         ensures { result ≡ true → LoopFactsFlow self.now edge.reads edge.entered edge.ip row.now }
     {
-        if enters_loop(edge, row.id) {
+        if edge_enters_loop(edge, row.id) {
             return !row.moved;
         }
-        self.states_loop_fact(edge.ip, LoopFact::Inside, row.id)
+        self.states_loop_fact(edge.ip, EnclosingLoopProgressFactKind::Inside, row.id)
             && (edge.reads || self.row_stays(edge.ip, row))
     }
 
     // Checks that the facts of an entry hold at the source of an edge that reads no character.
     fn row_stays(&self, ip: usize, row: &EnclosingLoop) -> bool
         ensures moved { result ≡ true → row.now.moved ≡ true
-            → states_loop_fact LoopFact.Moved row.now.id (enclosing_loops_of self.now ip) ≡ true }
-        ensures empty { result ≡ true → row.now.empty ≡ true → iteration_read_known_or_distinguished row.now.id (enclosing_loops_of self.now ip) ≡ true }
+            → states_loop_fact EnclosingLoopProgressFactKind.Moved row.now.id
+            (enclosing_loops_of self.now ip) ≡ true }
+        ensures empty { result ≡ true → row.now.empty ≡ true → iteration_char_read_known_or_distinguished row.now.id
+            (enclosing_loops_of self.now ip) ≡ true }
     {
-        (!row.moved || self.states_loop_fact(ip, LoopFact::Moved, row.id))
-            && (!row.empty || self.iteration_read_known_or_distinguished(ip, row.id))
+        (!row.moved || self.states_loop_fact(ip, EnclosingLoopProgressFactKind::Moved, row.id))
+            && (!row.empty || self.iteration_char_read_known_or_distinguished(ip, row.id))
     }
 
     // Checks whether a character is known to have been read in a loop's iteration, or the memo key
     // distinguishes whether one was.
-    fn iteration_read_known_or_distinguished(&self, ip: usize, id: LoopID) -> bool
-        ensures { result ≡ true → iteration_read_known_or_distinguished id (enclosing_loops_of self.now ip) ≡ true }
+    fn iteration_char_read_known_or_distinguished(&self, ip: usize, id: LoopID) -> bool
+        ensures { result ≡ true → iteration_char_read_known_or_distinguished id
+            (enclosing_loops_of self.now ip) ≡ true }
     {
-        self.states_loop_fact(ip, LoopFact::Empty, id)
-            || self.states_loop_fact(ip, LoopFact::Moved, id)
+        self.states_loop_fact(ip, EnclosingLoopProgressFactKind::Empty, id)
+            || self.states_loop_fact(ip, EnclosingLoopProgressFactKind::Moved, id)
     }
 
     // ---- Loops
@@ -168,7 +187,7 @@ impl MemoAnalysis {
     // Checks that an iteration of the loop with head `begin` may begin from an instruction.
     fn begins(&self, fields: &LoopFields, ip: usize, begin: usize) -> bool
         requires { begin + 1 < 2 ^ 64 }
-        ensures { result ≡ true → MayBeginIteration self.now (spec_loop_fields_of fields.now) ip begin }
+        ensures { result ≡ true → MayBeginIteration self.now (loop_fields_as_spec fields.now) ip begin }
     {
         let count = self.count_bound_of_loop(fields.loop_id);
         (!count.counted || fields.max_iters <= usize::from(count.up_to) + 1)
@@ -197,7 +216,7 @@ impl MemoAnalysis {
     // Checks that another iteration may begin.
     fn begins_again(&self, fields: &LoopFields, ip: usize, begin: usize) -> bool
         requires { begin + 1 < 2 ^ 64 }
-        ensures { result ≡ true → MayRepeatLoop self.now (spec_loop_fields_of fields.now) ip begin }
+        ensures { result ≡ true → MayRepeatLoop self.now (loop_fields_as_spec fields.now) ip begin }
     {
         self.begins(fields, ip, begin) && self.goes_round(fields, ip)
     }
@@ -205,17 +224,18 @@ impl MemoAnalysis {
     // Checks that an iteration of a loop may end at an instruction, where all is known that decides
     // how it continues.
     fn goes_round(&self, fields: &LoopFields, ip: usize) -> bool
-        ensures { result ≡ true → MayEndIteration self.now (spec_loop_fields_of fields.now) ip }
+        ensures { result ≡ true → MayEndIteration self.now (loop_fields_as_spec fields.now) ip }
     {
-        self.states_loop_fact(ip, LoopFact::Inside, fields.loop_id)
-            && self.iteration_read_known_or_distinguished(ip, fields.loop_id)
+        self.states_loop_fact(ip, EnclosingLoopProgressFactKind::Inside, fields.loop_id)
+            && self.iteration_char_read_known_or_distinguished(ip, fields.loop_id)
             && self.decides(fields, ip)
     }
 
     // Checks that the distinguished iteration counts decide how the loop continues.
     fn decides(&self, fields: &LoopFields, ip: usize) -> bool
-        ensures { let f = spec_loop_fields_of fields.now in result ≡ true
-            → CountDecides self.now f (states_loop_fact LoopFact.Moved f.loop_id (enclosing_loops_of self.now ip)) }
+        ensures { let f = loop_fields_as_spec fields.now in result ≡ true
+            → CountDecides self.now f (states_loop_fact EnclosingLoopProgressFactKind.Moved f.loop_id
+            (enclosing_loops_of self.now ip)) }
     {
         let count = self.count_bound_of_loop(fields.loop_id);
         if count.counted {
@@ -225,13 +245,17 @@ impl MemoAnalysis {
         fields.max_iters == usize::MAX
             && (fields.min_iters <= up_to
                 || fields.min_iters <= up_to + 1
-                    && self.states_loop_fact(ip, LoopFact::Moved, fields.loop_id))
+                    && self.states_loop_fact(
+                        ip,
+                        EnclosingLoopProgressFactKind::Moved,
+                        fields.loop_id,
+                    ))
     }
 
     // ---- Lookarounds
 
     // Checks that the contents of a lookaround are isolated from the code around it.
-    fn looks_on(&self, look: Look, ip: usize) -> bool
+    fn looks_on(&self, look: LookaroundDirectionNegationAndContinuation, ip: usize) -> bool
         requires { ip + 1 < 2 ^ 64 }
         ensures { result ≡ true → IsolatesLookaround self.now look ip }
     {

@@ -3,10 +3,11 @@
 ghost use Rattle.std.specs.Prelude.{◌≡◌, ◌≤◌, ◌<◌, ◌+◌, ◌-◌, ◌*◌, ◌^◌, true, length, slice_get};
 ghost use Rattle.regex_meaning.specs.CompilationRelation.{Program};
 ghost use Rattle.regress_memo_laws.specs.ThreadPotentials.{CoversOne, CoversTwo, CoversRepeat};
-ghost use Rattle.regress_memo_analysis.specs.{AnalysisContents.{insn_analysis_of, potentials_of, key_code_questions_of, insn_direction}, Successors.{AreInsnsOfProgram, successors_in}};
+ghost use Rattle.regress_memo_analysis.specs.AnalysisAsLivenessAndPotentials.{insn_analysis_of, potentials_of, key_code_questions_of, insn_direction};
+ghost use Rattle.regress_memo_analysis.specs.Successors.{AreInsnsOfProgram, successors_of_insn_if_any};
 ghost use Rattle.regress_memo_analysis.specs.AnalysisChecks.{IsCoveredAt, IsInsnCostCovered, IsCharLoopChecked, CoversUnboundedLoop, CoversBoundedLoop, unlimited};
 
-use crate::analysis::MemoAnalysis;
+use crate::analysis_result::MemoAnalysis;
 use crate::successors::{CharLoopMinMaxAndGreed, Successors, successors_at};
 use regress_plan::insn::Insn;
 
@@ -15,10 +16,10 @@ const MOST_CHARACTERS: usize = 0x1_0000;
 
 impl MemoAnalysis {
     // Checks that the potential that an instruction leaves covers its successors.
-    pub(crate) fn potential_covers_at(&self, insns: &[Insn], ip: usize) -> bool
+    pub(crate) fn remaining_potential_covers_successors_at(&self, insns: &[Insn], ip: usize) -> bool
         requires { ip < length insns.now }
         ensures { result ≡ true → (program : Program) → AreInsnsOfProgram program insns.now
-            → IsCoveredAt self.now program (successors_in ip (slice_get program.insns ip)) ip }
+            → IsCoveredAt self.now program (successors_of_insn_if_any ip (slice_get program.insns ip)) ip }
     {
         match successors_at(insns, ip) {
             Successors::Ends => true,
@@ -27,7 +28,9 @@ impl MemoAnalysis {
             Successors::Enter(fields) => self.has_two(ip, ip + 1, fields.exit as usize),
             Successors::Again(begin) => self.has_repeated(insns, ip, begin),
             Successors::Run(bounds) => self.run_is_written(bounds, ip),
-            Successors::Look(look) => self.has_one(ip, look.past),
+            Successors::LookaroundDirectionNegationAndContinuation(look) => self.has_one(
+                ip, look.past,
+            ),
             Successors::Same => self.has_one(ip, ip + 1),
         }
     }

@@ -17,7 +17,7 @@ pub(crate) struct FlowEdge {
 }
 
 // Checks whether an edge enters a loop.
-pub(crate) fn enters_loop(edge: FlowEdge, id: LoopID) -> bool
+pub(crate) fn edge_enters_loop(edge: FlowEdge, id: LoopID) -> bool
     ensures { result ≡ is_entered edge.entered id }
 {
     match edge.entered {
@@ -27,7 +27,10 @@ pub(crate) fn enters_loop(edge: FlowEdge, id: LoopID) -> bool
 }
 
 /// Returns the edges from an instruction, except that to the contents of a lookaround.
-pub(crate) fn flow_edges_from(insns: &[Insn], ip: usize) -> [Option<FlowEdge>; 2]
+pub(crate) fn flow_edges_skipping_lookaround_contents(
+    insns: &[Insn],
+    ip: usize,
+) -> [Option<FlowEdge>; 2]
     requires { ip < length insns.now }
 {
     match successors_at(insns, ip) {
@@ -40,7 +43,10 @@ pub(crate) fn flow_edges_from(insns: &[Insn], ip: usize) -> [Option<FlowEdge>; 2
             _ => [None, None],
         },
         Successors::Run(bounds) => [plain(ip, ip + 2, bounds.least > 0), None],
-        Successors::Look(look) => [plain(ip, look.past, false), None],
+        Successors::LookaroundDirectionNegationAndContinuation(look) => [
+            plain(ip, look.past, false),
+            None,
+        ],
     }
 }
 

@@ -1,6 +1,7 @@
 //! Laws of memo analyses.
 
-ghost use Rattle.regress_memo_analysis.specs.{UnreachedCharLoopBodies.{CharLoopBodiesAreUnreached}, WorkBound.{AnalysesBoundTotalWork}, CheckedAnalysis.{AnalysesAreMemoPlans, DirectionsAreKept, KeysHaveDistinctBits}};
+ghost use Rattle.regress_memo_analysis.specs.{UnreachedCharLoopBodies.{CharLoopBodiesAreUnreached}, WorkBound.{AnalysesBoundTotalWork}};
+ghost use Rattle.regress_memo_analysis.specs.CheckedAnalysis.{AnalysesAreMemoPlans, DirectionsAreKept, KeysHaveDistinctBits};
 
 /// An analysis of a program is a memo plan in each text: its keys decide, its steps are steps with
 /// records, and the work of all attempts together is linear in the length of the text.

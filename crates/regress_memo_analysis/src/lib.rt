@@ -2,15 +2,15 @@
 //! which instructions record, and which costs their records cover.
 #![tactic(auto)]
 
-pub mod analysis;
 pub mod analysis_builder;
 mod analysis_check;
+pub mod analysis_result;
+mod char_loop_bodies_unreached_check;
 mod cost_check;
 mod flow_edges;
-pub mod key_codes;
 pub mod laws;
-pub mod loop_state_reachability_check;
+pub mod loop_data_key_codes;
 mod memo_points_and_costs;
+pub mod runtime_thread_loop_state_check;
 pub mod successors;
-mod unreached_char_loop_bodies;
 pub mod work_bound;

@@ -2,9 +2,9 @@
 
 ghost use Rattle.std.specs.Prelude.{◌<◌, ◌+◌, ◌^◌, length};
 
-use crate::analysis::MemoAnalysis;
 use crate::analysis_builder::PASSES;
-use crate::flow_edges::{FlowEdge, flow_edges_from, loop_ending_at};
+use crate::analysis_result::MemoAnalysis;
+use crate::flow_edges::{FlowEdge, flow_edges_skipping_lookaround_contents, loop_ending_at};
 use crate::successors::{CharLoopMinMaxAndGreed, Successors, successors_at};
 use regress_plan::insn::Insn;
 use std::alloc::{AllocError, Global};
@@ -28,8 +28,9 @@ impl MemoAnalysis {
                 Successors::Run(bounds) if bounds.most == usize::MAX => self.mark_as_recording(
                     ip + 1,
                 ),
-                Successors::Look(look) if merges => count_flow_edge(&mut ways, look.past),
-                Successors::Ends | Successors::Look(_) => {}
+                Successors::LookaroundDirectionNegationAndContinuation(look) if merges =>
+                    count_flow_edge(&mut ways, look.past),
+                Successors::Ends | Successors::LookaroundDirectionNegationAndContinuation(_) => {}
                 _ if merges => self.mark_as_recording(ip),
                 _ => {}
             }
@@ -97,8 +98,9 @@ impl MemoAnalysis {
                 }
                 None => 0,
             },
-            Successors::Look(look) => self.ready(ip + 1) + self.ready(look.past),
-            _ => match flow_edges_from(insns, ip) {
+            Successors::LookaroundDirectionNegationAndContinuation(look) => self.ready(ip + 1)
+                + self.ready(look.past),
+            _ => match flow_edges_skipping_lookaround_contents(insns, ip) {
                 [Some(next), Some(other)] => self.ready_for_two(next.to, other.to),
                 [Some(next), None] => self.ready(next.to),
                 _ => 0,
@@ -147,7 +149,7 @@ fn count_ways(alloc: Global, insns: &[Insn]) -> Result<Vec<u8>, AllocError> {
     let mut ways = Vec::from_elem(alloc, 0u8, insns.len())?;
     count_flow_edge(&mut ways, 0);
     for ip in 0..insns.len() {
-        let [first, second] = flow_edges_from(insns, ip);
+        let [first, second] = flow_edges_skipping_lookaround_contents(insns, ip);
         add_edge(&mut ways, first);
         add_edge(&mut ways, second);
     }

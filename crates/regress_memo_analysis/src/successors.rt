@@ -1,15 +1,15 @@
 //! Successors of instructions.
 
 ghost use Rattle.std.specs.Prelude.{◌≡◌, ◌<◌, ◌^◌, ◌+◌, true, None, map, slice_get};
-ghost use Rattle.regress_plan.specs.InsnsAsSpecInsns.{spec_insn_of, literal_bytes_of};
-ghost use Rattle.regress_memo_analysis.specs.Successors.{successors_of, successors_in, is_fall_through_insn, fall_through as next_at};
+ghost use Rattle.regress_plan.specs.InsnsAsSpecInsns.{insn_as_spec_insn, literal_bytes_of_insn};
+ghost use Rattle.regress_memo_analysis.specs.Successors.{successors_of, successors_of_insn_if_any, is_fall_through_insn, fall_through as next_at};
 
 use regress_plan::insn::{Insn, LoopFields};
 
 /// A single successor; whether the instruction reads a character, and whether it leaves groups
 /// unchanged.
 #[derive(Clone, Copy)]
-pub struct SingleSuccessorAndEffects {
+pub struct SingleSuccessorReadAndCaptureEffects {
     pub to: usize,
     pub reads: bool,
     pub silent: bool,
@@ -25,7 +25,7 @@ pub struct CharLoopMinMaxAndGreed {
 
 /// A lookaround: its direction, whether it is negative, and the instruction after it.
 #[derive(Clone, Copy)]
-pub struct Look {
+pub struct LookaroundDirectionNegationAndContinuation {
     pub forward: bool,
     pub negate: bool,
     pub past: usize,
@@ -37,7 +37,7 @@ pub enum Successors {
     /// No successor.
     Ends,
     /// One successor.
-    One(SingleSuccessorAndEffects),
+    One(SingleSuccessorReadAndCaptureEffects),
     /// The next instruction or this one.
     Two(usize),
     /// The instruction after this loop head, or the loop's exit.
@@ -47,14 +47,14 @@ pub enum Successors {
     /// The instruction after a char loop.
     Run(CharLoopMinMaxAndGreed),
     /// The instruction after a lookaround, whose contents follow directly.
-    Look(Look),
+    LookaroundDirectionNegationAndContinuation(LookaroundDirectionNegationAndContinuation),
     /// The instruction after a backreference.
     Same,
 }
 
 /// Returns the successors of an instruction; an index past the end has none.
 pub(crate) fn successors_at(insns: &[Insn], ip: usize) -> Successors
-    ensures { result ≡ successors_in ip (slice_get (map spec_insn_of insns.now) ip) }
+    ensures { result ≡ successors_of_insn_if_any ip (slice_get (map insn_as_spec_insn insns.now) ip) }
 {
     match insns.get(ip) {
         Some(insn) => of_insn(insn, ip),
@@ -65,7 +65,7 @@ pub(crate) fn successors_at(insns: &[Insn], ip: usize) -> Successors
 // Returns the successors of an instruction at index `ip`.
 fn of_insn(insn: &Insn, ip: usize) -> Successors
     requires { ip + 2 < 2 ^ 64 }
-    ensures { result ≡ successors_of ip (spec_insn_of insn.now) }
+    ensures { result ≡ successors_of ip (insn_as_spec_insn insn.now) }
 {
     match insn.bytes_of_literal_insn() {
         Some(bytes) => to_next(ip, !bytes.is_empty(), true),
@@ -76,12 +76,13 @@ fn of_insn(insn: &Insn, ip: usize) -> Successors
 // Returns those of an instruction without bytes.
 fn other_step(insn: &Insn, ip: usize) -> Successors
     requires { ip + 2 < 2 ^ 64 }
-    ensures { literal_bytes_of (spec_insn_of insn.now) ≡ None → result ≡ successors_of ip (spec_insn_of insn.now) }
+    ensures { literal_bytes_of_insn (insn_as_spec_insn insn.now) ≡ None → result ≡ successors_of ip
+        (insn_as_spec_insn insn.now) }
 {
     match insn {
         Insn::Goal | Insn::JustFail => Successors::Ends,
         Insn::Alt { secondary } => Successors::Two(*secondary as usize),
-        Insn::Jump { target } => Successors::One(SingleSuccessorAndEffects {
+        Insn::Jump { target } => Successors::One(SingleSuccessorReadAndCaptureEffects {
             to: *target as usize,
             reads: false,
             silent: true,
@@ -105,7 +106,8 @@ fn other_step(insn: &Insn, ip: usize) -> Successors
 // backreference.
 fn plain_step(insn: &Insn, ip: usize) -> Successors
     requires { ip + 2 < 2 ^ 64 }
-    ensures { is_fall_through_insn (spec_insn_of insn.now) ≡ true → result ≡ successors_of ip (spec_insn_of insn.now) }
+    ensures { is_fall_through_insn (insn_as_spec_insn insn.now) ≡ true → result ≡ successors_of ip
+        (insn_as_spec_insn insn.now) }
 {
     match insn {
         Insn::StartOfLine { .. }
@@ -131,20 +133,23 @@ fn plain_step(insn: &Insn, ip: usize) -> Successors
 }
 
 fn around(forward: bool, negate: bool, continuation: u32) -> Successors
-    ensures { result ≡ Successors.Look (record { forward = forward; negate = negate; past = continuation }) }
+    ensures { result ≡ Successors.LookaroundDirectionNegationAndContinuation
+        (record { forward = forward; negate = negate; past = continuation }) }
 {
-    Successors::Look(Look {
-        forward,
-        negate,
-        past: continuation as usize,
-    })
+    Successors::LookaroundDirectionNegationAndContinuation(
+        LookaroundDirectionNegationAndContinuation {
+            forward,
+            negate,
+            past: continuation as usize,
+        },
+    )
 }
 
 fn to_next(ip: usize, reads: bool, silent: bool) -> Successors
     requires { ip + 2 < 2 ^ 64 }
     ensures { result ≡ next_at ip reads silent }
 {
-    Successors::One(SingleSuccessorAndEffects {
+    Successors::One(SingleSuccessorReadAndCaptureEffects {
         to: ip + 1,
         reads,
         silent,

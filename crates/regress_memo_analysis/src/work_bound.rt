@@ -1,14 +1,15 @@
 //! The maximum work of all searches of a text, per position.
 
 ghost use Rattle.std.specs.Prelude.{◌≡◌, ◌≤◌, ◌<◌, ◌+◌, ◌^◌, ℕ, IfSome, IsSome, true, false, length, map, slice_get};
-ghost use Rattle.regress_plan.specs.InsnsAsSpecInsns.{spec_insn_of};
+ghost use Rattle.regress_plan.specs.InsnsAsSpecInsns.{insn_as_spec_insn};
 ghost use Rattle.regex_meaning.specs.CompilationRelation.{Program};
-ghost use Rattle.regress_memo_analysis.specs.{WorkBound.{insn_key_cost, cost_of_all_keys, work_per_position, IsStepWorkBounded, IsWorkBounded}, AnalysisContents.{insn_analysis_of}};
-ghost use Rattle.regress_memo_analysis.specs.Successors.{AreInsnsOfProgram, successors_in};
+ghost use Rattle.regress_memo_analysis.specs.WorkBound.{insn_keys_cost_per_position, all_keys_cost_per_position, work_per_position, IsStepWorkBounded, IsWorkBounded};
+ghost use Rattle.regress_memo_analysis.specs.AnalysisAsLivenessAndPotentials.{insn_analysis_of};
+ghost use Rattle.regress_memo_analysis.specs.Successors.{AreInsnsOfProgram, successors_of_insn_if_any};
 
-use crate::analysis::{InsnAnalysis, MemoAnalysis};
-use crate::successors::{Look, Successors, successors_at};
-use crate::unreached_char_loop_bodies::no_char_loop_body_is_reached;
+use crate::analysis_result::{InsnAnalysis, MemoAnalysis};
+use crate::char_loop_bodies_unreached_check::no_char_loop_body_is_reached;
+use crate::successors::{LookaroundDirectionNegationAndContinuation, Successors, successors_at};
 use regress_plan::insn::Insn;
 
 impl MemoAnalysis {
@@ -22,15 +23,15 @@ impl MemoAnalysis {
         if !self.all_is_paid(insns) {
             return None;
         }
-        let prices = self.cost_of_all_keys()?;
+        let prices = self.all_keys_cost_per_position()?;
         let ready = u64::from(self.insn_analysis_at(0).ready);
         prices.checked_add(ready)?.checked_mul(3)
     }
 
     // Returns the cost of the keys of all recording instructions at one position, or `None` on
     // overflow.
-    fn cost_of_all_keys(&self) -> Option<u64>
-        ensures { IfSome result (λ price. price ≡ cost_of_all_keys self.now) }
+    fn all_keys_cost_per_position(&self) -> Option<u64>
+        ensures { IfSome result (λ price. price ≡ all_keys_cost_per_position self.now) }
     {
         let lines = self.lines.as_slice();
         let mut all = 0u64;
@@ -45,7 +46,8 @@ impl MemoAnalysis {
     // no lazy char loop without a maximum is searched to the left, and no thread reaches the body
     // of a char loop.
     fn all_is_paid(&self, insns: &[Insn]) -> bool
-        ensures { result ≡ true → (program : Program) → AreInsnsOfProgram program insns.now → IsWorkBounded self.now program }
+        ensures { result ≡ true → (program : Program) → AreInsnsOfProgram program insns.now → IsWorkBounded
+            self.now program }
     {
         for ip in 0..insns.len() {
             if !self.is_paid_at(insns, ip) {
@@ -71,11 +73,13 @@ impl MemoAnalysis {
     // Checks the lookaround or the char loop at one instruction.
     fn is_paid_at(&self, insns: &[Insn], ip: usize) -> bool
         requires { ip < length insns.now }
-        ensures { result ≡ true → IsStepWorkBounded self.now (successors_in ip (slice_get (map spec_insn_of insns.now) ip)) ip }
+        ensures { result ≡ true → IsStepWorkBounded self.now
+            (successors_of_insn_if_any ip (slice_get (map insn_as_spec_insn insns.now) ip)) ip }
     {
         match successors_at(insns, ip) {
-            Successors::Look(look) => self.has_both(ip, look.past)
-                && !self.records_within(look, ip),
+            Successors::LookaroundDirectionNegationAndContinuation(look) => self.has_both(
+                ip, look.past,
+            ) && !self.records_within(look, ip),
             Successors::Run(bounds) => {
                 bounds.greedy || bounds.most != usize::MAX || self.insn_analysis_at(ip).forward
             }
@@ -95,7 +99,7 @@ impl MemoAnalysis {
     }
 
     // Checks whether a lookaround or an instruction of its contents records.
-    fn records_within(&self, look: Look, ip: usize) -> bool
+    fn records_within(&self, look: LookaroundDirectionNegationAndContinuation, ip: usize) -> bool
         ensures { result ≡ false → (inner : ℕ) → ip ≤ inner → inner < look.past
             → (insn_analysis_of self.now inner).records ≡ false }
     {
@@ -111,7 +115,7 @@ impl MemoAnalysis {
 // Returns the cost of an instruction's keys at one position if it records, otherwise 0. Returns
 // `None` on overflow.
 fn price_of(line: &InsnAnalysis) -> Option<u64>
-    ensures { IfSome result (λ price. price ≡ insn_key_cost line.now) }
+    ensures { IfSome result (λ price. price ≡ insn_keys_cost_per_position line.now) }
 {
     if line.records {
         u64::from(line.price).checked_mul(line.codes as u64)

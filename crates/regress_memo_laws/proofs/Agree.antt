@@ -18,8 +18,11 @@ use Rattle.regex_meaning.specs.CompilationRelation.{BeginCaptureGroup, EndCaptur
 use Rattle.regex_meaning.proofs.Booleans.{and-left, and-right}
 use Rattle.regex_meaning.proofs.Each.{Each, Each-map, Each-reverse}
 use Rattle.regex_meaning.proofs.TextLemmas.{offset-place_at, offset-less}
-use Rattle.regress_machine.specs.Machine.{LoopData, State, Thread, running, waiting, Next, goes, state_at_ip, state_at_next_ip, with_some, only_if, go_if, first_runs_others_wait}
-use Rattle.regress_machine.specs.Machine.{preferring, range_swapped_if_leftwards, iterate_or_leave_loop, next_iteration_unless_empty, loop_repeated, test_of, has_bytes, moved_by, read_one, stay_if}
+use Rattle.regress_machine.specs.Machine.{LoopData, State, Thread, running, waiting, Next, goes, state_with_ip, state_at_next_ip, with_some, only_if, go_if}
+use Rattle.regress_machine.specs.Machine.{first_running_and_others_waiting}
+use Rattle.regress_machine.specs.Machine.{preferring, range_swapped_if_leftwards, iterate_or_leave_at_loop_head, effect_at_iteration_end, loop_again_effect, test_of}
+use Rattle.regress_machine.specs.Machine.{has_bytes}
+use Rattle.regress_machine.specs.Machine.{moved_by, read_one, stay_if}
 use Rattle.regress_machine.specs.Machine.{read_bytes, backref_read, read_group, run_states, scan, act_on, act, after_lookaround, search}
 use Rattle.regress_machine.proofs.Beside.{Beside, nothing_left, one_more, beside, length-nearest}
 use Rattle.regress_machine.proofs.Frames.{slice_get-set_same, slice_get-set_other}
@@ -27,10 +30,12 @@ use Rattle.regress_machine.proofs.Inside.{act-inside, offset-inside, NextIn}
 use Rattle.regress_machine.proofs.Run.{numbers_between}
 use Rattle.regress_machine.proofs.Stands.{stands-length}
 use Rattle.regress_machine.proofs.Utf8.{starts-stands}
-use Rattle.regress_memo_laws.specs.Bisimulation.{AlikeThreads, AlikeEnds, AlikeAnswers, AlikeAsked, AlikeNext, IsBisimulation}
-use Rattle.regress_memo_laws.specs.Liveness.{Liveness, IsConsistentEdge, IsConsistentPlainEdge, none, IsUnlimited, Decides, by_count, by_minimum, never_empty, Enters, Repeats}
-use Rattle.regress_memo_laws.specs.Liveness.{IsRepeated, IsConsistentLookaround, IsSoundLivenessAt, IsOffsetPassedOrCurrent, left_from, IsSound, Similar, SimilarAt, World, outermost, IsKeptIn}
-use Rattle.regress_memo_laws.specs.Liveness.{Agree, IsLivenessFor, AgreeingStatesEndAlike, AgreeingThreadsEndAlike}
+use Rattle.regress_memo_laws.specs.ThreadBisimulation.{AlikeThreads, AlikeEnds, AlikeAnswers, AlikeAsked, AlikeNext, IsBisimulation}
+use Rattle.regress_memo_laws.specs.Liveness.{Liveness, IsConsistentEdge, IsConsistentPlainEdge, none, IsUnlimited, Decides, by_count, by_minimum, never_empty, Enters}
+use Rattle.regress_memo_laws.specs.Liveness.{Repeats}
+use Rattle.regress_memo_laws.specs.Liveness.{IsRepeated, IsConsistentLookaround, IsSoundLivenessAt, IsNotAheadInDirection, left_from, IsSound, Similar, SimilarAt, World}
+use Rattle.regress_memo_laws.specs.Liveness.{outermost, IsKeptIn}
+use Rattle.regress_memo_laws.specs.Liveness.{Agree, IsLivenessFor, LiveDataDecideSearchResult, LiveDataDecideThreadListResult}
 use Rattle.regress_memo_laws.proofs.Alike.{end-alike}
 
 -- ---- Tests
@@ -54,7 +59,7 @@ or-second false b h = h
 
 -- the way from an offset to another one
 pub record Moves (d : Direction) (reads : Bool) (from to : ℕ) : Type 0 where
-  pub passed : IsOffsetPassedOrCurrent d from to
+  pub passed : IsNotAheadInDirection d from to
   pub further : reads ≡ true → from ≡ to → ⊥
 
 stays : (d : Direction) (at : ℕ) → Moves d false at at
@@ -64,19 +69,19 @@ stays leftwards at = record { passed = omega arith; further = λ e. cc }
 stays-at : (d : Direction) (at to : ℕ) → to ≡ at → Moves d false at to
 stays-at d at to e = subst (λ t. Moves d false at t) (sym e) (stays d at)
 
-passed-on : (d : Direction) (e p q : ℕ) → IsOffsetPassedOrCurrent d e p → IsOffsetPassedOrCurrent d p q → IsOffsetPassedOrCurrent d e q
+passed-on : (d : Direction) (e p q : ℕ) → IsNotAheadInDirection d e p → IsNotAheadInDirection d p q → IsNotAheadInDirection d e q
 passed-on rightwards e p q a b = omega (arith, a, b)
 passed-on leftwards e p q a b = omega (arith, a, b)
 
-pub not-here : (d : Direction) (e p q : ℕ) → IsOffsetPassedOrCurrent d e p → IsOffsetPassedOrCurrent d p q → (p ≡ q → ⊥) → (e == q) ≡ false
+pub not-here : (d : Direction) (e p q : ℕ) → IsNotAheadInDirection d e p → IsNotAheadInDirection d p q → (p ≡ q → ⊥) → (e == q) ≡ false
 not-here rightwards e p q a b n = ne_eqb e q (λ same. n (omega (arith, a, b, same)))
 not-here leftwards e p q a b n = ne_eqb e q (λ same. n (omega (arith, a, b, same)))
 
-still-not-here : (d : Direction) (e p q : ℕ) → IsOffsetPassedOrCurrent d e p → IsOffsetPassedOrCurrent d p q → (e == p) ≡ false → (e == q) ≡ false
+still-not-here : (d : Direction) (e p q : ℕ) → IsNotAheadInDirection d e p → IsNotAheadInDirection d p q → (e == p) ≡ false → (e == q) ≡ false
 still-not-here rightwards e p q a b n = ne_eqb e q (λ same. eqb-false e p n (omega (arith, a, b, same)))
 still-not-here leftwards e p q a b n = ne_eqb e q (λ same. eqb-false e p n (omega (arith, a, b, same)))
 
-few-later : (top : ℕ) (d : Direction) (e p k more : ℕ) → IsOffsetPassedOrCurrent d e p → (e == p) ≡ false → k + left_from top d e ≤ top + more → p ≤ top
+few-later : (top : ℕ) (d : Direction) (e p k more : ℕ) → IsNotAheadInDirection d e p → (e == p) ≡ false → k + left_from top d e ≤ top + more → p ≤ top
     → k + 1 + left_from top d p ≤ top + more
 few-later top rightwards e p k more a n f in_text = elim (cases_lt e p) [
   | inl less ↦ omega (arith, f, less, in_text)
@@ -97,7 +102,7 @@ abbrev MayBeEmpty : (empty : Bool) (least more : ℕ) → Type 0
 MayBeEmpty empty least more = (least ≤ more) ⊎ (empty ≡ false)
 
 -- one iteration more
-few-more : (top : ℕ) (d : Direction) (e p k more least : ℕ) → IsOffsetPassedOrCurrent d e p → k + left_from top d e ≤ top + more → p ≤ top → MayBeEmpty (e == p) least more
+few-more : (top : ℕ) (d : Direction) (e p k more least : ℕ) → IsNotAheadInDirection d e p → k + left_from top d e ≤ top + more → p ≤ top → MayBeEmpty (e == p) least more
     → (b : Bool) → (e == p) ≡ b → (e == p && nat_lt least (k + 1)) ≡ false → k + 1 + left_from top d p ≤ top + more
 few-more top d e p k more least passed few in_text (inr not_here) b is q = few-later top d e p k more passed not_here few in_text
 few-more top d e p k more least passed few in_text (inl asked) false is q = few-later top d e p k more passed is few in_text
@@ -257,7 +262,7 @@ module _ (a : Liveness) (top : ℕ) where
     agree-on reads next to leads m in_text = groups-on reads next to s.groups t.groups leads m in_text g.as_many_groups g.groups
 
     -- at the same offset
-    pub agree-here : (next : ℕ) → IsConsistentPlainEdge a false s.ip next → R (state_at_ip next s) (record t { ip = next; pos = s.pos })
+    pub agree-here : (next : ℕ) → IsConsistentPlainEdge a false s.ip next → R (state_with_ip next s) (record t { ip = next; pos = s.pos })
     agree-here next leads = agree-on false next s.pos leads (stays d s.pos) g.within
 
     -- a group begins
@@ -395,7 +400,7 @@ module _ (a : Liveness) (top : ℕ) where
           still l k q = record { left = q.left ∙ k.left; right = q.right ∙ k.right; writes = looks.on.writes l k.writes }
 
       alike-resumed : (negate : Bool) (x y : Option State) → AlikeEnds (Agree a top (contents-world continuation) inner) x y
-          → AlikeThreads (Agree a top w d) (after_lookaround negate (state_at_ip continuation s) x) (after_lookaround negate (record t { ip = continuation; pos = s.pos }) y)
+          → AlikeThreads (Agree a top w d) (after_lookaround negate (state_with_ip continuation s) x) (after_lookaround negate (record t { ip = continuation; pos = s.pos }) y)
       alike-resumed false None None h = tt
       alike-resumed true None None h = (agree-here continuation looks.on, tt)
       alike-resumed false (Some u) (Some v) h = (agree-behind u v h, tt)
@@ -403,7 +408,7 @@ module _ (a : Liveness) (top : ℕ) where
       alike-resumed negate None (Some v) h = absurd h
       alike-resumed negate (Some u) None h = absurd h
 
-      alike-asked : (negate : Bool) → AlikeAsked (λ w d. Agree a top w d) w d inner negate (state_at_next_ip s) (state_at_ip continuation s) (record t { ip = s.ip + 1; pos = s.pos }) (record t { ip = continuation; pos = s.pos })
+      alike-asked : (negate : Bool) → AlikeAsked (λ w d. Agree a top w d) w d inner negate (state_at_next_ip s) (state_with_ip continuation s) (record t { ip = s.ip + 1; pos = s.pos }) (record t { ip = continuation; pos = s.pos })
       alike-asked negate = record {
         world = contents-world continuation;
         contents = agree-inside;
@@ -453,7 +458,7 @@ module _ (a : Liveness) (top : ℕ) (w : World) (d : Direction) where
   states-waiting [] (t ∷ ts) h = absurd h
   states-waiting (s ∷ ss) [] h = absurd h
 
-  states-in_turn : (ss ts : List State) → SameStates ss ts → AlikeThreads (Agree a top w d) (first_runs_others_wait ss) (first_runs_others_wait ts)
+  states-in_turn : (ss ts : List State) → SameStates ss ts → AlikeThreads (Agree a top w d) (first_running_and_others_waiting ss) (first_running_and_others_waiting ts)
   states-in_turn [] [] h = tt
   states-in_turn (s ∷ ss) (t ∷ ts) h = (h.0, states-waiting ss ts h.1)
   states-in_turn [] (t ∷ ts) h = absurd h
@@ -504,7 +509,7 @@ module _ (a : Liveness) (top : ℕ) (w : World) (d : Direction) where
 
     same-loop : (f : LoopFields) (begin j k : ℕ) → Enters a f s.ip begin → nat_lt j f.max_iters ≡ nat_lt k f.max_iters → nat_le f.min_iters j ≡ nat_le f.min_iters k
         → min j (a.up_to f.loop_id) ≡ min k (a.up_to f.loop_id) → (a.counted f.loop_id ≡ false → AreFew a top w d s t g f j k)
-        → SameNext (iterate_or_leave_loop f begin j s) (iterate_or_leave_loop f begin k beside_it)
+        → SameNext (iterate_or_leave_at_loop_head f begin j s) (iterate_or_leave_at_loop_head f begin k beside_it)
     same-loop f begin j k e again leave count few =
         same-only (nat_lt f.loop_id (length s.loops)) (nat_lt f.loop_id (length t.loops)) _ _ (ap (nat_lt f.loop_id) g.as_many_loops)
         (λ within. states-in_turn _ _
@@ -519,14 +524,14 @@ module _ (a : Liveness) (top : ℕ) (w : World) (d : Direction) where
             let less' = ltb-true k f.max_iters (sym again ∙ h) in
             (omega (arith, most, less), omega (arith, most, less'))
 
-    same-enter : (f : LoopFields) → Enters a f s.ip s.ip → SameNext (iterate_or_leave_loop f s.ip 0 s) (iterate_or_leave_loop f s.ip 0 beside_it)
+    same-enter : (f : LoopFields) → Enters a f s.ip s.ip → SameNext (iterate_or_leave_at_loop_head f s.ip 0 s) (iterate_or_leave_at_loop_head f s.ip 0 beside_it)
     same-enter f e = same-loop f s.ip 0 0 e refl refl refl (λ h. (none-yet, none-yet))
       where
         none-yet : 0 + left_from top d s.pos ≤ top + a.up_to f.loop_id
         none-yet = few-first top d s.pos 0 (a.up_to f.loop_id) (omega arith) g.within
 
     same-again : (f : LoopFields) (begin : ℕ) (x y : LoopData) → Repeats a top f s.ip begin → Similar a top d s.pos s.ip f.loop_id x y
-        → SameNext (next_iteration_unless_empty f begin x s) (next_iteration_unless_empty f begin y beside_it)
+        → SameNext (effect_at_iteration_end f begin x s) (effect_at_iteration_end f begin y beside_it)
     same-again f begin x y r h = by r.decides
       where
         here : (x.entry == s.pos) ≡ (y.entry == s.pos)
@@ -538,8 +543,8 @@ module _ (a : Liveness) (top : ℕ) (w : World) (d : Direction) where
 
         both : (can : nat_lt x.iters f.max_iters ≡ nat_lt y.iters f.max_iters)
             → (drop : (x.entry == s.pos && nat_lt f.min_iters (x.iters + 1)) ≡ (y.entry == s.pos && nat_lt f.min_iters (y.iters + 1)))
-            → ((x.entry == s.pos && nat_lt f.min_iters (x.iters + 1)) ≡ false → SameNext (iterate_or_leave_loop f begin (x.iters + 1) s) (iterate_or_leave_loop f begin (y.iters + 1) beside_it))
-            → SameNext (next_iteration_unless_empty f begin x s) (next_iteration_unless_empty f begin y beside_it)
+            → ((x.entry == s.pos && nat_lt f.min_iters (x.iters + 1)) ≡ false → SameNext (iterate_or_leave_at_loop_head f begin (x.iters + 1) s) (iterate_or_leave_at_loop_head f begin (y.iters + 1) beside_it))
+            → SameNext (effect_at_iteration_end f begin x s) (effect_at_iteration_end f begin y beside_it)
         both can drop more = same-only _ _ _ _ can (λ h. same-dropped _ _ _ _ drop more)
 
         bounded : (z : LoopData) → IsSound a top d s.pos s.ip f.loop_id z → IsUnlimited a top f → nat_lt z.iters f.max_iters ≡ true
@@ -552,12 +557,12 @@ module _ (a : Liveness) (top : ℕ) (w : World) (d : Direction) where
         unlimited : IsUnlimited a top f → f.min_iters ≤ a.up_to f.loop_id + 1
             → MayBeEmpty (x.entry == s.pos) f.min_iters (a.up_to f.loop_id) → MayBeEmpty (y.entry == s.pos) f.min_iters (a.up_to f.loop_id)
             → (drop : (x.entry == s.pos && nat_lt f.min_iters (x.iters + 1)) ≡ (y.entry == s.pos && nat_lt f.min_iters (y.iters + 1)))
-            → SameNext (next_iteration_unless_empty f begin x s) (next_iteration_unless_empty f begin y beside_it)
+            → SameNext (effect_at_iteration_end f begin x s) (effect_at_iteration_end f begin y beside_it)
         unlimited u le p p' drop =
             both (bounded x h.left u ∙ sym (bounded y h.right u)) drop (λ q. more (on x h.left u p q) (on y h.right u p' (sym drop ∙ q)))
           where
             more : x.iters + 1 + left_from top d s.pos ≤ top + a.up_to f.loop_id → y.iters + 1 + left_from top d s.pos ≤ top + a.up_to f.loop_id
-                → SameNext (iterate_or_leave_loop f begin (x.iters + 1) s) (iterate_or_leave_loop f begin (y.iters + 1) beside_it)
+                → SameNext (iterate_or_leave_at_loop_head f begin (x.iters + 1) s) (iterate_or_leave_at_loop_head f begin (y.iters + 1) beside_it)
             more i j =
                 let far = u.beyond in
                 same-loop f begin (x.iters + 1) (y.iters + 1) r.enters
@@ -565,7 +570,7 @@ module _ (a : Liveness) (top : ℕ) (w : World) (d : Direction) where
                 (both-come f.min_iters (a.up_to f.loop_id) x.iters y.iters h.count le)
                 (one-more-each x.iters y.iters (a.up_to f.loop_id) h.count) (λ c. (i, j))
 
-        by : Decides a top f (a.moved s.ip f.loop_id) → SameNext (next_iteration_unless_empty f begin x s) (next_iteration_unless_empty f begin y beside_it)
+        by : Decides a top f (a.moved s.ip f.loop_id) → SameNext (effect_at_iteration_end f begin x s) (effect_at_iteration_end f begin y beside_it)
         by (by_count c) =
             let same = same-count x.iters y.iters (a.up_to f.loop_id) h.count (h.left.all c) (h.right.all c) in
             both (ap (λ n. nat_lt n f.max_iters) same)
@@ -582,11 +587,11 @@ module _ (a : Liveness) (top : ℕ) (w : World) (d : Direction) where
             unlimited u asked (inr p) (inr q)
             (ap (λ b. b && nat_lt f.min_iters (x.iters + 1)) p ∙ sym (ap (λ b. b && nat_lt f.min_iters (y.iters + 1)) q))
 
-    same-repeated : (o : Option Insn) (begin : ℕ) → IsRepeated a top o s.ip begin → SameNext (loop_repeated o begin s) (loop_repeated o begin beside_it)
+    same-repeated : (o : Option Insn) (begin : ℕ) → IsRepeated a top o s.ip begin → SameNext (loop_again_effect o begin s) (loop_again_effect o begin beside_it)
     same-repeated (Some (EnterLoop f)) begin r =
         with_data (slice_get s.loops f.loop_id) (slice_get t.loops f.loop_id) (g.loops f.loop_id r.inside)
       where
-        with_data : (o p : Option LoopData) → SimilarAt a top d s.pos s.ip f.loop_id o p → SameNext (with_some o (λ x. next_iteration_unless_empty f begin x s)) (with_some p (λ x. next_iteration_unless_empty f begin x beside_it))
+        with_data : (o p : Option LoopData) → SimilarAt a top d s.pos s.ip f.loop_id o p → SameNext (with_some o (λ x. effect_at_iteration_end f begin x s)) (with_some p (λ x. effect_at_iteration_end f begin x beside_it))
         with_data None None h = tt
         with_data (Some x) (Some y) h = same-again f begin x y r h
         with_data None (Some y) h = absurd h
@@ -775,8 +780,8 @@ module _ (program : Program) (text : Text) (a : Liveness) (acc : IsLivenessFor p
       → AlikeAnswers (Agree a (units text) w d) (search program text turns d ts) (search program text turns d us)
   threads-alike turns w d ts us h = end-alike (λ w d. Agree a (units text) w d) program text agree-kept turns w d ts us h
 
-pub agreeing-alike : AgreeingStatesEndAlike
+pub agreeing-alike : LiveDataDecideSearchResult
 agreeing-alike program text a acc turns d s t g = threads-alike program text a acc turns outermost d (running s ∷ []) (running t ∷ []) (g, tt)
 
-pub rows-alike : AgreeingThreadsEndAlike
+pub rows-alike : LiveDataDecideThreadListResult
 rows-alike program text a acc turns w d ts us h = threads-alike program text a acc turns w d ts us h

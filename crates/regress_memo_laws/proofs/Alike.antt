@@ -2,9 +2,10 @@
 use Rattle.std.proofs.Common.{◌≡◌, ℕ, zero, suc, ◌+◌, List, [], ◌∷◌, ◌++◌, Option, Some, None, Bool, refl, ap, subst, arith}
 use Rattle.regex_meaning.specs.Text.{Text, Direction}
 use Rattle.regex_meaning.specs.CompilationRelation.{Program}
-use Rattle.regress_machine.specs.Machine.{State, Thread, running, waiting, Next, goes, scans, ends, asks, stuck, Found, with_steps, after_lookaround, after_lookaround_search}
+use Rattle.regress_machine.specs.Machine.{State, Thread, running, waiting, Next, goes, scans, ends, asks, stuck, Found, with_steps, after_lookaround}
+use Rattle.regress_machine.specs.Machine.{after_lookaround_search}
 use Rattle.regress_machine.specs.Machine.{search_after_effect, act, search}
-use Rattle.regress_memo_laws.specs.Bisimulation.{Relation, AlikeThreads, AlikeAnswers, AlikeAsked, AlikeNext, IsBisimulation, AlikeThreadsEndAlike}
+use Rattle.regress_memo_laws.specs.ThreadBisimulation.{Relation, AlikeThreads, AlikeAnswers, AlikeAsked, AlikeNext, IsBisimulation, AlikeThreadsEndAlike}
 
 module _ (R : Relation) where
   pub alike-append : (ts us vs ws : List Thread) → AlikeThreads R ts us → AlikeThreads R vs ws → AlikeThreads R (ts ++ vs) (us ++ ws)

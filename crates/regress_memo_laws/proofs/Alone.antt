@@ -5,13 +5,14 @@ use Rattle.std.specs.Prelude.{IsSome}
 use Rattle.regex_meaning.specs.Text.{Text, Direction}
 use Rattle.regex_meaning.specs.CompilationRelation.{Program}
 use Rattle.regex_meaning.specs.CodeUnitOffsets.{units}
-use Rattle.regress_machine.specs.Machine.{State, Thread, running, waiting, Next, goes, scans, ends, asks, stuck, Found, result_without_threads, with_steps, after_lookaround}
+use Rattle.regress_machine.specs.Machine.{State, Thread, running, waiting, Next, goes, scans, ends, asks, stuck, Found, result_without_threads, with_steps}
+use Rattle.regress_machine.specs.Machine.{after_lookaround}
 use Rattle.regress_machine.specs.Machine.{after_lookaround_search, search_after_effect, act, search}
 use Rattle.regress_machine.proofs.Search.{search_more}
 use Rattle.regress_simulation.specs.ThreadSimulation.{FindsNothing}
 use Rattle.regress_simulation.proofs.Simulates.{nothing-ends}
-use Rattle.regress_memo_laws.specs.Bisimulation.{AlikeAnswers, AlikeEnds}
-use Rattle.regress_memo_laws.specs.Liveness.{Agree, outermost, FailuresAreShared}
+use Rattle.regress_memo_laws.specs.ThreadBisimulation.{AlikeAnswers, AlikeEnds}
+use Rattle.regress_memo_laws.specs.Liveness.{Agree, outermost, LiveDataDecideFailure}
 use Rattle.regress_memo_laws.proofs.Agree.{agreeing-alike}
 
 -- what the threads in front answer alone, and then those behind
@@ -122,7 +123,7 @@ module _ (program : Program) (text : Text) (d : Direction) where
         record { found = r.0; searches = r.1; end = r.2; few = omega (arith, sum, some); counted = λ x. cc };
   }
 
-pub failure-shared : FailuresAreShared
+pub failure-shared : LiveDataDecideFailure
 failure-shared program text a acc d s t g none = nothing-alone program text d t (λ turns f e. by turns f e (search program text turns d (running s ∷ [])) refl (agreeing-alike program text a acc turns d s t g))
   where
     ends-none : (x y : Option State) → AlikeEnds (Agree a (units text) outermost d) x y → None ≡ x → y ≡ None

@@ -7,18 +7,20 @@ use Rattle.regex_meaning.specs.Text.{Text, Direction, rightwards, leftwards}
 use Rattle.regex_meaning.specs.CodeUnitOffsets.{units}
 use Rattle.regex_meaning.specs.CompilationRelation.{Program, Insn, Lookahead, Lookbehind}
 use Rattle.regex_meaning.proofs.Options.{some-same}
-use Rattle.regress_machine.specs.Machine.{LoopData, State, Thread, running, waiting, asks, Found, after_lookaround, state_at_ip, state_at_next_ip, act_on, act, search, Next}
+use Rattle.regress_machine.specs.Machine.{LoopData, State, Thread, running, waiting, asks, Found, after_lookaround, state_with_ip, state_at_next_ip, act_on, act, search}
+use Rattle.regress_machine.specs.Machine.{Next}
 use Rattle.regress_machine.specs.Machine.{goes, scans, ends, stuck}
 use Rattle.regress_machine.proofs.Search.{asked-inner}
 use Rattle.regress_simulation.specs.ThreadSimulation.{Simulates}
 use Rattle.regress_simulation.proofs.Simulates.{simulates-asks, simulates-fewer}
-use Rattle.regress_memo_laws.specs.Bisimulation.{AlikeThreads, AlikeEnds, AlikeAnswers, AlikeNext}
+use Rattle.regress_memo_laws.specs.ThreadBisimulation.{AlikeThreads, AlikeEnds, AlikeAnswers, AlikeNext}
 use Rattle.regress_memo_laws.specs.Liveness.{Liveness, World, IsConsistentLookaround, IsSoundLivenessAt, SimilarAt, IsKeptIn, Agree, IsLivenessFor}
 use Rattle.regress_memo_laws.specs.GroupPreservingInsns.{SameGroups}
 use Rattle.regress_memo_laws.specs.DistinctLists.{IsIn}
 use Rattle.regress_memo_laws.specs.ThreadPotentials.{Shape, stands_there, has_shape}
 use Rattle.regress_memo_laws.specs.LoopDataKeyCodes.{Question, is_empty, how_many, number_of_possible_answers, bool_as_digit, answer_to_loop_question, code_of, plan_code}
-use Rattle.regress_memo_laws.specs.LookaroundContinuations.{LookaroundInsn, lookaround_at, GoesOn, SuccessGoesOn, TurnsAtHand, AsksOnly, ThreadsStayEquivalent}
+use Rattle.regress_memo_laws.specs.EquivalenceAfterSkippingSucceedingLookarounds.{LookaroundInsn, lookaround_at, GoesOn, SuccessGoesOn, TurnsAtHand, AsksOnly}
+use Rattle.regress_memo_laws.specs.EquivalenceAfterSkippingSucceedingLookarounds.{ThreadsStayEquivalent}
 use Rattle.regress_memo_laws.proofs.Agree.{agree-of, agree-here, agree-inside, contents-world, agree-kept, threads-alike}
 use Rattle.regress_memo_laws.proofs.Silent.{groups-stay}
 
@@ -32,11 +34,11 @@ module _ (program : Program) (text : Text) (a : Liveness) (d : Direction) (s : S
       subst (λ (x : LookaroundInsn). IsConsistentLookaround a s.ip x.continuation) (some-same (record { inner = leftwards; negate = negate; continuation = continuation }) look e) r
   looks-there _ e r = cc
 
-  pub asks-there : (o : Option Insn) → lookaround_at o ≡ Some look → act_on program text d o s ≡ asks look.inner look.negate (state_at_next_ip s) (state_at_ip look.continuation s)
+  pub asks-there : (o : Option Insn) → lookaround_at o ≡ Some look → act_on program text d o s ≡ asks look.inner look.negate (state_at_next_ip s) (state_with_ip look.continuation s)
   asks-there (Some (Lookahead negate start_group end_group continuation)) e =
-      ap (λ (x : LookaroundInsn). asks x.inner x.negate (state_at_next_ip s) (state_at_ip x.continuation s)) (some-same (record { inner = rightwards; negate = negate; continuation = continuation }) look e)
+      ap (λ (x : LookaroundInsn). asks x.inner x.negate (state_at_next_ip s) (state_with_ip x.continuation s)) (some-same (record { inner = rightwards; negate = negate; continuation = continuation }) look e)
   asks-there (Some (Lookbehind negate start_group end_group continuation)) e =
-      ap (λ (x : LookaroundInsn). asks x.inner x.negate (state_at_next_ip s) (state_at_ip x.continuation s)) (some-same (record { inner = leftwards; negate = negate; continuation = continuation }) look e)
+      ap (λ (x : LookaroundInsn). asks x.inner x.negate (state_at_next_ip s) (state_with_ip x.continuation s)) (some-same (record { inner = leftwards; negate = negate; continuation = continuation }) look e)
   asks-there _ e = cc
 
 -- ---- Behind contents
@@ -56,34 +58,34 @@ module _ (program : Program) (text : Text) (a : Liveness) (acc : IsLivenessFor p
       subst (λ o. AlikeEnds (Agree a (units text) inner-world inner) o o) ended found.ends
 
   behind-agrees : (e : State) → SameGroups e (state_at_next_ip s) → Agree a (units text) inner-world inner e e
-      → Agree a (units text) w d (state_at_ip continuation s) (record e { ip = continuation; pos = s.pos })
+      → Agree a (units text) w d (state_with_ip continuation s) (record e { ip = continuation; pos = s.pos })
   behind-agrees e same sound =
       agree-of a (units text) _ _ _ _ refl refl g.within (sym (ap length same.groups)) (λ h. sym same.groups) (sym (ap length same.starts))
       (λ id h. ap (λ xs. slice_get xs id) (sym same.starts)) (sym same.loops)
       (λ l h. subst (λ o. SimilarAt a (units text) d s.pos continuation l (slice_get s.loops l) o) (sym (unwritten l (looks.left l h))) (here.loops l h))
       (λ l h. still l (here.kept l h) (g.kept l h))
     where
-      here : Agree a (units text) w d (state_at_ip continuation s) (record s { ip = continuation; pos = s.pos })
+      here : Agree a (units text) w d (state_with_ip continuation s) (record s { ip = continuation; pos = s.pos })
       here = agree-here a (units text) w d s s g continuation looks.on
 
       unwritten : (l : ℕ) → a.writes (s.ip + 1) l ≡ false → slice_get e.loops l ≡ slice_get s.loops l
       unwritten l h = let k = sound.kept l (ap not h) in k.left
 
-      still : (l : ℕ) → IsKeptIn a (units text) w (state_at_ip continuation s) (record s { ip = continuation; pos = s.pos }) l → IsKeptIn a (units text) w s s l
-          → IsKeptIn a (units text) w (state_at_ip continuation s) (record e { ip = continuation; pos = s.pos }) l
+      still : (l : ℕ) → IsKeptIn a (units text) w (state_with_ip continuation s) (record s { ip = continuation; pos = s.pos }) l → IsKeptIn a (units text) w s s l
+          → IsKeptIn a (units text) w (state_with_ip continuation s) (record e { ip = continuation; pos = s.pos }) l
       still l k before = record { left = k.left; right = unwritten l (looks.writes l before.writes) ∙ k.right; writes = k.writes }
 
 success-goes-on : (program : Program) (text : Text) (a : Liveness) → SuccessGoesOn program text a
 success-goes-on program text a acc silent are w d s look is positive quiet g found turns vs f e =
     let looks = looks-there program text a d s look (slice_get program.insns s.ip) is (acc.right.right s.ip) in
     let asked = asks-there program text a d s look (slice_get program.insns s.ip) is
-    ∙ ap (λ b. asks look.inner b (state_at_next_ip s) (state_at_ip look.continuation s)) positive in
-    let x = asked-inner program text turns d look.inner false s (state_at_next_ip s) (state_at_ip look.continuation s) vs f asked e in
+    ∙ ap (λ b. asks look.inner b (state_at_next_ip s) (state_with_ip look.continuation s)) positive in
+    let x = asked-inner program text turns d look.inner false s (state_at_next_ip s) (state_with_ip look.continuation s) vs f asked e in
     by looks asked x.found.end turns x.found x.searches refl (found turns x.found x.searches)
   where
-    by : IsConsistentLookaround a s.ip look.continuation → act program text d s ≡ asks look.inner false (state_at_next_ip s) (state_at_ip look.continuation s)
+    by : IsConsistentLookaround a s.ip look.continuation → act program text d s ≡ asks look.inner false (state_at_next_ip s) (state_with_ip look.continuation s)
         → (end : Option State) (n : ℕ) (h : Found) → search program text n look.inner (running (state_at_next_ip s) ∷ []) ≡ Some h → h.end ≡ end → IsSome h.end
-        → GoesOn program text a w d (state_at_ip look.continuation s) s
+        → GoesOn program text a w d (state_with_ip look.continuation s) s
     by looks asked None n h searches ended some = absurd (none h.end ended some)
       where
         none : (o : Option State) → o ≡ None → IsSome o → ⊥
@@ -94,9 +96,9 @@ success-goes-on program text a acc silent are w d s look is positive quiet g fou
       agrees = behind-agrees program text a acc w d s g look.continuation looks look.inner u
           (groups-stay program text silent are look.inner n (state_at_next_ip s) u h quiet searches ended)
           (end-sound program text a acc w d s g look.continuation looks look.inner n h u searches ended);
-      simulates = subst (λ o. Simulates program text false d 1 (after_lookaround false (state_at_ip look.continuation s) o) (running s ∷ [])) ended
-          (simulates-fewer program text d 1 (1 + h.steps) (after_lookaround false (state_at_ip look.continuation s) h.end) (running s ∷ []) (omega arith)
-          (simulates-asks program text false d look.inner false s (state_at_next_ip s) (state_at_ip look.continuation s) n h asked searches));
+      simulates = subst (λ o. Simulates program text false d 1 (after_lookaround false (state_with_ip look.continuation s) o) (running s ∷ [])) ended
+          (simulates-fewer program text d 1 (1 + h.steps) (after_lookaround false (state_with_ip look.continuation s) h.end) (running s ∷ []) (omega arith)
+          (simulates-asks program text false d look.inner false s (state_at_next_ip s) (state_with_ip look.continuation s) n h asked searches));
     }
 
 -- ---- Turns

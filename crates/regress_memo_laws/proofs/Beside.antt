@@ -5,17 +5,18 @@ use Rattle.std.proofs.lemmas.List.Sums.{sum_by-cons, sum_by-append}
 use Rattle.regex_meaning.specs.Laws.{Each}
 use Rattle.regex_meaning.specs.Text.{Text, Direction, rightwards, leftwards}
 use Rattle.regex_meaning.specs.CompilationRelation.{Program}
-use Rattle.regress_machine.specs.Machine.{State, Thread, running, waiting, scans, first_runs_others_wait, act}
+use Rattle.regress_machine.specs.Machine.{State, Thread, running, waiting, scans, first_running_and_others_waiting, act}
 use Rattle.regress_simulation.specs.ThreadSimulation.{Simulates}
 use Rattle.regress_simulation.proofs.Simulates.{simulates-fewer, simulates-scans}
 use Rattle.regress_memo_laws.specs.Liveness.{Liveness}
 use Rattle.regress_memo_laws.specs.MemoSearch.{Key, tried, noted, tries, threads_in, entry_potential, GoesOnward, ReachesBySteps, gives, learns}
 use Rattle.regress_memo_laws.specs.ThreadPotentials.{Potentials, potential_of}
 use Rattle.regress_memo_laws.specs.LoopDataKeyCodes.{Question, plan_code, key_of}
-use Rattle.regress_memo_laws.specs.CharLoopMemoKeys.{plan_keys}
+use Rattle.regress_memo_laws.specs.UnboundedCharLoopMemoKeys.{plan_keys}
 use Rattle.regress_memo_laws.specs.AmortizedStepCosts.{potential_by, AreCostsCovered}
 use Rattle.regress_memo_laws.specs.MemoPlanChecksAndGuarantees.{IsPlan}
-use Rattle.regress_memo_laws.specs.BoundedCharLoopsAndLookarounds.{LimitedRunIsPaid, ScanIsPaid, EndIsPaid, ScanGives, BoundedCharLoopCostsCovered, BoundedLoopsAreMemoSteps, LookaroundCostsAreCovered}
+use Rattle.regress_memo_laws.specs.CappedCharLoopsAndLookarounds.{LimitedRunIsPaid, ScanIsPaid, EndIsPaid, ScanGives, BoundedLoopOrFailureCostsCovered}
+use Rattle.regress_memo_laws.specs.CappedCharLoopsAndLookarounds.{CharLoopScansAreMemoSteps, LookaroundCostsAreCovered}
 use Rattle.regress_memo_laws.proofs.Onward.{turns-move-on}
 use Rattle.regress_memo_laws.proofs.Paid.{tries-weigh, one-weighs}
 use Rattle.regress_memo_laws.proofs.Plans.{bare-tries, own}
@@ -35,7 +36,7 @@ module _ (w : Potentials) (ip : ℕ) where
       let same : suc (length ss) * (w.at ip + 1) ≡ (1 + length ss) * (w.at ip + 1) = ap (λ n. n * (w.at ip + 1)) (omega arith) in
       omega (arith, a, l, here, m, same)
 
-  in-turn-weigh : (ss : List State) → Each (λ t. t.ip ≡ ip) ss → sum_by (potential_of w) (first_runs_others_wait ss) ≤ length ss * (w.at ip + 1)
+  in-turn-weigh : (ss : List State) → Each (λ t. t.ip ≡ ip) ss → sum_by (potential_of w) (first_running_and_others_waiting ss) ≤ length ss * (w.at ip + 1)
   in-turn-weigh [] h = omega arith
   in-turn-weigh (s ∷ ss) h =
       let a = sum_by-cons (potential_of w) (running s) (map waiting ss) in
@@ -52,9 +53,9 @@ module _ (program : Program) (w : Potentials) (price : ℕ → ℕ) (ips : List 
 
   scan-weighs : (s : State) (least most : ℕ) (ss : List State) → LimitedRunIsPaid program w price ips least most s.ip
       → length ss ≤ most + 1 - least → Each (λ t. t.ip ≡ s.ip + 2) ss
-      → most + 1 + sum_by (entry_potential weight) (tries (first_runs_others_wait ss)) ≤ w.left s.ip
+      → most + 1 + sum_by (entry_potential weight) (tries (first_running_and_others_waiting ss)) ≤ w.left s.ip
   scan-weighs s least most ss enough few there =
-      let x = tries-weigh program w price ips (first_runs_others_wait ss) in
+      let x = tries-weigh program w price ips (first_running_and_others_waiting ss) in
       let y = in-turn-weigh w (s.ip + 2) ss there in
       let z = mul-le-mul_right (w.at (s.ip + 2) + 1) few in
       omega (arith, enough, x, y, z)
@@ -72,9 +73,9 @@ module _ (program : Program) (w : Potentials) (price : ℕ → ℕ) (ips : List 
         let x = one-weighs program w price ips (tried (running s)) in
         let y = scan-weighs s least most ss enough few there in
         let z = paid.recorded s.ip on in
-        let more = sum_by-append (entry_potential weight) (tries (first_runs_others_wait ss)) (noted k (running s ∷ []) ∷ []) in
+        let more = sum_by-append (entry_potential weight) (tries (first_running_and_others_waiting ss)) (noted k (running s ∷ []) ∷ []) in
         let one = one-weighs program w price ips (noted k (running s ∷ [])) in
-        let its = ap (sum_by cost) (keys-bare (tries (first_runs_others_wait ss)) (noted k (running s ∷ []) ∷ []) (bare-tries (first_runs_others_wait ss))) in
+        let its = ap (sum_by cost) (keys-bare (tries (first_running_and_others_waiting ss)) (noted k (running s ∷ []) ∷ []) (bare-tries (first_running_and_others_waiting ss))) in
         let last = sum_by-cons cost k [] in
         omega (arith, x, y, z, more, one, its, last, le);
   }
@@ -88,7 +89,7 @@ module _ (program : Program) (w : Potentials) (price : ℕ → ℕ) (ips : List 
         let x = one-weighs program w price ips (tried (running s)) in let y = paid.ready in omega (arith, x, y, le);
   }
 
-pub others-paid : BoundedCharLoopCostsCovered
+pub others-paid : BoundedLoopOrFailureCostsCovered
 others-paid = record {
   scans = λ program w price ips paid code s least most enough. scan-paid program w price ips paid code s least most enough;
   ends = λ program w price ips s. end-paid program w price ips s;
@@ -130,7 +131,7 @@ module _ (program : Program) (text : Text) (a : Liveness) (questions : ℕ → L
           (omega (arith, one)) (omega (arith, one)) r.new (scan-onward d n ts e);
     }
 
-pub scans-give : BoundedLoopsAreMemoSteps
+pub scans-give : CharLoopScansAreMemoSteps
 scans-give program text a questions way ips taken plan d memory s = scan-gives program text a questions way ips taken plan memory s d
 
 -- ---- Lookarounds

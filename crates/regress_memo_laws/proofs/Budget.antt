@@ -5,9 +5,9 @@ use Rattle.std.proofs.lemmas.List.Sums.{sum_by-cons}
 use Rattle.regex_meaning.specs.NumberListHelpers.{numbers_from}
 use Rattle.regex_meaning.specs.CodeUnitOffsets.{units}
 use Rattle.regress_memo_laws.specs.LoopDataKeyCodes.{plan_codes}
-use Rattle.regress_memo_laws.specs.CharLoopMemoKeys.{plan_keys}
-use Rattle.regress_memo_laws.specs.AttemptCounts.{ready_at}
-use Rattle.regress_memo_laws.specs.AllSearchesWorkBudget.{price_at_one, WorkBudgetsSuffice}
+use Rattle.regress_memo_laws.specs.UnboundedCharLoopMemoKeys.{plan_keys}
+use Rattle.regress_memo_laws.specs.AttemptsAndWorkOverSuccessiveMatches.{ready_at}
+use Rattle.regress_memo_laws.specs.DelayedMemoizationWorkBudget.{price_at_one, WorkBudgetsSuffice}
 use Rattle.regress_memo_laws.proofs.Starts.{attempts-few}
 use Rattle.regress_memo_laws.proofs.Plans.{plans-serve}
 use Rattle.regress_memo_laws.proofs.Tight.{sum-le}

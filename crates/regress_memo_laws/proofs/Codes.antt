@@ -14,8 +14,9 @@ use Rattle.regress_memo_laws.specs.MemoKeys.{SamePlace}
 use Rattle.regress_memo_laws.specs.DistinctLists.{IsIn}
 use Rattle.regress_memo_laws.specs.MemoSearch.{Key}
 use Rattle.regress_memo_laws.specs.ThreadPotentials.{Shape, is_way, stands_there, has_shape}
-use Rattle.regress_memo_laws.specs.LoopDataKeyCodes.{Question, is_empty, how_many, number_of_possible_answers, bool_as_digit, answer_to_loop_question, code_of, codes_of, plan_code, plan_codes, AsksAll}
-use Rattle.regress_memo_laws.specs.LoopDataKeyCodes.{HasSlotsOfProgram, key_of, own_row, ThreadHasKey, CodesDistinguish}
+use Rattle.regress_memo_laws.specs.LoopDataKeyCodes.{Question, is_empty, how_many, number_of_possible_answers, bool_as_digit, answer_to_loop_question, code_of, codes_of}
+use Rattle.regress_memo_laws.specs.LoopDataKeyCodes.{plan_code, plan_codes, AsksAll}
+use Rattle.regress_memo_laws.specs.LoopDataKeyCodes.{HasSlotsOfProgram, key_of, own_row, ThreadHasKey, KeyCodesDistinguishLiveLoopData}
 use Rattle.regress_memo_laws.proofs.Keys.{unasked-count}
 
 -- ---- Digits
@@ -132,7 +133,7 @@ module _ (program : Program) (text : Text) (a : Liveness) (questions : ℕ → L
         sound = (sound, tt);
       }
 
-pub plans-tell : CodesDistinguish
+pub plans-tell : KeyCodesDistinguishLiveLoopData
 plans-tell = record {
   tells = λ questions a top asks. record {
     tells = λ d s t p q place same. record {

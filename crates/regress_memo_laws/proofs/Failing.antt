@@ -4,10 +4,11 @@ use Rattle.std.proofs.Common.{append-nil}
 use Rattle.regex_meaning.specs.Text.{Text, Direction}
 use Rattle.regex_meaning.specs.CompilationRelation.{Program}
 use Rattle.regex_meaning.specs.CodeUnitOffsets.{units}
-use Rattle.regress_machine.specs.Machine.{State, Thread, running, waiting, Next, goes, scans, ends, asks, stuck, Found, result_without_threads, with_steps, after_lookaround}
+use Rattle.regress_machine.specs.Machine.{State, Thread, running, waiting, Next, goes, scans, ends, asks, stuck, Found, result_without_threads, with_steps}
+use Rattle.regress_machine.specs.Machine.{after_lookaround}
 use Rattle.regress_machine.specs.Machine.{after_lookaround_search, search_after_effect, act, search}
 use Rattle.regress_simulation.specs.ThreadSimulation.{Within, Simulates, FindNothing}
-use Rattle.regress_memo_laws.specs.Bisimulation.{AlikeAnswers, AlikeEnds, AlikeThreads}
+use Rattle.regress_memo_laws.specs.ThreadBisimulation.{AlikeAnswers, AlikeEnds, AlikeThreads}
 use Rattle.regress_memo_laws.specs.Liveness.{Liveness, IsLivenessFor, Agree, outermost}
 use Rattle.regress_memo_laws.proofs.Agree.{rows-alike}
 use Rattle.regress_memo_laws.proofs.Alone.{splits}

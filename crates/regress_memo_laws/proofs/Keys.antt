@@ -5,9 +5,10 @@ use Rattle.regex_meaning.specs.Text.{Direction}
 use Rattle.regex_meaning.specs.CodeUnitOffsets.{units}
 use Rattle.regress_machine.specs.Machine.{LoopData, State, running, Found, search}
 use Rattle.regress_simulation.proofs.Simulates.{simulates-goes, simulates-scans, simulates-fewer, simulates-then, simulates-before}
-use Rattle.regress_memo_laws.specs.Bisimulation.{AlikeAnswers}
+use Rattle.regress_memo_laws.specs.ThreadBisimulation.{AlikeAnswers}
 use Rattle.regress_memo_laws.specs.Liveness.{Liveness, outermost, IsSound, SimilarAt, Agree}
-use Rattle.regress_memo_laws.specs.MemoKeys.{IsSoundState, SameKey, AsksNoGroups, MemoKeysDecideFailure, PositionsDecideFailure, NoStateRecursWhilePending, RecordedFailuresAreRight}
+use Rattle.regress_memo_laws.specs.MemoKeys.{IsSoundState, SameKey, AsksNoGroups, MemoKeysDecideFailure, PositionsDecideFailure, NoStateRecursWhilePending}
+use Rattle.regress_memo_laws.specs.MemoKeys.{RecordedFailuresAreRight}
 use Rattle.regress_memo_laws.proofs.Agree.{BothThere, both-there, agreeing-alike}
 use Rattle.regress_memo_laws.proofs.Alone.{splits, failure-shared}
 

@@ -12,7 +12,8 @@ use Rattle.regex_meaning.specs.OutcomesWithStepTicks.{nearest_first}
 use Rattle.regex_meaning.specs.CompilationRelation.{Program, LoopFields, Insn, Goal, JustFail, ByteSeq, StartOfLine, EndOfLine, WordBoundary}
 use Rattle.regex_meaning.specs.CompilationRelation.{WordBoundaryUnicodeICase, Alt, Jump, EnterLoop, LoopAgain, ResetCaptureGroup, Loop1CharBody}
 use Rattle.regex_meaning.specs.CompilationRelation.{BeginCaptureGroup, EndCaptureGroup, BackRef, Lookahead, Lookbehind}
-use Rattle.regress_machine.specs.Machine.{State, Thread, running, waiting, Next, goes, state_at_ip, with_some, go, go_if, range_swapped_if_leftwards, test_of, on_to, moved_by}
+use Rattle.regress_machine.specs.Machine.{State, Thread, running, waiting, Next, goes, state_with_ip, with_some, go, go_if, range_swapped_if_leftwards, test_of, on_to}
+use Rattle.regress_machine.specs.Machine.{moved_by}
 use Rattle.regress_machine.specs.Machine.{read_one, stay_if, read_group, run_states, scan, act_on, act}
 use Rattle.regress_machine.proofs.Leaving.{IsOfThread, IsOfNext, of-in_turn, of-with_some, of-only_if, of-go_if, of-map, of-loop_turn, of-again_at}
 use Rattle.regress_memo_laws.specs.LoopDataKeyCodes.{HasSlotsOfProgram}
@@ -26,7 +27,7 @@ module _ (program : Program) (text : Text) (d : Direction) (s : State) (is : Has
   stays : (ip pos : ℕ) → Good (record s { ip = ip; pos = pos })
   stays ip pos = record { groups = is.groups; starts = is.starts; loops = is.loops }
 
-  at : (ip : ℕ) → Good (state_at_ip ip s)
+  at : (ip : ℕ) → Good (state_with_ip ip s)
   at ip = record { groups = is.groups; starts = is.starts; loops = is.loops }
 
   on : (p : ℕ) → Good (on_to text p s)

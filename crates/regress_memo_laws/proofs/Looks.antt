@@ -9,17 +9,18 @@ use Rattle.regex_meaning.specs.Text.{Text, Direction}
 use Rattle.regex_meaning.specs.CodeUnitOffsets.{units}
 use Rattle.regex_meaning.specs.CompilationRelation.{Program}
 use Rattle.regress_machine.specs.Machine.{State, Thread, running, Next, goes, scans, ends, asks, Found, after_lookaround, act, search}
-use Rattle.regress_machine.specs.SearchResults.{state_before_first_insn}
+use Rattle.regress_machine.specs.SearchFindsFirstOutcomeAtPlace.{state_before_first_insn}
 use Rattle.regress_simulation.specs.ThreadSimulation.{Simulates}
 use Rattle.regress_simulation.proofs.Simulates.{within-start, simulates-same, simulates-asks-any}
 use Rattle.regress_machine.proofs.Search.{search_more}
 use Rattle.regress_simulation.proofs.Left.{left-ends}
-use Rattle.regress_memo_laws.specs.Bisimulation.{AlikeEnds, AlikeNext}
+use Rattle.regress_memo_laws.specs.ThreadBisimulation.{AlikeEnds, AlikeNext}
 use Rattle.regress_memo_laws.specs.Liveness.{Liveness, World, IsLivenessFor, Agree, outermost}
 use Rattle.regress_memo_laws.specs.DistinctLists.{IsIn, IsNew, AreDistinct, AreIn}
 use Rattle.regress_memo_laws.specs.MemoSearch.{Key, Keys, Entry, tried, kept, noted, IsBare, tries, threads_in, keys_in, FindEnd, KeyStandsFor, AreKeys, Succeeds}
 use Rattle.regress_memo_laws.specs.MemoSearch.{IsKnown, known_to_reach, AreNoted, AreAnswered, HoldsInvariant, ReachesBySteps, at_first, gives, reaches, learns}
-use Rattle.regress_memo_laws.specs.LookaroundsWithSharedMemo.{LookaroundsLearnKeys, FoundEndMakesRecordsBelowSucceed, SoundStatesLeaveSoundThreads, KnownResultsDecideLookarounds}
+use Rattle.regress_memo_laws.specs.LookaroundsWithSharedMemo.{LookaroundsLearnKeys, FoundEndMakesRecordsBelowSucceed, SoundStatesLeaveSoundThreads}
+use Rattle.regress_memo_laws.specs.LookaroundsWithSharedMemo.{KnownResultsDecideLookarounds}
 use Rattle.regress_memo_laws.proofs.Agree.{agree-of, agree-kept}
 use Rattle.regress_memo_laws.proofs.Failing.{same-answers, row-ends}
 use Rattle.regress_memo_laws.proofs.Distinct.{Each-left, Each-right, distinct-right, distinct-moved}

@@ -13,7 +13,7 @@ use Rattle.regress_machine.specs.Machine.{Thread}
 use Rattle.regress_memo_laws.specs.Liveness.{Liveness, IsLivenessFor}
 use Rattle.regress_memo_laws.specs.DistinctLists.{IsIn}
 use Rattle.regress_memo_laws.specs.MemoSearch.{Key, Keys, Entry, tried, kept, noted, at_of, AreOnward, keys_in, AreKeys, IsMemory}
-use Rattle.regress_memo_laws.specs.AllMatchesWork.{Searched, at_first, failed, found, AllMatchesAreBounded, AllMatchesWorkIsLinear}
+use Rattle.regress_memo_laws.specs.AllMatchesWork.{Searched, at_first, failed, found, AllMatchesWorkIsBounded, AllMatchesWorkIsLinear}
 use Rattle.regress_memo_laws.specs.ThreadPotentials.{place_keys}
 use Rattle.regress_memo_laws.proofs.Weights.{places-keys}
 use Rattle.regress_memo_laws.proofs.Distinct.{Each-left, Each-right, distinct-left, distinct-right, price-few}
@@ -169,7 +169,7 @@ module _ (program : Program) (text : Text) (a : Liveness) (keys : Keys) (acc : I
       let two = times-two price keys.all in
       omega (arith, few, known, thrown, two)
 
-pub matches-together : AllMatchesAreBounded
+pub matches-together : AllMatchesWorkIsBounded
 matches-together program text a keys acc are price weight from work ready memory s = together program text a keys acc are price weight from work ready memory s
 
 pub linear-in-places : AllMatchesWorkIsLinear

@@ -7,14 +7,15 @@ use Rattle.regex_meaning.specs.NumberListHelpers.{numbers_from}
 use Rattle.regex_meaning.specs.Text.{Text, Direction, moved}
 use Rattle.regex_meaning.specs.CompilationRelation.{Program}
 use Rattle.regress_machine.specs.Machine.{State, Thread, running, waiting}
-use Rattle.regress_simulation.specs.CharLoopExitStates.{behind, fewest_first}
+use Rattle.regress_simulation.specs.CharLoopExitStatesByPreference.{behind, fewest_first}
 use Rattle.regress_memo_laws.specs.Liveness.{Liveness}
 use Rattle.regress_memo_laws.specs.MemoSearch.{Key, Entry, tried, kept, noted, tries, entry_potential}
 use Rattle.regress_memo_laws.specs.ThreadPotentials.{Potentials, potential_of}
 use Rattle.regress_memo_laws.specs.LoopDataKeyCodes.{Question, key_of}
-use Rattle.regress_memo_laws.specs.CharLoopThreads.{passing, greedy_loop_threads, pending_loop_threads}
-use Rattle.regress_memo_laws.specs.CharLoopSteps.{key_behind}
-use Rattle.regress_memo_laws.specs.AmortizedStepCosts.{potential_by, IsCostCovered, AreCostsCovered, GreedyLoopIsCovered, LazyLoopIsCovered, ThreadIsPaid, places_from, key_on, RunTurnsArePaid}
+use Rattle.regress_memo_laws.specs.CharLoopExitThreadLists.{passing, greedy_loop_threads, pending_loop_threads}
+use Rattle.regress_memo_laws.specs.UnboundedCharLoopsAsMemoSteps.{key_behind}
+use Rattle.regress_memo_laws.specs.AmortizedStepCosts.{potential_by, IsCostCovered, AreCostsCovered, GreedyLoopIsCovered, LazyLoopIsCovered, ThreadIsPaid, places_from}
+use Rattle.regress_memo_laws.specs.AmortizedStepCosts.{key_on, RunTurnsArePaid}
 use Rattle.regress_memo_laws.specs.AmortizedStepCosts.{StepCostsAreCovered}
 use Rattle.regress_memo_laws.proofs.Turns.{keys-bare, keys-tries}
 use Rattle.regress_memo_laws.proofs.Plans.{bare-tries}

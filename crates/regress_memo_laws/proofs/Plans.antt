@@ -4,15 +4,16 @@ use Rattle.std.proofs.Common.{add-one, slice_get}
 use Rattle.regex_meaning.specs.Text.{Text, Direction, rightwards, leftwards}
 use Rattle.regex_meaning.specs.CodeUnitOffsets.{units, place_at}
 use Rattle.regex_meaning.specs.CompilationRelation.{Program}
-use Rattle.regress_machine.specs.Machine.{State, Thread, running, waiting, goes, asks, after_lookaround, state_at_ip, state_at_next_ip, act, test_of}
+use Rattle.regress_machine.specs.Machine.{State, Thread, running, waiting, goes, asks, after_lookaround, state_with_ip, state_at_next_ip, act, test_of}
 use Rattle.regress_simulation.specs.ThreadSimulation.{Simulates}
 use Rattle.regress_simulation.proofs.Simulates.{simulates-goes, simulates-waits, simulates-asks}
 use Rattle.regress_memo_laws.specs.Liveness.{Liveness}
 use Rattle.regress_memo_laws.specs.MemoSearch.{Key, Keys, tried, noted, tries, threads_in, IsBare, GoesOnward, KeyStandsFor, IsMemoStep}
 use Rattle.regress_memo_laws.specs.LoopDataKeyCodes.{Question, plan_code, plan_codes, key_of}
-use Rattle.regress_memo_laws.specs.CharLoopMemoKeys.{row_by, plan_rows, plan_keys, char_loop_greediness_at, insn_before}
-use Rattle.regress_memo_laws.specs.LookaroundContinuations.{LookaroundInsn, lookaround_at}
-use Rattle.regress_memo_laws.specs.MemoPlanChecksAndGuarantees.{IsPlan, IsRecorded, ThreadGives, LookGives, CheckedMemoPlansAreSound, taken_at, NoStepBelowGreedyCharLoopRecords}
+use Rattle.regress_memo_laws.specs.UnboundedCharLoopMemoKeys.{row_by, plan_rows, plan_keys, char_loop_greediness_at, insn_before}
+use Rattle.regress_memo_laws.specs.EquivalenceAfterSkippingSucceedingLookarounds.{LookaroundInsn, lookaround_at}
+use Rattle.regress_memo_laws.specs.MemoPlanChecksAndGuarantees.{IsPlan, IsRecorded, ThreadGives, LookGives, CheckedMemoPlansAreSound, taken_at}
+use Rattle.regress_memo_laws.specs.MemoPlanChecksAndGuarantees.{ZeroOrOneStepBelowRecord}
 use Rattle.regress_memo_laws.proofs.Behind.{asks-there}
 use Rattle.regress_memo_laws.proofs.Codes.{plans-tell}
 use Rattle.regress_memo_laws.proofs.Looks.{looks-decided}
@@ -83,7 +84,7 @@ module _ (program : Program) (text : Text) (a : Liveness) (questions : ℕ → L
 
       module _ (look : LookaroundInsn) (is : lookaround_at (slice_get program.insns s.ip) ≡ Some look) where
         abbrev after-it : State
-        after-it = state_at_ip look.continuation s
+        after-it = state_with_ip look.continuation s
 
         asked : act program text d s ≡ asks look.inner look.negate (state_at_next_ip s) after-it
         asked = asks-there program text a d s look (slice_get program.insns s.ip) is
@@ -98,7 +99,7 @@ module _ (program : Program) (text : Text) (a : Liveness) (questions : ℕ → L
               ((looks-decided program text d).reaches look.inner s (state_at_next_ip s) after-it (asked ∙ ap (λ b. asks look.inner b (state_at_next_ip s) after-it) negative) found) (none-onward d);
         }
 
-pub plans-take : NoStepBelowGreedyCharLoopRecords
+pub plans-take : ZeroOrOneStepBelowRecord
 plans-take = record {
   threads = λ program k e. ap taken_at e;
   greedy = λ program ip at code e. ap (λ i. taken_at (char_loop_greediness_at (insn_before program i))) (add-one ip) ∙ ap taken_at e;

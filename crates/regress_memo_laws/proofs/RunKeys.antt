@@ -10,22 +10,24 @@ use Rattle.regex_meaning.specs.CodeUnitOffsets.{HasRisingPlaceOffsets, offset, p
 use Rattle.regex_meaning.specs.CompilationRelation.{Program}
 use Rattle.regex_meaning.proofs.Each.{Each, Each-map, Each-reverse}
 use Rattle.regex_meaning.proofs.TextLemmas.{place_at-offset}
-use Rattle.regress_machine.specs.Machine.{LoopData, State, Thread, waiting, first_runs_others_wait, test_of}
+use Rattle.regress_machine.specs.Machine.{LoopData, State, Thread, waiting, first_running_and_others_waiting, test_of}
 use Rattle.regress_machine.proofs.Beside.{moved-zero}
 use Rattle.regress_machine.proofs.Inside.{offset-inside}
 use Rattle.regress_machine.proofs.Run.{numbers_between}
-use Rattle.regress_simulation.specs.CharLoopExitStates.{behind, fewest_first, most_first}
+use Rattle.regress_simulation.specs.CharLoopExitStatesByPreference.{behind, fewest_first, most_first}
 use Rattle.regress_simulation.proofs.Runs.{most-parts}
-use Rattle.regress_memo_laws.specs.Bisimulation.{Relation, AlikeThreads}
-use Rattle.regress_memo_laws.specs.Liveness.{Liveness, IsOffsetPassedOrCurrent, IsSound, Agree, outermost}
+use Rattle.regress_memo_laws.specs.ThreadBisimulation.{Relation, AlikeThreads}
+use Rattle.regress_memo_laws.specs.Liveness.{Liveness, IsNotAheadInDirection, IsSound, Agree, outermost}
 use Rattle.regress_memo_laws.specs.MemoKeys.{IsSoundState}
 use Rattle.regress_memo_laws.specs.DistinctLists.{IsIn}
 use Rattle.regress_memo_laws.specs.MemoSearch.{Key, Keys, AreSound}
 use Rattle.regress_memo_laws.specs.ThreadPotentials.{Shape, stands_there, has_shape}
-use Rattle.regress_memo_laws.specs.LoopDataKeyCodes.{Question, is_empty, how_many, number_of_possible_answers, bool_as_digit, answer_to_loop_question, code_of, codes_of, plan_code, plan_codes, HasSlotsOfProgram}
-use Rattle.regress_memo_laws.specs.CharLoopThreads.{passing, greedy_loop_threads, pending_loop_threads}
-use Rattle.regress_memo_laws.specs.CharLoopMemoKeys.{answer_on, code_on, first_runs, shape_on, run_row, char_loop_greediness_at, insn_before, row_by, plan_rows, CharLoopRecords}
-use Rattle.regress_memo_laws.specs.CharLoopMemoKeys.{run_key, plan_keys, IsOfPlan, RunHasKeys, CharLoopsHaveKeys}
+use Rattle.regress_memo_laws.specs.LoopDataKeyCodes.{Question, is_empty, how_many, number_of_possible_answers, bool_as_digit, answer_to_loop_question, code_of, codes_of}
+use Rattle.regress_memo_laws.specs.LoopDataKeyCodes.{plan_code, plan_codes, HasSlotsOfProgram}
+use Rattle.regress_memo_laws.specs.CharLoopExitThreadLists.{passing, greedy_loop_threads, pending_loop_threads}
+use Rattle.regress_memo_laws.specs.UnboundedCharLoopMemoKeys.{answer_on, code_on, first_runs, shape_on, run_row, char_loop_greediness_at, insn_before, row_by, plan_rows}
+use Rattle.regress_memo_laws.specs.UnboundedCharLoopMemoKeys.{CharLoopRecords}
+use Rattle.regress_memo_laws.specs.UnboundedCharLoopMemoKeys.{run_key, plan_keys, IsOfPlan, RunHasKeys, CharLoopsHaveKeys}
 use Rattle.regress_memo_laws.proofs.Agree.{moves-on, not-here}
 use Rattle.regress_memo_laws.proofs.Keys.{sound-state}
 use Rattle.regress_memo_laws.proofs.Runs.{passing-left}
@@ -56,7 +58,7 @@ module _ (program : Program) (code : State → ℕ) (f : ℕ → Shape) (b : ℕ
   waiting-row [] h = refl
   waiting-row (n ∷ ns) h = and-both _ _ (ap not h.0.1) (and-both _ _ h.0.0 (waiting-row ns h.1))
 
-  row-in-turn : (ns : List ℕ) → Each Stands ns → has_shape program code (first_runs (map f ns)) (first_runs_others_wait (map b ns)) ≡ true
+  row-in-turn : (ns : List ℕ) → Each Stands ns → has_shape program code (first_runs (map f ns)) (first_running_and_others_waiting (map b ns)) ≡ true
   row-in-turn [] h = refl
   row-in-turn (n ∷ ns) h = and-both _ _ h.0.0 (waiting-row ns h.1)
 
@@ -67,7 +69,7 @@ module _ (R : Relation) where
   last-waits [] y h = h.0
   last-waits (x ∷ xs) y h = last-waits xs y h.1
 
-  last-in-turn : (xs : List State) (y : State) → AlikeThreads R (first_runs_others_wait (xs ++ y ∷ [])) (first_runs_others_wait (xs ++ y ∷ [])) → R y y
+  last-in-turn : (xs : List State) (y : State) → AlikeThreads R (first_running_and_others_waiting (xs ++ y ∷ [])) (first_running_and_others_waiting (xs ++ y ∷ [])) → R y y
   last-in-turn [] y h = h.0
   last-in-turn (x ∷ xs) y h = last-waits xs y h.1
 
@@ -100,7 +102,7 @@ module _ (program : Program) (text : Text) (a : Liveness) (d : Direction) (test 
       let few = passing-left text test d place within in
       let m = moves-on text is d (offset text place) place n (place_at-offset text place is within) (omega (arith, few, le)) in
       let here : (at-place 0).pos ≡ offset text place = ap (offset text) (moved-zero text d place) in
-      not-here d x.entry (offset text place) (at-place n).pos (subst (λ p. IsOffsetPassedOrCurrent d x.entry p) here sound.passed) m.passed (m.further (lt-ltb 0 n (omega (arith, some))))
+      not-here d x.entry (offset text place) (at-place n).pos (subst (λ p. IsNotAheadInDirection d x.entry p) here sound.passed) m.passed (m.further (lt-ltb 0 n (omega (arith, some))))
 
   module _ (sound : IsSoundState a (units text) d (at-place 0)) (asked : Asked) where
     answer-further : (n : ℕ) → (n ≡ 0 → ⊥) → n ≤ passing text test d place → (q : Question) → IsIn q behind-it → answer_to_loop_question q (at-place n) ≡ answer_on q (answer_to_loop_question q (at-place 0))
@@ -127,7 +129,7 @@ module _ (program : Program) (text : Text) (a : Liveness) (d : Direction) (test 
 
     greedy-stands : has_shape program code (row true) (greedy_loop_threads text test d 0 place s) ≡ true
     greedy-stands =
-        ap (λ m. has_shape program code (row true) (first_runs_others_wait (most_first text d place s 0 m))) count-is
+        ap (λ m. has_shape program code (row true) (first_running_and_others_waiting (most_first text d place s 0 m))) count-is
         ∙ row-in-turn program code shapes at-place _ (Each-reverse _ _ all-stand)
 
     lazy-stands : has_shape program code (row false) (pending_loop_threads text test d 0 place s) ≡ true
@@ -175,7 +177,7 @@ module _ (program : Program) (text : Text) (a : Liveness) (d : Direction) (test 
         let one_more : passing text test d place + 1 - 0 ≡ 1 + passing text test d place = omega arith in
         let split : most_first text d place s 0 (passing text test d place + 1 - 0) ≡ most_first text d place s 1 (passing text test d place) ++ at-place 0 ∷ [] =
         ap (most_first text d place s 0) one_more ∙ most-parts text d place s 0 1 (passing text test d place) in
-        sound-state a (units text) d (at-place 0) (last-in-turn Agreeing (most_first text d place s 1 (passing text test d place)) (at-place 0) (subst (λ us. AlikeThreads Agreeing (first_runs_others_wait us) (first_runs_others_wait us)) split h))
+        sound-state a (units text) d (at-place 0) (last-in-turn Agreeing (most_first text d place s 1 (passing text test d place)) (at-place 0) (subst (λ us. AlikeThreads Agreeing (first_running_and_others_waiting us) (first_running_and_others_waiting us)) split h))
 
     -- and the first one of a lazy run
     lazy-nearest : AreSound program text a keys d (pending_loop_threads text test d 0 place s) → IsSoundState a (units text) d (at-place 0)

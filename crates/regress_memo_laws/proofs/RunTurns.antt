@@ -10,22 +10,22 @@ use Rattle.regex_meaning.specs.CodeUnitOffsets.{HasRisingPlaceOffsets, offset, u
 use Rattle.regex_meaning.specs.CompilationRelation.{Program}
 use Rattle.regex_meaning.proofs.Each.{Each, Each-map, Each-reverse}
 use Rattle.regex_meaning.proofs.TextLemmas.{place_at-offset, offset-place_at}
-use Rattle.regress_machine.specs.Machine.{State, Thread, running, waiting, scans, first_runs_others_wait, act}
+use Rattle.regress_machine.specs.Machine.{State, Thread, running, waiting, scans, first_running_and_others_waiting, act}
 use Rattle.regress_machine.proofs.Beside.{moved-zero}
 use Rattle.regress_machine.proofs.Run.{numbers_between}
 use Rattle.regress_simulation.specs.ThreadSimulation.{Simulates, FindNothing}
-use Rattle.regress_simulation.specs.CharLoopExitStates.{behind, fewest_first, most_first}
+use Rattle.regress_simulation.specs.CharLoopExitStatesByPreference.{behind, fewest_first, most_first}
 use Rattle.regress_simulation.proofs.Simulates.{simulates-scans, simulates-waits, simulates-before, simulates-same}
 use Rattle.regress_simulation.proofs.Runs.{behind-from}
-use Rattle.regress_memo_laws.specs.Bisimulation.{Relation, AlikeThreads}
-use Rattle.regress_memo_laws.specs.Liveness.{Liveness, IsLivenessFor, IsOffsetPassedOrCurrent, Agree, outermost}
+use Rattle.regress_memo_laws.specs.ThreadBisimulation.{Relation, AlikeThreads}
+use Rattle.regress_memo_laws.specs.Liveness.{Liveness, IsLivenessFor, IsNotAheadInDirection, Agree, outermost}
 use Rattle.regress_memo_laws.specs.DistinctLists.{IsNew, AreDistinct}
 use Rattle.regress_memo_laws.specs.MemoSearch.{Key, Keys, Entry, tried, kept, noted, keys_in, at_of, AreOnward, GoesOnward, KeyStandsFor, AreSound, IsMemoStep}
 use Rattle.regress_memo_laws.specs.ThreadPotentials.{each_noted, AreOfEach}
 use Rattle.regress_memo_laws.specs.LoopDataKeyCodes.{Question, HasSlotsOfProgram}
-use Rattle.regress_memo_laws.specs.CharLoopThreads.{passing, greedy_loop_threads, lazy_loop_threads, pending_loop_threads}
-use Rattle.regress_memo_laws.specs.CharLoopMemoKeys.{CharLoopRecords, run_key, plan_keys}
-use Rattle.regress_memo_laws.specs.CharLoopSteps.{key_behind, placed, AreUnknown, AtCharLoop, CharLoopsAreMemoSteps}
+use Rattle.regress_memo_laws.specs.CharLoopExitThreadLists.{passing, greedy_loop_threads, lazy_loop_threads, pending_loop_threads}
+use Rattle.regress_memo_laws.specs.UnboundedCharLoopMemoKeys.{CharLoopRecords, run_key, plan_keys}
+use Rattle.regress_memo_laws.specs.UnboundedCharLoopsAsMemoSteps.{key_behind, placed, AreUnknown, AtCharLoop, UnboundedCharLoopsAreMemoSteps}
 use Rattle.regress_memo_laws.proofs.Agree.{Moves, moves-on}
 use Rattle.regress_memo_laws.proofs.Looks.{soundness-stays}
 use Rattle.regress_memo_laws.proofs.Runs.{passing-left, passing-on, runs-leave, runs-begin, lazy-runs-go-on}
@@ -75,10 +75,10 @@ module _ (text : Text) (is : HasRisingPlaceOffsets text) (test : ℕ → Bool) w
       (moves-on text is d (offset text q) q n (place_at-offset text q is within) (omega (arith, sum, left', few)))
 
   pub run-onward : (d : Direction) (m M p : ℕ) → p ≤ last_place text → m ≤ M → M ≤ passing text test d p
-      → IsOffsetPassedOrCurrent d (offset text (moved text d m p)) (offset text (moved text d M p))
+      → IsNotAheadInDirection d (offset text (moved text d m p)) (offset text (moved text d M p))
   run-onward d m M p inside le few =
       let e : m + (M - m) ≡ M = omega (arith, le) in
-      subst (λ n. IsOffsetPassedOrCurrent d (offset text (moved text d m p)) (offset text (moved text d n p))) e (way-on d m (M - m) p inside (omega (arith, le, few))).passed
+      subst (λ n. IsNotAheadInDirection d (offset text (moved text d m p)) (offset text (moved text d n p))) e (way-on d m (M - m) p inside (omega (arith, le, few))).passed
 
   run-apart : (d : Direction) (m M p : ℕ) → p ≤ last_place text → m < M → M ≤ passing text test d p
       → offset text (moved text d m p) ≡ offset text (moved text d M p) → ⊥
@@ -113,7 +113,7 @@ module _ (text : Text) (is : HasRisingPlaceOffsets text) (test : ℕ → Bool) (
       let one : 1 ≡ passing text test d q + 1 - 0 = omega (arith, sum, same) in
       let zero_on : n ≡ n + 0 = omega arith in
       let here : behind text d p s n ≡ behind text d q s 0 = ap (behind text d p s) zero_on ∙ behind-from text d p s n 0 in
-      ap (λ u. running u ∷ []) here ∙ ap (λ m. first_runs_others_wait (most_first text d q s 0 m)) one
+      ap (λ u. running u ∷ []) here ∙ ap (λ m. first_running_and_others_waiting (most_first text d q s 0 m)) one
 
 module _ (program : Program) (text : Text) (a : Liveness) (questions : ℕ → List Question) (way : ℕ → Direction) (ips : List ℕ) (taken : Key → ℕ) (test : ℕ → Bool) (s : State) (is : HasRisingPlaceOffsets text) (p : ℕ) (inside : p ≤ last_place text) where
   abbrev keys : Keys
@@ -328,7 +328,7 @@ module _ (program : Program) (text : Text) (a : Liveness) (questions : ℕ → L
       greedy-none less =
           let none : passing text test d p + 1 - least ≡ 0 = omega (arith, less) in
           (turns-give program text a keys d memory).passed (1 + (passing text test d p + 1)) [] (running s ∷ []) tt
-          (subst (λ m. Simulates program text false d (1 + (passing text test d p + 1)) (first_runs_others_wait (most_first text d p s least m)) (running s ∷ [])) none whole)
+          (subst (λ m. Simulates program text false d (1 + (passing text test d p + 1)) (first_running_and_others_waiting (most_first text d p s least m)) (running s ∷ [])) none whole)
           (onward-none begins-here d)
 
     -- ---- Lazy runs
@@ -356,7 +356,7 @@ module _ (program : Program) (text : Text) (a : Liveness) (questions : ℕ → L
       lazy-none less =
           let none : passing text test d p + 1 - least ≡ 0 = omega (arith, less) in
           (turns-give program text a keys d memory).passed (1 + (passing text test d p + 1)) [] (running s ∷ []) tt
-          (subst (λ m. Simulates program text false d (1 + (passing text test d p + 1)) (first_runs_others_wait (fewest_first text d p s least m)) (running s ∷ [])) none lazy-whole)
+          (subst (λ m. Simulates program text false d (1 + (passing text test d p + 1)) (first_running_and_others_waiting (fewest_first text d p s least m)) (running s ∷ [])) none lazy-whole)
           (onward-none lazy-begins d)
 
   -- what waits is come back to
@@ -395,7 +395,7 @@ module _ (program : Program) (text : Text) (a : Liveness) (questions : ℕ → L
 
 -- ---- The law
 
-pub runs-give : CharLoopsAreMemoSteps
+pub runs-give : UnboundedCharLoopsAreMemoSteps
 runs-give = record {
   greedy = λ program text a questions way ips taken d test s memory place least most acc at none_below.
       let inside = (offset-place_at text s.pos place acc.is_text at.at).1 in

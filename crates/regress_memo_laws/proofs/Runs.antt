@@ -7,13 +7,14 @@ use Rattle.std.proofs.lemmas.List.{map-append}
 use Rattle.std.proofs.lemmas.List.Sums.{prefix_len-le-length}
 use Rattle.regex_meaning.specs.Text.{Text, Direction, last_place, moved, characters_ahead}
 use Rattle.regex_meaning.specs.OutcomesWithStepTicks.{nearest_first}
-use Rattle.regress_machine.specs.Machine.{State, running, waiting, scans, first_runs_others_wait, run_states}
+use Rattle.regress_machine.specs.Machine.{State, running, waiting, scans, first_running_and_others_waiting, run_states}
 use Rattle.regress_machine.proofs.Beside.{Beside, nothing_left, one_more, beside, length-nearest, moved-suc, moved-zero}
-use Rattle.regress_simulation.specs.CharLoopExitStates.{behind, fewest_first, most_first}
+use Rattle.regress_simulation.specs.CharLoopExitStatesByPreference.{behind, fewest_first, most_first}
 use Rattle.regress_simulation.proofs.Runs.{most-parts, most-first, behind-from, fewest-from, run-turn}
-use Rattle.regress_memo_laws.specs.CharLoopThreads.{passing, greedy_loop_threads, lazy_loop_threads, LazyRunGoesOn, CharLoopsLeaveThreads, GreedyThreadsSplitAtLaterPlace, LazyLoopsUnfold}
+use Rattle.regress_memo_laws.specs.CharLoopExitThreadLists.{passing, greedy_loop_threads, lazy_loop_threads, LazyRunGoesOn, CharLoopInsnYieldsExitThreads}
+use Rattle.regress_memo_laws.specs.CharLoopExitThreadLists.{GreedyThreadsSplitAtLaterPlace, LazyCharLoopThreadsUnfold}
 
-turn-joined : (xs ys : List State) → (xs ≡ [] → ⊥) → first_runs_others_wait (xs ++ ys) ≡ first_runs_others_wait xs ++ map waiting ys
+turn-joined : (xs ys : List State) → (xs ≡ [] → ⊥) → first_running_and_others_waiting (xs ++ ys) ≡ first_running_and_others_waiting xs ++ map waiting ys
 turn-joined [] ys some = absurd (some refl)
 turn-joined (x ∷ xs) ys some = ap (λ ts. running x ∷ ts) (map-append waiting xs ys)
 
@@ -57,7 +58,7 @@ module _ (text : Text) (test : ℕ → Bool) (d : Direction) where
 
     lazy-goes-on : place ≤ last_place text → LazyRunGoesOn text test d place s
     lazy-goes-on inside = record {
-      begins = λ least le. ap first_runs_others_wait (counted least le);
+      begins = λ least le. ap first_running_and_others_waiting (counted least le);
       waits = λ n le.
           let sum = passing-on n place inside le in
           let same : passing text test d place + 1 - n ≡ passing text test d (moved text d n place) + 1 - 0 = omega (arith, sum, le) in
@@ -74,16 +75,16 @@ module _ (text : Text) (test : ℕ → Bool) (d : Direction) where
             let more : passing text test d place + 1 - least ≡ suc (passing text test d place + 1 - (least + 1)) = omega (arith, le) in
             ap (fewest_first text d place s least) more
 
-pub runs-leave : CharLoopsLeaveThreads
+pub runs-leave : CharLoopInsnYieldsExitThreads
 runs-leave program text test d place least most greedy s here one at few =
     let k = passing text test d place in
     let tries : min most (k + 1) ≡ k + 1 = omega (arith, few) in
     let last : min most k ≡ k = omega (arith, few) in
     run-turn program text d place s least most greedy test here one at
-    ∙ ap₂ (λ m n. scans m (first_runs_others_wait (run_states text greedy d least n place s))) tries last
+    ∙ ap₂ (λ m n. scans m (first_running_and_others_waiting (run_states text greedy d least n place s))) tries last
     ∙ by greedy
   where
-    by : (greedy : Bool) → scans (passing text test d place + 1) (first_runs_others_wait (run_states text greedy d least (passing text test d place) place s))
+    by : (greedy : Bool) → scans (passing text test d place + 1) (first_running_and_others_waiting (run_states text greedy d least (passing text test d place) place s))
         ≡ scans (passing text test d place + 1) (if greedy then greedy_loop_threads text test d least place s else lazy_loop_threads text test d least place s)
     by true = refl
     by false = refl
@@ -97,12 +98,12 @@ runs-begin text test d place least n s inside le few =
     let here : least + (n - least) ≡ n + 0 = omega (arith, le) in
     let whole : suc k ≡ k + 1 - 0 = omega arith in
     let nearer = most_first text d place s least (n - least) in
-    ap (λ m. first_runs_others_wait (most_first text d place s least m)) all
-    ∙ ap first_runs_others_wait (most-parts text d place s least (n - least) (suc k))
-    ∙ ap (λ m. first_runs_others_wait (most_first text d place s m (suc k) ++ nearer)) here
-    ∙ ap (λ us. first_runs_others_wait (us ++ nearer)) (most-from text test d place s n 0 (suc k))
+    ap (λ m. first_running_and_others_waiting (most_first text d place s least m)) all
+    ∙ ap first_running_and_others_waiting (most-parts text d place s least (n - least) (suc k))
+    ∙ ap (λ m. first_running_and_others_waiting (most_first text d place s m (suc k) ++ nearer)) here
+    ∙ ap (λ us. first_running_and_others_waiting (us ++ nearer)) (most-from text test d place s n 0 (suc k))
     ∙ turn-joined (most_first text d q s 0 (suc k)) nearer (some-states text test d q s 0 k)
-    ∙ ap (λ m. first_runs_others_wait (most_first text d q s 0 m) ++ map waiting nearer) whole
+    ∙ ap (λ m. first_running_and_others_waiting (most_first text d q s 0 m) ++ map waiting nearer) whole
 
-pub lazy-runs-go-on : LazyLoopsUnfold
+pub lazy-runs-go-on : LazyCharLoopThreadsUnfold
 lazy-runs-go-on text test d place s inside = lazy-goes-on text test d place s inside

@@ -12,9 +12,9 @@ use Rattle.regex_meaning.specs.OutcomesWithStepTicks.{nearest_first}
 use Rattle.regex_meaning.specs.CompilationRelation.{Program, LoopFields, Insn, Goal, JustFail, ByteSeq, StartOfLine, EndOfLine, WordBoundary}
 use Rattle.regex_meaning.specs.CompilationRelation.{WordBoundaryUnicodeICase, Alt, Jump, EnterLoop, LoopAgain, ResetCaptureGroup, Loop1CharBody}
 use Rattle.regex_meaning.specs.CompilationRelation.{BeginCaptureGroup, EndCaptureGroup, BackRef, Lookahead, Lookbehind}
-use Rattle.regress_machine.specs.Machine.{State, Thread, running, waiting, Next, goes, scans, ends, asks, stuck, after_lookaround, state_at_ip, with_some, go}
-use Rattle.regress_machine.specs.Machine.{go_if, loop_repeated, test_of, on_to, moved_by, read_one, stay_if, read_group, run_states, scan, act_on, act}
-use Rattle.regress_memo_laws.specs.Bisimulation.{AlikeThreads, AlikeEnds, AlikeAnswers, AlikeNext, IsBisimulation}
+use Rattle.regress_machine.specs.Machine.{State, Thread, running, waiting, Next, goes, scans, ends, asks, stuck, after_lookaround, state_with_ip, with_some, go}
+use Rattle.regress_machine.specs.Machine.{go_if, loop_again_effect, test_of, on_to, moved_by, read_one, stay_if, read_group, run_states, scan, act_on, act}
+use Rattle.regress_memo_laws.specs.ThreadBisimulation.{AlikeThreads, AlikeEnds, AlikeAnswers, AlikeNext, IsBisimulation}
 use Rattle.regress_memo_laws.specs.GroupPreservingInsns.{IsSilentAgain, IsSilentAt, AreGroupPreserving, GroupPreservingInsnsKeepGroupsToEnd}
 use Rattle.regress_machine.proofs.Leaving.{IsOfThread, IsOfNext, of-in_turn, of-with_some, of-go_if, of-map, of-loop_turn, of-again_at}
 use Rattle.regress_memo_laws.proofs.Alike.{threads-end-alike}
@@ -43,10 +43,10 @@ module _ (silent : ℕ → Bool) (groups : Groups) (starts : List ℕ) (loops : 
     many = length-set s.loops f.loop_id (record { iters = k; entry = s.pos }) ∙ h.many;
   }
 
-  keeps-at : (ip : ℕ) (s : State) → Keeps s → silent ip ≡ true → Keeps (state_at_ip ip s)
+  keeps-at : (ip : ℕ) (s : State) → Keeps s → silent ip ≡ true → Keeps (state_with_ip ip s)
   keeps-at ip s h at = record { at = at; has = h.has; began = h.began; many = h.many }
 
-  keeps-again_at : (o : Option Insn) (begin : ℕ) (s : State) → Keeps s → IsSilentAgain silent o begin → NextKeeps (loop_repeated o begin s)
+  keeps-again_at : (o : Option Insn) (begin : ℕ) (s : State) → Keeps s → IsSilentAgain silent o begin → NextKeeps (loop_again_effect o begin s)
   keeps-again_at o begin s h r = of-again_at Keeps o begin s (λ f e.
       let both : IsSilentAgain silent (Some (EnterLoop f)) begin = subst (λ x. IsSilentAgain silent x begin) e r in
       (λ k. keeps-again f begin k s h both.0, keeps-at f.exit s h both.1))

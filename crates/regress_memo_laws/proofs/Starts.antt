@@ -11,7 +11,7 @@ use Rattle.regress_machine.specs.Machine.{Thread}
 use Rattle.regress_memo_laws.specs.Liveness.{Liveness}
 use Rattle.regress_memo_laws.specs.MemoSearch.{Key, Keys, tried, tries, AreOnward}
 use Rattle.regress_memo_laws.specs.AllMatchesWork.{Searched, at_first as at_start, failed as search-failed, found as search-found}
-use Rattle.regress_memo_laws.specs.AttemptCounts.{Attempted, at_first, passed, failed, found, ready_at, AttemptsAndTheirWorkAreBounded}
+use Rattle.regress_memo_laws.specs.AttemptsAndWorkOverSuccessiveMatches.{Attempted, at_first, passed, failed, found, ready_at, AttemptsAndTheirTotalWorkAreBounded}
 use Rattle.regress_memo_laws.proofs.Matches.{matches-together}
 use Rattle.regress_memo_laws.proofs.Turns.{turns-go-on}
 
@@ -190,7 +190,7 @@ module _ (program : Program) (text : Text) (a : Liveness) (keys : Keys) (price :
         };
       }
 
-pub attempts-few : AttemptsAndTheirWorkAreBounded
+pub attempts-few : AttemptsAndTheirTotalWorkAreBounded
 attempts-few program text a keys acc are price weight row from next looks work memory starts s =
     let c = counts program text a keys price weight row from next looks work memory starts s in
     let paid = matches-together program text a keys acc are price weight c.searched.low work _ memory c.searched.searched in

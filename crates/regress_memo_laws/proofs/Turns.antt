@@ -11,11 +11,13 @@ use Rattle.regress_simulation.proofs.Simulates.{within-start, within-simulates, 
 use Rattle.regress_memo_laws.specs.Liveness.{Liveness, IsLivenessFor}
 use Rattle.regress_memo_laws.specs.DistinctLists.{IsIn, IsNew, AreDistinct, AreIn}
 use Rattle.regress_memo_laws.specs.MemoSearch.{Key, Keys, Entry, tried, kept, noted, IsBare, tries, threads_in, keys_in, at_of, AreOnward, GoesOnward}
-use Rattle.regress_memo_laws.specs.MemoSearch.{entry_potential, Answers, KeyStandsFor, AreKeys, Fails, IsKnown, known_to_fail, IsMemory, AreNoted, AreAnswered, HoldsInvariant}
-use Rattle.regress_memo_laws.specs.MemoSearch.{IsOpened, AreOpened, IsMemoStep, ReachesBySteps, at_first, gives, reaches, learns, RecordedFailuresStayRight, TurnsOf, StepsKeepInvariant}
+use Rattle.regress_memo_laws.specs.MemoSearch.{entry_potential, Answers, KeyStandsFor, AreKeys, Fails, IsKnown, known_to_fail, IsMemory, AreNoted, AreAnswered}
+use Rattle.regress_memo_laws.specs.MemoSearch.{HoldsInvariant}
+use Rattle.regress_memo_laws.specs.MemoSearch.{IsOpened, AreOpened, IsMemoStep, ReachesBySteps, at_first, gives, reaches, learns, PendingFailureRecordsStayRight}
+use Rattle.regress_memo_laws.specs.MemoSearch.{TurnsOf, StepsKeepInvariant}
 use Rattle.regress_memo_laws.specs.MemoSearch.{RightwardSearchesNeverMoveLeft, HasCome, WorkIsBounded}
 use Rattle.regress_memo_laws.specs.StepSoundness.{IsSoundStep}
-use Rattle.regress_memo_laws.specs.KnownSuccesses.{KeyFailsWhenRecordReached}
+use Rattle.regress_memo_laws.specs.ThreadListSuccessFromPartSuccess.{KeyFailsWhenRecordReached}
 use Rattle.regress_memo_laws.proofs.Alone.{splits}
 use Rattle.regress_memo_laws.proofs.Failing.{row-takes, row-shared, same-answers}
 use Rattle.regress_memo_laws.proofs.Distinct.{Each-left, Each-right, distinct-moved, in-moved, sum-moved, distinct-joined, price-few}
@@ -387,7 +389,7 @@ module _ (program : Program) (text : Text) (a : Liveness) (keys : Keys) (d : Dir
 
 -- ---- Laws
 
-pub noted-stays : RecordedFailuresStayRight
+pub noted-stays : PendingFailureRecordsStayRight
 noted-stays program text a keys d spent ts entries rest s h k = noted-stay program text a keys d spent ts entries rest s h k
 
 pub turns-right : StepsKeepInvariant

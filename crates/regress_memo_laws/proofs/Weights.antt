@@ -12,19 +12,23 @@ use Rattle.regex_meaning.specs.CompilationRelation.{Program, LoopFields, Insn, G
 use Rattle.regex_meaning.specs.CompilationRelation.{WordBoundaryUnicodeICase, Alt, Jump, EnterLoop, LoopAgain, ResetCaptureGroup, Loop1CharBody}
 use Rattle.regex_meaning.specs.CompilationRelation.{BeginCaptureGroup, EndCaptureGroup, BackRef, Lookahead, Lookbehind}
 use Rattle.regex_meaning.proofs.Booleans.{and-left, and-right}
-use Rattle.regress_machine.specs.Machine.{State, Thread, running, waiting, Next, goes, state_at_ip, with_some, only_if, go, go_if, first_runs_others_wait, preferring}
-use Rattle.regress_machine.specs.Machine.{iterate_or_leave_loop, next_iteration_unless_empty, loop_repeated, test_of, range_swapped_if_leftwards, on_to, read_one, stay_if, read_group, scan, act_on, act}
+use Rattle.regress_machine.specs.Machine.{State, Thread, running, waiting, Next, goes, state_with_ip, with_some, only_if, go, go_if, first_running_and_others_waiting}
+use Rattle.regress_machine.specs.Machine.{preferring}
+use Rattle.regress_machine.specs.Machine.{iterate_or_leave_at_loop_head, effect_at_iteration_end, loop_again_effect, test_of, range_swapped_if_leftwards, on_to, read_one}
+use Rattle.regress_machine.specs.Machine.{stay_if, read_group, scan, act_on, act}
 use Rattle.regress_simulation.specs.ThreadSimulation.{Simulates, FindNothing}
 use Rattle.regress_simulation.proofs.Simulates.{simulates-same, simulates-fewer, simulates-then, simulates-before}
-use Rattle.regress_memo_laws.specs.Bisimulation.{AlikeThreads}
+use Rattle.regress_memo_laws.specs.ThreadBisimulation.{AlikeThreads}
 use Rattle.regress_memo_laws.specs.Liveness.{Liveness, Agree, outermost}
 use Rattle.regress_memo_laws.specs.MemoKeys.{AsksNoGroups}
 use Rattle.regress_memo_laws.specs.DistinctLists.{IsIn, IsNew, AreDistinct}
 use Rattle.regress_memo_laws.specs.MemoSearch.{Key, Keys, Entry, tried, kept, noted, IsBare, entry_potential, threads_in, keys_in, GoesOnward, KeyStandsFor, AreKeys}
 use Rattle.regress_memo_laws.specs.MemoSearch.{AreNoted, AreOpened, IsMemoStep}
 use Rattle.regress_memo_laws.specs.StepSoundness.{IsSoundStep, StepsAreSound}
-use Rattle.regress_memo_laws.specs.ThreadPotentials.{Potentials, potential_of, CoversOne, CoversRepeat, CoversInsn, AreCovering, is_way, is_one_of, places_of, Shape, Distinguishes}
-use Rattle.regress_memo_laws.specs.ThreadPotentials.{stands_there, has_shape, place_keys, each_noted, AreOfEach, StepsAreMemoSteps, StepsFitPotentials, RecordingCharLoopCostIsCovered}
+use Rattle.regress_memo_laws.specs.ThreadPotentials.{Potentials, potential_of, CoversOne, CoversRepeat, CoversInsn, AreCovering, is_way, is_one_of, places_of, Shape}
+use Rattle.regress_memo_laws.specs.ThreadPotentials.{Distinguishes}
+use Rattle.regress_memo_laws.specs.ThreadPotentials.{stands_there, has_shape, place_keys, each_noted, AreOfEach, StepsAreMemoSteps, ThreadsLeftFitInsnPotentials}
+use Rattle.regress_memo_laws.specs.ThreadPotentials.{RecordedLoopExitsCoveredByKeys}
 use Rattle.regress_memo_laws.specs.ThreadPotentials.{OffsetsAndCodesAreKeys}
 use Rattle.regress_memo_laws.proofs.Keys.{keys-agree, sound-state, unasked-count}
 use Rattle.regress_memo_laws.proofs.Turns.{threads-joined, keys-bare, given, turn-left}
@@ -192,7 +196,7 @@ module _ (w : Potentials) (most : ℕ) where
   few-two x y h = let p = sum_by-cons (potential_of w) (running x) (waiting y ∷ []) in let q = sum_by-cons (potential_of w) (waiting y) [] in omega (arith, p, q, h)
 
   few-preferring : (again leave : State) → w.at again.ip + w.at leave.ip + 1 ≤ most → (greedy b c : Bool)
-      → sum_by (potential_of w) (first_runs_others_wait (preferring greedy (if b then again ∷ [] else []) (if c then leave ∷ [] else []))) ≤ most
+      → sum_by (potential_of w) (first_running_and_others_waiting (preferring greedy (if b then again ∷ [] else []) (if c then leave ∷ [] else []))) ≤ most
   few-preferring again leave h true true true = few-two again leave h
   few-preferring again leave h false true true = few-two leave again (omega (arith, h))
   few-preferring again leave h true true false = one (running again) (omega (arith, h))
@@ -202,16 +206,16 @@ module _ (w : Potentials) (most : ℕ) where
   few-preferring again leave h true false false = omega arith
   few-preferring again leave h false false false = omega arith
 
-  few-loop_turn : (f : LoopFields) (begin k : ℕ) (s : State) → w.at (begin + 1) + w.at f.exit + 1 ≤ most → NextFew (iterate_or_leave_loop f begin k s)
+  few-loop_turn : (f : LoopFields) (begin k : ℕ) (s : State) → w.at (begin + 1) + w.at f.exit + 1 ≤ most → NextFew (iterate_or_leave_at_loop_head f begin k s)
   few-loop_turn f begin k s h =
       few-only_if (nat_lt f.loop_id (length s.loops)) _
-      (few-preferring (record s { ip = begin + 1; loops = slice_set s.loops f.loop_id (record { iters = k; entry = s.pos }) }) (state_at_ip f.exit s) h f.greedy (nat_lt k f.max_iters) (nat_le f.min_iters k))
+      (few-preferring (record s { ip = begin + 1; loops = slice_set s.loops f.loop_id (record { iters = k; entry = s.pos }) }) (state_with_ip f.exit s) h f.greedy (nat_lt k f.max_iters) (nat_le f.min_iters k))
 
-  few-again_at : (o : Option Insn) (ip begin : ℕ) (s : State) → w.left ip ≡ most → CoversRepeat w o ip begin → NextFew (loop_repeated o begin s)
+  few-again_at : (o : Option Insn) (ip begin : ℕ) (s : State) → w.left ip ≡ most → CoversRepeat w o ip begin → NextFew (loop_again_effect o begin s)
   few-again_at (Some (EnterLoop f)) ip begin s e h =
-      few-with_some (slice_get s.loops f.loop_id) (λ d. next_iteration_unless_empty f begin d s) (λ d.
-      few-only_if (nat_lt d.iters f.max_iters) (if d.entry == s.pos && nat_lt f.min_iters (d.iters + 1) then goes [] else iterate_or_leave_loop f begin (d.iters + 1) s)
-      (few-dropped (d.entry == s.pos && nat_lt f.min_iters (d.iters + 1)) (iterate_or_leave_loop f begin (d.iters + 1) s) (few-loop_turn f begin (d.iters + 1) s (omega (arith, h, e)))))
+      few-with_some (slice_get s.loops f.loop_id) (λ d. effect_at_iteration_end f begin d s) (λ d.
+      few-only_if (nat_lt d.iters f.max_iters) (if d.entry == s.pos && nat_lt f.min_iters (d.iters + 1) then goes [] else iterate_or_leave_at_loop_head f begin (d.iters + 1) s)
+      (few-dropped (d.entry == s.pos && nat_lt f.min_iters (d.iters + 1)) (iterate_or_leave_at_loop_head f begin (d.iters + 1) s) (few-loop_turn f begin (d.iters + 1) s (omega (arith, h, e)))))
   few-again_at _ ip begin s e h = tt
 
 module _ (program : Program) (text : Text) (w : Potentials) (d : Direction) (s : State) where
@@ -243,10 +247,10 @@ module _ (program : Program) (text : Text) (w : Potentials) (d : Direction) (s :
   act-few (Some (WordBoundary invert)) h = stay-few _ h
   act-few (Some (WordBoundaryUnicodeICase invert)) h = stay-few _ h
   act-few (Some (Alt secondary)) h =
-      let p = sum_by-cons (potential_of w) (running (state_at_ip (s.ip + 1) s)) (waiting (state_at_ip secondary s) ∷ []) in
-      let q = sum_by-cons (potential_of w) (waiting (state_at_ip secondary s)) [] in
+      let p = sum_by-cons (potential_of w) (running (state_with_ip (s.ip + 1) s)) (waiting (state_with_ip secondary s) ∷ []) in
+      let q = sum_by-cons (potential_of w) (waiting (state_with_ip secondary s)) [] in
       omega (arith, p, q, h)
-  act-few (Some (Jump target)) h = few-go w (w.left s.ip) (state_at_ip target s) h
+  act-few (Some (Jump target)) h = few-go w (w.left s.ip) (state_with_ip target s) h
   act-few (Some (EnterLoop f)) h = few-loop_turn w (w.left s.ip) f s.ip 0 s h
   act-few (Some (LoopAgain begin)) h = few-again_at w (w.left s.ip) (slice_get program.insns begin) s.ip begin s refl h
   act-few (Some (ResetCaptureGroup id)) h =
@@ -282,7 +286,7 @@ ones-enough program (Some (LoopAgain begin)) ip = repeated (slice_get program.in
 ones-enough program (Some (Loop1CharBody least most greedy)) ip = tt
 ones-enough program _ ip = omega arith
 
-pub turns-weighed : StepsFitPotentials
+pub turns-weighed : ThreadsLeftFitInsnPotentials
 turns-weighed = record {
   weighed = λ program text w are d s ts e. act-weighed program text w d s are ts e;
   each = λ program. record { enough = λ ip. ones-enough program (slice_get program.insns ip) ip };
@@ -492,7 +496,7 @@ places-keys = record {
 
 -- ---- Runs
 
-pub runs-pay : RecordingCharLoopCostIsCovered
+pub runs-pay : RecordedLoopExitsCoveredByKeys
 runs-pay price weight known [] first ready more le few each = omega (arith, le, few)
 runs-pay price weight known (x ∷ xs) first ready more le few each =
     let above = known ++ x.0 ∷ [] in

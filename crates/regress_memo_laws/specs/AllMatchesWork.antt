@@ -28,8 +28,8 @@ module _ (program : Program) (text : Text) (a : Liveness) (keys : Keys) (price :
 
 -- A key is discarded twice at most. So all searches together do at most the sum of their initial
 -- potentials plus three times the costs of all keys.
-abbrev pub AllMatchesAreBounded : Type 0
-AllMatchesAreBounded = (program : Program) (text : Text) (a : Liveness) (keys : Keys) → IsLivenessFor program text a → AreKeys program text a keys
+abbrev pub AllMatchesWorkIsBounded : Type 0
+AllMatchesWorkIsBounded = (program : Program) (text : Text) (a : Liveness) (keys : Keys) → IsLivenessFor program text a → AreKeys program text a keys
     → (price : Key → ℕ) (weight : List Thread → ℕ) (from work ready : ℕ) (memory : List Key) → Searched program text a keys price weight from work ready memory
     → work ≤ ready + 3 * sum_by price keys.all
 

@@ -4,13 +4,13 @@ use Rattle.std.specs.List.{sum_by}
 use Rattle.regex_meaning.specs.Text.{Text, Direction, moved}
 use Rattle.regex_meaning.specs.CompilationRelation.{Program}
 use Rattle.regress_machine.specs.Machine.{State, Thread, running, waiting, goes, act}
-use Rattle.regress_simulation.specs.CharLoopExitStates.{behind}
+use Rattle.regress_simulation.specs.CharLoopExitStatesByPreference.{behind}
 use Rattle.regress_memo_laws.specs.Liveness.{Liveness}
 use Rattle.regress_memo_laws.specs.MemoSearch.{Key, Entry, tried, kept, noted, tries, keys_in, entry_potential}
 use Rattle.regress_memo_laws.specs.ThreadPotentials.{Potentials, potential_of, AreCovering, is_one_of, each_noted}
 use Rattle.regress_memo_laws.specs.LoopDataKeyCodes.{Question, key_of}
-use Rattle.regress_memo_laws.specs.CharLoopThreads.{greedy_loop_threads, pending_loop_threads}
-use Rattle.regress_memo_laws.specs.CharLoopSteps.{key_behind, placed}
+use Rattle.regress_memo_laws.specs.CharLoopExitThreadLists.{greedy_loop_threads, pending_loop_threads}
+use Rattle.regress_memo_laws.specs.UnboundedCharLoopsAsMemoSteps.{key_behind, placed}
 
 module _ (program : Program) (w : Potentials) (price : ℕ → ℕ) (ips : List ℕ) where
   -- The potential of threads that wait together is that of the first one.

@@ -11,7 +11,7 @@ use Rattle.regress_machine.specs.Machine.{Thread, LoopData, State, running, sear
 use Rattle.regress_machine.specs.TextsForBytePrograms.{HasUtf8CharactersAndOffsets}
 use Rattle.regress_machine.specs.InsnEffects.{is_byte_sequence_insn}
 use Rattle.regress_simulation.specs.ThreadSimulation.{FindsNothing}
-use Rattle.regress_memo_laws.specs.Bisimulation.{AlikeThreads, AlikeAnswers}
+use Rattle.regress_memo_laws.specs.ThreadBisimulation.{AlikeThreads, AlikeAnswers}
 
 -- The result of the analysis. Data that may still be needed are live.
 pub record Liveness : Type 0 where
@@ -127,9 +127,9 @@ module _ (a : Liveness) where
 -- ---- States that agree by the analysis
 
 -- The offset `entry` was passed, or is the current one.
-abbrev pub IsOffsetPassedOrCurrent : Direction → (entry pos : ℕ) → Type 0
-IsOffsetPassedOrCurrent rightwards entry pos = entry ≤ pos
-IsOffsetPassedOrCurrent leftwards entry pos = pos ≤ entry
+abbrev pub IsNotAheadInDirection : Direction → (entry pos : ℕ) → Type 0
+IsNotAheadInDirection rightwards entry pos = entry ≤ pos
+IsNotAheadInDirection leftwards entry pos = pos ≤ entry
 
 -- The number of units from an offset to the end in the direction.
 abbrev pub left_from : (top : ℕ) → Direction → ℕ → ℕ
@@ -139,7 +139,7 @@ left_from top leftwards at = at
 module _ (a : Liveness) (top : ℕ) (d : Direction) (pos ip l : ℕ) where
   -- What is known of the data of a loop that contains the instruction.
   pub record IsSound (x : LoopData) : Type 0 where
-    pub passed : IsOffsetPassedOrCurrent d x.entry pos
+    pub passed : IsNotAheadInDirection d x.entry pos
     pub moved : a.moved ip l ≡ true → (x.entry == pos) ≡ false
     pub all : a.counted l ≡ true → x.iters ≤ a.up_to l
     -- Each iteration has read a character, except for at most `a.up_to l` of them.
@@ -221,13 +221,13 @@ module _ (program : Program) (text : Text) (a : Liveness) where
       → FindsNothing program text d (running s) → FindsNothing program text d (running t)
 
 -- States that agree have searches that end alike.
-abbrev pub AgreeingStatesEndAlike : Type 0
-AgreeingStatesEndAlike = (program : Program) (text : Text) (a : Liveness) → AgreeingEndAlike program text a
+abbrev pub LiveDataDecideSearchResult : Type 0
+LiveDataDecideSearchResult = (program : Program) (text : Text) (a : Liveness) → AgreeingEndAlike program text a
 
 -- Lists of threads that agree have searches that end alike.
-abbrev pub AgreeingThreadsEndAlike : Type 0
-AgreeingThreadsEndAlike = (program : Program) (text : Text) (a : Liveness) → AgreeingRowsEndAlike program text a
+abbrev pub LiveDataDecideThreadListResult : Type 0
+LiveDataDecideThreadListResult = (program : Program) (text : Text) (a : Liveness) → AgreeingRowsEndAlike program text a
 
 -- States that agree fail alike.
-abbrev pub FailuresAreShared : Type 0
-FailuresAreShared = (program : Program) (text : Text) (a : Liveness) → FailureIsShared program text a
+abbrev pub LiveDataDecideFailure : Type 0
+LiveDataDecideFailure = (program : Program) (text : Text) (a : Liveness) → FailureIsShared program text a

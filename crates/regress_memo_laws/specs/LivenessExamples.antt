@@ -9,8 +9,8 @@ use Rattle.regex_meaning.specs.CompilationRelation.{Program, Insn, Goal, Char, E
 use Rattle.regress_memo_laws.specs.Liveness.{Liveness, IsSoundLiveness}
 use Rattle.regress_memo_laws.specs.MemoKeys.{AsksNoGroups, AsksPlacesAlone}
 use Rattle.regress_memo_laws.specs.LoopDataKeyCodes.{Question, is_empty, how_many, plan_codes, AsksAll}
-use Rattle.regress_memo_laws.specs.CharLoopMemoKeys.{CharLoopRecords}
-use Rattle.regress_memo_laws.specs.LookaroundContinuations.{AsksOnly}
+use Rattle.regress_memo_laws.specs.UnboundedCharLoopMemoKeys.{CharLoopRecords}
+use Rattle.regress_memo_laws.specs.EquivalenceAfterSkippingSucceedingLookarounds.{AsksOnly}
 use Rattle.regress_memo_laws.specs.MemoSearch.{Key}
 use Rattle.regress_memo_laws.specs.MemoPlanChecksAndGuarantees.{IsPlan}
 use Rattle.regress_memo_laws.specs.ThreadPotentials.{Potentials}

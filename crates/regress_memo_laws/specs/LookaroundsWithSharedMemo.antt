@@ -5,10 +5,10 @@ use Rattle.regex_meaning.specs.Laws.{Each}
 use Rattle.regex_meaning.specs.Text.{Text, Direction}
 use Rattle.regex_meaning.specs.CompilationRelation.{Program}
 use Rattle.regress_machine.specs.Machine.{State, Thread, running, goes, scans, ends, asks, Found, after_lookaround, act, search}
-use Rattle.regress_machine.specs.SearchResults.{state_before_first_insn}
+use Rattle.regress_machine.specs.SearchFindsFirstOutcomeAtPlace.{state_before_first_insn}
 use Rattle.regress_simulation.specs.ThreadSimulation.{Simulates, FindNothing}
 use Rattle.regex_meaning.specs.CodeUnitOffsets.{units}
-use Rattle.regress_memo_laws.specs.Bisimulation.{AlikeThreads, AlikeAsked}
+use Rattle.regress_memo_laws.specs.ThreadBisimulation.{AlikeThreads, AlikeAsked}
 use Rattle.regress_memo_laws.specs.Liveness.{Liveness, World, outermost, Agree, IsLivenessFor}
 use Rattle.regress_memo_laws.specs.DistinctLists.{IsNew, AreDistinct, AreIn}
 use Rattle.regress_memo_laws.specs.MemoSearch.{Key, Keys, Entry, tries, entry_potential, threads_in, keys_in, IsBare, FindEnd, AreKeys, Succeeds, IsKnown, IsMemory}

@@ -6,17 +6,17 @@ use Rattle.regex_meaning.specs.NumberListHelpers.{numbers_from}
 use Rattle.regex_meaning.specs.Text.{Text, Direction}
 use Rattle.regex_meaning.specs.CodeUnitOffsets.{units}
 use Rattle.regex_meaning.specs.CompilationRelation.{Program}
-use Rattle.regress_machine.specs.Machine.{State, Thread, running, waiting, goes, Found, after_lookaround, state_at_ip, state_at_next_ip, act, search}
+use Rattle.regress_machine.specs.Machine.{State, Thread, running, waiting, goes, Found, after_lookaround, state_with_ip, state_at_next_ip, act, search}
 use Rattle.regress_simulation.specs.ThreadSimulation.{FindNothing}
 use Rattle.regress_memo_laws.specs.Liveness.{Liveness, Agree, outermost, IsLivenessFor}
 use Rattle.regress_memo_laws.specs.MemoKeys.{AsksNoGroups}
 use Rattle.regress_memo_laws.specs.DistinctLists.{IsNew}
 use Rattle.regress_memo_laws.specs.MemoSearch.{Key, Entry, tried, noted, tries, FindEnd, AreKeys, IsMemoStep}
 use Rattle.regress_memo_laws.specs.ThreadPotentials.{is_one_of}
-use Rattle.regress_memo_laws.specs.AttemptCounts.{Attempted, ready_at}
+use Rattle.regress_memo_laws.specs.AttemptsAndWorkOverSuccessiveMatches.{Attempted, ready_at}
 use Rattle.regress_memo_laws.specs.LoopDataKeyCodes.{Question, plan_code, plan_codes, AsksAll, HasSlotsOfProgram, key_of}
-use Rattle.regress_memo_laws.specs.CharLoopMemoKeys.{char_loop_greediness_at, insn_before, plan_keys}
-use Rattle.regress_memo_laws.specs.LookaroundContinuations.{LookaroundInsn, lookaround_at}
+use Rattle.regress_memo_laws.specs.UnboundedCharLoopMemoKeys.{char_loop_greediness_at, insn_before, plan_keys}
+use Rattle.regress_memo_laws.specs.EquivalenceAfterSkippingSucceedingLookarounds.{LookaroundInsn, lookaround_at}
 
 module _ (program : Program) (text : Text) (a : Liveness) (questions : ℕ → List Question)
     (way : ℕ → Direction) (ips : List ℕ) (taken : Key → ℕ) where
@@ -55,9 +55,9 @@ module _ (program : Program) (text : Text) (a : Liveness) (questions : ℕ → L
     -- them.
     pub record LookGives (s : State) (look : LookaroundInsn) : Type 0 where
       pub searched : (turns : ℕ) (f : Found) → search program text turns look.inner (running (state_at_next_ip s) ∷ []) ≡ Some f
-          → GivesByPlan (running s ∷ []) (tries (after_lookaround look.negate (state_at_ip look.continuation s) f.end))
+          → GivesByPlan (running s ∷ []) (tries (after_lookaround look.negate (state_with_ip look.continuation s) f.end))
       pub fails : FindNothing program text look.inner (running (state_at_next_ip s) ∷ [])
-          → GivesByPlan (running s ∷ []) (tries (after_lookaround look.negate (state_at_ip look.continuation s) None))
+          → GivesByPlan (running s ∷ []) (tries (after_lookaround look.negate (state_with_ip look.continuation s) None))
       pub reaches : look.negate ≡ true → FindEnd program text look.inner (running (state_at_next_ip s) ∷ [])
           → GivesByPlan (running s ∷ []) []
 
@@ -102,7 +102,7 @@ plan_taken program k = taken_at (char_loop_greediness_at (insn_before program k.
 -- ---- Laws
 
 -- A plan takes these numbers of steps.
-pub record NoStepBelowGreedyCharLoopRecords : Type 0 where
+pub record ZeroOrOneStepBelowRecord : Type 0 where
   pub threads : (program : Program) (k : Key) → char_loop_greediness_at (insn_before program k.ip) ≡ None → plan_taken program k ≡ 1
   pub greedy : (program : Program) (ip at code : ℕ) → char_loop_greediness_at (slice_get program.insns ip) ≡ Some true
       → plan_taken program (record { ip = ip + 1; at = at; code = code }) ≡ 0

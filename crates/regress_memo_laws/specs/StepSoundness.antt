@@ -7,7 +7,8 @@ use Rattle.regress_machine.specs.Machine.{Thread, Found}
 use Rattle.regress_simulation.specs.ThreadSimulation.{Simulates}
 use Rattle.regress_memo_laws.specs.Liveness.{Liveness, IsLivenessFor}
 use Rattle.regress_memo_laws.specs.DistinctLists.{IsNew, AreDistinct}
-use Rattle.regress_memo_laws.specs.MemoSearch.{Key, Keys, Entry, noted, threads_in, keys_in, IsBare, KeyStandsFor, AreKeys, AreNoted, AreOpened, IsMemoStep, HoldsInvariant}
+use Rattle.regress_memo_laws.specs.MemoSearch.{Key, Keys, Entry, noted, threads_in, keys_in, IsBare, KeyStandsFor, AreKeys, AreNoted, AreOpened, IsMemoStep}
+use Rattle.regress_memo_laws.specs.MemoSearch.{HoldsInvariant}
 
 module _ (program : Program) (text : Text) (a : Liveness) (keys : Keys) (d : Direction) where
   -- Like `IsMemoStep`, without `onward`.

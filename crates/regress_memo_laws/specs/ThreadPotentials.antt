@@ -159,7 +159,7 @@ pub record RightwardInsnsNeverMoveLeft : Type 0 where
   pub noted : (from : ℕ) (ts us : List Thread) (k : Key) → AreOnward from (tries ts) → k.at ≡ from → AreOnward from (tries ts ++ noted k us ∷ [])
 
 -- The potential of the threads that an instruction leaves is at most that of the table.
-pub record StepsFitPotentials : Type 0 where
+pub record ThreadsLeftFitInsnPotentials : Type 0 where
   pub weighed : (program : Program) (text : Text) (w : Potentials) → AreCovering w program → (d : Direction) (s : State) (ts : List Thread) → act program text d s ≡ goes ts
       → sum_by (potential_of w) ts ≤ w.left s.ip
   -- One table covers every program. With it, four units cover a key.
@@ -167,8 +167,8 @@ pub record StepsFitPotentials : Type 0 where
 
 -- A char loop that records each of its positions is covered by its potential and by these keys:
 -- each covers a character, a thread and a record.
-abbrev pub RecordingCharLoopCostIsCovered : Type 0
-RecordingCharLoopCostIsCovered = (price : Key → ℕ) (weight : List Thread → ℕ) (known : List Thread) (xs : List (Thread × Key)) (first ready more : ℕ) → first ≤ ready → more ≤ first + length xs
+abbrev pub RecordedLoopExitsCoveredByKeys : Type 0
+RecordedLoopExitsCoveredByKeys = (price : Key → ℕ) (weight : List Thread → ℕ) (known : List Thread) (xs : List (Thread × Key)) (first ready more : ℕ) → first ≤ ready → more ≤ first + length xs
     → Each (λ x. weight (x.0 ∷ []) + 2 ≤ price x.1) xs → more + sum_by (entry_potential weight) (each_noted known xs) ≤ ready + sum_by price (keys_in (each_noted known xs))
 
 -- If a code distinguishes live loop data, instructions, offsets and codes are keys, also of lists

@@ -2,17 +2,17 @@
 //! on the work.
 #![tactic(auto)]
 
-ghost use Rattle.regress_memo_laws.specs.Laws as laws;
+ghost use Rattle.regress_memo_laws.specs.LawReExports as laws;
 
 /// States that agree in all live data have searches that end alike. If one of them finds nothing,
 /// so does the other.
-pub fn agreeing_states_end_alike()
-    ensures { laws.AgreeingStatesEndAlike }
+pub fn live_data_decide_search_result()
+    ensures { laws.LiveDataDecideSearchResult }
 {}
 
 /// If a state finds nothing, so does every state that agrees with it.
-pub fn failure_is_shared()
-    ensures { laws.FailuresAreShared }
+pub fn live_data_decide_failure()
+    ensures { laws.LiveDataDecideFailure }
 {}
 
 /// If a state finds nothing, so does every state with the same key: the instruction, the offset,
@@ -48,8 +48,8 @@ pub fn liveness_examples_are_right()
 
 /// Lists of threads that agree one by one have searches that end alike, in every search and with
 /// the live groups.
-pub fn agreeing_threads_end_alike()
-    ensures { laws.AgreeingThreadsEndAlike }
+pub fn live_data_decide_thread_list_result()
+    ensures { laws.LiveDataDecideThreadListResult }
 {}
 
 /// Distinct keys from a finite list are no more than the list has, and cost no more.
@@ -60,7 +60,7 @@ pub fn distinct_keys_are_few()
 /// The records in a list of entries stay right if the threads on top of them are replaced by
 /// threads that simulate these, whichever records are added with them.
 pub fn recorded_failures_stay_right()
-    ensures { laws.RecordedFailuresStayRight }
+    ensures { laws.PendingFailureRecordsStayRight }
 {}
 
 /// Each step keeps the invariant: the entries find what the search is to find, the records and the
@@ -77,8 +77,8 @@ pub fn work_is_bounded()
 
 /// All searches of a text for successive matches together do at most the sum of their initial
 /// potentials plus three times the costs of all keys.
-pub fn all_matches_are_bounded()
-    ensures { laws.AllMatchesAreBounded }
+pub fn all_matches_work_is_bounded()
+    ensures { laws.AllMatchesWorkIsBounded }
 {}
 
 /// The steps of an executor are memo steps: with a record of what is current, without a record,
@@ -89,8 +89,8 @@ pub fn steps_are_memo_steps()
 
 /// The potential of what an instruction leaves is bounded by a table that passes a check at each
 /// instruction, and one table passes for every program.
-pub fn steps_fit_potentials()
-    ensures { laws.StepsFitPotentials }
+pub fn threads_left_fit_insn_potentials()
+    ensures { laws.ThreadsLeftFitInsnPotentials }
 {}
 
 /// Instructions, offsets and codes that distinguish all live loop data are the keys, and their
@@ -104,7 +104,7 @@ pub fn offsets_and_codes_are_keys()
 /// and is less than the product of the numbers of answers, so each thread at an instruction that
 /// records has a key.
 pub fn codes_distinguish()
-    ensures { laws.CodesDistinguish }
+    ensures { laws.KeyCodesDistinguishLiveLoopData }
 {}
 
 /// In a rightward search no instruction moves to a smaller offset.
@@ -139,7 +139,7 @@ pub fn success_is_shared()
 
 /// A char loop that records each of its positions is covered by its potential and by these keys.
 pub fn recorded_loop_is_covered()
-    ensures { laws.RecordingCharLoopCostIsCovered }
+    ensures { laws.RecordedLoopExitsCoveredByKeys }
 {}
 
 /// Each step from sound threads leaves sound threads, also in a lookaround's contents and after
@@ -167,8 +167,8 @@ pub fn greedy_threads_split_at_later_place()
 
 /// A lazy char loop takes its nearest position. The threads that wait from a position on are the
 /// one at that position and those that wait from the next one on.
-pub fn lazy_loops_unfold()
-    ensures { laws.LazyLoopsUnfold }
+pub fn lazy_char_loop_threads_unfold()
+    ensures { laws.LazyCharLoopThreadsUnfold }
 {}
 
 /// The threads that a char loop without a maximum leaves from a position on are decided by the
@@ -180,13 +180,13 @@ pub fn char_loops_have_keys()
 
 /// The threads that the instruction of a char loop leaves if its maximum is out of reach.
 pub fn char_loops_leave_threads()
-    ensures { laws.CharLoopsLeaveThreads }
+    ensures { laws.CharLoopInsnYieldsExitThreads }
 {}
 
 /// In searches for successive matches a position is tried twice at most. The numbers of looks, the
 /// potentials and the work are linear in the positions and in the costs of all keys.
 pub fn attempts_and_their_work_are_bounded()
-    ensures { laws.AttemptsAndTheirWorkAreBounded }
+    ensures { laws.AttemptsAndTheirTotalWorkAreBounded }
 {}
 
 /// The state that continues after a lookaround's contents without groups agrees with the state
@@ -199,8 +199,8 @@ pub fn threads_stay_equivalent()
 /// The steps of char loops without a maximum, with their keys. A greedy loop has a record of each
 /// position, down from one from which it is known to fail. A lazy loop is resumed with a record of
 /// what waits.
-pub fn char_loops_are_memo_steps()
-    ensures { laws.CharLoopsAreMemoSteps }
+pub fn unbounded_char_loops_are_memo_steps()
+    ensures { laws.UnboundedCharLoopsAreMemoSteps }
 {}
 
 /// What a plan that passes its checks provides: its keys decide, the steps of its threads are memo
@@ -218,7 +218,7 @@ pub fn step_costs_are_covered()
 /// Below the records of a plan as many steps are taken as the laws on steps of threads and of char
 /// loops require.
 pub fn steps_below_records_are_known()
-    ensures { laws.NoStepBelowGreedyCharLoopRecords }
+    ensures { laws.ZeroOrOneStepBelowRecord }
 {}
 
 /// Successive steps that are executed at once are covered together. The debts for records that were
@@ -229,8 +229,8 @@ pub fn fused_costs_are_covered()
 
 /// A list of threads finds an end if a part of it does. So does a char loop without a maximum, if
 /// it does from one of its positions on.
-pub fn success_of_part_suffices()
-    ensures { laws.SuccessOfPartSuffices }
+pub fn thread_lists_succeed_if_part_does()
+    ensures { laws.ThreadListsSucceedIfPartDoes }
 {}
 
 /// The key of a record that is reached fails.
@@ -255,7 +255,7 @@ pub fn searches_stay_sound()
 /// of those that record are linear in the program: an amount of its own for each instruction, and 1
 /// for each edge to another one.
 pub fn recording_costs_linear_in_program()
-    ensures { laws.RecordingCostsLinearInProgram }
+    ensures { laws.RecordingInsnsLeaveLinearPotential }
 {}
 
 /// A budget for each offset of a text that suffices for all searches: the initial allowance and one
@@ -268,12 +268,12 @@ pub fn work_budgets_suffice()
 /// The checks at each instruction also cover the steps of char loops with a maximum, and of threads
 /// that are known to fail.
 pub fn bounded_char_loop_costs_covered()
-    ensures { laws.BoundedCharLoopCostsCovered }
+    ensures { laws.BoundedLoopOrFailureCostsCovered }
 {}
 
 /// The steps of all char loops are memo steps, like those of threads.
-pub fn bounded_loops_are_memo_steps()
-    ensures { laws.BoundedLoopsAreMemoSteps }
+pub fn char_loop_scans_are_memo_steps()
+    ensures { laws.CharLoopScansAreMemoSteps }
 {}
 
 /// A search of a lookaround's contents is covered by the keys that it learns and by the potential

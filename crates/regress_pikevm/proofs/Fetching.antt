@@ -4,28 +4,28 @@ use Rattle.std.specs.Prelude.{is_some, IsTrue}
 use Rattle.regex_meaning.specs.Text.{Text, Direction}
 use Rattle.regex_pattern_front.specs.AstToSpecTree.{tree_of}
 use Rattle.regex_pattern_front.specs.declared.ir.Regex.{Regex}
-use Rattle.regress_plan.specs.InsnsAsSpecInsns.{spec_insn_of}
+use Rattle.regress_plan.specs.InsnsAsSpecInsns.{insn_as_spec_insn}
 use Rattle.regress_plan.specs.declared.insn.Insn.{Insn}
 use Rattle.regress_program.specs.CompilationOfTreesAsFunction.{compiled}
 use Rattle.regress_machine.specs.Machine.{State, Next, act, test_of, with_some}
 use Rattle.regress_machine.specs.InsnEffects.{IsNotStuck}
 use Rattle.regress_machine.proofs.Fetched.{act-some, test-some, fetched-some, fetched-below}
 
-module _ (re : Regex) (insns : List Insn) (code : map spec_insn_of insns ≡ (compiled (tree_of re)).insns) where
+module _ (re : Regex) (insns : List Insn) (code : map insn_as_spec_insn insns ≡ (compiled (tree_of re)).insns) where
   -- what stands at a number, where something does
   insn-at : (ip : ℕ) (insn : Insn) → insn ≡ get_or insns ip insn → IsTrue (is_some (slice_get (compiled (tree_of re)).insns ip))
-      → slice_get (compiled (tree_of re)).insns ip ≡ Some (spec_insn_of insn)
-  insn-at ip insn is there = fetched-some spec_insn_of insns (compiled (tree_of re)).insns ip insn is code there
+      → slice_get (compiled (tree_of re)).insns ip ≡ Some (insn_as_spec_insn insn)
+  insn-at ip insn is there = fetched-some insn_as_spec_insn insns (compiled (tree_of re)).insns ip insn is code there
 
   fits : (ip : ℕ) → IsTrue (is_some (slice_get (compiled (tree_of re)).insns ip)) → length insns < 2 ^ 64 → ip + 1 < 2 ^ 64
-  fits ip there short = let below = fetched-below spec_insn_of insns (compiled (tree_of re)).insns ip code there in omega (arith, below, short)
+  fits ip there short = let below = fetched-below insn_as_spec_insn insns (compiled (tree_of re)).insns ip code there in omega (arith, below, short)
 
   -- at a state that can go on
   module _ (text : Text) (d : Direction) (s : State) (can : IsNotStuck (act (compiled (tree_of re)) text d s)) where
     abbrev there : IsTrue (is_some (slice_get (compiled (tree_of re)).insns s.ip))
     there = act-some (compiled (tree_of re)) text d (slice_get (compiled (tree_of re)).insns s.ip) s can
 
-    pub insn-here : (insn : Insn) → insn ≡ get_or insns s.ip insn → slice_get (compiled (tree_of re)).insns s.ip ≡ Some (spec_insn_of insn)
+    pub insn-here : (insn : Insn) → insn ≡ get_or insns s.ip insn → slice_get (compiled (tree_of re)).insns s.ip ≡ Some (insn_as_spec_insn insn)
     insn-here insn is = insn-at s.ip insn is there
 
     pub fits-here : length insns < 2 ^ 64 → s.ip + 1 < 2 ^ 64
@@ -36,7 +36,7 @@ module _ (re : Regex) (insns : List Insn) (code : map spec_insn_of insns ≡ (co
     abbrev body-there : IsTrue (is_some (slice_get (compiled (tree_of re)).insns ip))
     body-there = test-some (compiled (tree_of re)) (slice_get (compiled (tree_of re)).insns ip) f can
 
-    pub insn-behind : (insn : Insn) → insn ≡ get_or insns ip insn → slice_get (compiled (tree_of re)).insns ip ≡ Some (spec_insn_of insn)
+    pub insn-behind : (insn : Insn) → insn ≡ get_or insns ip insn → slice_get (compiled (tree_of re)).insns ip ≡ Some (insn_as_spec_insn insn)
     insn-behind insn is = insn-at ip insn is body-there
 
     pub fits-behind : length insns < 2 ^ 64 → ip + 1 < 2 ^ 64

@@ -9,14 +9,14 @@ use Rattle.regex_meaning.specs.Text.{Text, Direction}
 use Rattle.regex_meaning.specs.CodeUnitOffsets.{HasRisingPlaceOffsets, units}
 use Rattle.regex_meaning.specs.CompilationRelation.{Program, Insn}
 use Rattle.regex_meaning.specs.Tree.{Tree}
-use Rattle.regress_input.specs.ReadsFromOffset.{direction_of_forward_flag}
+use Rattle.regress_input.specs.CharAndByteReadsFromOffset.{direction_of_forward_flag}
 use Rattle.regress_program.specs.TextsSearchableByBytePrograms.{IsByteText}
 use Rattle.regress_scan.proofs.Literals.{literal-reads}
 use Rattle.regress_program.specs.CompilationOfTreesAsFunction.{compiled}
 use Rattle.regress_machine.specs.TextsForBytePrograms.{HasUtf8CharactersAndOffsets, tree_contains_byte_nodes}
 use Rattle.regress_machine.specs.Machine as machine
-use Rattle.regress_machine.specs.Machine.{Thread, running, waiting, first_runs_others_wait, Next, goes, scans, ends, asks, after_lookaround, act, search}
-use Rattle.regress_machine.specs.SearchResults.{state_before_first_insn, end_of}
+use Rattle.regress_machine.specs.Machine.{Thread, running, waiting, first_running_and_others_waiting, Next, goes, scans, ends, asks, after_lookaround, act, search}
+use Rattle.regress_machine.specs.SearchFindsFirstOutcomeAtPlace.{state_before_first_insn, end_of}
 use Rattle.regress_machine.proofs.Remains.{steps_of, steps_left, Remains, Left, left-waits, remains-can, remains-inside, remains-ends, remains-none}
 use Rattle.regress_machine.proofs.Remains.{left-goes, left-scans, left-asks}
 use Rattle.regress_pikevm.specs.declared.pikevm.states.State.{State}
@@ -40,12 +40,12 @@ popped-none xs ys n e z r = e ∙ append-nil ys ∙ r ∙ ap (λ m. take (m - 1)
 
 -- the states of a scan, of which the last one is taken up
 pub scan-threads : {P : Type 0} (offset : P → ℕ) (states rest stack : List (State P)) (s : State P) → states ≡ rest ++ s ∷ []
-    → running (state_of offset s) ∷ waiting_threads offset (stack ++ rest) ≡ first_runs_others_wait (preferred_last offset states) ++ waiting_threads offset stack
+    → running (state_of offset s) ∷ waiting_threads offset (stack ++ rest) ≡ first_running_and_others_waiting (preferred_last offset states) ++ waiting_threads offset stack
 scan-threads offset states rest stack s e =
     let order : preferred_last offset states ≡ state_of offset s ∷ preferred_last offset rest =
     ap (preferred_last offset) e ∙ ap (map (λ s. state_of offset s)) (reverse-append rest (s ∷ [])) in
     ap (λ l. running (state_of offset s) ∷ l) (waiting-append offset stack rest ∙ ap (λ l. l ++ waiting_threads offset stack) (sym (map-map waiting (λ s. state_of offset s) (reverse rest))))
-    ∙ ap (λ l. first_runs_others_wait l ++ waiting_threads offset stack) (sym order)
+    ∙ ap (λ l. first_running_and_others_waiting l ++ waiting_threads offset stack) (sym order)
 
 -- ---- The first state
 

@@ -5,16 +5,16 @@ use Rattle.regex_meaning.specs.CodeUnitOffsets.{place_at}
 use Rattle.regex_meaning.specs.Outcomes.{Groups}
 use Rattle.regex_pattern_front.specs.declared.ir.Regex.{Regex}
 use Rattle.regex_pattern_front.specs.AstToSpecTree.{tree_of}
-use Rattle.regress_input.specs.ReadsFromOffset.{direction_of_forward_flag}
+use Rattle.regress_input.specs.CharAndByteReadsFromOffset.{direction_of_forward_flag}
 use Rattle.regress_program.specs.CompilationOfTreesAsFunction.{compiled}
-use Rattle.regress_plan.specs.InsnsAsSpecInsns.{spec_insn_of}
+use Rattle.regress_plan.specs.InsnsAsSpecInsns.{insn_as_spec_insn}
 use Rattle.regress_plan.specs.declared.insn.Insn.{Insn}
 use Rattle.regress_machine.specs.Machine as machine
 use Rattle.regress_machine.specs.Machine.{Found, Next, act, act_on, read_group, scan, with_some}
-use Rattle.regress_machine.specs.SearchResults.{end_of}
-use Rattle.regress_machine.specs.InsnEffects.{state_after_char_loop_at, end_of_search, IsReached}
-use Rattle.regress_exec.specs.Attempts.{search_from}
-use Rattle.regress_scan.specs.InsnMatchers.{char_test_of}
+use Rattle.regress_machine.specs.SearchFindsFirstOutcomeAtPlace.{end_of}
+use Rattle.regress_machine.specs.InsnEffects.{state_after_char_loop_to_offset, end_of_search, IsReached}
+use Rattle.regress_exec.specs.AttemptResultsAndStartsToTry.{search_from}
+use Rattle.regress_scan.specs.OffsetsAfterMatchedInsns.{char_test_of_insn}
 use Rattle.regress_pikevm.specs.declared.pikevm.char_loops.CharLoopBoundsAndGreed.{CharLoopBoundsAndGreed}
 use Rattle.regress_pikevm.specs.declared.pikevm.states.State.{State}
 use Rattle.regress_pikevm.specs.States.{groups_of, range_of, state_of}
@@ -31,18 +31,18 @@ module _ {P : Type 0} (offset : P → ℕ) where
 
     -- the effect of an instruction
     abbrev pub effect_of_insn : Insn → State P → Next
-    effect_of_insn insn s = act_on (compiled (tree_of re)) text (direction_of_forward_flag forward) (Some (spec_insn_of insn)) (state_of offset s)
+    effect_of_insn insn s = act_on (compiled (tree_of re)) text (direction_of_forward_flag forward) (Some (insn_as_spec_insn insn)) (state_of offset s)
 
     -- the effect of a char loop over the characters that an instruction reads
     abbrev pub effect_of_char_loop : CharLoopBoundsAndGreed → Insn → State P → Next
     effect_of_char_loop run insn s =
-        with_some (char_test_of re insn) (λ test. with_some (place_at text (offset s.pos)) (λ p.
+        with_some (char_test_of_insn re insn) (λ test. with_some (place_at text (offset s.pos)) (λ p.
         scan text run.min_iters run.max_iters run.greedy test (direction_of_forward_flag forward) p (state_of offset s)))
 
     -- the loop tries this number of characters, and has these states at its exits
     abbrev pub ReachesExits : CharLoopBoundsAndGreed → Insn → State P → (tries : ℕ) → List (State P) → Type 0
     ReachesExits run insn s tries states =
-        (test : ℕ → Bool) (p : ℕ) → char_test_of re insn ≡ Some test → place_at text (offset s.pos) ≡ Some p
+        (test : ℕ → Bool) (p : ℕ) → char_test_of_insn re insn ≡ Some test → place_at text (offset s.pos) ≡ Some p
         → IsReached text test (direction_of_forward_flag forward) run.min_iters run.max_iters p (state_of offset s) tries (states_of states)
 
     -- the search from a state, as part of an attempt at the offset `at`
@@ -69,4 +69,4 @@ module _ {P : Type 0} (offset : P → ℕ) where
   -- one more exit state of a char loop is pushed, if it is wanted
   abbrev pub PushesExit : (wanted : Bool) → (at : P) → State P → (old new : List (State P)) → Type 0
   PushesExit wanted at s old new =
-      states_of new ≡ (if wanted then states_of old ++ state_after_char_loop_at (offset at) (state_of offset s) ∷ [] else states_of old)
+      states_of new ≡ (if wanted then states_of old ++ state_after_char_loop_to_offset (offset at) (state_of offset s) ∷ [] else states_of old)

@@ -4,14 +4,15 @@
 ghost use Rattle.std.specs.Prelude.{◌≡◌, ◌<◌, ◌≤◌, ◌++◌, map, IsTrue, IsAscii, IsSome, IfOk, option_map, ⊤};
 ghost use Rattle.regex_meaning.specs.{Text.{ascii_text, ucs2_text, utf16_text, utf8_text}, CodeUnitOffsets.{IsBoundary, units}};
 ghost use Rattle.regex_pattern_front.specs.AstToSpecTree.{tree_of};
-ghost use Rattle.regress_program.specs.{CompilationOfTreesAsFunction.{compiled}, InsnMeanings.{spec_insn_of}};
-ghost use Rattle.regress_machine.specs.{Machine.{first_runs_others_wait}, InsnEffects.{IsNotStuck}};
-ghost use Rattle.regress_exec.specs.{Attempts.{match_end_and_groups_at}, Executors.{StartsWithoutStepLimit, ReadsBytesAsAscii, AcceptsAllAsciiTexts}};
+ghost use Rattle.regress_program.specs.{CompilationOfTreesAsFunction.{compiled}, InsnsAndStartPredicatesAsSpec.{insn_as_spec_insn}};
+ghost use Rattle.regress_machine.specs.{Machine.{first_running_and_others_waiting}, InsnEffects.{IsNotStuck}};
+ghost use Rattle.regress_exec.specs.AttemptResultsAndStartsToTry.{match_end_and_groups_at};
+ghost use Rattle.regress_exec.specs.NewExecutorsAndAsciiTexts.{IsNewExecutorWithoutStepLimit, ReadsBytesAsAscii, CanSearchAllAsciiTexts};
 ghost use Rattle.regress_pikevm.specs.InsnEffects.{end_and_groups, search_at, effect_at, HasRun};
 ghost use Rattle.regress_pikevm.specs.States.{groups_of, next_threads, waiting_threads, pending_threads, preferred_last, TakesNextThread};
 
 pub mod char_loops;
-pub mod insn_matchers;
+pub mod read_or_assertion_insn_matchers;
 pub mod single_insn_execution;
 pub mod states;
 
@@ -19,11 +20,11 @@ use self::single_insn_execution::execute_insn;
 use self::states::{NextStates, State, initial_state, resume_after_lookaround};
 use regress_exec::exec::{Executor, MatchProducer, ProducerFromProgramAndText, SearchError};
 use regress_exec::program_and_input::ProgramAndInput;
-use regress_exec::search_loop::{AnchoredSearch, group_at};
+use regress_exec::search_loop::{SingleAttemptExecutor, group_at};
 use regress_input::cursor::{Backward, Forward};
 use regress_input::indexing::{AsciiInput, InputIndexer, Ucs2Input, Utf8Input, Utf16Input};
 use regress_input::position::PositionType;
-use regress_program::insn::{CompiledRegex, CompiledUnits, Insn, Program};
+use regress_program::insn::{CompiledRegex, CompiledRegexFor16BitUnits, Insn, Program};
 use std::alloc::{AllocError, Global};
 
 /// An executor that runs a program over a text and copies whole states.
@@ -58,7 +59,7 @@ fn execute_in_direction<Input: InputIndexer>(
     forward: bool,
     state: State<Input::Position>,
 ) -> Result<NextStates<Input::Position>, AllocError>
-    requires code { map spec_insn_of insns.now ≡ (compiled (tree_of searched.now.program.now)).insns }
+    requires code { map insn_as_spec_insn insns.now ≡ (compiled (tree_of searched.now.program.now)).insns }
     requires can { let s = searched.now in
         IsNotStuck (effect_at Input.Position.offset s.program.now (Input.text s.input) forward state) }
     requires inside { Input.Position.offset state.pos ≤ units (Input.text searched.now.input) }
@@ -92,7 +93,8 @@ fn push_loop_exits<P: PositionType>(
     stack: &mut Vec<State<P>>,
 ) -> Result<Option<State<P>>, AllocError>
     ensures { IfOk result (λ next. pending_threads P.offset next stack.new.items
-        ≡ first_runs_others_wait (preferred_last P.offset states.items) ++ waiting_threads P.offset stack.old.items) }
+        ≡ first_running_and_others_waiting (preferred_last P.offset states.items) ++ waiting_threads P.offset
+        stack.old.items) }
 {
     let Some(next) = states.pop() else {
         return Ok(None);
@@ -161,7 +163,7 @@ fn preferred_final_state<Input: InputIndexer>(
     Ok(end)
 }
 
-impl<'r, Input: InputIndexer> AnchoredSearch for PikeVMExecutor<'r, Input> {
+impl<'r, Input: InputIndexer> SingleAttemptExecutor for PikeVMExecutor<'r, Input> {
     type Input = Input;
 
     ghost tree = { λ e. tree_of e.searched.program.now };
@@ -203,7 +205,7 @@ impl<'r, Input: InputIndexer> AnchoredSearch for PikeVMExecutor<'r, Input> {
         Some(pos)
     }
 
-    fn next_start_to_try_after(&self, tried: Input::Position) -> Option<Input::Position> {
+    fn next_start_after_failed_attempt(&self, tried: Input::Position) -> Option<Input::Position> {
         self.searched.position_after_failed_attempt(tried)
     }
 }
@@ -247,9 +249,13 @@ impl<'r, 't> PikeVMExecutor<'r, Utf16Input<'t>> {
     /// # Errors
     ///
     /// None so far: it allocates no memory.
-    pub fn new_utf16(re: &'r CompiledUnits, text: &'t [u16]) -> Result<Self, AllocError>
+    pub fn new_utf16(
+        re: &'r CompiledRegexFor16BitUnits,
+        text: &'t [u16],
+    ) -> Result<Self, AllocError>
         ensures { IfOk result
-            (StartsWithoutStepLimit ⟦<PikeVMExecutor<'r, Utf16Input<'t>> as MatchProducer>⟧ (tree_of re.now) (utf16_text text.now)) }
+            (IsNewExecutorWithoutStepLimit ⟦<PikeVMExecutor<'r, Utf16Input<'t>> as MatchProducer>⟧ (tree_of re.now)
+            (utf16_text text.now)) }
     {
         Ok(PikeVMExecutor::new_executor(ProgramAndInput::pair_with_utf16_text(re, text)))
     }
@@ -261,9 +267,10 @@ impl<'r, 't> PikeVMExecutor<'r, Ucs2Input<'t>> {
     /// # Errors
     ///
     /// None so far: it allocates no memory.
-    pub fn new_ucs2(re: &'r CompiledUnits, text: &'t [u16]) -> Result<Self, AllocError>
+    pub fn new_ucs2(re: &'r CompiledRegexFor16BitUnits, text: &'t [u16]) -> Result<Self, AllocError>
         ensures { IfOk result
-            (StartsWithoutStepLimit ⟦<PikeVMExecutor<'r, Ucs2Input<'t>> as MatchProducer>⟧ (tree_of re.now) (ucs2_text text.now)) }
+            (IsNewExecutorWithoutStepLimit ⟦<PikeVMExecutor<'r, Ucs2Input<'t>> as MatchProducer>⟧ (tree_of re.now)
+            (ucs2_text text.now)) }
     {
         Ok(PikeVMExecutor::new_executor(ProgramAndInput::pair_with_ucs2_text(re, text)))
     }
@@ -281,13 +288,13 @@ type OfAscii = <OverAscii as Executor<'static, 'static>>::AsAscii;
 /// States that the `AsAscii` of the executor over UTF-8 takes each ASCII text, and reads each of
 /// its bytes as a character.
 pub fn ascii_is_read_in_bytes()
-    ensures takes { AcceptsAllAsciiTexts ⟦<OfUtf8 as ProducerFromProgramAndText<'static>>⟧.can_search }
+    ensures takes { CanSearchAllAsciiTexts ⟦<OfUtf8 as ProducerFromProgramAndText<'static>>⟧.can_search }
     ensures reads { ReadsBytesAsAscii ⟦<OfUtf8 as ProducerFromProgramAndText<'static>>⟧.text_of }
 {}
 
 /// States that the `AsAscii` of the executor over ASCII takes each ASCII text, and reads each of
 /// its bytes as a character.
 pub fn ascii_stays_in_bytes()
-    ensures takes { AcceptsAllAsciiTexts ⟦<OfAscii as ProducerFromProgramAndText<'static>>⟧.can_search }
+    ensures takes { CanSearchAllAsciiTexts ⟦<OfAscii as ProducerFromProgramAndText<'static>>⟧.can_search }
     ensures reads { ReadsBytesAsAscii ⟦<OfAscii as ProducerFromProgramAndText<'static>>⟧.text_of }
 {}

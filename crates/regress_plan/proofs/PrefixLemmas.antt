@@ -17,14 +17,14 @@ use Rattle.regex_meaning.specs.CompilationRelation.{StartOfLine, WordBoundary, W
 use Rattle.regex_meaning.specs.CompilationRelation.{BeginCaptureGroup, EndCaptureGroup, Lookahead, Lookbehind}
 use Rattle.regex_meaning.proofs.Options.{some-same}
 use Rattle.regress_machine.specs.Machine.{test_of}
-use Rattle.regress_plan.specs.InsnsAsSpecInsns.{spec_insn_of}
+use Rattle.regress_plan.specs.InsnsAsSpecInsns.{insn_as_spec_insn}
 use Rattle.regress_simulation.specs.FailingInsnsAtOffset.{may_at}
 use Rattle.regress_simulation.specs.FirstSetTables.{is_character_in_encoding, first_unit_key}
 use Rattle.regress_simulation.specs.RequiredPrefixes.{Allowed, unit_is_allowed}
 use Rattle.regress_simulation.proofs.Prefixes.{prefix-none, prefix-less, prefix-on, prefix-either, AreUnits, Reads, prefix-reads, prefix-run}
-use Rattle.regress_plan.specs.declared.first_set.FirstSet.{FirstSet}
+use Rattle.regress_plan.specs.declared.first_set_type.FirstSet.{FirstSet}
 use Rattle.regress_plan.specs.declared.char_class_tables.Class.{Class}
-use Rattle.regress_plan.specs.declared.required_prefix.Prefix.{Prefix}
+use Rattle.regress_plan.specs.declared.required_prefix_types.Prefix.{Prefix}
 use Rattle.regress_plan.specs.declared.required_prefix_analysis.OpPrefixContribution.{OpPrefixContribution}
 use Rattle.regress_plan.specs.declared.required_prefix_analysis.OpPrefixContribution.TheVariants as ahead
 use Rattle.regress_plan.specs.declared.ops.CharLoopBounds.{CharLoopBounds}
@@ -35,11 +35,12 @@ use Rattle.regress_plan.specs.declared.ops.Op.{Op}
 use Rattle.regress_plan.specs.declared.ops.Op.TheVariants as op
 use Rattle.regress_plan.specs.declared.ops.CharLoop as run
 use Rattle.regress_plan.specs.declared.plan.Plan.{Plan}
-use Rattle.regress_plan.specs.TableKeysOfUnits.{key, has_16_bit_units, is_read_length_right, read_length_at_key, unit_table_of_set}
-use Rattle.regress_plan.specs.Plans.{IsClass, reads_class_char, char_loop_of, IsOpOf}
+use Rattle.regress_plan.specs.TableKeysOfUnits.{key, is_16_bit_encoding, is_read_length_right, read_length_at_key, unit_table_of_set}
+use Rattle.regress_plan.specs.Plans.{IsClass, reads_class_char, op_as_char_loop, IsOpOf}
 use Rattle.regress_plan.specs.PrefixesAndPrefilters.{units_allowed_by_prefix, PrefixAt, IsRequiredPrefixFromInsn, ExcludesKeys}
-use Rattle.regress_plan.specs.RequiredPrefixAnalysis.{low_bits_followed_by_shifted_mask, then_allowed, allows_only_key, allows_keys_of_set, falls_through, ExtendsPrefixByAllowedUnits, IsPrefixUnion, IsPrefixSoFar, AreOpsOfProgram, PrefixAfter}
-use Rattle.regress_plan.specs.RequiredPrefixAnalysis.{PrefixBeginsWith, PrefixFollowsFromSuccessorPrefixes, IsOpPrefixContributionOf, IsOpPrefixContributionOfLoop}
+use Rattle.regress_plan.specs.RequiredPrefixAnalysis.{low_bits_followed_by_shifted_mask, then_allowed, allows_only_key, units_allowed_by_first_set, falls_through}
+use Rattle.regress_plan.specs.RequiredPrefixAnalysis.{ExtendsPrefixByAllowedUnitSequence, AllowsWhateverEitherPrefixAllows, IsPrefixSoFar, AreOpsOfProgram, PrefixAfter}
+use Rattle.regress_plan.specs.RequiredPrefixAnalysis.{PrefixBeginsWith, PrefixFollowsFromSuccessorPrefixes, IsOpPrefixContributionOf, IsPrefixContributionOfCharLoop}
 use Rattle.regress_plan.proofs.KeyLemmas.{first-key-at, first-key-below, key_of_first}
 use Rattle.regress_plan.proofs.ClosingLemmas.{told-some}
 use Rattle.regress_plan.proofs.RowLemmas.{get-below, runs-of}
@@ -156,7 +157,7 @@ then-late count first after ahead k more = ap (λ (b : Bool). if b then first ah
 
 -- units, and those behind them
 pub then-of : (p q prefix : Prefix) → length prefix.masks ≡ 256 → prefix.len ≡ min (p.len + q.len) 15
-    → ((k : ℕ) → k < 256 → get_or prefix.masks k 0 ≡ low_bits_followed_by_shifted_mask (get_or p.masks k 0) p.len (get_or q.masks k 0)) → ExtendsPrefixByAllowedUnits p q.len (units_allowed_by_prefix q) prefix
+    → ((k : ℕ) → k < 256 → get_or prefix.masks k 0 ≡ low_bits_followed_by_shifted_mask (get_or p.masks k 0) p.len (get_or q.masks k 0)) → ExtendsPrefixByAllowedUnitSequence p q.len (units_allowed_by_prefix q) prefix
 then-of p q prefix sized len each = record { len = len; within = λ ahead k less h. by ahead k less h (cases_lt k 256) }
   where
     here : (ahead k : ℕ) → ahead < prefix.len → k < 256 → then_allowed p.len (units_allowed_by_prefix p) (units_allowed_by_prefix q) ahead k ≡ true → (ahead < p.len) ⊎ (p.len ≤ ahead)
@@ -178,7 +179,7 @@ then-of p q prefix sized len each = record { len = len; within = λ ahead k less
 -- units of which bits are cleared
 pub then-cleared : (p prefix : Prefix) (count : ℕ) (has : ℕ → Bool) → length prefix.masks ≡ 256 → prefix.len ≡ min (p.len + count) 15
     → ((k : ℕ) → k < 256 → (ahead : ℕ) → (bit_at (get_or p.masks k 0) ahead ≡ 0) ⊎ ((has k ≡ true) × (p.len ≤ ahead) × (ahead < prefix.len)) → bit_at (get_or prefix.masks k 0) ahead ≡ 0)
-    → ExtendsPrefixByAllowedUnits p count (λ ahead k. has k) prefix
+    → ExtendsPrefixByAllowedUnitSequence p count (λ ahead k. has k) prefix
 then-cleared p prefix count has sized len each = record { len = len; within = λ ahead k less h. by ahead k less h (cases_lt k 256) }
   where
     here : (ahead k : ℕ) → ahead < prefix.len → k < 256 → then_allowed p.len (units_allowed_by_prefix p) (λ ahead k. has k) ahead k ≡ true → (ahead < p.len) ⊎ (p.len ≤ ahead)
@@ -197,7 +198,7 @@ then-cleared p prefix count has sized len each = record { len = len; within = λ
 -- those of a set
 pub units-cleared : (p prefix : Prefix) (count kept : ℕ) (has : ℕ → Bool) → length prefix.masks ≡ 256 → prefix.len ≡ min (p.len + count) 15
     → ((ahead : ℕ) → p.len ≤ ahead → ahead < prefix.len → bit_at kept ahead ≡ 0)
-    → ((k : ℕ) → k < 256 → get_or prefix.masks k 0 ≡ bit_and (get_or p.masks k 0) (if has k then kept else 65535)) → ExtendsPrefixByAllowedUnits p count (λ ahead k. has k) prefix
+    → ((k : ℕ) → k < 256 → get_or prefix.masks k 0 ≡ bit_and (get_or p.masks k 0) (if has k then kept else 65535)) → ExtendsPrefixByAllowedUnitSequence p count (λ ahead k. has k) prefix
 units-cleared p prefix count kept has sized len clear each = then-cleared p prefix count has sized len
     (λ k below ahead w.
     ap (λ m. bit_at m ahead) (each k below) ∙ and-clear (get_or p.masks k 0) (if has k then kept else 65535) ahead (by k ahead w))
@@ -210,7 +211,7 @@ units-cleared p prefix count kept has sized len clear each = then-cleared p pref
 -- one alone
 pub unit-cleared : (p prefix : Prefix) (key at kept : ℕ) → at ≡ key → length p.masks ≡ 256 → at < 256 → p.len < 15 → prefix.len ≡ p.len + 1
     → ((ahead : ℕ) → p.len ≤ ahead → ahead < p.len + 1 → bit_at kept ahead ≡ 0)
-    → prefix.masks ≡ slice_set p.masks at (bit_and (get_or p.masks at 0) kept) → ExtendsPrefixByAllowedUnits p 1 (allows_only_key key) prefix
+    → prefix.masks ≡ slice_set p.masks at (bit_and (get_or p.masks at 0) kept) → ExtendsPrefixByAllowedUnitSequence p 1 (allows_only_key key) prefix
 unit-cleared p prefix key at kept here sized low room len clear is = then-cleared p prefix 1 (λ k. k == key)
     (ap length is ∙ length-set p.masks at (bit_and (get_or p.masks at 0) kept) ∙ sized) (omega (arith, len, room))
     (λ k below ahead w. ap (λ (l : List ℕ). bit_at (get_or l k 0) ahead) is ∙ by k ahead w (k == key) refl)
@@ -234,7 +235,7 @@ unit-cleared p prefix key at kept here sized low room len clear is = then-cleare
 
 -- either
 pub either-of : (a b prefix : Prefix) → length prefix.masks ≡ 256 → prefix.len ≡ min a.len b.len
-    → ((k : ℕ) → k < 256 → get_or prefix.masks k 0 ≡ low_bits_followed_by_shifted_mask (bit_and (get_or a.masks k 0) (get_or b.masks k 0)) prefix.len 65535) → IsPrefixUnion a b prefix
+    → ((k : ℕ) → k < 256 → get_or prefix.masks k 0 ≡ low_bits_followed_by_shifted_mask (bit_and (get_or a.masks k 0) (get_or b.masks k 0)) prefix.len 65535) → AllowsWhateverEitherPrefixAllows a b prefix
 either-of a b prefix sized len each = record {
   first = omega (arith, len);
   second = omega (arith, len);
@@ -267,7 +268,7 @@ prefix-unknown wide program ip prefix none =
     subst P (sym none) (none-prefix wide program ip (units_allowed_by_prefix prefix))
 
 pub prefix-of-either : (wide : Bool) (program : Program) (ip x y : ℕ) (a b prefix : Prefix) → PrefixFollowsFromSuccessorPrefixes wide program ip (ahead.UnionOf x y) → IsRequiredPrefixFromInsn wide program x a → IsRequiredPrefixFromInsn wide program y b
-    → IsPrefixUnion a b prefix → IsRequiredPrefixFromInsn wide program ip prefix
+    → AllowsWhateverEitherPrefixAllows a b prefix → IsRequiredPrefixFromInsn wide program ip prefix
 prefix-of-either wide program ip x y a b prefix leads first second either =
     leads prefix.len (units_allowed_by_prefix prefix)
     (less-prefix wide program x prefix.len a.len (units_allowed_by_prefix a) (units_allowed_by_prefix prefix) first either.first either.within_first)
@@ -291,7 +292,7 @@ path-at wide program from ip to prefix path leads = record { so_far = path.so_fa
 
 -- what stands at the operation stands behind the units
 pub path-then : (wide : Bool) (program : Program) (from ip len : ℕ) (prefix next : Prefix) (allowed : Allowed) → IsPrefixSoFar wide program from prefix ip → prefix.len < 15
-    → PrefixAt wide program ip len allowed → ExtendsPrefixByAllowedUnits prefix len allowed next → IsRequiredPrefixFromInsn wide program from next
+    → PrefixAt wide program ip len allowed → ExtendsPrefixByAllowedUnitSequence prefix len allowed next → IsRequiredPrefixFromInsn wide program from next
 path-then wide program from ip len prefix next allowed path room there is =
     less-prefix wide program from next.len (prefix.len + len) (then_allowed prefix.len (units_allowed_by_prefix prefix) allowed) (units_allowed_by_prefix next) (path.on room len allowed there)
     (let l = is.len in omega (arith, l)) (λ ahead k less h. is.within ahead k less h)
@@ -308,13 +309,13 @@ units-there wide program ip count units to leads =
     nothing (Some next) = none-prefix wide program next units
 
 pub path-last : (wide : Bool) (program : Program) (from ip count : ℕ) (units : Allowed) (to : Option ℕ) (prefix next : Prefix) → IsPrefixSoFar wide program from prefix ip → prefix.len < 15
-    → PrefixBeginsWith wide program ip units count to → ExtendsPrefixByAllowedUnits prefix count units next → IsRequiredPrefixFromInsn wide program from next
+    → PrefixBeginsWith wide program ip units count to → ExtendsPrefixByAllowedUnitSequence prefix count units next → IsRequiredPrefixFromInsn wide program from next
 path-last wide program from ip count units to prefix next path room leads is =
     path-then wide program from ip count prefix next units path room (units-there wide program ip count units to leads) is
 
 -- behind which it leads on
 pub path-units : (wide : Bool) (program : Program) (from ip count to : ℕ) (units : Allowed) (prefix next : Prefix) → IsPrefixSoFar wide program from prefix ip → prefix.len < 15
-    → PrefixBeginsWith wide program ip units count (Some to) → ExtendsPrefixByAllowedUnits prefix count units next → IsPrefixSoFar wide program from next to
+    → PrefixBeginsWith wide program ip units count (Some to) → ExtendsPrefixByAllowedUnitSequence prefix count units next → IsPrefixSoFar wide program from next to
 path-units wide program from ip count to units prefix next path room leads is = record {
   so_far = path-last wide program from ip count units (Some to) prefix next path room leads is;
   on = λ more len allowed there.
@@ -350,7 +351,7 @@ path-units wide program from ip count to units prefix next path room leads is = 
 
 -- one of two operations
 pub path-either : (wide : Bool) (program : Program) (from ip x y : ℕ) (prefix a b either next : Prefix) → IsPrefixSoFar wide program from prefix ip → prefix.len < 15
-    → PrefixFollowsFromSuccessorPrefixes wide program ip (ahead.UnionOf x y) → IsRequiredPrefixFromInsn wide program x a → IsRequiredPrefixFromInsn wide program y b → IsPrefixUnion a b either → ExtendsPrefixByAllowedUnits prefix either.len (units_allowed_by_prefix either) next
+    → PrefixFollowsFromSuccessorPrefixes wide program ip (ahead.UnionOf x y) → IsRequiredPrefixFromInsn wide program x a → IsRequiredPrefixFromInsn wide program y b → AllowsWhateverEitherPrefixAllows a b either → ExtendsPrefixByAllowedUnitSequence prefix either.len (units_allowed_by_prefix either) next
     → IsRequiredPrefixFromInsn wide program from next
 path-either wide program from ip x y prefix a b either next path room leads first second of is =
     path-then wide program from ip either.len prefix next (units_allowed_by_prefix either) path room (prefix-of-either wide program ip x y a b either leads first second of) is
@@ -374,7 +375,7 @@ pub said-as : (plan : Plan) (ip : ℕ) (said : OpPrefixContribution) (o shown : 
 said-as plan ip said o shown is leads = let P : Op → Type 0 = λ x. IsOpPrefixContributionOf plan x ip said in subst P (sym is) leads
 
 -- what is said of a run, by what its rows say
-pub said-of-run : (plan : Plan) (ip : ℕ) (said : OpPrefixContribution) (o : Op) (r : run.CharLoop) → char_loop_of o ≡ Some r → IsOpPrefixContributionOfLoop plan r ip said → IsOpPrefixContributionOf plan o ip said
+pub said-of-run : (plan : Plan) (ip : ℕ) (said : OpPrefixContribution) (o : Op) (r : run.CharLoop) → op_as_char_loop o ≡ Some r → IsPrefixContributionOfCharLoop plan r ip said → IsOpPrefixContributionOf plan o ip said
 said-of-run plan ip said o r is leads wide program ops there =
     let i = insn-of plan program ops o ip there in
     let h = runs-of program plan o r ip i.0 is i.2 in
@@ -476,7 +477,7 @@ said-entry plan ip number counted here some wide program ops there =
 
 -- in texts of such units, what passes the test has one unit, of which so many may stand
 abbrev UnitsOf : (wide : Bool) (test : ℕ → Bool) (count : ℕ) → Allowed → Type 0
-UnitsOf wide test count allowed = (e : Encoding) → has_16_bit_units e ≡ wide → AreUnits e (key wide) test count allowed
+UnitsOf wide test count allowed = (e : Encoding) → is_16_bit_encoding e ≡ wide → AreUnits e (key wide) test count allowed
 
 -- one that reads one character, behind which this one stands
 reads-prefix : (wide : Bool) (program : Program) (ip : ℕ) (insn : Insn) (units : Allowed) → slice_get program.insns ip ≡ Some insn
@@ -508,13 +509,13 @@ said-unit plan ip c low wide program ops there =
 
 -- the characters of a class of single units
 class-units : (wide : Bool) (program : Program) (class : Class) (set : FirstSet) (insn : Insn) → IsClass wide program class → class.single_unit ≡ true
-    → insn ≡ spec_insn_of class.insn
+    → insn ≡ insn_as_spec_insn class.insn
     → ((k : ℕ) → k < 256 → (unit_table_of_set set).keys k ≡ not (slice_index_or class.steps k 0 == 0)) → (test : ℕ → Bool) → test_of program (Some insn) ≡ Some test
-    → (count : ℕ) (allowed : Allowed) → UnitsOf wide test count (then_allowed count (allows_keys_of_set set) allowed)
+    → (count : ℕ) (allowed : Allowed) → UnitsOf wide test count (then_allowed count (units_allowed_by_first_set set) allowed)
 class-units wide program class set insn is single_unit same keys test t count allowed e units = record {
   keys = λ c character accepted ahead less.
-      ap (unit_is_allowed (then_allowed count (allows_keys_of_set set) allowed) ahead) (first-key-at e wide units c character)
-      ∙ then-early count (allows_keys_of_set set) allowed ahead (key_of_first wide c) less
+      ap (unit_is_allowed (then_allowed count (units_allowed_by_first_set set) allowed) ahead) (first-key-at e wide units c character)
+      ∙ then-early count (units_allowed_by_first_set set) allowed ahead (key_of_first wide c) less
       ∙ keys (key_of_first wide c) (first-key-below e wide units c character)
       ∙ ap not (ne_eqb (slice_index_or class.steps (key_of_first wide c) 0) 0 (some c character accepted));
   single = λ c character accepted.
@@ -551,18 +552,18 @@ said-class plan ip number class set here single_unit keys wide program ops there
     let i = insn-of plan program ops (op.One number) ip there in
     let h = i.2.0 in
     let same = some-same h.class class (sym h.is_there ∙ here) in
-    reads-prefix wide program ip i.0 (allows_keys_of_set set) i.1 (reads-as wide program i.0 i.2.1)
-    (class-units wide program class set i.0 (ops.classes number class here) single_unit (h.is_class ∙ ap (λ (c : Class). spec_insn_of c.insn) same) keys)
+    reads-prefix wide program ip i.0 (units_allowed_by_first_set set) i.1 (reads-as wide program i.0 i.2.1)
+    (class-units wide program class set i.0 (ops.classes number class here) single_unit (h.is_class ∙ ap (λ (c : Class). insn_as_spec_insn c.insn) same) keys)
 
 pub said-run : (plan : Plan) (ip : ℕ) (r : run.CharLoop) (class : Class) (bounds : CharLoopBounds) (set : FirstSet) (to : Option ℕ) → slice_get plan.classes.items r.class ≡ Some class
     → slice_get plan.bounds.items r.bounds ≡ Some bounds → class.single_unit ≡ true
     → ((k : ℕ) → k < 256 → (unit_table_of_set set).keys k ≡ not (slice_index_or class.steps k 0 == 0))
-    → ((to ≡ Some (ip + 2)) × (bounds.min ≡ bounds.max)) ⊎ (to ≡ None) → IsOpPrefixContributionOfLoop plan r ip (ahead.Units set bounds.min to)
+    → ((to ≡ Some (ip + 2)) × (bounds.min ≡ bounds.max)) ⊎ (to ≡ None) → IsPrefixContributionOfCharLoop plan r ip (ahead.Units set bounds.min to)
 said-run plan ip r class bounds set to here bounded single_unit keys way wide program ops greedy insn there runs len allowed behind =
-    λ e same. prefix-run e (key wide) program ip len bounds.min bounds.max greedy (then_allowed bounds.min (allows_keys_of_set set) allowed) allowed
+    λ e same. prefix-run e (key wide) program ip len bounds.min bounds.max greedy (then_allowed bounds.min (units_allowed_by_first_set set) allowed) allowed
     (there ∙ ap Some (runs.insn_is ∙ ap (λ (b : CharLoopBounds). Loop1CharBody b.min b.max greedy) same_bounds)) (λ test t. are test t e same)
     (λ ahead k.
-    then-late bounds.min (allows_keys_of_set set) allowed (bounds.min + ahead) k (omega arith)
+    then-late bounds.min (units_allowed_by_first_set set) allowed (bounds.min + ahead) k (omega arith)
     ∙ ap (λ n. allowed n k) (let z : bounds.min + ahead - bounds.min ≡ ahead = omega arith in z))
     (exactly way) (prefix way e same)
   where
@@ -570,16 +571,16 @@ said-run plan ip r class bounds set to here bounded single_unit keys way wide pr
     same_bounds = let e : Some runs.bounds ≡ Some bounds = sym runs.are_there ∙ bounded in cc
 
     are : (test : ℕ → Bool) → test_of program (slice_get program.insns (ip + 1)) ≡ Some test
-        → UnitsOf wide test bounds.min (then_allowed bounds.min (allows_keys_of_set set) allowed)
+        → UnitsOf wide test bounds.min (then_allowed bounds.min (units_allowed_by_first_set set) allowed)
     are test t = by (slice_get program.insns (ip + 1)) refl t
       where
         by : (o : Option Insn) → slice_get program.insns (ip + 1) ≡ o → test_of program o ≡ Some test
-            → UnitsOf wide test bounds.min (then_allowed bounds.min (allows_keys_of_set set) allowed)
+            → UnitsOf wide test bounds.min (then_allowed bounds.min (units_allowed_by_first_set set) allowed)
         by None at t = cc
         by (Some read) at t =
             let h = runs.body read at in
             let same = some-same h.class class (sym h.is_there ∙ here) in
-            class-units wide program class set read (ops.classes r.class class here) single_unit (h.is_class ∙ ap (λ (c : Class). spec_insn_of c.insn) same) keys test t bounds.min allowed
+            class-units wide program class set read (ops.classes r.class class here) single_unit (h.is_class ∙ ap (λ (c : Class). insn_as_spec_insn c.insn) same) keys test t bounds.min allowed
 
     exactly : ((to ≡ Some (ip + 2)) × (bounds.min ≡ bounds.max)) ⊎ (to ≡ None) → (bounds.min ≡ bounds.max) ⊎ (len ≡ 0)
     exactly (inl more) = inl more.1

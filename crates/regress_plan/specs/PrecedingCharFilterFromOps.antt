@@ -3,18 +3,18 @@ use Rattle.std.specs.Prelude.{◌≡◌, ◌<◌, ℕ, Bool, true, false, take, 
 use Rattle.regex_meaning.specs.NumberListHelpers.{contains}
 use Rattle.regress_simulation.specs.FirstSetTables.{AllowedNextKeys}
 use Rattle.regress_plan.specs.declared.lookbehind_filter.PrecedingCharFilter.{PrecedingCharFilter}
-use Rattle.regress_plan.specs.declared.first_set.FirstSet.{FirstSet}
+use Rattle.regress_plan.specs.declared.first_set_type.FirstSet.{FirstSet}
 use Rattle.regress_plan.specs.declared.ops.Op.{Op}
 use Rattle.regress_plan.specs.declared.ops.Op.TheVariants.{UnitChar, Char, One}
 use Rattle.regress_plan.specs.declared.plan.Plan.{Plan}
 use Rattle.regress_plan.specs.TableKeysOfUnits.{unit_table_of_set}
-use Rattle.regress_plan.specs.FirstSetFixpoint.{IncludesFirstSet}
-use Rattle.regress_plan.specs.LookbehindFilter.{HasOnlyLeadByteKeys}
+use Rattle.regress_plan.specs.ClosedFirstSets.{IncludesFirstSet}
+use Rattle.regress_plan.specs.LookbehindFilter.{LookbehindFilterKeysAreLeadBytes}
 
 -- The filter has all keys of the set and this `edge`. In bytes, all its keys are lead bytes.
-pub record FilterHasKeysOfSet (wide : Bool) (set : FirstSet) (edge : Bool) (before : PrecedingCharFilter) : Type 0 where
+pub record FilterIncludesAllKeysOfSet (wide : Bool) (set : FirstSet) (edge : Bool) (before : PrecedingCharFilter) : Type 0 where
   pub edge_is : before.edge ≡ edge
-  pub leads : HasOnlyLeadByteKeys wide before
+  pub leads : LookbehindFilterKeysAreLeadBytes wide before
   pub among : (k : ℕ) → k < 256 → (unit_table_of_set set).keys k ≡ true → contains (take before.len before.keys) k ≡ true
 
 -- Whether an operation reads one character.

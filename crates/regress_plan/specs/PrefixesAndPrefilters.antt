@@ -5,14 +5,14 @@ use Rattle.std.specs.Int.{bit_at}
 use Rattle.regex_meaning.specs.CodeUnits.{Encoding}
 use Rattle.regex_meaning.specs.CompilationRelation.{Program}
 use Rattle.regress_simulation.specs.RequiredPrefixes.{Allowed, unit_is_allowed, IsPrefix}
-use Rattle.regress_plan.specs.declared.required_prefix.Prefix.{Prefix}
-use Rattle.regress_plan.specs.declared.prefilters.Prefilter.{Prefilter}
-use Rattle.regress_plan.specs.declared.prefilters.Prefilter.TheVariants as filter
-use Rattle.regress_plan.specs.declared.prefilters.MaskedUnitProbe.{MaskedUnitProbe}
-use Rattle.regress_plan.specs.declared.required_prefix.RequiredUnit.{RequiredUnit}
-use Rattle.regress_plan.specs.declared.required_prefix.Literal.{Literal}
-use Rattle.regress_plan.specs.declared.prefilters.LiteralPrefilter.{LiteralPrefilter}
-use Rattle.regress_plan.specs.TableKeysOfUnits.{key, has_16_bit_units}
+use Rattle.regress_plan.specs.declared.required_prefix_types.Prefix.{Prefix}
+use Rattle.regress_plan.specs.declared.required_prefix_prefilters.RequiredPrefixPrefilter.{RequiredPrefixPrefilter}
+use Rattle.regress_plan.specs.declared.required_prefix_prefilters.RequiredPrefixPrefilter.TheVariants as filter
+use Rattle.regress_plan.specs.declared.required_prefix_prefilters.MaskedUnitProbe.{MaskedUnitProbe}
+use Rattle.regress_plan.specs.declared.required_prefix_types.RequiredUnitAndOffset.{RequiredUnitAndOffset}
+use Rattle.regress_plan.specs.declared.required_prefix_types.Literal.{Literal}
+use Rattle.regress_plan.specs.declared.required_prefix_prefilters.LiteralPrefilter.{LiteralPrefilter}
+use Rattle.regress_plan.specs.TableKeysOfUnits.{key, is_16_bit_encoding}
 
 -- The units that a prefix allows: bit `ahead` of the mask of their key is clear.
 abbrev pub units_allowed_by_prefix : Prefix → Allowed
@@ -20,7 +20,7 @@ units_allowed_by_prefix prefix ahead k = bit_at (slice_index prefix.masks k) ahe
 
 -- At `ip`, a thread finds nothing unless each of the next `len` units is allowed.
 abbrev pub PrefixAt : (wide : Bool) → Program → (ip len : ℕ) → Allowed → Type 0
-PrefixAt wide program ip len allowed = (e : Encoding) → has_16_bit_units e ≡ wide → IsPrefix e (key wide) program ip len allowed
+PrefixAt wide program ip len allowed = (e : Encoding) → is_16_bit_encoding e ≡ wide → IsPrefix e (key wide) program ip len allowed
 
 -- The prefix is a required prefix at `ip`.
 abbrev pub IsRequiredPrefixFromInsn : (wide : Bool) → Program → (ip : ℕ) → Prefix → Type 0
@@ -36,13 +36,13 @@ abbrev pub ExcludesKeys : Prefix → (from end ahead : ℕ) → Type 0
 ExcludesKeys prefix from end ahead = (k : ℕ) → from ≤ k → k < end → units_allowed_by_prefix prefix ahead k ≡ false
 
 -- This unit is the only one that is allowed at its position.
-pub record IsOnlyUnitAllowedAtPosition (prefix : Prefix) (rare : RequiredUnit) : Type 0 where
+pub record IsOnlyUnitAllowedAtPosition (prefix : Prefix) (rare : RequiredUnitAndOffset) : Type 0 where
   pub inside : rare.ahead < prefix.len
   pub stands : units_allowed_by_prefix prefix rare.ahead rare.unit ≡ true
   pub only : (k : ℕ) → k < 256 → units_allowed_by_prefix prefix rare.ahead k ≡ true → k ≡ rare.unit
 
 -- Each unit of the literal is the only one that is allowed at its position.
-pub record IsLiteralOfOnlyAllowedUnits (prefix : Prefix) (literal : Literal) : Type 0 where
+pub record IsLiteralForcedByPrefix (prefix : Prefix) (literal : Literal) : Type 0 where
   pub some : 0 < literal.len
   pub inside : literal.ahead + literal.len ≤ prefix.len
   pub alone : (i : ℕ) → i < literal.len → IsOnlyUnitAllowedAtPosition prefix (record { unit = slice_index literal.units i; ahead = literal.ahead + i })
@@ -52,8 +52,8 @@ abbrev pub AllowsOnlyAsciiAt : Prefix → (ahead : ℕ) → Type 0
 AllowsOnlyAsciiAt prefix ahead = (k : ℕ) → k < 256 → units_allowed_by_prefix prefix ahead k ≡ true → k < 128
 
 -- Only units below 128 are allowed first.
-abbrev pub AllowsOnlyAsciiFirst : Prefix → Type 0
-AllowsOnlyAsciiFirst prefix = AllowsOnlyAsciiAt prefix 0
+abbrev pub PrefixAllowsOnlyAsciiFirst : Prefix → Type 0
+PrefixAllowsOnlyAsciiFirst prefix = AllowsOnlyAsciiAt prefix 0
 
 -- ---- What is searched for first
 
@@ -62,23 +62,23 @@ abbrev pub unit_passes_probe : MaskedUnitProbe → (unit : ℕ) → Bool
 unit_passes_probe probe unit = bit_and (unit % 256) probe.mask == probe.bits
 
 -- Only units below 128 that pass the probe are allowed at its position.
-pub record IsMaskedUnitProbe (prefix : Prefix) (probe : MaskedUnitProbe) : Type 0 where
+pub record ProbePassesAllUnitsPrefixAllows (prefix : Prefix) (probe : MaskedUnitProbe) : Type 0 where
   pub inside : probe.ahead < prefix.len
   pub low : AllowsOnlyAsciiAt prefix probe.ahead
   pub only : (k : ℕ) → k < 256 → units_allowed_by_prefix prefix probe.ahead k ≡ true → unit_passes_probe probe k ≡ true
 
 -- Each of the probes is right for the prefix.
-abbrev pub AreMaskedUnitProbes : Prefix → List MaskedUnitProbe → Type 0
-AreMaskedUnitProbes prefix probes = (i : ℕ) (probe : MaskedUnitProbe) → slice_get probes i ≡ Some probe → IsMaskedUnitProbe prefix probe
+abbrev pub ProbesPassAllUnitsPrefixAllows : Prefix → List MaskedUnitProbe → Type 0
+ProbesPassAllUnitsPrefixAllows prefix probes = (i : ℕ) (probe : MaskedUnitProbe) → slice_get probes i ≡ Some probe → ProbePassesAllUnitsPrefixAllows prefix probe
 
 -- The literal is right for the prefix, and so are the rare unit and the probes, if any.
-pub record IsLiteralPrefilter (prefix : Prefix) (known : LiteralPrefilter) : Type 0 where
-  pub literal : IsLiteralOfOnlyAllowedUnits prefix known.literal
+pub record IsLiteralPrefilterOfPrefix (prefix : Prefix) (known : LiteralPrefilter) : Type 0 where
+  pub literal : IsLiteralForcedByPrefix prefix known.literal
   pub rare : IfSome known.rare (IsOnlyUnitAllowedAtPosition prefix)
-  pub probes : IfSome known.probes (AreMaskedUnitProbes prefix)
+  pub probes : IfSome known.probes (ProbesPassAllUnitsPrefixAllows prefix)
 
 -- The prefilter is right for the prefix. Without one, or with a literal, units are bytes.
-abbrev pub IsPrefilter : (wide : Bool) → Prefix → Prefilter → Type 0
-IsPrefilter wide prefix filter.Absent = wide ≡ false
-IsPrefilter wide prefix (filter.ByLiteral known) = (wide ≡ false) × IsLiteralPrefilter prefix known
-IsPrefilter wide prefix (filter.Probes probes) = AreMaskedUnitProbes prefix probes
+abbrev pub IsPrefilterOfPrefix : (wide : Bool) → Prefix → RequiredPrefixPrefilter → Type 0
+IsPrefilterOfPrefix wide prefix filter.Absent = wide ≡ false
+IsPrefilterOfPrefix wide prefix (filter.ByLiteral known) = (wide ≡ false) × IsLiteralPrefilterOfPrefix prefix known
+IsPrefilterOfPrefix wide prefix (filter.Probes probes) = ProbesPassAllUnitsPrefixAllows prefix probes

@@ -3,9 +3,9 @@ use Rattle.std.specs.Prelude.{◌≡◌, ◌==◌, ◌≤◌, ◌<◌, ℕ, ◌+
 use Rattle.std.specs.Prelude.{if◌then◌else◌, nat_lt, slice_get, ⊤}
 use Rattle.regex_meaning.specs.CompilationRelation.{Program, Insn}
 use Rattle.regress_simulation.specs.RequiredPrefixes.{Allowed}
-use Rattle.regress_plan.specs.declared.first_set.FirstSet.{FirstSet}
+use Rattle.regress_plan.specs.declared.first_set_type.FirstSet.{FirstSet}
 use Rattle.regress_plan.specs.declared.char_class_tables.Class.{Class}
-use Rattle.regress_plan.specs.declared.required_prefix.Prefix.{Prefix}
+use Rattle.regress_plan.specs.declared.required_prefix_types.Prefix.{Prefix}
 use Rattle.regress_plan.specs.declared.required_prefix_analysis.OpPrefixContribution.{OpPrefixContribution}
 use Rattle.regress_plan.specs.declared.required_prefix_analysis.OpPrefixContribution.TheVariants.{Unknown, SameAs, UnionOf, OneUnit, Units}
 use Rattle.regress_plan.specs.declared.ops.Op.{Op}
@@ -31,16 +31,16 @@ abbrev pub allows_only_key : (key : ℕ) → Allowed
 allows_only_key key ahead k = k == key
 
 -- Units with a key of the set are allowed.
-abbrev pub allows_keys_of_set : FirstSet → Allowed
-allows_keys_of_set set ahead k = (unit_table_of_set set).keys k
+abbrev pub units_allowed_by_first_set : FirstSet → Allowed
+units_allowed_by_first_set set ahead k = (unit_table_of_set set).keys k
 
 -- The prefix allows `before`, then `more` units that `allowed` allows, cut off at 15 units.
-pub record ExtendsPrefixByAllowedUnits (before : Prefix) (more : ℕ) (allowed : Allowed) (prefix : Prefix) : Type 0 where
+pub record ExtendsPrefixByAllowedUnitSequence (before : Prefix) (more : ℕ) (allowed : Allowed) (prefix : Prefix) : Type 0 where
   pub len : prefix.len ≡ min (before.len + more) 15
   pub within : (ahead k : ℕ) → ahead < prefix.len → then_allowed before.len (units_allowed_by_prefix before) allowed ahead k ≡ true → units_allowed_by_prefix prefix ahead k ≡ true
 
 -- The prefix allows what either of two prefixes allows.
-pub record IsPrefixUnion (a b prefix : Prefix) : Type 0 where
+pub record AllowsWhateverEitherPrefixAllows (a b prefix : Prefix) : Type 0 where
   pub first : prefix.len ≤ a.len
   pub second : prefix.len ≤ b.len
   pub within_first : (ahead k : ℕ) → ahead < prefix.len → units_allowed_by_prefix a ahead k ≡ true → units_allowed_by_prefix prefix ahead k ≡ true
@@ -71,7 +71,7 @@ PrefixFollowsFromSuccessorPrefixes wide program ip (SameAs to) = (len : ℕ) (al
 PrefixFollowsFromSuccessorPrefixes wide program ip (UnionOf a b) =
     (len : ℕ) (allowed : Allowed) → PrefixAt wide program a len allowed → PrefixAt wide program b len allowed → PrefixAt wide program ip len allowed
 PrefixFollowsFromSuccessorPrefixes wide program ip (OneUnit key to) = PrefixBeginsWith wide program ip (allows_only_key key) 1 (Some to)
-PrefixFollowsFromSuccessorPrefixes wide program ip (Units set count to) = PrefixBeginsWith wide program ip (allows_keys_of_set set) count to
+PrefixFollowsFromSuccessorPrefixes wide program ip (Units set count to) = PrefixBeginsWith wide program ip (units_allowed_by_first_set set) count to
 
 -- The prefix is required at `from`. If it has room for more, the prefix at `ip` comes after it.
 pub record IsPrefixSoFar (wide : Bool) (program : Program) (from : ℕ) (prefix : Prefix) (ip : ℕ) : Type 0 where
@@ -88,13 +88,13 @@ falls_through (op.CloseGroup slot) = true
 falls_through (op.ResetGroup slot) = true
 falls_through _ = false
 
--- An operation of the plan has this step of the prefix analysis, if it is at `ip`.
+-- What an operation of the plan contributes to the required prefix, if it is at `ip`.
 abbrev pub IsOpPrefixContributionOf : Plan → Op → (ip : ℕ) → OpPrefixContribution → Type 0
 IsOpPrefixContributionOf plan op ip ahead =
     (wide : Bool) (program : Program) → AreOpsOfProgram wide program plan → slice_get plan.ops.items ip ≡ Some op → PrefixFollowsFromSuccessorPrefixes wide program ip ahead
 
--- A char loop of the plan has this step of the prefix analysis, if it is at `ip`.
-abbrev pub IsOpPrefixContributionOfLoop : Plan → run.CharLoop → (ip : ℕ) → OpPrefixContribution → Type 0
-IsOpPrefixContributionOfLoop plan r ip ahead =
+-- What a char loop of the plan contributes to the required prefix, if it is at `ip`.
+abbrev pub IsPrefixContributionOfCharLoop : Plan → run.CharLoop → (ip : ℕ) → OpPrefixContribution → Type 0
+IsPrefixContributionOfCharLoop plan r ip ahead =
     (wide : Bool) (program : Program) → AreOpsOfProgram wide program plan → (greedy : Bool) (insn : Insn) → slice_get program.insns ip ≡ Some insn
     → IsCharLoopOf program plan greedy r ip insn → PrefixFollowsFromSuccessorPrefixes wide program ip ahead

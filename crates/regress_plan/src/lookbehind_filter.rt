@@ -2,13 +2,15 @@
 
 ghost use Rattle.std.specs.Prelude.{◌≡◌, true, Some, slice_get, IfSome};
 ghost use Rattle.regex_meaning.specs.CompilationRelation.{Program};
-ghost use Rattle.regress_plan.specs.{LookbehindFilter.{IsLookbehindFilter}, PrecedingCharFilterFromOps.{FilterHasKeysOfSet, LookbehindReadsCharOfSet, reads_character as reads_one_character}, TableKeysOfUnits.{is_16_bit_width}};
+ghost use Rattle.regress_plan.specs.LookbehindFilter.{IsLookbehindFilter};
+ghost use Rattle.regress_plan.specs.PrecedingCharFilterFromOps.{FilterIncludesAllKeysOfSet, LookbehindReadsCharOfSet, reads_character as reads_one_character};
+ghost use Rattle.regress_plan.specs.TableKeysOfUnits.{is_16_bit_width};
 ghost use Rattle.regress_plan.specs.RequiredPrefixAnalysis.{AreOpsOfProgram};
 
-use crate::first_set::FirstSet;
 use crate::first_set_fixpoint::{FirstSets, first_set_from_successors};
-use crate::follow_sets_and_starts::{
-    EitherAsciiOrLeadKeysAllowed, UpToThreeKeys, up_to_three_keys,
+use crate::first_set_type::FirstSet;
+use crate::loop_follow_sets_and_candidate_starts::{
+    OnlyAsciiOrOnlyLeadKeys, UpToThreeKeys, up_to_three_keys_of_kind,
 };
 use crate::ops::{LookaroundAndNextOp, Op};
 use crate::plan::Plan;
@@ -27,11 +29,11 @@ impl PrecedingCharFilter {
     // Returns the filter for characters that begin with keys of this set. `None` if it has more
     // than three keys, or one with which no character begins.
     fn of(set: &FirstSet, edge: bool, units: UnitWidth) -> Option<PrecedingCharFilter>
-        ensures { IfSome result (FilterHasKeysOfSet (is_16_bit_width units) set.now edge) }
+        ensures { IfSome result (FilterIncludesAllKeysOfSet (is_16_bit_width units) set.now edge) }
     {
-        let UpToThreeKeys { units: keys, len } = up_to_three_keys(
+        let UpToThreeKeys { units: keys, len } = up_to_three_keys_of_kind(
             set,
-            EitherAsciiOrLeadKeysAllowed::Leads(units),
+            OnlyAsciiOrOnlyLeadKeys::Leads(units),
         )?;
         Some(PrecedingCharFilter { keys, len, edge })
     }
@@ -41,7 +43,8 @@ impl Plan {
     /// Returns what must precede a match, if the first operation decides it.
     pub(crate) fn before(&self, units: UnitWidth) -> Option<PrecedingCharFilter>
         ensures { IfSome result (λ before. (program : Program)
-            → AreOpsOfProgram (is_16_bit_width units) program self.now → IsLookbehindFilter (is_16_bit_width units) program before) }
+            → AreOpsOfProgram (is_16_bit_width units) program self.now → IsLookbehindFilter (is_16_bit_width units)
+            program before) }
     {
         match self.ops.get(0) {
             Some(Op::LineStart { multiline }) if *multiline => {
@@ -62,7 +65,8 @@ impl Plan {
     ) -> Option<PrecedingCharFilter>
         requires { slice_get self.now.ops.items 0 ≡ Some (Op.Look look) }
         ensures { IfSome result (λ before. (program : Program)
-            → AreOpsOfProgram (is_16_bit_width units) program self.now → IsLookbehindFilter (is_16_bit_width units) program before) }
+            → AreOpsOfProgram (is_16_bit_width units) program self.now → IsLookbehindFilter (is_16_bit_width units)
+            program before) }
     {
         if look.forward || look.negate {
             return None;
@@ -76,7 +80,7 @@ impl Plan {
         ensures { IfSome result (LookbehindReadsCharOfSet (is_16_bit_width units) self.now) }
     {
         if self.ops.len() > 1 && reads_character(self.ops[1]) {
-            let sets = FirstSets::new_empty_first_sets(*self.ops.allocator());
+            let sets = FirstSets::with_no_sets(*self.ops.allocator());
             Some(first_set_from_successors(self, units, &sets, 1))
         } else {
             None

@@ -7,14 +7,18 @@
 ghost use Rattle.std.specs.Prelude.{Bool, ℕ, ◌≡◌, ◌==◌, ◌<◌, ◌≤◌, ◌+◌, ◌^◌, true, false, length};
 ghost use Rattle.std.specs.Int.{bit_at};
 ghost use Rattle.regex_meaning.specs.CompilationRelation.{Program};
-ghost use Rattle.regress_plan.specs.{declared.ops.Op.TheVariants.{UnitChar, One, Enter}, PrefixesAndPrefilters.{units_allowed_by_prefix, IsRequiredPrefixFromInsn, AllowsOnlyAsciiAt, ExcludesKeys}};
-ghost use Rattle.regress_plan.specs.RequiredPrefixAnalysis.{allows_only_key, allows_keys_of_set, low_bits_followed_by_shifted_mask, falls_through as leads_on_op, ExtendsPrefixByAllowedUnits, IsPrefixUnion, AreOpsOfProgram, PrefixFollowsFromSuccessorPrefixes, IsOpPrefixContributionOf};
-ghost use Rattle.regress_plan.specs.RequiredPrefixAnalysis.{IsOpPrefixContributionOfLoop};
+ghost use Rattle.regress_plan.specs.declared.ops.Op.TheVariants.{UnitChar, One, Enter};
+ghost use Rattle.regress_plan.specs.PrefixesAndPrefilters.{units_allowed_by_prefix, IsRequiredPrefixFromInsn, AllowsOnlyAsciiAt, ExcludesKeys};
+ghost use Rattle.regress_plan.specs.RequiredPrefixAnalysis.{allows_only_key, units_allowed_by_first_set, low_bits_followed_by_shifted_mask, falls_through as leads_on_op};
+ghost use Rattle.regress_plan.specs.RequiredPrefixAnalysis.{ExtendsPrefixByAllowedUnitSequence, AllowsWhateverEitherPrefixAllows, AreOpsOfProgram};
+ghost use Rattle.regress_plan.specs.RequiredPrefixAnalysis.{PrefixFollowsFromSuccessorPrefixes};
+ghost use Rattle.regress_plan.specs.RequiredPrefixAnalysis.{IsOpPrefixContributionOf};
+ghost use Rattle.regress_plan.specs.RequiredPrefixAnalysis.{IsPrefixContributionOfCharLoop};
 
-use crate::first_set::FirstSet;
+use crate::first_set_type::FirstSet;
 use crate::ops::{CharLoop, Op};
 use crate::plan::Plan;
-use crate::required_prefix::{MOST, Prefix, is_mask_bit_clear};
+use crate::required_prefix_types::{MOST, Prefix, is_mask_bit_clear};
 use crate::table_keys_of_units::KEYS;
 
 /// The maximum number of operations that are examined.
@@ -56,7 +60,7 @@ impl Prefix {
     // Appends one unit.
     fn add_unit(&mut self, key: u8)
         requires { self.old.len < 15 }
-        ensures { ExtendsPrefixByAllowedUnits self.old 1 (allows_only_key key) self.new }
+        ensures { ExtendsPrefixByAllowedUnitSequence self.old 1 (allows_only_key key) self.new }
     {
         self.masks[usize::from(key)] &= all_but(self.len, 1);
         self.len += 1;
@@ -64,7 +68,7 @@ impl Prefix {
 
     // Appends `count` units of a set, as far as there is room.
     fn add_units(&mut self, set: &FirstSet, count: usize)
-        ensures { ExtendsPrefixByAllowedUnits self.old count (allows_keys_of_set set.now) self.new }
+        ensures { ExtendsPrefixByAllowedUnitSequence self.old count (units_allowed_by_first_set set.now) self.new }
     {
         let more = count.min(MOST - self.len);
         let kept = all_but(self.len, more);
@@ -76,7 +80,8 @@ impl Prefix {
 
     // Appends the units of another prefix, as far as there is room.
     fn add_prefix(&mut self, behind: &Prefix)
-        ensures { ExtendsPrefixByAllowedUnits self.old behind.now.len (units_allowed_by_prefix behind.now) self.new }
+        ensures { ExtendsPrefixByAllowedUnitSequence self.old behind.now.len
+            (units_allowed_by_prefix behind.now) self.new }
     {
         for key in 0..KEYS {
             self.masks[key] = join_masks(self.masks[key], self.len, behind.masks[key]);
@@ -86,7 +91,7 @@ impl Prefix {
 
     // Makes this prefix the union of both.
     fn or(&mut self, other: &Prefix)
-        ensures { IsPrefixUnion self.old other.now self.new }
+        ensures { AllowsWhateverEitherPrefixAllows self.old other.now self.new }
     {
         let len = self.len.min(other.len);
         for key in 0..KEYS {
@@ -156,7 +161,7 @@ fn all_but(from: usize, count: usize) -> u16
 }
 
 /// Returns the required prefix of the program of this plan.
-pub(crate) fn required_prefix_of_plan(plan: &Plan) -> Prefix
+pub(crate) fn compute_required_prefix(plan: &Plan) -> Prefix
     ensures { (wide : Bool) (program : Program)
         → AreOpsOfProgram wide program plan.now → IsRequiredPrefixFromInsn wide program 0 result }
 {
@@ -285,7 +290,7 @@ fn said_of_class(plan: &Plan, number: u32, ip: usize) -> OpPrefixContribution
 // what comes after it.
 fn said_of_run(plan: &Plan, run: CharLoop, ip: usize) -> OpPrefixContribution
     requires { ip + 2 < 2 ^ 64 }
-    ensures { IsOpPrefixContributionOfLoop plan.now run ip result }
+    ensures { IsPrefixContributionOfCharLoop plan.now run ip result }
 {
     match (
         plan.classes.get(run.class as usize),

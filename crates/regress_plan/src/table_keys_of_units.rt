@@ -6,7 +6,8 @@
 ghost use Rattle.std.specs.Prelude.{◌≡◌, ◌<◌, ◌+◌, ◌/◌, ◌&&◌, ◌||◌, ℕ, min, true, false, is_some};
 ghost use Rattle.regex_meaning.specs.CodeUnits.{Encoding};
 ghost use Rattle.regress_simulation.specs.FirstSetTables.{is_character_in_encoding, first_unit_key as first_key_in};
-ghost use Rattle.regress_plan.specs.TableKeysOfUnits.{key as key_of, has_16_bit_units, begins_utf8_character, is_16_bit_width, may_begin_surrogate_pair as is_high, KeyCharsLieInRangeOrPairs, HasKeysBetween, first_utf8_byte, first_utf16_unit};
+ghost use Rattle.regress_plan.specs.TableKeysOfUnits.{key as key_of, is_16_bit_encoding, begins_utf8_character, is_16_bit_width, may_begin_surrogate_pair as is_high};
+ghost use Rattle.regress_plan.specs.TableKeysOfUnits.{KeyCharsLieInRangeOrPairs, HasKeysBetween, first_utf8_byte, first_utf16_unit};
 
 use regex_pattern_front::codepointset::Interval;
 
@@ -111,7 +112,7 @@ fn single_units_of(key: u8) -> CharRangeOfKey
 
 /// Returns the key of the first unit of a character; for a number that is no character, some key.
 pub fn key_of_first_unit(c: u32, units: UnitWidth) -> usize
-    ensures is { (e : Encoding) → has_16_bit_units e ≡ is_16_bit_width units → is_character_in_encoding e c ≡ true
+    ensures is { (e : Encoding) → is_16_bit_encoding e ≡ is_16_bit_width units → is_character_in_encoding e c ≡ true
         → first_key_in e (key_of (is_16_bit_width units)) c ≡ Some result }
     ensures inside { result < 256 }
 {

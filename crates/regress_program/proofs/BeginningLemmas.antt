@@ -7,16 +7,20 @@ use Rattle.std.proofs.lemmas.Result.{IfOk-weaker}
 use Rattle.std.proofs.lemmas.Bool.{ne_eqb, or_parts, eqb-true}
 use Rattle.regex_meaning.specs.Tree.{Node, byte_sequence, cat, alt, capture_group, loop, loop_1_char_body, Tree}
 use Rattle.regex_meaning.specs.WellFormedTrees.{IsWellFormed}
-use Rattle.regex_meaning.specs.StartPredicate.{AbstractStartPredicate, open_ended, arbitrary, sequence, one_of, first_decided, join, abstract_start_predicate, common_prefix_or_first_bytes}
-use Rattle.regex_meaning.specs.StartPredicate.{common_prefix, union_of_byte_sets, first_byte_as_set, is_anchored, StartPredicate, resolved_start_predicate, start_predicate}
+use Rattle.regex_meaning.specs.StartPredicate.{AbstractStartPredicate, open_ended, arbitrary, sequence, one_of, first_decided, join, abstract_start_predicate}
+use Rattle.regex_meaning.specs.StartPredicate.{common_prefix_or_first_bytes}
+use Rattle.regex_meaning.specs.StartPredicate.{common_prefix, union_of_byte_sets, first_byte_as_set, is_anchored, StartPredicate, resolved_start_predicate}
+use Rattle.regex_meaning.specs.StartPredicate.{start_predicate}
 use Rattle.regex_meaning.specs.StartPredicate.{start_arbitrary, start_byte_set, start_anchored, IsSoundStartPredicateOf}
 use Rattle.regex_meaning.proofs.Clean.{predicate-sound}
 use Rattle.regress_program.proofs.LeafLemmas.{leaf-bare}
-use Rattle.regress_program.specs.declared.insn.start_predicates.StartPredicate as declared
-use Rattle.regress_program.specs.InsnMeanings.{spec_start_predicate_of as predicate_of}
-use Rattle.regress_program.specs.AbstractStartPredicateJoins.{set_bytes_from, join_starts, join_starts_ignoring_empty_node, join_starts_empty_as_anything}
-use Rattle.regress_program.specs.LeavesListsAndCharLoops.{is_leaf}
-use Rattle.regress_program.specs.StartPredicatesAndAllocation.{predicate_says_reads_nothing, predicate_is_byte_sequence, node_start_may_allocate, making_start_predicate_may_allocate}
+use Rattle.regress_program.specs.declared.insn.start_predicate_type.StartPredicate as declared
+use Rattle.regress_program.specs.InsnsAndStartPredicatesAsSpec.{start_predicate_as_spec as predicate_of}
+use Rattle.regress_program.specs.JoinedStartPredicatesOfAlternatives.{set_bytes_from, join_starts, join_alternative_starts_skipping_empty}
+use Rattle.regress_program.specs.JoinedStartPredicatesOfAlternatives.{join_starts_empty_node_as_anything}
+use Rattle.regress_program.specs.LeafNodesAndOptimizableLoops.{is_leaf}
+use Rattle.regress_program.specs.StartPredicatesAndWhenTheyAllocate.{predicate_says_reads_nothing, predicate_is_byte_sequence, making_node_start_predicate_may_allocate}
+use Rattle.regress_program.specs.StartPredicatesAndWhenTheyAllocate.{making_start_predicate_may_allocate}
 use Rattle.regress_program.proofs.ByteSetLemmas.{union-both, union-assoc, union-again, union-same}
 
 -- ---- Shared fronts
@@ -186,29 +190,29 @@ joined_to-join arbitrary a b h = sym (join-assoc arbitrary a b)
 joined_to-join (sequence xs) a b h = sym (joined_to-reads (join (sequence xs) a) b (join-reads (sequence xs) a) ∙ join-assoc (sequence xs) a b)
 joined_to-join (one_of xs) a b h = sym (joined_to-reads (join (one_of xs) a) b (join-reads (one_of xs) a) ∙ join-assoc (one_of xs) a b)
 
-after_arm-reads : (shared more : AbstractStartPredicate) → predicate_says_reads_nothing more ≡ false → join_starts_empty_as_anything shared more ≡ join_starts shared more
+after_arm-reads : (shared more : AbstractStartPredicate) → predicate_says_reads_nothing more ≡ false → join_starts_empty_node_as_anything shared more ≡ join_starts shared more
 after_arm-reads shared open_ended h = cc
 after_arm-reads shared arbitrary h = refl
 after_arm-reads shared (sequence xs) h = refl
 after_arm-reads shared (one_of xs) h = refl
 
-after-reads : (shared more : AbstractStartPredicate) → predicate_says_reads_nothing more ≡ false → join_starts_ignoring_empty_node shared more ≡ join_starts shared more
+after-reads : (shared more : AbstractStartPredicate) → predicate_says_reads_nothing more ≡ false → join_alternative_starts_skipping_empty shared more ≡ join_starts shared more
 after-reads shared open_ended h = cc
 after-reads shared arbitrary h = refl
 after-reads shared (sequence xs) h = refl
 after-reads shared (one_of xs) h = refl
 
-after_arm-anything : (more : AbstractStartPredicate) → join_starts_empty_as_anything arbitrary more ≡ arbitrary
+after_arm-anything : (more : AbstractStartPredicate) → join_starts_empty_node_as_anything arbitrary more ≡ arbitrary
 after_arm-anything open_ended = refl
 after_arm-anything arbitrary = refl
 after_arm-anything (sequence xs) = refl
 after_arm-anything (one_of xs) = refl
 
 -- alternatives one after another
-pub arms-joined : (shared a b : AbstractStartPredicate) → join_starts_empty_as_anything shared (join a b) ≡ join_starts_empty_as_anything (join_starts_empty_as_anything shared a) b
+pub arms-joined : (shared a b : AbstractStartPredicate) → join_starts_empty_node_as_anything shared (join a b) ≡ join_starts_empty_node_as_anything (join_starts_empty_node_as_anything shared a) b
 arms-joined shared open_ended b = joined_to-arbitrary shared ∙ sym (after_arm-anything b)
 arms-joined shared arbitrary b =
-    joined_to-join shared arbitrary b refl ∙ ap (λ s. join_starts s b) (joined_to-arbitrary shared) ∙ sym (ap (λ s. join_starts_empty_as_anything s b) (joined_to-arbitrary shared) ∙ after_arm-anything b)
+    joined_to-join shared arbitrary b refl ∙ ap (λ s. join_starts s b) (joined_to-arbitrary shared) ∙ sym (ap (λ s. join_starts_empty_node_as_anything s b) (joined_to-arbitrary shared) ∙ after_arm-anything b)
 arms-joined shared (sequence xs) open_ended = joined_to-arbitrary shared
 arms-joined shared (sequence xs) arbitrary = joined_to-join shared (sequence xs) arbitrary refl
 arms-joined shared (sequence xs) (sequence ys) =
@@ -219,7 +223,7 @@ arms-joined shared (one_of xs) arbitrary = joined_to-join shared (one_of xs) arb
 arms-joined shared (one_of xs) (sequence ys) = joined_to-join shared (one_of xs) (sequence ys) refl
 arms-joined shared (one_of xs) (one_of ys) = joined_to-join shared (one_of xs) (one_of ys) refl
 
-pub arms-after : (shared : AbstractStartPredicate) (left right : Node) → join_starts_empty_as_anything (join_starts_empty_as_anything shared (abstract_start_predicate left)) (abstract_start_predicate right) ≡ join_starts_ignoring_empty_node shared (abstract_start_predicate (alt left right))
+pub arms-after : (shared : AbstractStartPredicate) (left right : Node) → join_starts_empty_node_as_anything (join_starts_empty_node_as_anything shared (abstract_start_predicate left)) (abstract_start_predicate right) ≡ join_alternative_starts_skipping_empty shared (abstract_start_predicate (alt left right))
 unfolding abstract_start_predicate
 arms-after shared left right =
     let both = join (abstract_start_predicate left) (abstract_start_predicate right) in
@@ -227,13 +231,13 @@ arms-after shared left right =
     sym (arms-joined shared (abstract_start_predicate left) (abstract_start_predicate right)) ∙ after_arm-reads shared both reads ∙ sym (after-reads shared both reads)
 
 -- one arm more
-pub arms-next : (before one all : AbstractStartPredicate) (left right : Node) → one ≡ join_starts_empty_as_anything before (abstract_start_predicate left)
-    → join_starts_empty_as_anything before (abstract_start_predicate (alt left right)) ≡ all → join_starts_empty_as_anything one (abstract_start_predicate right) ≡ all
+pub arms-next : (before one all : AbstractStartPredicate) (left right : Node) → one ≡ join_starts_empty_node_as_anything before (abstract_start_predicate left)
+    → join_starts_empty_node_as_anything before (abstract_start_predicate (alt left right)) ≡ all → join_starts_empty_node_as_anything one (abstract_start_predicate right) ≡ all
 unfolding abstract_start_predicate
 arms-next before one all left right e h =
-    ap (λ s. join_starts_empty_as_anything s (abstract_start_predicate right)) e ∙ sym (arms-joined before (abstract_start_predicate left) (abstract_start_predicate right)) ∙ h
+    ap (λ s. join_starts_empty_node_as_anything s (abstract_start_predicate right)) e ∙ sym (arms-joined before (abstract_start_predicate left) (abstract_start_predicate right)) ∙ h
 
-pub after-nothing : (more : AbstractStartPredicate) → join_starts_ignoring_empty_node open_ended more ≡ more
+pub after-nothing : (more : AbstractStartPredicate) → join_alternative_starts_skipping_empty open_ended more ≡ more
 after-nothing open_ended = refl
 after-nothing arbitrary = refl
 after-nothing (sequence xs) = refl
@@ -241,7 +245,7 @@ after-nothing (one_of xs) = refl
 
 -- ---- Leaves
 
-pub leaf-after : (n : Node) (shared after_it b : AbstractStartPredicate) → is_leaf n ≡ true → b ≡ abstract_start_predicate n → after_it ≡ join_starts shared b → after_it ≡ join_starts_ignoring_empty_node shared (abstract_start_predicate n)
+pub leaf-after : (n : Node) (shared after_it b : AbstractStartPredicate) → is_leaf n ≡ true → b ≡ abstract_start_predicate n → after_it ≡ join_starts shared b → after_it ≡ join_alternative_starts_skipping_empty shared (abstract_start_predicate n)
 leaf-after n shared after_it b leaf e f = f ∙ ap (join_starts shared) e ∙ sym (after-reads shared (abstract_start_predicate n) (leaf-bare n leaf).reads)
 
 -- ---- Memory
@@ -269,41 +273,41 @@ if-no_sequence false b inside e f = refl
 if-no_sequence true b inside e f = f e
 
 -- where no byte sequence is met, none comes out
-pub no_sequence : (n : Node) → node_start_may_allocate n ≡ false → predicate_is_byte_sequence (abstract_start_predicate n) ≡ false
-unfolding node_start_may_allocate abstract_start_predicate
+pub no_sequence : (n : Node) → making_node_start_predicate_may_allocate n ≡ false → predicate_is_byte_sequence (abstract_start_predicate n) ≡ false
+unfolding making_node_start_predicate_may_allocate abstract_start_predicate
 no_sequence (byte_sequence bytes) h = cc
-no_sequence (cat first rest) h = then-no_sequence (abstract_start_predicate first) (abstract_start_predicate rest) (node_start_may_allocate first) (node_start_may_allocate rest) h (no_sequence first) (no_sequence rest)
+no_sequence (cat first rest) h = then-no_sequence (abstract_start_predicate first) (abstract_start_predicate rest) (making_node_start_predicate_may_allocate first) (making_node_start_predicate_may_allocate rest) h (no_sequence first) (no_sequence rest)
 no_sequence (alt left right) h =
-    let both = or_parts (node_start_may_allocate left) (node_start_may_allocate right) h in
+    let both = or_parts (making_node_start_predicate_may_allocate left) (making_node_start_predicate_may_allocate right) h in
     join-no_sequence (abstract_start_predicate left) (abstract_start_predicate right) (no_sequence left both.0) (no_sequence right both.1)
 no_sequence (capture_group id name contents) h = no_sequence contents h
-no_sequence (loop q start_group end_group loopee) h = if-no_sequence (nat_lt 0 q.min) (abstract_start_predicate loopee) (node_start_may_allocate loopee) h (no_sequence loopee)
-no_sequence (loop_1_char_body q loopee) h = if-no_sequence (nat_lt 0 q.min) (abstract_start_predicate loopee) (node_start_may_allocate loopee) h (no_sequence loopee)
+no_sequence (loop q start_group end_group loopee) h = if-no_sequence (nat_lt 0 q.min) (abstract_start_predicate loopee) (making_node_start_predicate_may_allocate loopee) h (no_sequence loopee)
+no_sequence (loop_1_char_body q loopee) h = if-no_sequence (nat_lt 0 q.min) (abstract_start_predicate loopee) (making_node_start_predicate_may_allocate loopee) h (no_sequence loopee)
 no_sequence _ h = refl
 
 -- the arms but the first
-pub quiet-arms : (left right : Node) → node_start_may_allocate (alt left right) ≡ false → node_start_may_allocate right ≡ false
-unfolding node_start_may_allocate
-quiet-arms left right h = (or_parts (node_start_may_allocate left) (node_start_may_allocate right) h).1
+pub quiet-arms : (left right : Node) → making_node_start_predicate_may_allocate (alt left right) ≡ false → making_node_start_predicate_may_allocate right ≡ false
+unfolding making_node_start_predicate_may_allocate
+quiet-arms left right h = (or_parts (making_node_start_predicate_may_allocate left) (making_node_start_predicate_may_allocate right) h).1
 
 -- the first node of a row, and the rest where it is open
-pub quiet-first : (first rest : Node) → node_start_may_allocate (cat first rest) ≡ false → node_start_may_allocate first ≡ false
-unfolding node_start_may_allocate
-quiet-first first rest h = (or_parts (node_start_may_allocate first) (predicate_says_reads_nothing (abstract_start_predicate first) && node_start_may_allocate rest) h).0
+pub quiet-first : (first rest : Node) → making_node_start_predicate_may_allocate (cat first rest) ≡ false → making_node_start_predicate_may_allocate first ≡ false
+unfolding making_node_start_predicate_may_allocate
+quiet-first first rest h = (or_parts (making_node_start_predicate_may_allocate first) (predicate_says_reads_nothing (abstract_start_predicate first) && making_node_start_predicate_may_allocate rest) h).0
 
-pub quiet-rest : (first rest : Node) → abstract_start_predicate first ≡ open_ended → node_start_may_allocate (cat first rest) ≡ false → node_start_may_allocate rest ≡ false
-unfolding node_start_may_allocate
+pub quiet-rest : (first rest : Node) → abstract_start_predicate first ≡ open_ended → making_node_start_predicate_may_allocate (cat first rest) ≡ false → making_node_start_predicate_may_allocate rest ≡ false
+unfolding making_node_start_predicate_may_allocate
 quiet-rest first rest e h =
-    let behind = (or_parts (node_start_may_allocate first) (predicate_says_reads_nothing (abstract_start_predicate first) && node_start_may_allocate rest) h).1 in
-    sym (ap (λ b. predicate_says_reads_nothing b && node_start_may_allocate rest) e) ∙ behind
+    let behind = (or_parts (making_node_start_predicate_may_allocate first) (predicate_says_reads_nothing (abstract_start_predicate first) && making_node_start_predicate_may_allocate rest) h).1 in
+    sym (ap (λ b. predicate_says_reads_nothing b && making_node_start_predicate_may_allocate rest) e) ∙ behind
 
 quiet-unless : (anchored grows : Bool) → anchored ≡ false → (not anchored && grows) ≡ false → grows ≡ false
 quiet-unless false grows e h = h
 quiet-unless true grows e h = cc
 
 -- the predicate that comes of a root for which no memory is taken
-pub quiet-root : (tree : Tree) → (not tree.flags.multiline && is_anchored tree.root) ≡ false → making_start_predicate_may_allocate tree ≡ false → node_start_may_allocate tree.root ≡ false
-quiet-root tree = quiet-unless (not tree.flags.multiline && is_anchored tree.root) (node_start_may_allocate tree.root)
+pub quiet-root : (tree : Tree) → (not tree.flags.multiline && is_anchored tree.root) ≡ false → making_start_predicate_may_allocate tree ≡ false → making_node_start_predicate_may_allocate tree.root ≡ false
+quiet-root tree = quiet-unless (not tree.flags.multiline && is_anchored tree.root) (making_node_start_predicate_may_allocate tree.root)
 
 -- ---- Members of a set
 

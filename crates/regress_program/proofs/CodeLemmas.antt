@@ -10,10 +10,12 @@ use Rattle.regex_meaning.specs.StartPredicate.{bytes_that_pass}
 use Rattle.regex_meaning.specs.WellFormedTrees.{IsWellFormed}
 use Rattle.regex_meaning.specs.CompilationRelation.{Insn, JustFail, Char, MatchAny, MatchAnyExceptLineTerminator, BackRef, Alt, Jump, EnterLoop, LoopAgain, Goal}
 use Rattle.regex_meaning.specs.CompilationRelation.{BeginCaptureGroup, EndCaptureGroup, Loop1CharBody, AsciiBracket, Bracket, ByteSeq, Counters, Program, HasInsnsBetween}
-use Rattle.regex_meaning.specs.CompilationRelation.{IsStringCode, AreStringsCode, IsCode, IsByteProgramOfTree, lookaround_insn, ordered, is_ascii_set, char_set_insn}
+use Rattle.regex_meaning.specs.CompilationRelation.{IsStringCode, AreStringsCode, IsCode, IsByteProgramOfTree, lookaround_insn, ordered, is_uninverted_ascii_class}
+use Rattle.regex_meaning.specs.CompilationRelation.{char_set_insn}
 use Rattle.regex_meaning.specs.CompilationRelation.{byte_set_insn, anchor_insn, word_boundary_insn, chunks}
 use Rattle.regex_meaning.proofs.Clean.{predicate-sound}
-use Rattle.regress_program.specs.CompilationOfTreesAsFunction.{node_insn_count, strings_size, loop_count, brackets_of, string_code, strings_code, group_reset_insns, code_of, compiled}
+use Rattle.regress_program.specs.CompilationOfTreesAsFunction.{node_insn_count, strings_size, loop_count, brackets_of, string_code, strings_code, group_reset_insns}
+use Rattle.regress_program.specs.CompilationOfTreesAsFunction.{code_of, compiled}
 use Rattle.regress_program.proofs.EmitLemmas.{length-code_of, length-string_code, length-resets}
 
 abbrev mark : (insn loop bracket : ℕ) → Counters
@@ -167,7 +169,7 @@ module _ (p : Program) where
             (omega (arith, length-append pre_b ba)) (brackets_behind pre_b ba bb post_b eb)
             (k ∙ same_mark _ _ _ _ _ _ (omega arith) (omega arith) (omega (arith, length-append ba bb))),
       )
-  code_stands d (bracket contents) pre post pre_b post_b at l b n a e ab eb k = bracket_is_code (is_ascii_set contents) contents pre post pre_b post_b at l b n a e ab eb k
+  code_stands d (bracket contents) pre post pre_b post_b at l b n a e ab eb k = bracket_is_code (is_uninverted_ascii_class contents) contents pre post pre_b post_b at l b n a e ab eb k
   code_stands d (string_set strings icase) pre post pre_b post_b at l b n a e ab eb k =
       strings_are_code icase d strings pre post at l b n a e (k ∙ same_mark _ _ (l + 0) l (b + 0) b refl (omega arith) (omega arith))
   code_stands d match_any pre post pre_b post_b at l b n a e ab eb k = single MatchAny pre post at l b n a e k

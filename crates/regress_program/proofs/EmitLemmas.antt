@@ -9,10 +9,13 @@ use Rattle.regex_meaning.specs.Tree.{end_of_cat, alt, bracket, string_set, match
 use Rattle.regex_meaning.specs.Tree.{capture_group, back_ref, lookaround, loop, loop_1_char_body}
 use Rattle.regex_meaning.specs.Outcomes.{max_iterations, in_intervals}
 use Rattle.regex_meaning.specs.StartPredicate.{bytes_that_pass}
-use Rattle.regex_meaning.specs.CompilationRelation.{Insn, AsciiBracket, Bracket, is_ascii_set, Alt, Jump, EnterLoop, LoopAgain, Loop1CharBody, Goal}
+use Rattle.regex_meaning.specs.CompilationRelation.{Insn, AsciiBracket, Bracket, is_uninverted_ascii_class, Alt, Jump, EnterLoop, LoopAgain, Loop1CharBody, Goal}
 use Rattle.regex_meaning.specs.CompilationRelation.{BeginCaptureGroup, lookaround_insn, EndCaptureGroup, ByteSeq, ResetCaptureGroup, ordered, chunks}
-use Rattle.regress_program.specs.CompilationOfTreesAsFunction.{node_insn_count, strings_size, loop_count, brackets_of, string_code, strings_code, group_reset_insns, code_of}
-use Rattle.regress_program.specs.EmitterModel.{EmitterState, HasIndexRoom, with_code, with_insn_appended, with_insns_appended, with_insn_at, with_loop, with_bracket_table_entry}
+use Rattle.regress_program.specs.CompilationOfTreesAsFunction.{node_insn_count, strings_size, loop_count, brackets_of, string_code, strings_code, group_reset_insns}
+use Rattle.regress_program.specs.CompilationOfTreesAsFunction.{code_of}
+use Rattle.regress_program.specs.EmitterStateAndAppendedCode.{EmitterState, HasIndexRoomForNode, with_code, with_insn_appended, with_insns_appended, with_insn_at}
+use Rattle.regress_program.specs.EmitterStateAndAppendedCode.{with_loop}
+use Rattle.regress_program.specs.EmitterStateAndAppendedCode.{with_bracket_table_entry}
 use Rattle.regex_meaning.proofs.Lists.{length-numbers_from}
 
 -- ---- States
@@ -185,11 +188,11 @@ with_code-alt u d a b s s1 s2 s3 s4 s5 s6 x y e1 e2 e3 e4 e5 e6 =
 
 -- ---- Room
 
-pub room-first : (s : EmitterState) (a b : Node) → HasIndexRoom s (cat a b) → HasIndexRoom s a
+pub room-first : (s : EmitterState) (a b : Node) → HasIndexRoomForNode s (cat a b) → HasIndexRoomForNode s a
 unfolding node_insn_count loop_count
 room-first s a b r = record { insns = omega (arith, r.insns); loops = omega (arith, r.loops) }
 
-pub room-rest : (u d : Bool) (s t : EmitterState) (a b : Node) → HasIndexRoom s (cat a b) → t ≡ with_code u d a s → HasIndexRoom t b
+pub room-rest : (u d : Bool) (s t : EmitterState) (a b : Node) → HasIndexRoomForNode s (cat a b) → t ≡ with_code u d a s → HasIndexRoomForNode t b
 unfolding node_insn_count loop_count
 room-rest u d s t a b r e = record { insns = omega (arith, r.insns, ap (λ x. length x.insns) e, length-with_code u d a s); loops = omega (arith, r.loops, ap (λ x. x.loops) e) }
 
@@ -312,24 +315,24 @@ with_code-loop u d q g e n head s s1 s2 s3 s4 s5 s6 x is_head e1 e2 e3 e4 e5 e6 
 
 -- ---- Room inside
 
-pub loop_fits : (q : Quantifier) (g h : ℕ) (n : Node) (s s1 : EmitterState) (x : Insn) → HasIndexRoom s (loop q g h n) → s1 ≡ with_insn_appended x s → s1.loops + 1 < 2 ^ 16
+pub loop_fits : (q : Quantifier) (g h : ℕ) (n : Node) (s s1 : EmitterState) (x : Insn) → HasIndexRoomForNode s (loop q g h n) → s1 ≡ with_insn_appended x s → s1.loops + 1 < 2 ^ 16
 unfolding loop_count
 loop_fits q g h n s s1 x r e = omega (arith, r.loops, ap (λ y. y.loops) e)
 
-pub room-unnamed : (id : ℕ) (name : List ℕ) (n : Node) (s : EmitterState) → HasIndexRoom s (capture_group id name n) → HasIndexRoom s (capture_group id [] n)
+pub room-unnamed : (id : ℕ) (name : List ℕ) (n : Node) (s : EmitterState) → HasIndexRoomForNode s (capture_group id name n) → HasIndexRoomForNode s (capture_group id [] n)
 unfolding node_insn_count loop_count
 room-unnamed id name n s r = record { insns = r.insns; loops = r.loops }
 
 -- ---- Brackets
 
-pub with_code-ascii : (u d : Bool) (contents : BracketContents) (s : EmitterState) → is_ascii_set contents ≡ true
+pub with_code-ascii : (u d : Bool) (contents : BracketContents) (s : EmitterState) → is_uninverted_ascii_class contents ≡ true
     → with_code u d (bracket contents) s ≡ with_insn_appended (AsciiBracket (bytes_that_pass (in_intervals contents.intervals))) s
 unfolding code_of loop_count brackets_of
 with_code-ascii u d contents s ascii =
     same_state (with_code u d (bracket contents) s) (with_insn_appended (AsciiBracket (bytes_that_pass (in_intervals contents.intervals))) s)
     (rw ascii) (omega arith) (rw ascii (append-nil s.brackets))
 
-pub with_code-bracket : (u d : Bool) (contents : BracketContents) (s s1 s2 : EmitterState) (index : ℕ) → is_ascii_set contents ≡ false
+pub with_code-bracket : (u d : Bool) (contents : BracketContents) (s s1 s2 : EmitterState) (index : ℕ) → is_uninverted_ascii_class contents ≡ false
     → index ≡ length s.brackets → s1 ≡ with_insn_appended (Bracket index) s → s2 ≡ with_bracket_table_entry contents s1 → s2 ≡ with_code u d (bracket contents) s
 unfolding code_of loop_count brackets_of
 with_code-bracket u d contents s s1 s2 index ascii i e1 e2 =

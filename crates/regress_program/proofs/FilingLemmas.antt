@@ -8,17 +8,18 @@ use Rattle.std.proofs.lemmas.List.{length-map, length-set, length-replicate, get
 use Rattle.std.proofs.lemmas.List.{set_past}
 use Rattle.regex_meaning.specs.NumberListHelpers.{numbers_from}
 use Rattle.regex_meaning.specs.Tree.{Node, group_ids}
-use Rattle.regex_meaning.specs.GroupsByNumberAndName.{capturing_group_ids_and_names, group_name_of_id, group_names_by_id}
+use Rattle.regex_meaning.specs.MatchGroupsByNumberAndName.{capturing_group_ids_and_names, group_name_of_id, group_names_by_id}
 use Rattle.regex_meaning.specs.WellFormedTrees.{each_id_stands_once}
 use Rattle.regex_meaning.proofs.Sound.{all-contains}
 use Rattle.regex_grammar.proofs.Parts.{contains-numbers_from}
 use Rattle.regex_grammar.proofs.Names.{ids_of, named_ids-ids, at-number}
 use Rattle.regex_pattern_front.specs.AstToSpecTree.{node_of}
 use Rattle.regex_pattern_front.specs.declared.ir.Node as ir
-use Rattle.regress_program.specs.LeavesListsAndCharLoops.{cat_of, is_leaf}
+use Rattle.regress_program.specs.LeafNodesAndOptimizableLoops.{cat_of, is_leaf}
 use Rattle.regress_program.specs.InnerNodeCountMeasure.{inner_node_count}
-use Rattle.regress_program.specs.GroupNames.{StoresNamesOrPushesNodes, with_names_stored_by_id, pending_names_stored, has_no_named_groups, node_measure, naming_measure, total_measure, node_list_measure, pending_names}
-use Rattle.regress_program.specs.declared.emit.group_names.SubtreeWithPendingNames.{SubtreeWithPendingNames}
+use Rattle.regress_program.specs.StoringGroupNamesById.{StoresNamesOrPushesNodes, with_names_stored_by_id, pending_names_stored, tree_has_no_named_groups, node_measure}
+use Rattle.regress_program.specs.StoringGroupNamesById.{naming_measure_of_pending_part, total_measure, node_list_measure, names_in_pending_part}
+use Rattle.regress_program.specs.declared.emit.storing_group_names_by_id.NodeOrListWithUnstoredNames.{NodeOrListWithUnstoredNames}
 use Rattle.regress_program.proofs.LeafLemmas.{leaf-bare}
 use Rattle.regress_program.proofs.IdLemmas.{false_is_true, count_by-first}
 use Rattle.regex_meaning.proofs.Booleans.{same-truth}
@@ -36,54 +37,54 @@ length-filed (n ∷ named) names = length-filed named (set names n.0 n.1) ∙ le
 
 -- ---- What is still to be filed
 
-filed-last : (rest : List SubtreeWithPendingNames) (next : SubtreeWithPendingNames) (names : List (List ℕ)) → pending_names_stored (rest ++ next ∷ []) names ≡ pending_names_stored rest (with_names_stored_by_id (pending_names next) names)
+filed-last : (rest : List NodeOrListWithUnstoredNames) (next : NodeOrListWithUnstoredNames) (names : List (List ℕ)) → pending_names_stored (rest ++ next ∷ []) names ≡ pending_names_stored rest (with_names_stored_by_id (names_in_pending_part next) names)
 filed-last [] next names = refl
-filed-last (x ∷ rest) next names = ap (with_names_stored_by_id (pending_names x)) (filed-last rest next names)
+filed-last (x ∷ rest) next names = ap (with_names_stored_by_id (names_in_pending_part x)) (filed-last rest next names)
 
-load-last : (rest : List SubtreeWithPendingNames) (next : SubtreeWithPendingNames) → total_measure (rest ++ next ∷ []) ≡ total_measure rest + naming_measure next
+load-last : (rest : List NodeOrListWithUnstoredNames) (next : NodeOrListWithUnstoredNames) → total_measure (rest ++ next ∷ []) ≡ total_measure rest + naming_measure_of_pending_part next
 load-last [] next = omega arith
 load-last (x ∷ rest) next = omega (arith, load-last rest next)
 
-pub next-filed : (rest left more : List SubtreeWithPendingNames) (next : SubtreeWithPendingNames) (old new end : List (List ℕ)) → rest ≡ left ++ next ∷ [] → pending_names_stored rest old ≡ end
-    → StoresNamesOrPushesNodes (pending_names next) (naming_measure next) old new left more → pending_names_stored more new ≡ end
+pub next-filed : (rest left more : List NodeOrListWithUnstoredNames) (next : NodeOrListWithUnstoredNames) (old new end : List (List ℕ)) → rest ≡ left ++ next ∷ [] → pending_names_stored rest old ≡ end
+    → StoresNamesOrPushesNodes (names_in_pending_part next) (naming_measure_of_pending_part next) old new left more → pending_names_stored more new ≡ end
 next-filed rest left more next old new end is all h = h.names ∙ sym (filed-last left next old) ∙ ap (λ x. pending_names_stored x old) (sym is) ∙ all
 
-pub next-less : (rest left more : List SubtreeWithPendingNames) (next : SubtreeWithPendingNames) (old new : List (List ℕ)) → rest ≡ left ++ next ∷ []
-    → StoresNamesOrPushesNodes (pending_names next) (naming_measure next) old new left more → total_measure more < total_measure rest
+pub next-less : (rest left more : List NodeOrListWithUnstoredNames) (next : NodeOrListWithUnstoredNames) (old new : List (List ℕ)) → rest ≡ left ++ next ∷ []
+    → StoresNamesOrPushesNodes (names_in_pending_part next) (naming_measure_of_pending_part next) old new left more → total_measure more < total_measure rest
 next-less rest left more next old new is h = omega (arith, h.less, ap total_measure is, load-last left next)
 
-pub files-none : (named : List (ℕ × List ℕ)) (cost : ℕ) (names : List (List ℕ)) (rest : List SubtreeWithPendingNames) → named ≡ [] → 1 ≤ cost
+pub files-none : (named : List (ℕ × List ℕ)) (cost : ℕ) (names : List (List ℕ)) (rest : List NodeOrListWithUnstoredNames) → named ≡ [] → 1 ≤ cost
     → StoresNamesOrPushesNodes named cost names names rest rest
 files-none named cost names rest none some = record {
   names = ap (λ x. pending_names_stored rest (with_names_stored_by_id x names)) (sym none);
   less = omega (arith, some);
 }
 
-pub files-one : (named : List (ℕ × List ℕ)) (cost : ℕ) (old new : List (List ℕ)) (rest left : List SubtreeWithPendingNames) (a : SubtreeWithPendingNames) → left ≡ rest ++ a ∷ []
-    → with_names_stored_by_id (pending_names a) new ≡ with_names_stored_by_id named old → naming_measure a < cost → StoresNamesOrPushesNodes named cost old new rest left
+pub files-one : (named : List (ℕ × List ℕ)) (cost : ℕ) (old new : List (List ℕ)) (rest left : List NodeOrListWithUnstoredNames) (a : NodeOrListWithUnstoredNames) → left ≡ rest ++ a ∷ []
+    → with_names_stored_by_id (names_in_pending_part a) new ≡ with_names_stored_by_id named old → naming_measure_of_pending_part a < cost → StoresNamesOrPushesNodes named cost old new rest left
 files-one named cost old new rest left a is same light = record {
   names = ap (λ x. pending_names_stored x new) is ∙ filed-last rest a new ∙ ap (pending_names_stored rest) same;
   less = omega (arith, light, ap total_measure is, load-last rest a);
 }
 
-pub files-two : (named : List (ℕ × List ℕ)) (cost : ℕ) (names : List (List ℕ)) (rest mid left : List SubtreeWithPendingNames) (a b : SubtreeWithPendingNames) → mid ≡ rest ++ a ∷ [] → left ≡ mid ++ b ∷ []
-    → named ≡ pending_names b ++ pending_names a → naming_measure a + naming_measure b < cost → StoresNamesOrPushesNodes named cost names names rest left
+pub files-two : (named : List (ℕ × List ℕ)) (cost : ℕ) (names : List (List ℕ)) (rest mid left : List NodeOrListWithUnstoredNames) (a b : NodeOrListWithUnstoredNames) → mid ≡ rest ++ a ∷ [] → left ≡ mid ++ b ∷ []
+    → named ≡ names_in_pending_part b ++ names_in_pending_part a → naming_measure_of_pending_part a + naming_measure_of_pending_part b < cost → StoresNamesOrPushesNodes named cost names names rest left
 files-two named cost names rest mid left a b first second both light = record {
   names =
-      ap (λ x. pending_names_stored x names) second ∙ filed-last mid b names ∙ ap (λ x. pending_names_stored x (with_names_stored_by_id (pending_names b) names)) first
-      ∙ filed-last rest a (with_names_stored_by_id (pending_names b) names)
-      ∙ ap (pending_names_stored rest) (sym (filed-append (pending_names b) (pending_names a) names) ∙ ap (λ x. with_names_stored_by_id x names) (sym both));
+      ap (λ x. pending_names_stored x names) second ∙ filed-last mid b names ∙ ap (λ x. pending_names_stored x (with_names_stored_by_id (names_in_pending_part b) names)) first
+      ∙ filed-last rest a (with_names_stored_by_id (names_in_pending_part b) names)
+      ∙ ap (pending_names_stored rest) (sym (filed-append (names_in_pending_part b) (names_in_pending_part a) names) ∙ ap (λ x. with_names_stored_by_id x names) (sym both));
   less = omega (arith, light, ap total_measure second, load-last mid b, ap total_measure first, load-last rest a);
 }
 
 -- what stands inside a node without a name
-pub files-inside : (whole inner : Node) (names : List (List ℕ)) (rest left : List SubtreeWithPendingNames) (a : SubtreeWithPendingNames) → left ≡ rest ++ a ∷ []
-    → pending_names a ≡ capturing_group_ids_and_names inner → naming_measure a ≡ node_measure inner → capturing_group_ids_and_names whole ≡ capturing_group_ids_and_names inner → inner_node_count whole ≡ inner_node_count inner + 1
+pub files-inside : (whole inner : Node) (names : List (List ℕ)) (rest left : List NodeOrListWithUnstoredNames) (a : NodeOrListWithUnstoredNames) → left ≡ rest ++ a ∷ []
+    → names_in_pending_part a ≡ capturing_group_ids_and_names inner → naming_measure_of_pending_part a ≡ node_measure inner → capturing_group_ids_and_names whole ≡ capturing_group_ids_and_names inner → inner_node_count whole ≡ inner_node_count inner + 1
     → StoresNamesOrPushesNodes (capturing_group_ids_and_names whole) (node_measure whole) names names rest left
 files-inside whole inner names rest left a is given light same more =
     files-one (capturing_group_ids_and_names whole) (node_measure whole) names names rest left a is (ap (λ x. with_names_stored_by_id x names) (given ∙ sym same)) (omega (arith, light, more))
 
-pub files-alternatives : (whole first others a b : Node) (names : List (List ℕ)) (before after : List SubtreeWithPendingNames) → a ≡ first → b ≡ others
+pub files-alternatives : (whole first others a b : Node) (names : List (List ℕ)) (before after : List NodeOrListWithUnstoredNames) → a ≡ first → b ≡ others
     → capturing_group_ids_and_names whole ≡ capturing_group_ids_and_names first ++ capturing_group_ids_and_names others → inner_node_count whole ≡ inner_node_count first + inner_node_count others + 1
     → StoresNamesOrPushesNodes (capturing_group_ids_and_names a ++ capturing_group_ids_and_names b) (node_measure a + node_measure b + 1) names names before after → StoresNamesOrPushesNodes (capturing_group_ids_and_names whole) (node_measure whole) names names before after
 files-alternatives whole first others a b names before after is_a is_b both more h = record {
@@ -93,7 +94,7 @@ files-alternatives whole first others a b names before after is_a is_b both more
   less = omega (arith, h.less, more, ap inner_node_count is_a, ap inner_node_count is_b);
 }
 
-pub files-group : (whole inner a : Node) (id : ℕ) (name : List ℕ) (old new : List (List ℕ)) (before after : List SubtreeWithPendingNames) → a ≡ inner
+pub files-group : (whole inner a : Node) (id : ℕ) (name : List ℕ) (old new : List (List ℕ)) (before after : List NodeOrListWithUnstoredNames) → a ≡ inner
     → capturing_group_ids_and_names whole ≡ (id, name) ∷ capturing_group_ids_and_names inner → inner_node_count whole ≡ inner_node_count inner + 1
     → StoresNamesOrPushesNodes ((id, name) ∷ capturing_group_ids_and_names a) (node_measure a + 1) old new before after → StoresNamesOrPushesNodes (capturing_group_ids_and_names whole) (node_measure whole) old new before after
 files-group whole inner a id name old new before after is_a all more h = record {
@@ -103,7 +104,7 @@ files-group whole inner a id name old new before after is_a all more h = record 
 
 -- ---- Rows
 
-pub files-cheap : (named : List (ℕ × List ℕ)) (low high : ℕ) (old new : List (List ℕ)) (before after : List SubtreeWithPendingNames) → StoresNamesOrPushesNodes named low old new before after → low ≤ high
+pub files-cheap : (named : List (ℕ × List ℕ)) (low high : ℕ) (old new : List (List ℕ)) (before after : List NodeOrListWithUnstoredNames) → StoresNamesOrPushesNodes named low old new before after → low ≤ high
     → StoresNamesOrPushesNodes named high old new before after
 files-cheap named low high old new before after h more = record { names = h.names; less = omega (arith, h.less, more) }
 
@@ -196,7 +197,7 @@ there_once (n ∷ named) id h = by (n.0 == id) refl (not_there named id n.1) (th
 
 -- ---- The names of a tree
 
-pub names-filed : (root : Node) (n : ℕ) → IsTrue (each_id_stands_once root) → n ≡ length (group_ids root) → has_no_named_groups root ≡ false
+pub names-filed : (root : Node) (n : ℕ) → IsTrue (each_id_stands_once root) → n ≡ length (group_ids root) → tree_has_no_named_groups root ≡ false
     → with_names_stored_by_id (capturing_group_ids_and_names root) (replicate n []) ≡ group_names_by_id root
 names-filed root n once count named =
     same ∙ sym (ap (λ t. if t then [] else map (group_name_of_id names) (numbers_from 0 (length names))) named)

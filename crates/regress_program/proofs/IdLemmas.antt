@@ -9,16 +9,18 @@ use Rattle.std.proofs.lemmas.List.{length-replicate}
 use Rattle.std.proofs.lemmas.List.Sums.{sum_by-cons}
 use Rattle.regex_meaning.specs.NumberListHelpers.{contains, numbers_from}
 use Rattle.regex_meaning.specs.Tree.{Node, cat, alt, capture_group, lookaround, loop, loop_1_char_body, group_ids, every_node_passes}
-use Rattle.regex_meaning.specs.WellFormedTrees.{encloses, each_id_stands_once, IsWellFormed, goal_is_last, names_the_groups_inside, refers_to_a_group}
-use Rattle.regex_meaning.specs.WellFormedTrees.{has_order_in_quantifier, has_one_character_body, has_text_in_sequence, sets_and_strings_fit_instructions}
+use Rattle.regex_meaning.specs.WellFormedTrees.{encloses, each_id_stands_once, IsWellFormed, only_goal_node_is_last, names_the_groups_inside, refers_to_a_group}
+use Rattle.regex_meaning.specs.WellFormedTrees.{has_order_in_quantifier, has_one_character_body, has_text_in_sequence, set_sizes_and_characters_fit_instructions}
 use Rattle.regex_meaning.proofs.WellFormedLemmas.{clauses, by_clauses}
 use Rattle.regex_meaning.proofs.Sound.{all-contains}
 use Rattle.regex_pattern_front.proofs.Bits.{has_bit, with_bit, no-bits, bit-set}
 use Rattle.regex_pattern_front.proofs.ByteLemmas.{contains-numbers_from}
-use Rattle.regress_program.specs.LeavesListsAndCharLoops.{is_leaf}
-use Rattle.regress_program.specs.GroupIdSpans.{as_number_span}
-use Rattle.regress_program.specs.declared.emit.group_id_and_range_checks.GroupIdSpan as spans
-use Rattle.regress_program.specs.GroupIds.{is_outside_bitmap, is_group_id_seen, are_distinct_unseen, least_group_id, id_end, GroupIdSpanNumbers, span_of_group_ids, joined, ids_are_distinct_and_node_ranges_exact, is_well_formed_node}
+use Rattle.regress_program.specs.LeafNodesAndOptimizableLoops.{is_leaf}
+use Rattle.regress_program.specs.GroupIdSpans.{group_id_span_as_numbers}
+use Rattle.regress_program.specs.declared.emit.group_id_and_range_check.GroupIdCountAndBounds as spans
+use Rattle.regress_program.specs.GroupIdsInWellFormednessCheck.{is_outside_bitmap, is_group_id_seen, are_distinct_unseen, least_group_id, id_end}
+use Rattle.regress_program.specs.GroupIdsInWellFormednessCheck.{GroupIdCountAndSpanNumbers, count_and_span_of_group_ids, joined, group_ids_distinct_and_ranges_exact}
+use Rattle.regress_program.specs.GroupIdsInWellFormednessCheck.{is_well_formed_node}
 use Rattle.regex_meaning.proofs.Booleans.{or-false-left, or-false-right, same-truth, and-left, and-right}
 use Rattle.std.proofs.Math.Bool.{or-false, or_assoc, and-true, and_assoc}
 use Rattle.regex_meaning.proofs.Lists.{list_all-members}
@@ -100,11 +102,11 @@ fresh-change (id ∷ ids) f g h u =
     rw (here, later)
 
 -- where there is a bit for each id, and none is set, none is seen
-pub none_stand : (n : Node) → ids_are_distinct_and_node_ranges_exact (is_group_id_seen (replicate 1024 0)) n ≡ ids_are_distinct_and_node_ranges_exact (λ k. false) n
+pub none_stand : (n : Node) → group_ids_distinct_and_ranges_exact (is_group_id_seen (replicate 1024 0)) n ≡ group_ids_distinct_and_ranges_exact (λ k. false) n
 none_stand n = ap (λ b. b && every_node_passes names_the_groups_inside n) (fresh-same (is_group_id_seen (replicate 1024 0)) (λ k. false) (group_ids n) (none-seen 1024))
 
 -- ids that are fresh at all are where none is seen
-pub unseen_stand : (n : Node) (f : ℕ → Bool) → true ≡ ids_are_distinct_and_node_ranges_exact f n → true ≡ ids_are_distinct_and_node_ranges_exact (λ k. false) n
+pub unseen_stand : (n : Node) (f : ℕ → Bool) → true ≡ group_ids_distinct_and_ranges_exact f n → true ≡ group_ids_distinct_and_ranges_exact (λ k. false) n
 unseen_stand n f h =
     let fresh = fresh-change (group_ids n) f (λ k. false) (and-left (are_distinct_unseen f (group_ids n)) (every_node_passes names_the_groups_inside n) (sym h)) (λ k c. refl) in
     sym (and_from (are_distinct_unseen (λ k. false) (group_ids n)) (every_node_passes names_the_groups_inside n) fresh (and-right (are_distinct_unseen f (group_ids n)) (every_node_passes names_the_groups_inside n) (sym h)))
@@ -214,11 +216,11 @@ count-below s (suc n) =
 
 -- ---- Spans
 
-pub same_span : (a b : GroupIdSpanNumbers) → a.count ≡ b.count → a.low ≡ b.low → a.high ≡ b.high → a ≡ b
+pub same_span : (a b : GroupIdCountAndSpanNumbers) → a.count ≡ b.count → a.low ≡ b.low → a.high ≡ b.high → a ≡ b
 same_span a b ec el eh =
-    ap (λ x. let r : GroupIdSpanNumbers = record { count = x; low = a.low; high = a.high } in r) ec
-    ∙ ap (λ x. let r : GroupIdSpanNumbers = record { count = b.count; low = x; high = a.high } in r) el
-    ∙ ap (λ x. let r : GroupIdSpanNumbers = record { count = b.count; low = b.low; high = x } in r) eh
+    ap (λ x. let r : GroupIdCountAndSpanNumbers = record { count = x; low = a.low; high = a.high } in r) ec
+    ∙ ap (λ x. let r : GroupIdCountAndSpanNumbers = record { count = b.count; low = x; high = a.high } in r) el
+    ∙ ap (λ x. let r : GroupIdCountAndSpanNumbers = record { count = b.count; low = b.low; high = x } in r) eh
 
 none_are_seen : (n : ℕ) → seen_count (λ k. false) n ≡ 0
 unfolding seen_count
@@ -384,9 +386,9 @@ once_each root h =
 
 -- ---- Both spans
 
-pub span-append : (xs ys : List ℕ) → joined (span_of_group_ids xs) (span_of_group_ids ys) ≡ span_of_group_ids (xs ++ ys)
+pub span-append : (xs ys : List ℕ) → joined (count_and_span_of_group_ids xs) (count_and_span_of_group_ids ys) ≡ count_and_span_of_group_ids (xs ++ ys)
 span-append xs ys =
-    same_span (joined (span_of_group_ids xs) (span_of_group_ids ys)) (span_of_group_ids (xs ++ ys)) (omega (arith, length-append xs ys)) (sym (least-append xs ys)) (sym (past-append xs ys))
+    same_span (joined (count_and_span_of_group_ids xs) (count_and_span_of_group_ids ys)) (count_and_span_of_group_ids (xs ++ ys)) (omega (arith, length-append xs ys)) (sym (least-append xs ys)) (sym (past-append xs ys))
 
 -- ---- What is found of two parts
 
@@ -418,10 +420,10 @@ one_is_fresh f id t e = e ∙ sym (and-true (not (f id))) ∙ sym (and-true (not
 pub one_contained : (f : ℕ → Bool) (id k : ℕ) → (f k || k == id) ≡ (f k || contains (id ∷ []) k)
 one_contained f id k = ap (λ t. f k || t) (sym (or-false (k == id)))
 
-pub joined_same : (a a' b b' : GroupIdSpanNumbers) → a ≡ a' → b ≡ b' → joined a b ≡ joined a' b'
+pub joined_same : (a a' b b' : GroupIdCountAndSpanNumbers) → a ≡ a' → b ≡ b' → joined a b ≡ joined a' b'
 joined_same a a' b b' e f = ap (λ x. joined x b) e ∙ ap (joined a') f
 
-pub joined-assoc : (a b c : GroupIdSpanNumbers) → joined (joined a b) c ≡ joined a (joined b c)
+pub joined-assoc : (a b c : GroupIdCountAndSpanNumbers) → joined (joined a b) c ≡ joined a (joined b c)
 joined-assoc a b c = same_span (joined (joined a b) c) (joined a (joined b c)) (omega arith) (omega arith) (omega arith)
 
 -- what the first fields say of a test of the span
@@ -449,10 +451,10 @@ every-and f g (loop_1_char_body q n) = rw (every-and f g n) (four (f (loop_1_cha
 every-and f g n = refl
 
 pub every-sound : (m : ℕ) (n : Node) → every_node_passes (is_well_formed_node m) n
-    ≡ (every_node_passes (refers_to_a_group m) n && every_node_passes has_order_in_quantifier n && every_node_passes has_one_character_body n && every_node_passes has_text_in_sequence n && every_node_passes sets_and_strings_fit_instructions n)
+    ≡ (every_node_passes (refers_to_a_group m) n && every_node_passes has_order_in_quantifier n && every_node_passes has_one_character_body n && every_node_passes has_text_in_sequence n && every_node_passes set_sizes_and_characters_fit_instructions n)
 every-sound m n =
-    every-and (λ x. refers_to_a_group m x && has_order_in_quantifier x && has_one_character_body x && has_text_in_sequence x) sets_and_strings_fit_instructions n
-    ∙ ap (λ b. b && every_node_passes sets_and_strings_fit_instructions n)
+    every-and (λ x. refers_to_a_group m x && has_order_in_quantifier x && has_one_character_body x && has_text_in_sequence x) set_sizes_and_characters_fit_instructions n
+    ∙ ap (λ b. b && every_node_passes set_sizes_and_characters_fit_instructions n)
     (every-and (λ x. refers_to_a_group m x && has_order_in_quantifier x && has_one_character_body x) has_text_in_sequence n
     ∙ ap (λ b. b && every_node_passes has_text_in_sequence n)
     (every-and (λ x. refers_to_a_group m x && has_order_in_quantifier x) has_one_character_body n
@@ -460,7 +462,7 @@ every-sound m n =
 
 -- ---- The whole test
 
-pub sound_is_well_formed : (root : Node) (f : ℕ → Bool) (count : ℕ) → goal_is_last root ≡ true → true ≡ (are_distinct_unseen f (group_ids root) && every_node_passes names_the_groups_inside root)
+pub sound_is_well_formed : (root : Node) (f : ℕ → Bool) (count : ℕ) → only_goal_node_is_last root ≡ true → true ≡ (are_distinct_unseen f (group_ids root) && every_node_passes names_the_groups_inside root)
     → count ≡ length (group_ids root) → id_end (group_ids root) ≤ count → every_node_passes (is_well_formed_node count) root ≡ true → IsWellFormed root
 sound_is_well_formed root f count last found many high sound =
     let fresh = and-left (are_distinct_unseen f (group_ids root)) (every_node_passes names_the_groups_inside root) (sym found) in
@@ -469,7 +471,7 @@ sound_is_well_formed root f count last found many high sound =
     let o = every_node_passes has_order_in_quantifier root in
     let b = every_node_passes has_one_character_body root in
     let t = every_node_passes has_text_in_sequence root in
-    let s = every_node_passes sets_and_strings_fit_instructions root in
+    let s = every_node_passes set_sizes_and_characters_fit_instructions root in
     let all : (r && o && b && t && s) ≡ true = sym (every-sound count root) ∙ sound in
     let all4 = and-left (r && o && b && t) s all in
     let all3 = and-left (r && o && b) t all4 in
@@ -492,7 +494,7 @@ well_formed_is_sound root count many well_formed =
     let o = every_node_passes has_order_in_quantifier root in
     let b = every_node_passes has_one_character_body root in
     let t = every_node_passes has_text_in_sequence root in
-    let s = every_node_passes sets_and_strings_fit_instructions root in
+    let s = every_node_passes set_sizes_and_characters_fit_instructions root in
     let refers : r ≡ true = ap (λ n. every_node_passes (refers_to_a_group n) root) many ∙ w.references in
     every-sound count root ∙ and_from (r && o && b && t) s (and_from (r && o && b) t (and_from (r && o) b (and_from r o refers w.quantifiers) w.bodies) w.sequences) w.sets
 
@@ -509,12 +511,12 @@ pub few_ids : (root : Node) (f : ℕ → Bool) (p : Bool) → true ≡ (are_dist
 few_ids root f p found high =
     omega (arith, fresh-length (group_ids root) f 65536 (and-left (are_distinct_unseen f (group_ids root)) p (sym found)) high)
 
-pub joined-none : (ids : List ℕ) → joined (record { count = 0; low = 65536; high = 0 }) (span_of_group_ids ids) ≡ span_of_group_ids ids
-joined-none ids = same_span (joined (record { count = 0; low = 65536; high = 0 }) (span_of_group_ids ids)) (span_of_group_ids ids) (omega arith) (omega (arith, least-most ids)) (omega arith)
+pub joined-none : (ids : List ℕ) → joined (record { count = 0; low = 65536; high = 0 }) (count_and_span_of_group_ids ids) ≡ count_and_span_of_group_ids ids
+joined-none ids = same_span (joined (record { count = 0; low = 65536; high = 0 }) (count_and_span_of_group_ids ids)) (count_and_span_of_group_ids ids) (omega arith) (omega (arith, least-most ids)) (omega arith)
 
-pub joined-last : (s : GroupIdSpanNumbers) → s.count < 2 ^ 64 → s.low ≤ 65536 → joined s (span_of_group_ids []) ≡ s
+pub joined-last : (s : GroupIdCountAndSpanNumbers) → s.count < 2 ^ 64 → s.low ≤ 65536 → joined s (count_and_span_of_group_ids []) ≡ s
 unfolding least_group_id id_end
-joined-last s c l = same_span (joined s (span_of_group_ids [])) s (omega arith) (omega arith) (omega arith)
+joined-last s c l = same_span (joined s (count_and_span_of_group_ids [])) s (omega arith) (omega arith) (omega arith)
 
 pub seen_next : (f g h : ℕ → Bool) (xs ys all : List ℕ) → ((k : ℕ) → g k ≡ (f k || contains xs k)) → ((k : ℕ) → (f k || contains (xs ++ ys) k) ≡ (h k || contains all k))
     → (k : ℕ) → (g k || contains ys k) ≡ (h k || contains all k)
@@ -525,44 +527,44 @@ seen_next f g h xs ys all a b k =
 
 -- What a walk over the rest of the ids comes to, from what is seen and their span so far, one over all of them comes to
 -- from the start. Tests go along with the ids.
-pub record IsLeft (at_first : ℕ → Bool) (first : GroupIdSpanNumbers) (all : List ℕ) (named : Bool) (f : ℕ → Bool) (s : GroupIdSpanNumbers) (ids : List ℕ) (p : Bool) : Type 0 where
+pub record IsLeft (at_first : ℕ → Bool) (first : GroupIdCountAndSpanNumbers) (all : List ℕ) (named : Bool) (f : ℕ → Bool) (s : GroupIdCountAndSpanNumbers) (ids : List ℕ) (p : Bool) : Type 0 where
   pub found : (are_distinct_unseen f ids && p) ≡ (are_distinct_unseen at_first all && named)
-  pub span : joined s (span_of_group_ids ids) ≡ joined first (span_of_group_ids all)
+  pub span : joined s (count_and_span_of_group_ids ids) ≡ joined first (count_and_span_of_group_ids all)
   pub seen : (k : ℕ) → (f k || contains ids k) ≡ (at_first k || contains all k)
 
-pub left-same : (at_first : ℕ → Bool) (first : GroupIdSpanNumbers) (all : List ℕ) (named : Bool) (f : ℕ → Bool) (s : GroupIdSpanNumbers) (n m : Node) → n ≡ m
+pub left-same : (at_first : ℕ → Bool) (first : GroupIdCountAndSpanNumbers) (all : List ℕ) (named : Bool) (f : ℕ → Bool) (s : GroupIdCountAndSpanNumbers) (n m : Node) → n ≡ m
     → IsLeft at_first first all named f s (group_ids n) (every_node_passes names_the_groups_inside n) → IsLeft at_first first all named f s (group_ids m) (every_node_passes names_the_groups_inside m)
 left-same at_first first all named f s n m e l = record {
   found = sym (ap (λ x. are_distinct_unseen f (group_ids x) && every_node_passes names_the_groups_inside x) e) ∙ l.found;
-  span = sym (ap (λ x. joined s (span_of_group_ids (group_ids x))) e) ∙ l.span;
+  span = sym (ap (λ x. joined s (count_and_span_of_group_ids (group_ids x))) e) ∙ l.span;
   seen = λ k. sym (ap (λ x. f k || contains (group_ids x) k) e) ∙ l.seen k;
 }
 
 -- the first ones have been seen
-pub left-next : (at_first : ℕ → Bool) (first : GroupIdSpanNumbers) (all : List ℕ) (named : Bool) (f g : ℕ → Bool) (s t : GroupIdSpanNumbers) (xs ys : List ℕ) (p q : Bool)
-    → IsLeft at_first first all named f s (xs ++ ys) (p && q) → true ≡ (are_distinct_unseen f xs && p) → t ≡ joined s (span_of_group_ids xs) → ((k : ℕ) → g k ≡ (f k || contains xs k))
+pub left-next : (at_first : ℕ → Bool) (first : GroupIdCountAndSpanNumbers) (all : List ℕ) (named : Bool) (f g : ℕ → Bool) (s t : GroupIdCountAndSpanNumbers) (xs ys : List ℕ) (p q : Bool)
+    → IsLeft at_first first all named f s (xs ++ ys) (p && q) → true ≡ (are_distinct_unseen f xs && p) → t ≡ joined s (count_and_span_of_group_ids xs) → ((k : ℕ) → g k ≡ (f k || contains xs k))
     → IsLeft at_first first all named g t ys q
 left-next at_first first all named f g s t xs ys p q l went span seen = record {
   found = second_decides f g xs ys p q (are_distinct_unseen g ys && q) went seen refl ∙ l.found;
-  span = joined_same t (joined s (span_of_group_ids xs)) (span_of_group_ids ys) (span_of_group_ids ys) span refl ∙ joined-assoc s (span_of_group_ids xs) (span_of_group_ids ys) ∙ ap (joined s) (span-append xs ys) ∙ l.span;
+  span = joined_same t (joined s (count_and_span_of_group_ids xs)) (count_and_span_of_group_ids ys) (count_and_span_of_group_ids ys) span refl ∙ joined-assoc s (count_and_span_of_group_ids xs) (count_and_span_of_group_ids ys) ∙ ap (joined s) (span-append xs ys) ∙ l.span;
   seen = seen_next f g at_first xs ys all seen l.seen;
 }
 
 -- one of the first ones is not as it has to be
-pub left-fails : (at_first : ℕ → Bool) (first : GroupIdSpanNumbers) (all : List ℕ) (named : Bool) (f : ℕ → Bool) (s : GroupIdSpanNumbers) (xs ys : List ℕ) (p q : Bool)
+pub left-fails : (at_first : ℕ → Bool) (first : GroupIdCountAndSpanNumbers) (all : List ℕ) (named : Bool) (f : ℕ → Bool) (s : GroupIdCountAndSpanNumbers) (xs ys : List ℕ) (p q : Bool)
     → IsLeft at_first first all named f s (xs ++ ys) (p && q) → false ≡ (are_distinct_unseen f xs && p) → false ≡ (are_distinct_unseen at_first all && named)
 left-fails at_first first all named f s xs ys p q l fails = first_fails f xs ys p q fails ∙ l.found
 
 -- none is left
-pub left-found : (at_first : ℕ → Bool) (first : GroupIdSpanNumbers) (all : List ℕ) (named : Bool) (f : ℕ → Bool) (s : GroupIdSpanNumbers) → IsLeft at_first first all named f s [] true → true ≡ (are_distinct_unseen at_first all && named)
+pub left-found : (at_first : ℕ → Bool) (first : GroupIdCountAndSpanNumbers) (all : List ℕ) (named : Bool) (f : ℕ → Bool) (s : GroupIdCountAndSpanNumbers) → IsLeft at_first first all named f s [] true → true ≡ (are_distinct_unseen at_first all && named)
 unfolding are_distinct_unseen
 left-found at_first first all named f s l = l.found
 
-pub left-span : (at_first : ℕ → Bool) (first : GroupIdSpanNumbers) (all : List ℕ) (named : Bool) (f : ℕ → Bool) (s : GroupIdSpanNumbers) → s.count < 2 ^ 64 → s.low ≤ 65536
-    → IsLeft at_first first all named f s [] true → s ≡ joined first (span_of_group_ids all)
+pub left-span : (at_first : ℕ → Bool) (first : GroupIdCountAndSpanNumbers) (all : List ℕ) (named : Bool) (f : ℕ → Bool) (s : GroupIdCountAndSpanNumbers) → s.count < 2 ^ 64 → s.low ≤ 65536
+    → IsLeft at_first first all named f s [] true → s ≡ joined first (count_and_span_of_group_ids all)
 left-span at_first first all named f s c h l = sym (joined-last s c h) ∙ l.span
 
-pub left-seen : (at_first : ℕ → Bool) (first : GroupIdSpanNumbers) (all : List ℕ) (named : Bool) (f : ℕ → Bool) (s : GroupIdSpanNumbers) → IsLeft at_first first all named f s [] true
+pub left-seen : (at_first : ℕ → Bool) (first : GroupIdCountAndSpanNumbers) (all : List ℕ) (named : Bool) (f : ℕ → Bool) (s : GroupIdCountAndSpanNumbers) → IsLeft at_first first all named f s [] true
     → (k : ℕ) → f k ≡ (at_first k || contains all k)
 left-seen at_first first all named f s l k = sym (or-false (f k)) ∙ l.seen k
 
@@ -575,15 +577,15 @@ leaf-ids (loop q s e n) h = (cc, cc)
 leaf-ids (loop_1_char_body q n) h = (cc, cc)
 leaf-ids n h = (refl, refl)
 
-pub left-leaf : (at_first : ℕ → Bool) (first : GroupIdSpanNumbers) (all : List ℕ) (named : Bool) (f : ℕ → Bool) (s : GroupIdSpanNumbers) (n : Node) → is_leaf n ≡ true
+pub left-leaf : (at_first : ℕ → Bool) (first : GroupIdCountAndSpanNumbers) (all : List ℕ) (named : Bool) (f : ℕ → Bool) (s : GroupIdCountAndSpanNumbers) (n : Node) → is_leaf n ≡ true
     → IsLeft at_first first all named f s (group_ids n) (every_node_passes names_the_groups_inside n) → IsLeft at_first first all named f s [] true
 left-leaf at_first first all named f s n h l = let none = leaf-ids n h in rw (none.0, none.1) at l
 
 -- what a walk from no id has seen is all
-pub all_ids : (s none t : spans.GroupIdSpan) (n : Node) → s ≡ t → as_number_span none ≡ span_of_group_ids [] → as_number_span t ≡ joined (as_number_span none) (span_of_group_ids (group_ids n)) → as_number_span s ≡ span_of_group_ids (group_ids n)
+pub all_ids : (s none t : spans.GroupIdCountAndBounds) (n : Node) → s ≡ t → group_id_span_as_numbers none ≡ count_and_span_of_group_ids [] → group_id_span_as_numbers t ≡ joined (group_id_span_as_numbers none) (count_and_span_of_group_ids (group_ids n)) → group_id_span_as_numbers s ≡ count_and_span_of_group_ids (group_ids n)
 unfolding least_group_id id_end
 all_ids s none t n e from_none h =
-    ap as_number_span e ∙ h ∙ ap (λ x. joined x (span_of_group_ids (group_ids n))) from_none ∙ joined-none (group_ids n)
+    ap group_id_span_as_numbers e ∙ h ∙ ap (λ x. joined x (count_and_span_of_group_ids (group_ids n))) from_none ∙ joined-none (group_ids n)
 
 pub some_bytes : (bytes : List ℕ) (b : Bool) → b ≡ true → not (length bytes == 0) ≡ (nat_lt 0 (length bytes) && b)
 some_bytes [] b e = refl

@@ -2,7 +2,7 @@
 use Rattle.std.proofs.Common.{◌≡◌, ℕ, Bool, true, false, List, [], ◌∷◌, Option, Some, refl, sym, ap, ◌∙◌, Vec, Global, Box, String}
 use Rattle.regex_meaning.specs.CompilationRelation.{is_byte_node}
 use Rattle.regex_meaning.specs.Tree as tree
-use Rattle.regex_meaning.specs.GroupsByNumberAndName.{capturing_group_ids_and_names}
+use Rattle.regex_meaning.specs.MatchGroupsByNumberAndName.{capturing_group_ids_and_names}
 use Rattle.regex_meaning.specs.StartPredicate.{abstract_start_predicate}
 use Rattle.regex_pattern_front.specs.AstToSpecTree.{node_of}
 use Rattle.regex_pattern_front.specs.declared.ir.Node.{Node}
@@ -14,15 +14,15 @@ use Rattle.regex_pattern_front.specs.declared.ir.Node.TheViews.{roll-Node}
 use Rattle.regex_pattern_front.specs.declared.ir.Node.TheFolds.{ind-Node}
 use denote.Hole.Carrier.{roll}
 use Rattle.regex_pattern_front.proofs.NodeLemmas.{HasNone}
-use Rattle.regress_program.specs.GroupIds.{is_well_formed_node}
-use Rattle.regress_program.specs.LeavesListsAndCharLoops.{cat_of, is_leaf, becomes_char_loop}
-use Rattle.regress_program.specs.StartPredicatesAndAllocation.{predicate_says_reads_nothing}
+use Rattle.regress_program.specs.GroupIdsInWellFormednessCheck.{is_well_formed_node}
+use Rattle.regress_program.specs.LeafNodesAndOptimizableLoops.{cat_of, is_leaf, becomes_char_loop}
+use Rattle.regress_program.specs.StartPredicatesAndWhenTheyAllocate.{predicate_says_reads_nothing}
 use Rattle.regex_meaning.specs.WellFormedTrees.{ends_in_goal}
 use Rattle.regex_pattern_front.specs.declared.ir.Quantifier.{Quantifier}
 use Rattle.std.specs.declared.ops.Range.{Range}
-use Rattle.regress_program.specs.GroupNames.{is_nameless}
-use Rattle.regress_program.specs.CountOfGoalNodes.{visit_goal}
-use Rattle.regress_program.specs.declared.emit.well_formedness_check.SingleGoalNodeVisitor.{SingleGoalNodeVisitor}
+use Rattle.regress_program.specs.StoringGroupNamesById.{is_nameless}
+use Rattle.regress_program.specs.AtMostOneGoalNodeCheck.{visit_goal}
+use Rattle.regress_program.specs.declared.emit.well_formedness_check.SecondGoalNodeDetector.{SecondGoalNodeDetector}
 use Rattle.regress_program.proofs.NodeLemmas.{node_of-Cat}
 
 -- ---- One that holds no other
@@ -59,14 +59,14 @@ row f a v none some = ap f (node_of-Cat v) ∙ by v.items
     by [] = none
     by (m ∷ ms) = some (node_of m) (cat_of ms)
 
-goals-rolled : (x : Node-F Node) (it : SingleGoalNodeVisitor) → (roll-Node x ≡ Goal → ⊥) → visit_goal (node_of (roll-Node x)) it ≡ Some it
+goals-rolled : (x : Node-F Node) (it : SecondGoalNodeDetector) → (roll-Node x ≡ Goal → ⊥) → visit_goal (node_of (roll-Node x)) it ≡ Some it
 unfolding node_of roll-Node roll
 goals-rolled Node-F.Goal it h = absurd (h refl)
 goals-rolled (Node-F.Cat v) it h = row (λ n. visit_goal n it) (Some it) v refl (λ first rest. refl)
 goals-rolled _ it h = refl
 
-pub goals-other : (n : Node) (it : SingleGoalNodeVisitor) → (n ≡ Goal → ⊥) → visit_goal (node_of n) it ≡ Some it
-goals-other = ind-Node (λ n. (it : SingleGoalNodeVisitor) → (n ≡ Goal → ⊥) → visit_goal (node_of n) it ≡ Some it) (λ x y is. goals-rolled x)
+pub goals-other : (n : Node) (it : SecondGoalNodeDetector) → (n ≡ Goal → ⊥) → visit_goal (node_of n) it ≡ Some it
+goals-other = ind-Node (λ n. (it : SecondGoalNodeDetector) → (n ≡ Goal → ⊥) → visit_goal (node_of n) it ≡ Some it) (λ x y is. goals-rolled x)
 
 bytes-rolled : (x : Node-F Node) → ((v : Vec ℕ Global) → roll-Node x ≡ ByteSet v → ⊥) → ((v : Vec ℕ Global) → roll-Node x ≡ ByteSequence v → ⊥) → is_byte_node (node_of (roll-Node x)) ≡ false
 unfolding node_of roll-Node roll

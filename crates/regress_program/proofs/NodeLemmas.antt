@@ -7,7 +7,7 @@ use Rattle.regex_pattern_front.specs.AstToSpecTree.{node_of}
 use Rattle.regex_pattern_front.specs.declared.ir.Node.{Node}
 use Rattle.regex_meaning.specs.WellFormedTrees.{ends_in_goal, is_one_character}
 use Rattle.regex_meaning.specs.StartPredicate.{is_anchored}
-use Rattle.regress_program.specs.LeavesListsAndCharLoops.{cat_of, is_leaf}
+use Rattle.regress_program.specs.LeafNodesAndOptimizableLoops.{cat_of, is_leaf}
 use Rattle.regress_program.specs.CompilationOfTreesAsFunction.{own_size}
 
 -- the rest of a row, from a node on

@@ -5,19 +5,22 @@ use Rattle.std.specs.Prelude.{nat_lt}
 use Rattle.std.proofs.lemmas.Bool.{and_from, lt-ltb, ltb-true}
 use Rattle.regex_meaning.specs.Tree.{Quantifier, Lookaround, Node as TreeNode, alt, lookaround, loop, every_node_passes}
 use Rattle.regex_meaning.specs.Outcomes.{max_iterations}
-use Rattle.regex_meaning.specs.WellFormedTrees.{sets_and_strings_fit_instructions}
+use Rattle.regex_meaning.specs.WellFormedTrees.{set_sizes_and_characters_fit_instructions}
 use Rattle.regex_meaning.specs.CompilationRelation.{Insn, Alt, EnterLoop, Jump, Goal, LoopAgain, lookaround_insn}
 use Rattle.regress_plan.specs.declared.insn.LoopFields.{LoopFields}
 use Rattle.regex_pattern_front.specs.AstToSpecTree.{node_of}
 use Rattle.regex_pattern_front.specs.declared.ir.Node as ir
 use Rattle.regress_program.specs.InnerNodeCountMeasure.{inner_node_count}
 use Rattle.regress_program.specs.CompilationOfTreesAsFunction.{group_reset_insns}
-use Rattle.regress_program.specs.EmitterModel.{EmitterState, HasIndexRoom, node_with_char_loops_if_enabled, with_code, with_insn_appended, with_insns_appended, with_insn_at, with_loop}
-use Rattle.regress_program.specs.LeavesListsAndCharLoops.{cat_of, is_leaf}
-use Rattle.regress_program.specs.PendingEmission.{EmitWork, FitsIndexWidths, CanEmitPending, ExpandsPending, with_arm_end, with_jump, with_remaining_alternatives_emitted, with_lookaround_end, with_loop_end}
+use Rattle.regress_program.specs.EmitterStateAndAppendedCode.{EmitterState, HasIndexRoomForNode, node_with_char_loops_if_enabled, with_code, with_insn_appended}
+use Rattle.regress_program.specs.EmitterStateAndAppendedCode.{with_insns_appended}
+use Rattle.regress_program.specs.EmitterStateAndAppendedCode.{with_insn_at, with_loop}
+use Rattle.regress_program.specs.LeafNodesAndOptimizableLoops.{cat_of, is_leaf}
+use Rattle.regress_program.specs.PendingEmission.{EmitWork, FitsIndexWidths, CanEmitPendingPart, ExpandsPending, with_arm_end, with_jump}
+use Rattle.regress_program.specs.PendingEmission.{with_remaining_alternatives_emitted, with_lookaround_end, with_loop_end}
 use Rattle.regress_program.specs.PendingEmission.{with_pending, with_all_pending, is_emittable, are_emittable, node_measure, pending_measure, total_measure}
-use Rattle.regress_program.specs.declared.emit.nested_nodes.PendingCode.{PendingCode}
-use Rattle.regress_program.specs.declared.emit.nested_nodes.PendingCode.TheVariants.{Node, Row, Others, Jump as JumpLeft, GroupEnd, LookaroundEnd, LoopEnd}
+use Rattle.regress_program.specs.declared.emit.nested_nodes.UnemittedCodePart.{UnemittedCodePart}
+use Rattle.regress_program.specs.declared.emit.nested_nodes.UnemittedCodePart.TheVariants.{Node, Row, Others, Jump as JumpLeft, GroupEnd, LookaroundEnd, LoopEnd}
 use Rattle.regress_program.proofs.EmitLemmas.{length-with_code, with_code-alt, with_code-loop, with_code-lookaround, with_code-cat}
 use Rattle.regress_program.proofs.EmitLemmas.{with_code-end_of_cat, room-first, room-rest}
 use Rattle.regress_program.proofs.ShapedLemmas.{shaped-leaf}
@@ -25,21 +28,21 @@ use Rattle.regex_meaning.proofs.Booleans.{and-left, and-right}
 
 -- ---- The last one first
 
-pub all-last : (rest : List PendingCode) (r : PendingCode) (s : EmitterState) → with_all_pending (rest ++ r ∷ []) s ≡ with_all_pending rest (with_pending r s)
+pub all-last : (rest : List UnemittedCodePart) (r : UnemittedCodePart) (s : EmitterState) → with_all_pending (rest ++ r ∷ []) s ≡ with_all_pending rest (with_pending r s)
 all-last [] r s = refl
 all-last (x ∷ rest) r s = ap (with_pending x) (all-last rest r s)
 
-load-last : (rest : List PendingCode) (r : PendingCode) → total_measure (rest ++ r ∷ []) ≡ total_measure rest + pending_measure r
+load-last : (rest : List UnemittedCodePart) (r : UnemittedCodePart) → total_measure (rest ++ r ∷ []) ≡ total_measure rest + pending_measure r
 load-last [] r = omega arith
 load-last (x ∷ rest) r = omega (arith, load-last rest r)
 
-ready-both : (end : ℕ) (rest : List PendingCode) (r : PendingCode) → are_emittable end (rest ++ r ∷ []) ≡ true → (are_emittable end rest ≡ true) × (is_emittable end r ≡ true)
+ready-both : (end : ℕ) (rest : List UnemittedCodePart) (r : UnemittedCodePart) → are_emittable end (rest ++ r ∷ []) ≡ true → (are_emittable end rest ≡ true) × (is_emittable end r ≡ true)
 ready-both end [] r h = (refl, and-left (is_emittable end r) true h)
 ready-both end (x ∷ rest) r h =
     let later = ready-both end rest r (and-right (is_emittable end x) (are_emittable end (rest ++ r ∷ [])) h) in
     (and_from (is_emittable end x) (are_emittable end rest) (and-left (is_emittable end x) (are_emittable end (rest ++ r ∷ [])) h) later.0, later.1)
 
-ready-with : (end : ℕ) (rest : List PendingCode) (r : PendingCode) → are_emittable end rest ≡ true → is_emittable end r ≡ true → are_emittable end (rest ++ r ∷ []) ≡ true
+ready-with : (end : ℕ) (rest : List UnemittedCodePart) (r : UnemittedCodePart) → are_emittable end rest ≡ true → is_emittable end r ≡ true → are_emittable end (rest ++ r ∷ []) ≡ true
 ready-with end [] r h k = and_from (is_emittable end r) true k refl
 ready-with end (x ∷ rest) r h k =
     and_from (is_emittable end x) (are_emittable end (rest ++ r ∷ [])) (and-left (is_emittable end x) (are_emittable end rest) h)
@@ -50,19 +53,19 @@ below-more place m n h b =
     let here : place < m = ltb-true place m b in
     lt-ltb place n (omega arith)
 
-ready-more : (m n : ℕ) (r : PendingCode) → m ≤ n → is_emittable m r ≡ true → is_emittable n r ≡ true
+ready-more : (m n : ℕ) (r : UnemittedCodePart) → m ≤ n → is_emittable m r ≡ true → is_emittable n r ≡ true
 unfolding is_emittable
 ready-more m n (Node mode node) h k = k
 ready-more m n (Row mode nodes) h k = k
 ready-more m n (Others mode branch others) h k =
-    let fits = every_node_passes sets_and_strings_fit_instructions (node_of others.now) in
+    let fits = every_node_passes set_sizes_and_characters_fit_instructions (node_of others.now) in
     and_from (nat_lt branch n) fits (below-more branch m n h (and-left (nat_lt branch m) fits k)) (and-right (nat_lt branch m) fits k)
 ready-more m n (JumpLeft place) h k = below-more place m n h k
 ready-more m n (GroupEnd id) h k = k
 ready-more m n (LookaroundEnd look head) h k = below-more head m n h k
 ready-more m n (LoopEnd fields begin) h k = below-more begin m n h k
 
-are_ready-more : (m n : ℕ) (rest : List PendingCode) → m ≤ n → are_emittable m rest ≡ true → are_emittable n rest ≡ true
+are_ready-more : (m n : ℕ) (rest : List UnemittedCodePart) → m ≤ n → are_emittable m rest ≡ true → are_emittable n rest ≡ true
 are_ready-more m n [] h k = refl
 are_ready-more m n (r ∷ rest) h k =
     and_from (is_emittable n r) (are_emittable n rest) (ready-more m n r h (and-left (is_emittable m r) (are_emittable m rest) k))
@@ -99,7 +102,7 @@ grows-others u d branch n s =
     grows-then s t (with_remaining_alternatives_emitted u d branch n s) (grows-written branch (Jump 0) (Alt (length (with_insn_appended (Jump 0) s).insns)) s)
     (grows-then t v (with_remaining_alternatives_emitted u d branch n s) (grows-code u d n t) (grows-insn_at (length s.insns) (Jump (length v.insns)) v))
 
-pub grows-left : (r : PendingCode) (s : EmitterState) → Grows s (with_pending r s)
+pub grows-left : (r : UnemittedCodePart) (s : EmitterState) → Grows s (with_pending r s)
 unfolding with_pending
 grows-left (Node mode node) s = grows-code mode.unicode mode.behind (node_with_char_loops_if_enabled mode.narrow (node_of node.now)) s
 grows-left (Row mode nodes) s = grows-code mode.unicode mode.behind (node_with_char_loops_if_enabled mode.narrow (cat_of nodes.now)) s
@@ -109,7 +112,7 @@ grows-left (GroupEnd id) s = grows-insn _ s
 grows-left (LookaroundEnd look head) s = grows-written head _ _ s
 grows-left (LoopEnd fields begin) s = grows-written begin _ _ s
 
-grows-all : (rest : List PendingCode) (s : EmitterState) → Grows s (with_all_pending rest s)
+grows-all : (rest : List UnemittedCodePart) (s : EmitterState) → Grows s (with_all_pending rest s)
 grows-all [] s = grows-same s
 grows-all (r ∷ rest) s = grows-then s (with_all_pending rest s) (with_pending r (with_all_pending rest s)) (grows-all rest s) (grows-left r (with_all_pending rest s))
 
@@ -118,16 +121,16 @@ fits-before s t g f = record { insns = omega (arith, g.insns, f.insns); loops = 
 
 -- ---- Room
 
-pub room-of : (u d : Bool) (n : TreeNode) (s : EmitterState) → FitsIndexWidths (with_code u d n s) → HasIndexRoom s n
+pub room-of : (u d : Bool) (n : TreeNode) (s : EmitterState) → FitsIndexWidths (with_code u d n s) → HasIndexRoomForNode s n
 room-of u d n s f = record { insns = omega (arith, f.insns, length-with_code u d n s); loops = omega (arith, f.loops) }
 
-pub fits-of : (u d : Bool) (n : TreeNode) (s : EmitterState) → HasIndexRoom s n → FitsIndexWidths (with_code u d n s)
+pub fits-of : (u d : Bool) (n : TreeNode) (s : EmitterState) → HasIndexRoomForNode s n → FitsIndexWidths (with_code u d n s)
 fits-of u d n s r = record { insns = omega (arith, r.insns, length-with_code u d n s); loops = omega (arith, r.loops) }
 
 -- ---- The loop over what is left
 
-pub next-can : (rest left : List PendingCode) (r : PendingCode) (s end : EmitterState) → rest ≡ left ++ r ∷ [] → with_all_pending rest s ≡ end → FitsIndexWidths end
-    → are_emittable (length s.insns) rest ≡ true → CanEmitPending r s
+pub next-can : (rest left : List UnemittedCodePart) (r : UnemittedCodePart) (s end : EmitterState) → rest ≡ left ++ r ∷ [] → with_all_pending rest s ≡ end → FitsIndexWidths end
+    → are_emittable (length s.insns) rest ≡ true → CanEmitPendingPart r s
 next-can rest left r s end is code fits ready =
     let after = with_pending r s in
     let same : with_all_pending left after ≡ end = sym (all-last left r s) ∙ ap (λ x. with_all_pending x s) (sym is) ∙ code in
@@ -138,22 +141,22 @@ next-can rest left r s end is code fits ready =
       room = fits-before after (with_all_pending left after) (grows-all left after) whole;
     }
 
-pub next-code : (rest left more : List PendingCode) (r : PendingCode) (s t end : EmitterState) → rest ≡ left ++ r ∷ [] → with_all_pending rest s ≡ end
+pub next-code : (rest left more : List UnemittedCodePart) (r : UnemittedCodePart) (s t end : EmitterState) → rest ≡ left ++ r ∷ [] → with_all_pending rest s ≡ end
     → ExpandsPending (with_pending r) (pending_measure r) (record { state = s; rest = left }) (record { state = t; rest = more }) → with_all_pending more t ≡ end
 next-code rest left more r s t end is code begun = begun.code ∙ sym (all-last left r s) ∙ ap (λ x. with_all_pending x s) (sym is) ∙ code
 
-pub next-ready : (rest left more : List PendingCode) (r : PendingCode) (s t : EmitterState) → rest ≡ left ++ r ∷ [] → are_emittable (length s.insns) rest ≡ true
+pub next-ready : (rest left more : List UnemittedCodePart) (r : UnemittedCodePart) (s t : EmitterState) → rest ≡ left ++ r ∷ [] → are_emittable (length s.insns) rest ≡ true
     → ExpandsPending (with_pending r) (pending_measure r) (record { state = s; rest = left }) (record { state = t; rest = more }) → are_emittable (length t.insns) more ≡ true
 next-ready rest left more r s t is ready begun =
     begun.ready (ready-both (length s.insns) left r (ap (are_emittable (length s.insns)) (sym is) ∙ ready)).0
 
-pub next-less : (rest left more : List PendingCode) (r : PendingCode) (s t : EmitterState) → rest ≡ left ++ r ∷ []
+pub next-less : (rest left more : List UnemittedCodePart) (r : UnemittedCodePart) (s t : EmitterState) → rest ≡ left ++ r ∷ []
     → ExpandsPending (with_pending r) (pending_measure r) (record { state = s; rest = left }) (record { state = t; rest = more }) → total_measure more < total_measure rest
 next-less rest left more r s t is begun = omega (arith, begun.less, ap total_measure is, load-last left r)
 
 -- ---- What was begun
 
-pub begun-whole : (effect : EmitterState → EmitterState) (cost : ℕ) (rest : List PendingCode) (s t : EmitterState) → t ≡ effect s → Grows s t → 1 ≤ cost
+pub begun-whole : (effect : EmitterState → EmitterState) (cost : ℕ) (rest : List UnemittedCodePart) (s t : EmitterState) → t ≡ effect s → Grows s t → 1 ≤ cost
     → ExpandsPending effect cost (record { state = s; rest = rest }) (record { state = t; rest = rest })
 begun-whole effect cost rest s t is g some = record {
   code = ap (with_all_pending rest) is;
@@ -161,7 +164,7 @@ begun-whole effect cost rest s t is g some = record {
   less = omega (arith, some);
 }
 
-pub begun-one : (effect : EmitterState → EmitterState) (cost : ℕ) (rest left : List PendingCode) (a : PendingCode) (s t : EmitterState) → left ≡ rest ++ a ∷ [] → with_pending a t ≡ effect s
+pub begun-one : (effect : EmitterState → EmitterState) (cost : ℕ) (rest left : List UnemittedCodePart) (a : UnemittedCodePart) (s t : EmitterState) → left ≡ rest ++ a ∷ [] → with_pending a t ≡ effect s
     → Grows s t → is_emittable (length t.insns) a ≡ true → pending_measure a < cost
     → ExpandsPending effect cost (record { state = s; rest = rest }) (record { state = t; rest = left })
 begun-one effect cost rest left a s t is put g ready less = record {
@@ -172,7 +175,7 @@ begun-one effect cost rest left a s t is put g ready less = record {
   less = omega (arith, less, ap total_measure is, load-last rest a);
 }
 
-pub begun-two : (effect : EmitterState → EmitterState) (cost : ℕ) (rest mid left : List PendingCode) (a b : PendingCode) (s t : EmitterState) → mid ≡ rest ++ a ∷ [] → left ≡ mid ++ b ∷ []
+pub begun-two : (effect : EmitterState → EmitterState) (cost : ℕ) (rest mid left : List UnemittedCodePart) (a b : UnemittedCodePart) (s t : EmitterState) → mid ≡ rest ++ a ∷ [] → left ≡ mid ++ b ∷ []
     → with_pending a (with_pending b t) ≡ effect s → Grows s t → is_emittable (length t.insns) a ≡ true → is_emittable (length t.insns) b ≡ true → pending_measure a + pending_measure b < cost
     → ExpandsPending effect cost (record { state = s; rest = rest }) (record { state = t; rest = left })
 begun-two effect cost rest mid left a b s t first second put g ready_a ready_b less = record {
@@ -283,22 +286,22 @@ row-less narrow first others nodes is =
     let same : inner_node_count (node_with_char_loops_if_enabled narrow (cat_of nodes)) ≡ inner_node_count (node_with_char_loops_if_enabled narrow (node_of first)) + inner_node_count (node_with_char_loops_if_enabled narrow (cat_of others)) + 1 = ap (λ x. inner_node_count (node_with_char_loops_if_enabled narrow (cat_of x))) is in
     omega (arith, same)
 
-pub row-sets : (first : ir.Node) (others nodes : List ir.Node) → nodes ≡ first ∷ others → every_node_passes sets_and_strings_fit_instructions (cat_of nodes) ≡ true
-    → (every_node_passes sets_and_strings_fit_instructions (node_of first) ≡ true) × (every_node_passes sets_and_strings_fit_instructions (cat_of others) ≡ true)
+pub row-sets : (first : ir.Node) (others nodes : List ir.Node) → nodes ≡ first ∷ others → every_node_passes set_sizes_and_characters_fit_instructions (cat_of nodes) ≡ true
+    → (every_node_passes set_sizes_and_characters_fit_instructions (node_of first) ≡ true) × (every_node_passes set_sizes_and_characters_fit_instructions (cat_of others) ≡ true)
 row-sets first others nodes is sets =
-    let both : (every_node_passes sets_and_strings_fit_instructions (node_of first) && every_node_passes sets_and_strings_fit_instructions (cat_of others)) ≡ true = ap (λ x. every_node_passes sets_and_strings_fit_instructions (cat_of x)) (sym is) ∙ sets in
+    let both : (every_node_passes set_sizes_and_characters_fit_instructions (node_of first) && every_node_passes set_sizes_and_characters_fit_instructions (cat_of others)) ≡ true = ap (λ x. every_node_passes set_sizes_and_characters_fit_instructions (cat_of x)) (sym is) ∙ sets in
     (and-left _ _ both, and-right _ _ both)
 
 -- a leaf at its beginning
 
 pub row-room-first : (narrow : Bool) (first : ir.Node) (others nodes : List ir.Node) (s : EmitterState) → nodes ≡ first ∷ others → is_leaf (node_of first) ≡ true
-    → HasIndexRoom s (node_with_char_loops_if_enabled narrow (cat_of nodes)) → HasIndexRoom s (node_of first)
+    → HasIndexRoomForNode s (node_with_char_loops_if_enabled narrow (cat_of nodes)) → HasIndexRoomForNode s (node_of first)
 unfolding node_with_char_loops_if_enabled
 row-room-first narrow first others nodes s is leaf room =
     rw (shaped-leaf narrow (node_of first) leaf) at (room-first s (node_with_char_loops_if_enabled narrow (node_of first)) (node_with_char_loops_if_enabled narrow (cat_of others)) (rw is at room))
 
 pub row-room-rest : (u d narrow : Bool) (first : ir.Node) (others nodes : List ir.Node) (s t : EmitterState) → nodes ≡ first ∷ others → is_leaf (node_of first) ≡ true
-    → HasIndexRoom s (node_with_char_loops_if_enabled narrow (cat_of nodes)) → t ≡ with_code u d (node_of first) s → HasIndexRoom t (node_with_char_loops_if_enabled narrow (cat_of others))
+    → HasIndexRoomForNode s (node_with_char_loops_if_enabled narrow (cat_of nodes)) → t ≡ with_code u d (node_of first) s → HasIndexRoomForNode t (node_with_char_loops_if_enabled narrow (cat_of others))
 unfolding node_with_char_loops_if_enabled
 row-room-rest u d narrow first others nodes s t is leaf room e =
     room-rest u d s t (node_with_char_loops_if_enabled narrow (node_of first)) (node_with_char_loops_if_enabled narrow (cat_of others)) (rw is at room)
@@ -319,7 +322,7 @@ row-light narrow first others nodes most is light =
 
 -- ---- What comes as a whole
 
-pub put-whole : (r : PendingCode) (rest : List PendingCode) (s t : EmitterState) → t ≡ with_pending r s → 1 ≤ pending_measure r
+pub put-whole : (r : UnemittedCodePart) (rest : List UnemittedCodePart) (s t : EmitterState) → t ≡ with_pending r s → 1 ≤ pending_measure r
     → ExpandsPending (with_pending r) (pending_measure r) (record { state = s; rest = rest }) (record { state = t; rest = rest })
 put-whole r rest s t is some = begun-whole (with_pending r) (pending_measure r) rest s t is (rw is (grows-left r s)) some
 

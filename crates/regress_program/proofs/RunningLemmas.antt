@@ -4,13 +4,13 @@ use Rattle.std.proofs.lemmas.List.{length-map}
 use Rattle.std.specs.Prelude.{if◌then◌else◌}
 use Rattle.regex_meaning.specs.Tree.{Node, Tree, group_ids}
 use Rattle.regex_meaning.specs.CompilationRelation.{Insn, tree_contains_byte_nodes}
-use Rattle.regex_meaning.specs.GroupsByNumberAndName.{group_names_by_id}
+use Rattle.regex_meaning.specs.MatchGroupsByNumberAndName.{group_names_by_id}
 use Rattle.regex_meaning.specs.WellFormedTrees.{is_well_formed}
 use Rattle.regex_pattern_front.specs.OptimizedTrees.{optimized}
 use Rattle.regex_pattern_front.proofs.OptimizedLemmas.{well_formed-optimized, group_ids-optimized, names_by_id-optimized, reads_bytes-optimized}
 use Rattle.regress_program.specs.CompilationOfTreesAsFunction.{compiled, brackets_of, node_insn_count}
-use Rattle.regress_program.specs.EmitterModel.{tree_with_char_loops}
-use Rattle.regress_program.specs.InsnMeanings.{spec_insn_of}
+use Rattle.regress_program.specs.EmitterStateAndAppendedCode.{tree_with_char_loops_if_enabled}
+use Rattle.regress_program.specs.InsnsAndStartPredicatesAsSpec.{insn_as_spec_insn}
 use Rattle.regress_program.specs.ProgramFieldsMatchTree.{IsCodeOfTree}
 use Rattle.regress_program.specs.declared.insn.emitted_code.EmittedCode.{EmittedCode}
 use Rattle.regress_program.proofs.CodeLemmas.{compiled-length}
@@ -65,7 +65,7 @@ to_run-same t same = go t.flags.no_opt
     go false = ap (λ (n : Node). record { root = n; flags = t.flags }) same
 
 -- the tree with narrow loops is that which is run, unless the flags say that there is none
-pub to_run-shaped : (t : Tree) → t.flags.no_opt ≡ false → tree_with_char_loops true t ≡ optimized_tree_unless_no_opt t
+pub to_run-shaped : (t : Tree) → t.flags.no_opt ≡ false → tree_with_char_loops_if_enabled true t ≡ optimized_tree_unless_no_opt t
 to_run-shaped t h = ap (λ (n : Node). record { root = n; flags = t.flags }) (shaped-narrow t.root ∙ sym (to_run-optimized t h))
 
 pub size-to_run : (t : Tree) → node_insn_count (optimized_tree_unless_no_opt t).root ≤ node_insn_count t.root
@@ -96,4 +96,4 @@ run-well_formed t u is h = subst (λ (x : Tree). IsTrue (is_well_formed x.root))
 -- the code of the tree that is run has numbers of 32 bits where the tree's has
 pub run-fits : (t : Tree) (code : EmittedCode) → IsCodeOfTree (optimized_tree_unless_no_opt t) code → node_insn_count t.root < 2 ^ 32 → length code.insns.items < 2 ^ 32
 run-fits t code is fits =
-    omega (arith, fits, size-to_run t, ap (λ (l : List Insn). length l) is.insns, length-map code.insns.items spec_insn_of, compiled-length (optimized_tree_unless_no_opt t))
+    omega (arith, fits, size-to_run t, ap (λ (l : List Insn). length l) is.insns, length-map code.insns.items insn_as_spec_insn, compiled-length (optimized_tree_unless_no_opt t))

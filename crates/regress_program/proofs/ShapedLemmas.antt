@@ -6,8 +6,8 @@ use Rattle.regex_meaning.specs.Tree.{Node, cat, alt, capture_group, lookaround, 
 use Rattle.regex_pattern_front.specs.OptimizedTrees.{reads_one_character, optimized}
 use Rattle.regex_pattern_front.proofs.OptimizedLemmas.{one_character-optimized, is_one-reads}
 use Rattle.regress_program.specs.CompilationOfTreesAsFunction.{node_insn_count, loop_count, brackets_of}
-use Rattle.regress_program.specs.LeavesListsAndCharLoops.{is_leaf, becomes_char_loop}
-use Rattle.regress_program.specs.EmitterModel.{node_with_char_loops_if_enabled}
+use Rattle.regress_program.specs.LeafNodesAndOptimizableLoops.{is_leaf, becomes_char_loop}
+use Rattle.regress_program.specs.EmitterStateAndAppendedCode.{node_with_char_loops_if_enabled}
 
 pub shaped-leaf : (narrow : Bool) (n : Node) → is_leaf n ≡ true → node_with_char_loops_if_enabled narrow n ≡ n
 unfolding node_with_char_loops_if_enabled

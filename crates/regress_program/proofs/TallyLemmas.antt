@@ -2,7 +2,7 @@
 use Rattle.std.proofs.Common.{◌≡◌, ◌+◌, ◌-◌, ◌^◌, min, length, arith, length-append}
 use Rattle.regex_meaning.specs.Tree.{Node, cat, alt, capture_group, lookaround, loop, loop_1_char_body, group_ids}
 use Rattle.regress_program.specs.CompilationOfTreesAsFunction.{node_insn_count, loop_count}
-use Rattle.regress_program.specs.ProgramSizePerNode.{count_node}
+use Rattle.regress_program.specs.GroupLoopInsnCountsPerNode.{count_node}
 use Rattle.regress_program.specs.declared.emit.program_size.ProgramSize.{ProgramSize}
 use Rattle.regress_program.proofs.WalkedLemmas.{all_along}
 

@@ -9,7 +9,7 @@ use Rattle.std.proofs.lemmas.Option.{get_or_from_slice_get}
 use Rattle.regex_meaning.specs.CompilationRelation.{Insn, Alt, Jump, ByteSeq, ResetCaptureGroup, ordered, chunks, chunks_of}
 use Rattle.regex_meaning.specs.Tree.{byte_sequence, string_set}
 use Rattle.regress_program.specs.CompilationOfTreesAsFunction.{group_reset_insns, string_code, strings_code, strings_size, code_of, loop_count, brackets_of}
-use Rattle.regress_program.specs.EmitterModel.{EmitterState, with_code, with_insn_appended, with_insns_appended, strings_as_code_points}
+use Rattle.regress_program.specs.EmitterStateAndAppendedCode.{EmitterState, with_code, with_insn_appended, with_insns_appended, strings_as_code_points}
 use Rattle.regress_program.proofs.EmitLemmas.{same_state, length-string_code, length-ordered}
 
 -- ---- Chunks

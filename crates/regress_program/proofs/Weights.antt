@@ -3,7 +3,7 @@ unfoldable pub use Rattle.regress_program.specs.InnerNodeCountMeasure.{inner_nod
 use Rattle.std.proofs.Common.{◌≡◌, ℕ, zero, suc, ◌<◌, List, [], ◌∷◌, length, get_or, slice_get, Some, ap, arith}
 use Rattle.regex_pattern_front.specs.AstToSpecTree.{node_of}
 use Rattle.regex_pattern_front.specs.declared.ir.Node as declared
-use Rattle.regress_program.specs.LeavesListsAndCharLoops.{cat_of}
+use Rattle.regress_program.specs.LeafNodesAndOptimizableLoops.{cat_of}
 
 pub weight-child : (nodes : List declared.Node) (i : ℕ) (n : declared.Node) → i < length nodes → n ≡ get_or nodes i n → inner_node_count (node_of n) < inner_node_count (cat_of nodes)
 unfolding inner_node_count

@@ -7,11 +7,11 @@ use Rattle.regex_meaning.specs.Tree.{lookaround, loop, loop_1_char_body, Tree, g
 use Rattle.regex_meaning.specs.Text.{expand_code_point}
 use Rattle.regex_meaning.specs.Outcomes.{max_iterations, in_intervals}
 use Rattle.regex_meaning.specs.StartPredicate.{start_predicate, bytes_that_pass}
-use Rattle.regex_meaning.specs.GroupsByNumberAndName.{group_names_by_id}
+use Rattle.regex_meaning.specs.MatchGroupsByNumberAndName.{group_names_by_id}
 use Rattle.regex_meaning.specs.CompilationRelation.{Insn, Goal, JustFail, Char, ByteSeq, AsciiBracket, Bracket, MatchAny, MatchAnyExceptLineTerminator, Alt, Jump}
 use Rattle.regex_meaning.specs.CompilationRelation.{EnterLoop, LoopAgain, ResetCaptureGroup, Loop1CharBody, BeginCaptureGroup, EndCaptureGroup, BackRef, Program}
 use Rattle.regex_meaning.specs.CompilationRelation.{char_set_insn, byte_set_insn, case_variants_insn, anchor_insn, word_boundary_insn, lookaround_insn, ordered}
-use Rattle.regex_meaning.specs.CompilationRelation.{is_ascii_set, chunks}
+use Rattle.regex_meaning.specs.CompilationRelation.{is_uninverted_ascii_class, chunks}
 
 -- ---- Counts
 
@@ -61,7 +61,7 @@ loop_count _ = 0
 
 -- the brackets of a node that are in the list of brackets, and not in the instruction
 unfoldable pub brackets_of : Node → List BracketContents
-brackets_of (bracket contents) = if is_ascii_set contents then [] else contents ∷ []
+brackets_of (bracket contents) = if is_uninverted_ascii_class contents then [] else contents ∷ []
 brackets_of (cat first rest) = brackets_of first ++ brackets_of rest
 brackets_of (alt left right) = brackets_of left ++ brackets_of right
 brackets_of (capture_group id name contents) = brackets_of contents
@@ -107,7 +107,7 @@ code_of unicode behind (alt left right) at loops brackets =
     Alt second ∷ (code_of unicode behind left (at + 1) loops brackets
     ++ Jump (second + node_insn_count right) ∷ code_of unicode behind right second (loops + loop_count left) (brackets + length (brackets_of left)))
 code_of unicode behind (bracket contents) at loops brackets =
-    (if is_ascii_set contents then AsciiBracket (bytes_that_pass (in_intervals contents.intervals)) else Bracket brackets) ∷ []
+    (if is_uninverted_ascii_class contents then AsciiBracket (bytes_that_pass (in_intervals contents.intervals)) else Bracket brackets) ∷ []
 code_of unicode behind (string_set strings icase) at loops brackets = strings_code unicode icase behind strings at
 code_of unicode behind match_any at loops brackets = MatchAny ∷ []
 code_of unicode behind match_any_except_line_terminator at loops brackets = MatchAnyExceptLineTerminator ∷ []

@@ -9,7 +9,7 @@ use Rattle.regress_program.specs.declared.emit.EmitError.TheVariants.{NotWellFor
 use Rattle.regress_program.specs.declared.emit.EmitError.TheVariants.{Memory}
 
 -- The tree is well formed, and its program is within the limits.
-pub record FitsLimits (tree : Tree) : Type 0 where
+pub record IsWellFormedWithinLimits (tree : Tree) : Type 0 where
   pub well_formed : IsWellFormed tree.root
   pub groups : length (group_ids tree.root) < 2 ^ 16
   pub loops : loop_count tree.root < 2 ^ 16
@@ -42,12 +42,12 @@ IsCompileErrorCause bytes_in_units BytesInUnits tree = IsWellFormed tree.root ×
 IsCompileErrorCause bytes_in_units TooManyGroups tree = (bytes_in_units ≡ false) × HasTooManyGroups tree
 IsCompileErrorCause bytes_in_units TooManyLoops tree = (bytes_in_units ≡ false) × HasTooManyLoops tree
 IsCompileErrorCause bytes_in_units TooManyInstructions tree = (bytes_in_units ≡ false) × HasTooManyInstructions tree
-IsCompileErrorCause bytes_in_units Memory tree = (bytes_in_units ≡ false) × FitsLimits tree
+IsCompileErrorCause bytes_in_units Memory tree = (bytes_in_units ≡ false) × IsWellFormedWithinLimits tree
 
 -- the cause of an error of compiling for bytes
-abbrev pub IsByteCompileErrorCause : EmitError → Tree → Type 0
-IsByteCompileErrorCause e tree = IsCompileErrorCause false e tree
+abbrev pub TreeHasByteCompileErrorCause : EmitError → Tree → Type 0
+TreeHasByteCompileErrorCause e tree = IsCompileErrorCause false e tree
 
 -- the cause of an error of compiling for 16-bit code units
-abbrev pub IsUnitCompileErrorCause : EmitError → Tree → Type 0
-IsUnitCompileErrorCause e tree = IsCompileErrorCause (tree_contains_byte_nodes tree.root) e tree
+abbrev pub Is16BitUnitCompileErrorCause : EmitError → Tree → Type 0
+Is16BitUnitCompileErrorCause e tree = IsCompileErrorCause (tree_contains_byte_nodes tree.root) e tree

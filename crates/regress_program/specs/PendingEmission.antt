@@ -3,17 +3,18 @@ use Rattle.std.specs.Prelude.{◌≡◌, ℕ, ◌+◌, ◌*◌, ◌<◌, ◌^◌
 use Rattle.std.specs.List.{list_all}
 use Rattle.regex_meaning.specs.Tree.{Lookaround, Node as TreeNode, every_node_passes}
 use Rattle.regex_meaning.specs.CompilationRelation.{Alt, EnterLoop, EndCaptureGroup, Goal, Jump, LoopAgain, lookaround_insn}
-use Rattle.regex_meaning.specs.WellFormedTrees.{sets_and_strings_fit_instructions}
+use Rattle.regex_meaning.specs.WellFormedTrees.{set_sizes_and_characters_fit_instructions}
 use Rattle.regex_pattern_front.specs.AstToSpecTree.{node_of}
 use Rattle.regex_pattern_front.specs.declared.ir.Node as ir
 use Rattle.regress_plan.specs.declared.insn.LoopFields.{LoopFields}
-use Rattle.regress_program.specs.LeavesListsAndCharLoops.{cat_of}
+use Rattle.regress_program.specs.LeafNodesAndOptimizableLoops.{cat_of}
 use Rattle.regress_program.specs.InnerNodeCountMeasure.{inner_node_count}
-use Rattle.regress_program.specs.EmitterModel.{EmitterState, emitter_state, with_code, with_insn_appended, with_insn_at, node_with_char_loops_if_enabled, lookaround_as_spec}
+use Rattle.regress_program.specs.EmitterStateAndAppendedCode.{EmitterState, emitter_state, with_code, with_insn_appended, with_insn_at, node_with_char_loops_if_enabled}
+use Rattle.regress_program.specs.EmitterStateAndAppendedCode.{lookaround_as_spec}
 use Rattle.regress_program.specs.declared.emit.emitter.Emitter.{Emitter}
 use Rattle.regress_program.specs.declared.emit.emitter.FoldingCharLoopLookbehindMode.{FoldingCharLoopLookbehindMode}
-use Rattle.regress_program.specs.declared.emit.nested_nodes.PendingCode.{PendingCode}
-use Rattle.regress_program.specs.declared.emit.nested_nodes.PendingCode.TheVariants.{Node, Row, Others, Jump as JumpLeft, GroupEnd, LookaroundEnd, LoopEnd}
+use Rattle.regress_program.specs.declared.emit.nested_nodes.UnemittedCodePart.{UnemittedCodePart}
+use Rattle.regress_program.specs.declared.emit.nested_nodes.UnemittedCodePart.TheVariants.{Node, Row, Others, Jump as JumpLeft, GroupEnd, LookaroundEnd, LoopEnd}
 
 -- ---- The effect of each part
 
@@ -44,7 +45,7 @@ with_loop_end f begin s =
     with_insn_at begin (EnterLoop (record { loop_id = f.loop_id; min_iters = f.min_iters; max_iters = f.max_iters; greedy = f.greedy; exit = length t.insns })) t
 
 -- the state after a pending part was emitted
-unfoldable pub with_pending : PendingCode → EmitterState → EmitterState
+unfoldable pub with_pending : UnemittedCodePart → EmitterState → EmitterState
 with_pending (Node mode node) s = with_code mode.unicode mode.behind (node_with_char_loops_if_enabled mode.narrow (node_of node.now)) s
 with_pending (Row mode nodes) s = with_code mode.unicode mode.behind (node_with_char_loops_if_enabled mode.narrow (cat_of nodes.now)) s
 with_pending (Others mode branch others) s = with_remaining_alternatives_emitted mode.unicode mode.behind branch (node_with_char_loops_if_enabled mode.narrow (node_of others.now)) s
@@ -54,24 +55,24 @@ with_pending (LookaroundEnd look head) s = with_lookaround_end (lookaround_as_sp
 with_pending (LoopEnd fields begin) s = with_loop_end fields begin s
 
 -- the state after all pending parts were emitted, the last one first
-abbrev pub with_all_pending : List PendingCode → EmitterState → EmitterState
+abbrev pub with_all_pending : List UnemittedCodePart → EmitterState → EmitterState
 with_all_pending [] s = s
 with_all_pending (r ∷ rest) s = with_pending r (with_all_pending rest s)
 
 -- ---- The precondition of each part
 
 -- The sets of the part's nodes fit instructions, and its indexes are less than `end`.
-unfoldable pub is_emittable : (end : ℕ) → PendingCode → Bool
-is_emittable end (Node mode node) = every_node_passes sets_and_strings_fit_instructions (node_of node.now)
-is_emittable end (Row mode nodes) = every_node_passes sets_and_strings_fit_instructions (cat_of nodes.now)
-is_emittable end (Others mode branch others) = nat_lt branch end && every_node_passes sets_and_strings_fit_instructions (node_of others.now)
+unfoldable pub is_emittable : (end : ℕ) → UnemittedCodePart → Bool
+is_emittable end (Node mode node) = every_node_passes set_sizes_and_characters_fit_instructions (node_of node.now)
+is_emittable end (Row mode nodes) = every_node_passes set_sizes_and_characters_fit_instructions (cat_of nodes.now)
+is_emittable end (Others mode branch others) = nat_lt branch end && every_node_passes set_sizes_and_characters_fit_instructions (node_of others.now)
 is_emittable end (JumpLeft place) = nat_lt place end
 is_emittable end (GroupEnd id) = true
 is_emittable end (LookaroundEnd look head) = nat_lt head end
 is_emittable end (LoopEnd fields begin) = nat_lt begin end
 
 -- all pending parts are emittable
-abbrev pub are_emittable : (end : ℕ) → List PendingCode → Bool
+abbrev pub are_emittable : (end : ℕ) → List UnemittedCodePart → Bool
 are_emittable end rest = list_all (is_emittable end) rest
 
 -- the indexes of the instructions and loops are in range
@@ -80,7 +81,7 @@ pub record FitsIndexWidths (s : EmitterState) : Type 0 where
   pub loops : s.loops < 2 ^ 16
 
 -- The part can be emitted in a state.
-pub record CanEmitPending (r : PendingCode) (s : EmitterState) : Type 0 where
+pub record CanEmitPendingPart (r : UnemittedCodePart) (s : EmitterState) : Type 0 where
   pub ready : is_emittable (length s.insns) r ≡ true
   pub room : FitsIndexWidths (with_pending r s)
 
@@ -91,14 +92,14 @@ abbrev pub node_measure : TreeNode → ℕ
 node_measure node = 5 * inner_node_count node + 2
 
 -- the measure of a pending part
-unfoldable pub pending_measure : PendingCode → ℕ
+unfoldable pub pending_measure : UnemittedCodePart → ℕ
 pending_measure (Node mode node) = node_measure (node_with_char_loops_if_enabled mode.narrow (node_of node.now))
 pending_measure (Row mode nodes) = 5 * inner_node_count (node_with_char_loops_if_enabled mode.narrow (cat_of nodes.now)) + 1
 pending_measure (Others mode branch others) = node_measure (node_with_char_loops_if_enabled mode.narrow (node_of others.now)) + 2
 pending_measure _ = 1
 
 -- the sum of the measures of the pending parts
-abbrev pub total_measure : List PendingCode → ℕ
+abbrev pub total_measure : List UnemittedCodePart → ℕ
 total_measure [] = 0
 total_measure (r ∷ rest) = pending_measure r + total_measure rest
 
@@ -107,7 +108,7 @@ total_measure (r ∷ rest) = pending_measure r + total_measure rest
 -- a program that is being built, and its pending parts
 pub record EmitWork : Type 0 where
   pub state : EmitterState
-  pub rest : List PendingCode
+  pub rest : List UnemittedCodePart
 
 -- Something was begun: what remains of it was put before the rest, and emitting all of it has the
 -- given effect. The measure grew by less than `cost`.
@@ -117,8 +118,8 @@ pub record ExpandsPending (effect : EmitterState → EmitterState) (cost : ℕ) 
   pub less : total_measure after.rest < total_measure before.rest + cost
 
 -- a pending part was emitted or begun
-abbrev pub EmitsOrBeginsPendingPart : PendingCode → (before after : EmitWork) → Type 0
-EmitsOrBeginsPendingPart r before after = ExpandsPending (with_pending r) (pending_measure r) before after
+abbrev pub PendingPartIsEmittedOrBegun : UnemittedCodePart → (before after : EmitWork) → Type 0
+PendingPartIsEmittedOrBegun r before after = ExpandsPending (with_pending r) (pending_measure r) before after
 
 -- the code of a node was begun
 abbrev pub BeginsEmittingNode : FoldingCharLoopLookbehindMode → TreeNode → (before after : EmitWork) → Type 0
@@ -136,5 +137,5 @@ BeginsEmittingNodeList mode nodes before after =
     ExpandsPending (with_code mode.unicode mode.behind row) (5 * inner_node_count row + 1) before after
 
 -- the state of an emitter, and its pending parts
-abbrev pub emitter_and_pending_parts : {A : Type 0} → Emitter → Vec PendingCode A → EmitWork
+abbrev pub emitter_and_pending_parts : {A : Type 0} → Emitter → Vec UnemittedCodePart A → EmitWork
 emitter_and_pending_parts e rest = record { state = emitter_state e; rest = rest.items }

@@ -8,9 +8,9 @@ use Rattle.regex_meaning.specs.CompilationRelation.{Program, tree_contains_byte_
 use Rattle.regex_pattern_front.specs.declared.ir.Regex.{Regex}
 use Rattle.regress_plan.specs.declared.plan.Plan.{Plan}
 use Rattle.regress_plan.specs.Plans.{IsPlanOf}
-use Rattle.regress_program.specs.InsnMeanings.{spec_insn_of}
-use Rattle.regress_program.specs.declared.insn.start_predicates.StartPredicate.{StartPredicate}
-use Rattle.regress_program.specs.StartPredicatesAndAllocation.{IsStartOf}
+use Rattle.regress_program.specs.InsnsAndStartPredicatesAsSpec.{insn_as_spec_insn}
+use Rattle.regress_program.specs.declared.insn.start_predicate_type.StartPredicate.{StartPredicate}
+use Rattle.regress_program.specs.StartPredicatesAndWhenTheyAllocate.{IsStartOf, is_anchored_tree}
 use Rattle.regress_program.specs.CompilationOfTreesAsFunction.{compiled}
 use Rattle.regress_program.specs.OptimizedTreeUnlessNoOpt.{planned_tree, optimized_tree_unless_no_opt}
 use Rattle.regress_program.specs.declared.insn.emitted_code.EmittedCode.{EmittedCode}
@@ -19,7 +19,7 @@ use Rattle.regress_program.specs.declared.insn.common_program_part.Program.TheIn
 
 -- the emitted code is that of the tree
 pub record IsCodeOfTree (tree : Tree) (code : EmittedCode) : Type 0 where
-  pub insns : map spec_insn_of code.insns.items ≡ (compiled tree).insns
+  pub insns : map insn_as_spec_insn code.insns.items ≡ (compiled tree).insns
   pub brackets : map class_as_spec code.brackets.items ≡ (compiled tree).brackets
   pub loops : code.loops ≡ (compiled tree).loops
 
@@ -51,6 +51,7 @@ pub record Is16BitPlanAndCodeOf (re : Regex) (run : PlanAndCodeFor16BitUnits) : 
   pub code : IsCodeOfTree (optimized_tree_unless_no_opt (tree_of re)) (arc_value run.code)
 
 -- what programs for 16-bit code units hold in addition
-pub record IsUnitProgram (re : Regex) (run : PlanAndCodeFor16BitUnits) : Type 0 where
+pub record IsUnitProgram (re : Regex) (anchored : Bool) (run : PlanAndCodeFor16BitUnits) : Type 0 where
+  pub anchors : anchored ≡ is_anchored_tree (tree_of re)
   pub no_bytes : tree_contains_byte_nodes (tree_of re).root ≡ false
   pub runs : Is16BitPlanAndCodeOf re run

@@ -4,33 +4,35 @@ ghost use Rattle.std.specs.Prelude.{◌≡◌, ◌<◌, ◌^◌, true, false, le
 ghost use Rattle.std.specs.Arc.{arc_value};
 ghost use Rattle.regex_meaning.specs.{Tree.{group_ids}, CompilationRelation.{IsByteProgramOfTree, Is16BitProgramOfTree}};
 ghost use Rattle.regex_pattern_front.specs.{AstToSpecTree.{tree_of}, declared.ir.Regex.{Regex}};
-ghost use Rattle.regress_program.specs.{CompilationOfTreesAsFunction.{compiled, node_insn_count}, EmitterModel.{tree_with_char_loops}, ProgramFieldsMatchTree.{IsCodeOfTree, Is16BitPlanAndCodeOf}, OptimizedTreeUnlessNoOpt.{optimized_tree_unless_no_opt}};
-ghost use Rattle.regress_program.specs.CompileRefusals.{IsByteCompileErrorCause, IsUnitCompileErrorCause, IsCompileErrorCause, FitsLimits};
+ghost use Rattle.regress_program.specs.{CompilationOfTreesAsFunction.{compiled, node_insn_count}, EmitterStateAndAppendedCode.{tree_with_char_loops_if_enabled}};
+ghost use Rattle.regress_program.specs.{ProgramFieldsMatchTree.{IsCodeOfTree, Is16BitPlanAndCodeOf}, OptimizedTreeUnlessNoOpt.{optimized_tree_unless_no_opt}};
+ghost use Rattle.regress_program.specs.CompileRefusals.{TreeHasByteCompileErrorCause, Is16BitUnitCompileErrorCause, IsCompileErrorCause, IsWellFormedWithinLimits};
 
 mod brackets;
-mod byte_node_and_char_loop_detectors;
+mod byte_node_and_optimizable_loop_detectors;
+mod byte_sequences_and_string_sets;
 mod emitter;
-mod group_id_and_range_checks;
-mod group_names;
-mod leaf_insns;
-mod literals;
+mod group_id_and_range_check;
 mod nested_nodes;
 mod program_size;
-mod tree_walk;
+mod small_set_and_assertion_insns;
+mod storing_group_names_by_id;
+mod tree_walk_with_visitor;
 mod well_formedness_check;
 
-use crate::emit::byte_node_and_char_loop_detectors::{
-    has_no_one_char_loop, tree_contains_byte_nodes,
+use crate::emit::byte_node_and_optimizable_loop_detectors::{
+    has_no_loop_left_to_optimize, tree_contains_byte_nodes,
 };
 use crate::emit::emitter::{Emitter, FoldingCharLoopLookbehindMode};
-use crate::emit::group_names::names_by_id;
 use crate::emit::program_size::ProgramSize;
+use crate::emit::storing_group_names_by_id::names_by_id;
 pub use crate::emit::well_formedness_check::is_well_formed;
 use crate::ghost_source_tree::GhostSourceTree;
 use crate::insn::{
-    CompiledRegex, CompiledUnits, EmittedCode, GroupNames, PlanAndCodeFor16BitUnits, Program,
+    CompiledRegex, CompiledRegexFor16BitUnits, EmittedCode, GroupNames, PlanAndCodeFor16BitUnits,
+    Program,
 };
-use crate::startpredicate::predicate_for_re;
+use crate::startpredicate::{matches_at_left_end, predicate_for_re};
 use regex_pattern_front::ir;
 use regex_pattern_front::optimizer::optimize;
 use regex_pattern_front::types::{LoopID, MAX_CAPTURE_GROUPS};
@@ -84,8 +86,8 @@ impl From<AllocError> for EmitError {
 pub fn emit(alloc: Global, re: &ir::Regex) -> Result<CompiledRegex, EmitError>
     ensures tree { IfOk result (λ p. p ≡ re.now) }
     ensures code { OnOk result (IsByteProgramOfTree (compiled (tree_of re.now)) (tree_of re.now)) }
-    ensures fits { OnOk result (FitsLimits (tree_of re.now)) }
-    ensures refused { IfErr result (λ e. IsByteCompileErrorCause e (tree_of re.now)) }
+    ensures fits { OnOk result (IsWellFormedWithinLimits (tree_of re.now)) }
+    ensures refused { IfErr result (λ e. TreeHasByteCompileErrorCause e (tree_of re.now)) }
 {
     let program = compile_common_part(alloc, re, false)?;
     let cr = byte_program_of(alloc, re, program)?;
@@ -99,16 +101,21 @@ pub fn emit(alloc: Global, re: &ir::Regex) -> Result<CompiledRegex, EmitError>
 /// Returns the first of these whose cause holds, in this order: `NotWellFormed`, `BytesInUnits`,
 /// `TooManyGroups`, `TooManyLoops`, `TooManyInstructions`, `Memory`. An allocation failure is
 /// returned only for a tree that passes all the other checks.
-pub fn emit_units(alloc: Global, re: &ir::Regex) -> Result<CompiledUnits, EmitError>
+pub fn emit_units(alloc: Global, re: &ir::Regex) -> Result<CompiledRegexFor16BitUnits, EmitError>
     ensures tree { IfOk result (λ p. p ≡ re.now) }
     ensures code { OnOk result (Is16BitProgramOfTree (compiled (tree_of re.now)) (tree_of re.now)) }
-    ensures fits { OnOk result (FitsLimits (tree_of re.now)) }
-    ensures refused { IfErr result (λ e. IsUnitCompileErrorCause e (tree_of re.now)) }
+    ensures fits { OnOk result (IsWellFormedWithinLimits (tree_of re.now)) }
+    ensures refused { IfErr result (λ e. Is16BitUnitCompileErrorCause e (tree_of re.now)) }
 {
     let program = compile_common_part(alloc, re, tree_contains_byte_nodes(&re.node))?;
     let code = code_to_run(alloc, re, &program)?;
     let run = unit_plan_of(alloc, code, program.groups())?;
-    Ok(CompiledUnits { program, run })
+    let anchored = matches_at_left_end(re);
+    Ok(CompiledRegexFor16BitUnits {
+        program,
+        anchored,
+        run,
+    })
 }
 
 /// Compiles a parsed tree for both kinds of texts. The program for 16-bit code units is of the tree
@@ -118,20 +125,30 @@ pub fn emit_units(alloc: Global, re: &ir::Regex) -> Result<CompiledUnits, EmitEr
 /// # Errors
 ///
 /// Returns the errors of `emit_units`.
-pub fn emit_both(alloc: Global, re: ir::Regex) -> Result<(CompiledRegex, CompiledUnits), EmitError>
+pub fn emit_both(
+    alloc: Global,
+    re: ir::Regex,
+) -> Result<(CompiledRegex, CompiledRegexFor16BitUnits), EmitError>
     ensures units { IfOk result (λ both. both.1 ≡ re) }
     ensures bytes { IfOk result (λ both. tree_of both.0 ≡ optimized_tree_unless_no_opt (tree_of re)) }
     ensures unit_code { OnOk result (Is16BitProgramOfTree (compiled (tree_of re)) (tree_of re)) }
-    ensures byte_code { OnOk result (let run = optimized_tree_unless_no_opt (tree_of re) in IsByteProgramOfTree (compiled run) run) }
-    ensures refused { IfErr result (λ e. IsUnitCompileErrorCause e (tree_of re)) }
+    ensures byte_code { OnOk result (let run = optimized_tree_unless_no_opt (tree_of re) in IsByteProgramOfTree
+        (compiled run) run) }
+    ensures refused { IfErr result (λ e. Is16BitUnitCompileErrorCause e (tree_of re)) }
 {
     let program = compile_common_part(alloc, &re, tree_contains_byte_nodes(&re.node))?;
     let code = code_to_run(alloc, &re, &program)?;
     let run = unit_plan_of(alloc, code.clone()?, program.groups())?;
+    let anchored = matches_at_left_end(&re);
     let tree = to_run(re);
     let optimized = program.with_code_of_tree_to_run(code, &tree)?;
     let cr = byte_program_of(alloc, &tree, optimized)?;
-    Ok((cr, CompiledUnits { program, run }))
+    let units = CompiledRegexFor16BitUnits {
+        program,
+        anchored,
+        run,
+    };
+    Ok((cr, units))
 }
 
 // Builds the program for texts in bytes from the part that both kinds of programs have.
@@ -171,7 +188,7 @@ fn code_to_run(
     re: &ir::Regex,
     program: &Program,
 ) -> Result<Arc<EmittedCode, Global>, AllocError>
-    requires fits { FitsLimits (tree_of re.now) }
+    requires fits { IsWellFormedWithinLimits (tree_of re.now) }
     requires same { program.now ≡ re.now }
     ensures { IfOk result (λ code. IsCodeOfTree (optimized_tree_unless_no_opt (tree_of re.now)) (arc_value code)) }
 {
@@ -189,7 +206,7 @@ fn is_run_itself(re: &ir::Regex) -> bool
     if re.flags.no_opt {
         return true;
     }
-    has_no_one_char_loop(&re.node)
+    has_no_loop_left_to_optimize(&re.node)
 }
 
 // Builds the plan for 16-bit code units from the code of the tree to run. `groups` is the number of
@@ -200,7 +217,8 @@ fn unit_plan_of(
     groups: u32,
 ) -> Result<PlanAndCodeFor16BitUnits, AllocError>
     requires { length (arc_value code).insns.items < 2 ^ 32 }
-    ensures { IfOk result (λ run. (re : Regex) → IsCodeOfTree (optimized_tree_unless_no_opt (tree_of re)) (arc_value code)
+    ensures { IfOk result (λ run. (re : Regex) → IsCodeOfTree (optimized_tree_unless_no_opt (tree_of re))
+        (arc_value code)
         → groups ≡ (compiled (tree_of re)).groups → Is16BitPlanAndCodeOf re run) }
 {
     let parts = ProgramPartsForPlan {
@@ -220,8 +238,9 @@ fn emit_code(
     narrow: bool,
     room: usize,
 ) -> Result<Arc<EmittedCode, Global>, AllocError>
-    requires { FitsLimits (tree_of re.now) }
-    ensures { IfOk result (λ code. IsCodeOfTree (tree_with_char_loops narrow (tree_of re.now)) (arc_value code)) }
+    requires { IsWellFormedWithinLimits (tree_of re.now) }
+    ensures { IfOk result (λ code. IsCodeOfTree (tree_with_char_loops_if_enabled narrow (tree_of re.now))
+        (arc_value code)) }
 {
     let mut emitter = Emitter::new(alloc, room)?;
     let mode = FoldingCharLoopLookbehindMode {
@@ -242,14 +261,14 @@ fn compile_common_part(
     bytes_in_units: bool,
 ) -> Result<Program, EmitError>
     ensures tree { IfOk result (λ p. p ≡ re.now) }
-    ensures fits { OnOk result (FitsLimits (tree_of re.now)) }
+    ensures fits { OnOk result (IsWellFormedWithinLimits (tree_of re.now)) }
     ensures no_bytes { OnOk result (bytes_in_units ≡ false) }
     ensures refused { IfErr result (λ e. IsCompileErrorCause bytes_in_units e (tree_of re.now)) }
 {
     let GroupAndInsnCounts {
         groups,
         insns: room,
-    } = check_limits(re, bytes_in_units)?;
+    } = check_tree_compilable_and_count_size(re, bytes_in_units)?;
     let code = emit_code(alloc, re, false, room)?;
     let group_names = GroupNames::from_names_to_share(names_by_id(alloc, &re.node, groups)?)?;
     Ok(Program {
@@ -269,9 +288,12 @@ struct GroupAndInsnCounts {
 }
 
 // Counts the groups and instructions of a tree, or returns why the tree is not compiled.
-fn check_limits(re: &ir::Regex, bytes_in_units: bool) -> Result<GroupAndInsnCounts, EmitError>
+fn check_tree_compilable_and_count_size(
+    re: &ir::Regex,
+    bytes_in_units: bool,
+) -> Result<GroupAndInsnCounts, EmitError>
     ensures groups { IfOk result (λ counts. counts.groups ≡ length (group_ids (tree_of re.now).root)) }
-    ensures fits { OnOk result (FitsLimits (tree_of re.now)) }
+    ensures fits { OnOk result (IsWellFormedWithinLimits (tree_of re.now)) }
     ensures no_bytes { OnOk result (bytes_in_units ≡ false) }
     ensures refused { IfErr result (λ e. IsCompileErrorCause bytes_in_units e (tree_of re.now)) }
 {

@@ -4,15 +4,17 @@
 ghost use Rattle.std.specs.Prelude.{◌≡◌, ◌&&◌, not, false, IfOk, IsOk};
 ghost use Rattle.regex_meaning.specs.StartPredicate.{IsSoundStartPredicateOf, is_anchored, start_predicate, resolved_start_predicate as predicate_of, sequence, one_of};
 ghost use Rattle.regex_meaning.specs.WellFormedTrees.{IsWellFormed};
-ghost use Rattle.regex_pattern_front.specs.{ByteSetMembers.{byte_bitmap_bytes}, AstToSpecTree.{node_of, tree_of}};
-ghost use Rattle.regress_program.specs.{AbstractStartPredicateJoins.{as_abstract_start_predicate}, InsnMeanings.{spec_start_predicate_of}, StartPredicatesAndAllocation.{IsCompactPredicate, predicate_is_byte_sequence, making_start_predicate_may_allocate}};
+ghost use Rattle.regex_pattern_front.specs.{ByteSetMembers.{member_bytes_of_byte_bitmap}, AstToSpecTree.{node_of, tree_of}};
+ghost use Rattle.regress_program.specs.{JoinedStartPredicatesOfAlternatives.{abstract_start_predicate_as_spec}, InsnsAndStartPredicatesAsSpec.{start_predicate_as_spec}};
+ghost use Rattle.regress_program.specs.StartPredicatesAndWhenTheyAllocate.{PredicateBitmapHasOverThreeBytes, is_anchored_tree, predicate_is_byte_sequence};
+ghost use Rattle.regress_program.specs.StartPredicatesAndWhenTheyAllocate.{making_start_predicate_may_allocate};
 
 mod abstract_start;
-mod first_bytes;
+mod first_bytes_of_chars_and_classes;
 
 use crate::insn::StartPredicate;
 use crate::startpredicate::abstract_start::{AbstractStartPredicate, abstract_start_of};
-use crate::startpredicate::first_bytes::least_byte_in_set_from;
+use crate::startpredicate::first_bytes_of_chars_and_classes::least_byte_in_set_from;
 use regex_pattern_front::bytesearch::ByteBitmap;
 use regex_pattern_front::ir;
 use regex_pattern_front::ir::{AnchorType, Node};
@@ -33,10 +35,10 @@ use std::alloc::{AllocError, Global};
 /// for an inverted class. None is allocated if the tree is anchored, or if neither a byte sequence
 /// nor an inverted class is reached before the predicate is decided.
 pub fn predicate_for_re(alloc: Global, re: &ir::Regex) -> Result<StartPredicate, AllocError>
-    ensures predicate { IfOk result (λ p. spec_start_predicate_of p ≡ start_predicate (tree_of re.now)) }
+    ensures predicate { IfOk result (λ p. start_predicate_as_spec p ≡ start_predicate (tree_of re.now)) }
     ensures sound { IsWellFormed (tree_of re.now).root
-        → IfOk result (λ p. IsSoundStartPredicateOf (spec_start_predicate_of p) (tree_of re.now).root) }
-    ensures short { IfOk result IsCompactPredicate }
+        → IfOk result (λ p. IsSoundStartPredicateOf (start_predicate_as_spec p) (tree_of re.now).root) }
+    ensures short { IfOk result PredicateBitmapHasOverThreeBytes }
     ensures no_memory { making_start_predicate_may_allocate (tree_of re.now) ≡ false → IsOk result }
 {
     if matches_at_left_end(re) {
@@ -50,9 +52,11 @@ fn beginning_predicate(
     alloc: Global,
     beginning: AbstractStartPredicate<'_>,
 ) -> Result<StartPredicate, AllocError>
-    ensures predicate { IfOk result (λ p. spec_start_predicate_of p ≡ predicate_of (as_abstract_start_predicate beginning.entry)) }
-    ensures short { IfOk result IsCompactPredicate }
-    ensures no_memory { predicate_is_byte_sequence (as_abstract_start_predicate beginning.entry) ≡ false → IsOk result }
+    ensures predicate { IfOk result (λ p. start_predicate_as_spec p ≡ predicate_of
+        (abstract_start_predicate_as_spec beginning.entry)) }
+    ensures short { IfOk result PredicateBitmapHasOverThreeBytes }
+    ensures no_memory { predicate_is_byte_sequence (abstract_start_predicate_as_spec beginning.entry) ≡ false →
+        IsOk result }
 {
     match beginning {
         AbstractStartPredicate::Open | AbstractStartPredicate::Anything => Ok(
@@ -65,8 +69,8 @@ fn beginning_predicate(
 
 // Returns the predicate that a text starts with these bytes.
 fn bytes_predicate(alloc: Global, bytes: &[u8]) -> Result<StartPredicate, AllocError>
-    ensures predicate { IfOk result (λ p. spec_start_predicate_of p ≡ predicate_of (sequence bytes.now)) }
-    ensures short { IfOk result IsCompactPredicate }
+    ensures predicate { IfOk result (λ p. start_predicate_as_spec p ≡ predicate_of (sequence bytes.now)) }
+    ensures short { IfOk result PredicateBitmapHasOverThreeBytes }
 {
     match bytes {
         [] => Ok(StartPredicate::Arbitrary),
@@ -77,8 +81,8 @@ fn bytes_predicate(alloc: Global, bytes: &[u8]) -> Result<StartPredicate, AllocE
 
 // Returns the predicate that a text starts with a byte of the set.
 fn set_predicate(set: ByteBitmap) -> StartPredicate
-    ensures predicate { spec_start_predicate_of result ≡ predicate_of (one_of (byte_bitmap_bytes set)) }
-    ensures short { IsCompactPredicate result }
+    ensures predicate { start_predicate_as_spec result ≡ predicate_of (one_of (member_bytes_of_byte_bitmap set)) }
+    ensures short { PredicateBitmapHasOverThreeBytes result }
 {
     let Some(a) = least_byte_in_set_from(&set, 0) else {
         return StartPredicate::Arbitrary;
@@ -95,14 +99,14 @@ fn set_predicate(set: ByteBitmap) -> StartPredicate
     }
 }
 
-// Checks whether the tree matches only at the left end of a text.
-fn matches_at_left_end(re: &ir::Regex) -> bool
-    ensures { result ≡ (not (tree_of re.now).flags.multiline && is_anchored (tree_of re.now).root) }
+// Checks whether the tree is anchored, so that it matches only at the left end of a text.
+pub(crate) fn matches_at_left_end(re: &ir::Regex) -> bool
+    ensures { result ≡ is_anchored_tree (tree_of re.now) }
 {
     !re.flags.multiline && is_start_anchored(&re.node)
 }
 
-// Checks whether the node matches only at the left end.
+// Checks whether the node is anchored.
 fn is_start_anchored(node: &Node) -> bool
     ensures { result ≡ is_anchored (node_of node.now) }
 {

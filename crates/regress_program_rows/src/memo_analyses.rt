@@ -1,10 +1,10 @@
 //! Which instructions of programs record, with how many codes, and what a place pays for all of them; and codes of threads.
 
-ghost use Rattle.regress_memo_analysis.specs.CheckedAnalysis.{AreCodesCountedAndDisjoint};
+ghost use Rattle.regress_memo_analysis.specs.CheckedAnalysis.{AreInsnCodesCountedAndDisjoint};
 
 use regex_pattern_front::ir::Regex;
-use regress_memo_analysis::analysis::MemoAnalysis;
-use regress_memo_analysis::key_codes::LoopCountAndIterationStart;
+use regress_memo_analysis::analysis_result::MemoAnalysis;
+use regress_memo_analysis::loop_data_key_codes::LoopCountAndIterationStart;
 use regress_program::emit::emit;
 use std::alloc::{AllocError, Global};
 
@@ -60,7 +60,7 @@ fn write_each(
     memo_analysis: &MemoAnalysis,
     loops: usize,
 ) -> Result<(), AllocError>
-    requires { AreCodesCountedAndDisjoint memo_analysis.now }
+    requires { AreInsnCodesCountedAndDisjoint memo_analysis.now }
 {
     for ip in 0..memo_analysis.lines.len() {
         let line = memo_analysis.insn_analysis_at(ip);
@@ -88,7 +88,7 @@ fn write_codes_at(
     loops: usize,
     ip: usize,
 ) -> Result<(), AllocError>
-    requires { AreCodesCountedAndDisjoint memo_analysis.now }
+    requires { AreInsnCodesCountedAndDisjoint memo_analysis.now }
 {
     for number in 0..10usize {
         let round = LoopCountAndIterationStart {

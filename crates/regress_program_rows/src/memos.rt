@@ -1,11 +1,11 @@
 //! Memories of three places: how many keys there are, each of which is noted by itself.
 
 ghost use Rattle.std.specs.Prelude.{IfOk, IfSome};
-ghost use Rattle.regress_memo_analysis.specs.CheckedAnalysis.{AreCodesCountedAndDisjoint};
+ghost use Rattle.regress_memo_analysis.specs.CheckedAnalysis.{AreInsnCodesCountedAndDisjoint};
 
 use regex_pattern_front::ir::Regex;
 use regress_memo::memo::{MemoTable, ThreadMemoKey};
-use regress_memo_analysis::analysis::MemoAnalysis;
+use regress_memo_analysis::analysis_result::MemoAnalysis;
 use regress_program::emit::emit;
 use std::alloc::{AllocError, Global};
 
@@ -36,7 +36,7 @@ pub(crate) fn write_memo(alloc: Global, text: &mut String, tree: &Regex) -> Resu
 
 // The memo analysis of a program, if it has one.
 fn memo_analysis_of(alloc: Global, tree: &Regex) -> Result<Option<MemoAnalysis>, AllocError>
-    ensures { IfOk result (λ found. IfSome found AreCodesCountedAndDisjoint) }
+    ensures { IfOk result (λ found. IfSome found AreInsnCodesCountedAndDisjoint) }
 {
     let Ok(program) = emit(alloc, tree) else {
         return Ok(None);

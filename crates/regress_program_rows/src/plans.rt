@@ -4,12 +4,14 @@ ghost use Rattle.std.specs.Prelude.{◌<◌};
 
 use regex_pattern_front::codepointset::Interval;
 use regex_pattern_front::ir::Regex;
-use regress_plan::first_set::FirstSet;
+use regress_plan::first_set_type::FirstSet;
 use regress_plan::lookbehind_filter::PrecedingCharFilter;
 use regress_plan::ops::Op;
 use regress_plan::plan::{ANYTHING, CandidateStarts, Plan};
-use regress_plan::prefilters::{LiteralPrefilter, MaskedUnitProbe, Prefilter};
-use regress_plan::required_prefix::{Literal, Prefix};
+use regress_plan::required_prefix_prefilters::{
+    LiteralPrefilter, MaskedUnitProbe, RequiredPrefixPrefilter,
+};
+use regress_plan::required_prefix_types::{Literal, Prefix};
 use regress_plan::table_keys_of_units::KEYS;
 use regress_program::emit::{emit, emit_units};
 use std::alloc::{AllocError, Global};
@@ -76,7 +78,7 @@ fn write_before(text: &mut String, before: PrecedingCharFilter) -> Result<(), Al
 fn write_prefix(
     text: &mut String,
     prefix: &Prefix,
-    prefilter: Prefilter,
+    prefilter: RequiredPrefixPrefilter,
 ) -> Result<(), AllocError> {
     text.push_str("prefix")?;
     for ahead in 0..prefix.len {
@@ -86,9 +88,9 @@ fn write_prefix(
         write_edges(text, &keys_at(prefix, ahead))?;
     }
     match prefilter {
-        Prefilter::Absent => Ok(()),
-        Prefilter::ByLiteral(known) => write_known(text, &known),
-        Prefilter::Probes(probes) => write_probes(text, &probes),
+        RequiredPrefixPrefilter::Absent => Ok(()),
+        RequiredPrefixPrefilter::ByLiteral(known) => write_known(text, &known),
+        RequiredPrefixPrefilter::Probes(probes) => write_probes(text, &probes),
     }
 }
 

@@ -9,15 +9,15 @@ use Rattle.regex_meaning.specs.Text.{Text, Direction, rightwards, leftwards, las
 use Rattle.regex_meaning.specs.CodeUnitOffsets.{HasRisingPlaceOffsets, IsBoundary, offset, units, read, read_at, place_at}
 use Rattle.regex_meaning.specs.Outcomes.{is_some_and}
 use Rattle.regex_meaning.proofs.TextLemmas.{place-less}
-use Rattle.regress_input.specs.ReadsFromOffset.{past}
+use Rattle.regress_input.specs.CharAndByteReadsFromOffset.{past}
 use Rattle.regress_input.proofs.Places.{place_of_boundary, left_then_right, right_then_left, before_ahead, before_boundary, past_ahead, past_boundary}
-use Rattle.regress_simulation.specs.FirstSetTables.{AllowedNextKeys, HasUnitsForTables, table_allows, unit_key_at}
+use Rattle.regress_simulation.specs.FirstSetTables.{AllowedNextKeys, HasUnitsForTables, table_allows_key_or_end, unit_key_at}
 use Rattle.regress_plan.specs.declared.lookbehind_filter.PrecedingCharFilter.{PrecedingCharFilter}
-use Rattle.regress_plan.specs.LookbehindFilter.{allows_start, has_key}
-use Rattle.regress_plan.specs.TableKeysOfUnits.{key, has_16_bit_units}
+use Rattle.regress_plan.specs.LookbehindFilter.{allows_start, unit_at_has_filter_key}
+use Rattle.regress_plan.specs.TableKeysOfUnits.{key, is_16_bit_encoding}
 use Rattle.regress_plan.proofs.RowLemmas.{get-below}
 use Rattle.regress_scan.specs.TreePlanAndText.{SearchInput}
-use Rattle.regress_scan.specs.StartSearch.{allows_at, AllowsNone, IsFirstBoundaryWhere, IsPastFirstAllowedChar, NoneWhere, table_of_listed_units}
+use Rattle.regress_scan.specs.StartSearch.{table_allows_unit_or_end_at, AllowsNone, IsFirstBoundaryWhere, IsPastFirstAllowedChar, NoneWhere, table_of_listed_units}
 use Rattle.regress_scan.proofs.Allowing.{no-key}
 use Rattle.regress_scan.proofs.Starting.{none-between}
 
@@ -59,11 +59,11 @@ module _ (text : Text) (is : HasRisingPlaceOffsets text) where
           cc
 
 -- where one of a few units is allowed, a unit stands
-pub unit-inside : (w : SearchInput) → HasUnitsForTables w.encoding w.text → (keys : List ℕ) (len at : ℕ) → allows_at w (table_of_listed_units keys len) at ≡ true → at < units w.text
+pub unit-inside : (w : SearchInput) → HasUnitsForTables w.encoding w.text → (keys : List ℕ) (len at : ℕ) → table_allows_unit_or_end_at w (table_of_listed_units keys len) at ≡ true → at < units w.text
 unit-inside w has keys len at allowed = elim (cases_lt at (units w.text)) [
   | inl inside ↦ inside
   | inr past_it ↦
-      let never : true ≡ false = sym allowed ∙ ap (table_allows (table_of_listed_units keys len)) (no-key w.encoding w.text has at past_it) in
+      let never : true ≡ false = sym allowed ∙ ap (table_allows_key_or_end (table_of_listed_units keys len)) (no-key w.encoding w.text has at past_it) in
       cc
 ]
 
@@ -76,16 +76,16 @@ module _ (w : SearchInput) (has : HasUnitsForTables w.encoding w.text) (before :
   abbrev lets : (at : ℕ) → Bool
   lets at = allows_start w.encoding before w.text at
 
-  lets-behind : (at y : ℕ) → past w.text leftwards at ≡ Some y → lets at ≡ allows_at w keys y
+  lets-behind : (at y : ℕ) → past w.text leftwards at ≡ Some y → lets at ≡ table_allows_unit_or_end_at w keys y
   lets-behind at y led =
-      ap (λ o. option_map_or (has_key w.encoding before w.text) o before.edge) led ∙ same (unit_key_at w.encoding (key (has_16_bit_units w.encoding)) w.text y)
+      ap (λ o. option_map_or (unit_at_has_filter_key w.encoding before w.text) o before.edge) led ∙ same (unit_key_at w.encoding (key (is_16_bit_encoding w.encoding)) w.text y)
     where
-      same : (o : Option ℕ) → is_some_and o (contains (take before.len before.keys)) ≡ table_allows keys o
+      same : (o : Option ℕ) → is_some_and o (contains (take before.len before.keys)) ≡ table_allows_key_or_end keys o
       same None = refl
       same (Some k) = refl
 
   lets-first : (at : ℕ) → past w.text leftwards at ≡ None → lets at ≡ before.edge
-  lets-first at none = ap (λ o. option_map_or (has_key w.encoding before w.text) o before.edge) none
+  lets-first at none = ap (λ o. option_map_or (unit_at_has_filter_key w.encoding before w.text) o before.edge) none
 
   -- the character before the first place; or there is none, and then no match begins there
   abbrev pub LooksFrom : (from start : ℕ) → Type 0

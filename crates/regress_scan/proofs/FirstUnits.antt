@@ -13,10 +13,10 @@ use Rattle.regex_pattern_front.specs.FirstPassingIndex.{IsFirstPassingIndex}
 use Rattle.regex_meaning.proofs.Booleans.{and-left, and-right}
 use Rattle.regress_simulation.specs.RequiredPrefixes.{Allowed, unit_is_allowed}
 use Rattle.regress_simulation.proofs.Ends.{slice_get-behind}
-use Rattle.regress_plan.specs.declared.required_prefix.Prefix.{Prefix}
-use Rattle.regress_plan.specs.declared.required_prefix.Literal.{Literal}
-use Rattle.regress_plan.specs.declared.required_prefix.RequiredUnit.{RequiredUnit}
-use Rattle.regress_plan.specs.PrefixesAndPrefilters.{units_allowed_by_prefix, prefix_allows_units_at, IsOnlyUnitAllowedAtPosition, IsLiteralOfOnlyAllowedUnits}
+use Rattle.regress_plan.specs.declared.required_prefix_types.Prefix.{Prefix}
+use Rattle.regress_plan.specs.declared.required_prefix_types.Literal.{Literal}
+use Rattle.regress_plan.specs.declared.required_prefix_types.RequiredUnitAndOffset.{RequiredUnitAndOffset}
+use Rattle.regress_plan.specs.PrefixesAndPrefilters.{units_allowed_by_prefix, prefix_allows_units_at, IsOnlyUnitAllowedAtPosition, IsLiteralForcedByPrefix}
 use Rattle.regress_plan.specs.TableKeysOfUnits.{key}
 
 and-last : (a b : Bool) → b ≡ false → (a && b) ≡ false
@@ -168,7 +168,7 @@ module _ (prefix : Prefix) (us : List ℕ) (at : ℕ) where
 
 -- ---- By the rare one
 
-module _ (prefix : Prefix) (rare : RequiredUnit) (is : IsOnlyUnitAllowedAtPosition prefix rare) (us : List ℕ) (bytes : (i : ℕ) → slice_index us i < 256) where
+module _ (prefix : Prefix) (rare : RequiredUnitAndOffset) (is : IsOnlyUnitAllowedAtPosition prefix rare) (us : List ℕ) (bytes : (i : ℕ) → slice_index us i < 256) where
   -- they do not fit where another byte stands at its place
   pub rare-fails : (at : ℕ) → (at + rare.ahead < length us → slice_index us (at + rare.ahead) ≡ rare.unit → ⊥) → prefix_allows_units_at (units_allowed_by_prefix prefix) us at prefix.len ≡ false
   rare-fails at other = by (cases_lt (at + rare.ahead) (length us))
@@ -191,7 +191,7 @@ module _ (prefix : Prefix) (rare : RequiredUnit) (is : IsOnlyUnitAllowedAtPositi
 
 -- ---- By units in a row
 
-module _ (prefix : Prefix) (literal : Literal) (is : IsLiteralOfOnlyAllowedUnits prefix literal) (us : List ℕ) (bytes : (i : ℕ) → slice_index us i < 256) (at : ℕ)
+module _ (prefix : Prefix) (literal : Literal) (is : IsLiteralForcedByPrefix prefix literal) (us : List ℕ) (bytes : (i : ℕ) → slice_index us i < 256) (at : ℕ)
     (fit : prefix_allows_units_at (units_allowed_by_prefix prefix) us at prefix.len ≡ true) where
   -- where all fit, each of these stands
   pub literal-reads : (i : ℕ) → i < literal.len → slice_index us (at + (literal.ahead + i)) ≡ slice_index literal.units i
@@ -210,7 +210,7 @@ module _ (prefix : Prefix) (literal : Literal) (is : IsLiteralOfOnlyAllowedUnits
           cc
 
 -- where those in a row stand, those before it fit with them
-pub literal-fits : (prefix : Prefix) (literal : Literal) → IsLiteralOfOnlyAllowedUnits prefix literal → (us : List ℕ) (at : ℕ) → length (take literal.len literal.units) ≡ literal.len
+pub literal-fits : (prefix : Prefix) (literal : Literal) → IsLiteralForcedByPrefix prefix literal → (us : List ℕ) (at : ℕ) → length (take literal.len literal.units) ≡ literal.len
     → OccursAt us (take literal.len literal.units) (at + literal.ahead) → prefix_allows_units_at (units_allowed_by_prefix prefix) us at literal.ahead ≡ true
     → prefix_allows_units_at (units_allowed_by_prefix prefix) us at (literal.ahead + literal.len) ≡ true
 literal-fits prefix literal is us at full there before =
@@ -284,7 +284,7 @@ tells-more prefix us at state key clear some old is test =
 pub needle-short : (literal : Literal) → length (take literal.len literal.units) ≤ literal.len
 needle-short literal = let n = length-take literal.len literal.units in omega (arith, n)
 
-module _ (prefix : Prefix) (literal : Literal) (is : IsLiteralOfOnlyAllowedUnits prefix literal) (some : 0 < prefix.len) (us : List ℕ) (bytes : (i : ℕ) → slice_index us i < 256)
+module _ (prefix : Prefix) (literal : Literal) (is : IsLiteralForcedByPrefix prefix literal) (some : 0 < prefix.len) (us : List ℕ) (bytes : (i : ℕ) → slice_index us i < 256)
     (at : ℕ) (rest needle : List ℕ) (cut : rest ≡ drop (at + literal.ahead) us) (taken : needle ≡ take literal.len literal.units)
     (short : length needle ≤ literal.len) (before : (k : ℕ) → k < at → prefix_allows_units_at (units_allowed_by_prefix prefix) us k prefix.len ≡ false) where
   abbrev FitAll : ℕ → Bool
@@ -347,7 +347,7 @@ module _ (prefix : Prefix) (literal : Literal) (is : IsLiteralOfOnlyAllowedUnits
       | inr here ↦ let same : at + more ≡ k = omega (arith, less, here) in ap FitAll (sym same) ∙ none
     ]
 
-module _ (prefix : Prefix) (rare : RequiredUnit) (is : IsOnlyUnitAllowedAtPosition prefix rare) (us : List ℕ) (bytes : (i : ℕ) → slice_index us i < 256) (at : ℕ) (rest : List ℕ)
+module _ (prefix : Prefix) (rare : RequiredUnitAndOffset) (is : IsOnlyUnitAllowedAtPosition prefix rare) (us : List ℕ) (bytes : (i : ℕ) → slice_index us i < 256) (at : ℕ) (rest : List ℕ)
     (cut : rest ≡ drop (at + rare.ahead) us) where
   abbrev FitsAt : ℕ → Bool
   FitsAt k = prefix_allows_units_at (units_allowed_by_prefix prefix) us k prefix.len

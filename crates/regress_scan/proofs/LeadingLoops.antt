@@ -19,8 +19,9 @@ use Rattle.regex_meaning.specs.StartPredicate.{bytes_that_pass}
 use Rattle.regex_meaning.specs.WellFormedTrees.{is_one_character}
 use Rattle.regex_meaning.specs.FirstAndAllMatches.{match_at, first_outcome, no_groups}
 use Rattle.regex_meaning.specs.OutcomesWithStepTicks.{nearest_first}
-use Rattle.regex_meaning.specs.CompilationRelation.{Program, Insn, Counters, counters_after_insn, counters_at_start, HasInsnAt, HasInsnsBetween, IsCode, IsStringCode, AreStringsCode, case_variants_insn}
-use Rattle.regex_meaning.specs.CompilationRelation.{char_set_insn, lookaround_insn, is_ascii_set}
+use Rattle.regex_meaning.specs.CompilationRelation.{Program, Insn, Counters, counters_after_insn, counters_at_start, HasInsnAt, HasInsnsBetween, IsCode, IsStringCode}
+use Rattle.regex_meaning.specs.CompilationRelation.{AreStringsCode, case_variants_insn}
+use Rattle.regex_meaning.specs.CompilationRelation.{char_set_insn, lookaround_insn, is_uninverted_ascii_class}
 use Rattle.regex_meaning.specs.CompilationRelation.{Loop1CharBody, Goal, JustFail, Char, ByteSet, ByteSeq, AsciiBracket, Bracket, MatchAny}
 use Rattle.regex_meaning.specs.CompilationRelation.{MatchAnyExceptLineTerminator, StartOfLine, EndOfLine, WordBoundary, WordBoundaryUnicodeICase, Alt, EnterLoop}
 use Rattle.regex_meaning.specs.CompilationRelation.{BeginCaptureGroup, BackRef, Lookahead, Lookbehind}
@@ -31,7 +32,7 @@ use Rattle.regress_machine.proofs.Run.{in_turns, numbers_between, outcome_at, ru
 use Rattle.regress_machine.proofs.OneCharacter.{body_is_one, each_nearest}
 use Rattle.regress_machine.proofs.OneTests.{reads_one}
 use Rattle.regress_machine.proofs.Ready.{Ready, root_ready}
-use Rattle.regress_machine.specs.SearchResults.{TreeProgramCanSearchText}
+use Rattle.regress_machine.specs.SearchFindsFirstOutcomeAtPlace.{TreeProgramCanSearchText}
 
 -- ---- Lists
 
@@ -261,7 +262,7 @@ module _ (program : Program) (text : Text) (test : ℕ → Bool) where
         by (stays same through) more = further same through (more same)
         by (leads among) more = leads (first-among first rest among)
     node-leads (alt left right) r m n code b = absurd (other m (Alt (code.0.insn + 1)) refl code.1 b)
-    node-leads (bracket contents) r m n code b = absurd (bracket-not contents m n (is_ascii_set contents) code b)
+    node-leads (bracket contents) r m n code b = absurd (bracket-not contents m n (is_uninverted_ascii_class contents) code b)
     node-leads (string_set strings icase) r m n code b = strings-lead icase strings m n code b
     node-leads match_any r m n code b = absurd (other m MatchAny refl code.0 b)
     node-leads match_any_except_line_terminator r m n code b = absurd (other m MatchAnyExceptLineTerminator refl code.0 b)

@@ -10,17 +10,17 @@ use Rattle.regex_meaning.specs.FirstAndAllMatches.{match_at}
 use Rattle.regex_meaning.specs.CompilationRelation.{Insn, Loop1CharBody}
 use Rattle.regex_meaning.specs.OutcomesWithStepTicks.{nearest_first}
 use Rattle.regex_meaning.proofs.TextLemmas.{IsBoundary-place, offset-place_at, place-le, place-less}
-use Rattle.regress_input.specs.ReadsFromOffset.{place}
-use Rattle.regress_machine.specs.SearchResults.{TreeProgramCanSearchText, state_before_first_insn, turns_at}
+use Rattle.regress_input.specs.CharAndByteReadsFromOffset.{place}
+use Rattle.regress_machine.specs.SearchFindsFirstOutcomeAtPlace.{TreeProgramCanSearchText, state_before_first_insn, turns_at}
 use Rattle.regress_machine.specs.Machine.{State, stuck, with_some, scan, test_of, act, act_on}
 use Rattle.regress_machine.specs.InsnEffects.{is_byte_sequence_insn}
 use Rattle.regress_machine.proofs.Search.{never_stuck}
 use Rattle.regress_machine.proofs.Whole.{searches-find}
 use Rattle.regress_simulation.specs.FirstSetTables.{HasUnitsForTables}
 use Rattle.regress_program.specs.TextsSearchableByBytePrograms.{IsByteText}
-use Rattle.regress_plan.specs.InsnsAsSpecInsns.{spec_insn_of}
-use Rattle.regress_plan.specs.TableKeysOfUnits.{has_16_bit_units}
-use Rattle.regress_plan.specs.Plans.{IsPlanOf, IsClass, char_loop_of, IsCharLoopOf}
+use Rattle.regress_plan.specs.InsnsAsSpecInsns.{insn_as_spec_insn}
+use Rattle.regress_plan.specs.TableKeysOfUnits.{is_16_bit_encoding}
+use Rattle.regress_plan.specs.Plans.{IsPlanOf, IsClass, op_as_char_loop, IsCharLoopOf}
 use Rattle.regress_plan.specs.declared.char_class_tables.Class.{Class}
 use Rattle.regress_plan.specs.declared.ops.CharLoopBounds.{CharLoopBounds}
 use Rattle.regress_plan.specs.declared.ops.Op.{Op}
@@ -34,8 +34,8 @@ use Rattle.regress_scan.proofs.Reach.{some-of}
 use Rattle.regress_scan.proofs.Scanning.{advanced-boundary}
 use Rattle.regress_scan.proofs.StopSets.{places-few}
 
-module _ (w : SearchInput) (has : HasUnitsForTables w.encoding w.text) (plan : IsPlanOf (has_16_bit_units w.encoding) (program_of w) w.plan) (r : CharLoop)
-    (there : option_and_then char_loop_of (slice_get w.plan.ops.items 0) ≡ Some r) where
+module _ (w : SearchInput) (has : HasUnitsForTables w.encoding w.text) (plan : IsPlanOf (is_16_bit_encoding w.encoding) (program_of w) w.plan) (r : CharLoop)
+    (there : option_and_then op_as_char_loop (slice_get w.plan.ops.items 0) ≡ Some r) where
   -- the run, and what it is over
   pub record Leads : Type 0 where
     pub greedy : Bool
@@ -44,13 +44,13 @@ module _ (w : SearchInput) (has : HasUnitsForTables w.encoding w.text) (plan : I
     pub run : insn_at w 0 ≡ Some (Loop1CharBody bounds.min bounds.max greedy)
     pub class : Class
     pub is_there : slice_get w.plan.classes.items r.class ≡ Some class
-    pub body : insn_at w 1 ≡ Some (spec_insn_of class.insn)
-    pub tests : IsSome (test_of (program_of w) (Some (spec_insn_of class.insn)))
+    pub body : insn_at w 1 ≡ Some (insn_as_spec_insn class.insn)
+    pub tests : IsSome (test_of (program_of w) (Some (insn_as_spec_insn class.insn)))
 
   runs : (insn : Insn) → insn_at w 0 ≡ Some insn → (greedy : Bool) × IsCharLoopOf (program_of w) w.plan greedy r 0 insn
   runs insn here = by (slice_get w.plan.ops.items 0) refl there
     where
-      by : (o : Option Op) → slice_get w.plan.ops.items 0 ≡ o → option_and_then char_loop_of o ≡ Some r → (greedy : Bool) × IsCharLoopOf (program_of w) w.plan greedy r 0 insn
+      by : (o : Option Op) → slice_get w.plan.ops.items 0 ≡ o → option_and_then op_as_char_loop o ≡ Some r → (greedy : Bool) × IsCharLoopOf (program_of w) w.plan greedy r 0 insn
       by None at is = cc
       by (Some op) at is = runs-of (program_of w) w.plan op r 0 insn is (plan.each 0 op insn at here)
 
@@ -107,25 +107,25 @@ module _ (w : SearchInput) (has : HasUnitsForTables w.encoding w.text) (plan : I
       same-class : l.class ≡ class
       same-class = let e : Some l.class ≡ Some class = sym l.is_there ∙ class_is in cc
 
-      tests-one : IsSome (test_of (program_of w) (Some (spec_insn_of class.insn)))
-      tests-one = subst (λ (k : Class). IsSome (test_of (program_of w) (Some (spec_insn_of k.insn)))) same-class l.tests
+      tests-one : IsSome (test_of (program_of w) (Some (insn_as_spec_insn class.insn)))
+      tests-one = subst (λ (k : Class). IsSome (test_of (program_of w) (Some (insn_as_spec_insn k.insn)))) same-class l.tests
 
-      body-is : insn_at w 1 ≡ Some (spec_insn_of class.insn)
-      body-is = l.body ∙ ap (λ (k : Class). Some (spec_insn_of k.insn)) same-class
+      body-is : insn_at w 1 ≡ Some (insn_as_spec_insn class.insn)
+      body-is = l.body ∙ ap (λ (k : Class). Some (insn_as_spec_insn k.insn)) same-class
 
-      pub leads-readable : {are_bytes : Bool} → IsClass (has_16_bit_units w.encoding) (program_of w) class
+      pub leads-readable : {are_bytes : Bool} → IsClass (is_16_bit_encoding w.encoding) (program_of w) class
           → ((ip : ℕ) (insn : Insn) → insn_at w ip ≡ Some insn → IsTrue (is_byte_sequence_insn insn) → IsByteText w.text are_bytes) → ClassFitsText w class
       leads-readable is_class literals = record {
         is_class = is_class;
         tests = tests-one;
-        bytes = λ literal. (literals 1 (spec_insn_of class.insn) body-is literal).reads;
+        bytes = λ literal. (literals 1 (insn_as_spec_insn class.insn) body-is literal).reads;
       }
 
       -- It was gone over from a boundary to its end.
       module _ (bounds : CharLoopBounds) (bounds_are : slice_get w.plan.bounds.items r.bounds ≡ Some bounds) (wide : units w.text ≤ bounds.max)
           (far : ℕ) (advanced : HasAdvancedTo w true class from (units w.text) far) where
         tested : (test : ℕ → Bool) × IsClassTest w class test
-        tested = some-of (test_of (program_of w) (Some (spec_insn_of class.insn))) tests-one
+        tested = some-of (test_of (program_of w) (Some (insn_as_spec_insn class.insn))) tests-one
 
         abbrev count : ℕ
         count = in_a_row w.text tested.0 rightwards (units w.text) (place w.text from)

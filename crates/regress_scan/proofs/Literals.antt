@@ -9,7 +9,8 @@ use Rattle.regex_meaning.specs.Text.{expand_code_point}
 use Rattle.regex_meaning.specs.Outcomes.{in_intervals}
 use Rattle.regex_meaning.specs.StartPredicate.{bytes_that_pass}
 use Rattle.regex_meaning.specs.CompilationRelation.{Insn, Jump, ResetCaptureGroup, EndCaptureGroup, LoopAgain, Goal, AsciiBracket, Bracket, Lookahead, Lookbehind}
-use Rattle.regex_meaning.specs.CompilationRelation.{char_set_insn, case_variants_insn, anchor_insn, word_boundary_insn, ordered, is_ascii_set, tree_contains_byte_nodes}
+use Rattle.regex_meaning.specs.CompilationRelation.{char_set_insn, case_variants_insn, anchor_insn, word_boundary_insn, ordered, is_uninverted_ascii_class}
+use Rattle.regex_meaning.specs.CompilationRelation.{tree_contains_byte_nodes}
 use Rattle.regress_program.specs.CompilationOfTreesAsFunction.{node_insn_count, strings_size, loop_count, brackets_of, string_code, strings_code, code_of, compiled}
 use Rattle.regress_machine.specs.InsnEffects.{is_byte_sequence_insn}
 use Rattle.regex_meaning.proofs.Booleans.{or-false-left, or-false-right}
@@ -85,7 +86,7 @@ module _ (unicode : Bool) where
             (refl, code-plain behind right second (loops + loop_count left) (brackets + length (brackets_of left)) (or-false-right (tree_contains_byte_nodes left) (tree_contains_byte_nodes right) h)),
       )
   code-plain behind (bracket contents) at loops brackets h =
-      (plain-if (is_ascii_set contents) (AsciiBracket (bytes_that_pass (in_intervals contents.intervals))) (Bracket brackets) refl refl, tt)
+      (plain-if (is_uninverted_ascii_class contents) (AsciiBracket (bytes_that_pass (in_intervals contents.intervals))) (Bracket brackets) refl refl, tt)
   code-plain behind (string_set strings icase) at loops brackets h = plain-strings icase behind strings at
   code-plain behind match_any at loops brackets h = (refl, tt)
   code-plain behind match_any_except_line_terminator at loops brackets h = (refl, tt)

@@ -15,9 +15,9 @@ use Rattle.regress_input.proofs.Boundaries.{boundary-byte, offset-units}
 use Rattle.regress_input.proofs.Lists.{get-front, get-behind}
 use Rattle.regress_simulation.specs.FirstSetTables.{HasUnitsForTables}
 use Rattle.regress_simulation.specs.RequiredPrefixes.{unit_is_allowed}
-use Rattle.regress_plan.specs.declared.required_prefix.Prefix.{Prefix}
-use Rattle.regress_plan.specs.PrefixesAndPrefilters.{units_allowed_by_prefix, AllowsOnlyAsciiAt, AllowsOnlyAsciiFirst}
-use Rattle.regress_plan.specs.TableKeysOfUnits.{key, has_16_bit_units}
+use Rattle.regress_plan.specs.declared.required_prefix_types.Prefix.{Prefix}
+use Rattle.regress_plan.specs.PrefixesAndPrefilters.{units_allowed_by_prefix, AllowsOnlyAsciiAt, PrefixAllowsOnlyAsciiFirst}
+use Rattle.regress_plan.specs.TableKeysOfUnits.{key, is_16_bit_encoding}
 use Rattle.regress_scan.specs.TreePlanAndText.{SearchInput}
 use Rattle.regress_scan.specs.StartSearch.{keys_in, prefix_fits_at}
 use Rattle.regress_scan.proofs.FirstUnits.{fits-each}
@@ -97,19 +97,19 @@ module _ (w : SearchInput) (has : HasUnitsForTables w.encoding w.text) (prefix :
       → (u : ℕ) × (slice_get (text_units_in_encoding w.encoding w.text) (at + ahead) ≡ Some u) × (u < 128) × (units_allowed_by_prefix prefix ahead u ≡ true)
   fit-unit ahead less ascii =
       by (slice_get (text_units_in_encoding w.encoding w.text) (at + ahead)) refl
-      (sym (ap (unit_is_allowed (units_allowed_by_prefix prefix) ahead) (slice_get-map (key (has_16_bit_units w.encoding)) (text_units_in_encoding w.encoding w.text) (at + ahead)))
+      (sym (ap (unit_is_allowed (units_allowed_by_prefix prefix) ahead) (slice_get-map (key (is_16_bit_encoding w.encoding)) (text_units_in_encoding w.encoding w.text) (at + ahead)))
       ∙ fits-each (units_allowed_by_prefix prefix) (keys_in w) at prefix.len ahead less fit)
     where
-      by : (o : Option ℕ) → slice_get (text_units_in_encoding w.encoding w.text) (at + ahead) ≡ o → unit_is_allowed (units_allowed_by_prefix prefix) ahead (option_map (key (has_16_bit_units w.encoding)) o) ≡ true
+      by : (o : Option ℕ) → slice_get (text_units_in_encoding w.encoding w.text) (at + ahead) ≡ o → unit_is_allowed (units_allowed_by_prefix prefix) ahead (option_map (key (is_16_bit_encoding w.encoding)) o) ≡ true
           → (u : ℕ) × (slice_get (text_units_in_encoding w.encoding w.text) (at + ahead) ≡ Some u) × (u < 128) × (units_allowed_by_prefix prefix ahead u ≡ true)
       by None there may = cc
       by (Some u) there may =
-          let low = ascii (key (has_16_bit_units w.encoding) u) (key-small (has_16_bit_units w.encoding) u (unit-fits w.encoding w.text has (at + ahead) u there)) may in
-          let own = key-own (has_16_bit_units w.encoding) u low in
+          let low = ascii (key (is_16_bit_encoding w.encoding) u) (key-small (is_16_bit_encoding w.encoding) u (unit-fits w.encoding w.text has (at + ahead) u there)) may in
+          let own = key-own (is_16_bit_encoding w.encoding) u low in
           (u, there, subst (λ k. k < 128) (sym own) low, ap (units_allowed_by_prefix prefix ahead) own ∙ may)
 
   -- and it is a boundary
-  pub fit-boundary : 0 < prefix.len → AllowsOnlyAsciiFirst prefix → IsBoundary w.text at
+  pub fit-boundary : 0 < prefix.len → PrefixAllowsOnlyAsciiFirst prefix → IsBoundary w.text at
   fit-boundary some ascii =
       let one = fit-unit 0 some ascii in
       low-boundary w.encoding w.text has at one.0 (ap (slice_get (text_units_in_encoding w.encoding w.text)) (let z : at ≡ at + 0 = omega arith in z) ∙ one.1) one.2

@@ -11,31 +11,32 @@ use Rattle.regex_meaning.proofs.Options.{some-same}
 use Rattle.regress_input.proofs.Boundaries.{units-length}
 use Rattle.regress_simulation.specs.FirstSetTables.{HasUnitsForTables, unit_key_at}
 use Rattle.regress_simulation.specs.RequiredPrefixes.{unit_is_allowed}
-use Rattle.regress_plan.specs.declared.required_prefix.Prefix.{Prefix}
-use Rattle.regress_plan.specs.declared.prefilters.MaskedUnitProbe.{MaskedUnitProbe}
-use Rattle.regress_plan.specs.PrefixesAndPrefilters.{units_allowed_by_prefix, prefix_allows_units_at, unit_passes_probe, IsMaskedUnitProbe, AllowsOnlyAsciiFirst}
-use Rattle.regress_plan.specs.TableKeysOfUnits.{key, has_16_bit_units}
+use Rattle.regress_plan.specs.declared.required_prefix_types.Prefix.{Prefix}
+use Rattle.regress_plan.specs.declared.required_prefix_prefilters.MaskedUnitProbe.{MaskedUnitProbe}
+use Rattle.regress_plan.specs.PrefixesAndPrefilters.{units_allowed_by_prefix, prefix_allows_units_at, unit_passes_probe, ProbePassesAllUnitsPrefixAllows}
+use Rattle.regress_plan.specs.PrefixesAndPrefilters.{PrefixAllowsOnlyAsciiFirst}
+use Rattle.regress_plan.specs.TableKeysOfUnits.{key, is_16_bit_encoding}
 use Rattle.regress_scan.specs.TreePlanAndText.{SearchInput}
 use Rattle.regress_scan.specs.StartSearch.{keys_in, prefix_fits_at, IsFirstBoundaryWhere}
-use Rattle.regress_scan.specs.PrefixCandidatesInRange.{NoPrefixFitsBetween, IsFirstPrefixFit}
+use Rattle.regress_scan.specs.PrefixCandidatesInRange.{NoPrefixFitsBetween, IsFirstPrefixFitInRange}
 use Rattle.regress_scan.proofs.FirstUnits.{fits-fails, fits-past, fits-more}
 use Rattle.regress_scan.proofs.LowUnits.{fit-unit, fit-boundary}
 
 -- ---- Keys
 
 module _ (w : SearchInput) where
-  pub key-got : (at k : ℕ) → unit_key_at w.encoding (key (has_16_bit_units w.encoding)) w.text at ≡ Some k → slice_get (keys_in w) at ≡ Some k
-  key-got at k there = slice_get-map (key (has_16_bit_units w.encoding)) (text_units_in_encoding w.encoding w.text) at ∙ there
+  pub key-got : (at k : ℕ) → unit_key_at w.encoding (key (is_16_bit_encoding w.encoding)) w.text at ≡ Some k → slice_get (keys_in w) at ≡ Some k
+  key-got at k there = slice_get-map (key (is_16_bit_encoding w.encoding)) (text_units_in_encoding w.encoding w.text) at ∙ there
 
   -- one unit more, which may stand there
-  pub fits-goes : (prefix : Prefix) (at ahead k : ℕ) (may : Bool) → unit_key_at w.encoding (key (has_16_bit_units w.encoding)) w.text (at + ahead) ≡ Some k
+  pub fits-goes : (prefix : Prefix) (at ahead k : ℕ) (may : Bool) → unit_key_at w.encoding (key (is_16_bit_encoding w.encoding)) w.text (at + ahead) ≡ Some k
       → may ≡ units_allowed_by_prefix prefix ahead k → may ≡ true → prefix_allows_units_at (units_allowed_by_prefix prefix) (keys_in w) at ahead ≡ true → prefix_allows_units_at (units_allowed_by_prefix prefix) (keys_in w) at (ahead + 1) ≡ true
   fits-goes prefix at ahead k may there asked holds all =
       ap (prefix_allows_units_at (units_allowed_by_prefix prefix) (keys_in w) at) (let z : ahead + 1 ≡ suc ahead = omega arith in z)
       ∙ fits-more (units_allowed_by_prefix prefix) (keys_in w) at ahead all (ap (unit_is_allowed (units_allowed_by_prefix prefix) ahead) (key-got (at + ahead) k there) ∙ sym asked ∙ holds)
 
   -- one that may not
-  pub fits-stops : (prefix : Prefix) (at ahead k : ℕ) (may : Bool) → ahead < prefix.len → unit_key_at w.encoding (key (has_16_bit_units w.encoding)) w.text (at + ahead) ≡ Some k
+  pub fits-stops : (prefix : Prefix) (at ahead k : ℕ) (may : Bool) → ahead < prefix.len → unit_key_at w.encoding (key (is_16_bit_encoding w.encoding)) w.text (at + ahead) ≡ Some k
       → may ≡ units_allowed_by_prefix prefix ahead k → may ≡ false → prefix_fits_at w prefix at ≡ false
   fits-stops prefix at ahead k may less there asked fails =
       fits-fails (units_allowed_by_prefix prefix) (keys_in w) at prefix.len ahead less
@@ -44,7 +45,7 @@ module _ (w : SearchInput) where
 -- ---- Bits
 
 -- where the first units may stand a probe passes
-pub probe-passes : (w : SearchInput) → HasUnitsForTables w.encoding w.text → (prefix : Prefix) (at : ℕ) → prefix_fits_at w prefix at ≡ true → (probe : MaskedUnitProbe) → IsMaskedUnitProbe prefix probe
+pub probe-passes : (w : SearchInput) → HasUnitsForTables w.encoding w.text → (prefix : Prefix) (at : ℕ) → prefix_fits_at w prefix at ≡ true → (probe : MaskedUnitProbe) → ProbePassesAllUnitsPrefixAllows prefix probe
     → (u : ℕ) → slice_get (text_units_in_encoding w.encoding w.text) (at + probe.ahead) ≡ Some u → unit_passes_probe probe u ≡ true
 probe-passes w has prefix at fit probe is u there =
     let one = fit-unit w has prefix at fit probe.ahead is.inside is.low in
@@ -79,27 +80,27 @@ module _ (w : SearchInput) (prefix : Prefix) where
   ]
 
   -- the first one behind places at which they do not fit
-  pub first-behind : (from mid to : ℕ) (found : Option ℕ) → from ≤ mid → NoPrefixFitsBetween w prefix from mid → IsFirstPrefixFit w prefix mid to found → IsFirstPrefixFit w prefix from to found
+  pub first-behind : (from mid to : ℕ) (found : Option ℕ) → from ≤ mid → NoPrefixFitsBetween w prefix from mid → IsFirstPrefixFitInRange w prefix mid to found → IsFirstPrefixFitInRange w prefix from to found
   first-behind from mid to None le none first = none-then from mid to none first
   first-behind from mid to (Some at) le none first =
       let more = first.0 in (omega (arith, le, more), first.1, first.2, none-then from mid at none first.3)
 
-  pub first-wider : (from mid to at : ℕ) → mid ≤ to → IsFirstPrefixFit w prefix from mid (Some at) → IsFirstPrefixFit w prefix from to (Some at)
+  pub first-wider : (from mid to at : ℕ) → mid ≤ to → IsFirstPrefixFitInRange w prefix from mid (Some at) → IsFirstPrefixFitInRange w prefix from to (Some at)
   first-wider from mid to at le first = let less = first.1 in (first.0, omega (arith, le, less), first.2, first.3)
 
   -- it is a place to try
-  pub found-where : HasUnitsForTables w.encoding w.text → 0 < prefix.len → AllowsOnlyAsciiFirst prefix → (from to at : ℕ) → IsFirstPrefixFit w prefix from to (Some at)
+  pub found-where : HasUnitsForTables w.encoding w.text → 0 < prefix.len → PrefixAllowsOnlyAsciiFirst prefix → (from to at : ℕ) → IsFirstPrefixFitInRange w prefix from to (Some at)
       → IsFirstBoundaryWhere w (prefix_fits_at w prefix) from (Some at)
   found-where has some ascii from to at first =
       (fit-boundary w has prefix at first.2 some ascii, first.0, first.2, λ x on le less. first.3 x le less)
 
   -- behind these places there is no room
-  pub first-where : HasUnitsForTables w.encoding w.text → 0 < prefix.len → AllowsOnlyAsciiFirst prefix → (from to : ℕ) (found : Option ℕ) → units w.text + 1 ≤ to + prefix.len
-      → IsFirstPrefixFit w prefix from to found → IsFirstBoundaryWhere w (prefix_fits_at w prefix) from found
+  pub first-where : HasUnitsForTables w.encoding w.text → 0 < prefix.len → PrefixAllowsOnlyAsciiFirst prefix → (from to : ℕ) (found : Option ℕ) → units w.text + 1 ≤ to + prefix.len
+      → IsFirstPrefixFitInRange w prefix from to found → IsFirstBoundaryWhere w (prefix_fits_at w prefix) from found
   first-where has some ascii from to None all first = λ at on le less. elim (cases_lt at to) [
     | inl before ↦ first at le before
     | inr after ↦
-        let count : length (keys_in w) ≡ units w.text = length-map (text_units_in_encoding w.encoding w.text) (key (has_16_bit_units w.encoding)) ∙ sym (units-length w.encoding w.text has.spelled) in
+        let count : length (keys_in w) ≡ units w.text = length-map (text_units_in_encoding w.encoding w.text) (key (is_16_bit_encoding w.encoding)) ∙ sym (units-length w.encoding w.text has.spelled) in
         fits-past (units_allowed_by_prefix prefix) (keys_in w) at prefix.len (prefix.len - 1) (omega (arith, some)) (omega (arith, after, all, some, count))
   ]
   first-where has some ascii from to (Some at) all first = found-where has some ascii from to at first

@@ -15,21 +15,22 @@ use Rattle.regex_meaning.proofs.Booleans.{and-left}
 use Rattle.regex_meaning.proofs.TextLemmas.{place-less}
 use Rattle.regex_pattern_front.specs.FirstPassingIndex.{FindsFirstPassingIndex, is_member_byte_at_index}
 use Rattle.memchr.specs.Find.{IsFirstByte, is_byte3}
-use Rattle.regress_input.specs.ReadsFromOffset.{past, bytes_of, bytes_if, has_byte_units, IsFoundFrom}
+use Rattle.regress_input.specs.CharAndByteReadsFromOffset.{past, bytes_of, bytes_if, is_byte_encoding, IsFoundFrom}
 use Rattle.regress_input.specs.Utf8.{is_continuation_byte}
 use Rattle.regress_input.proofs.Boundaries.{boundary-byte, units-length}
 use Rattle.regress_input.proofs.Places.{end_boundary, past_ahead, past_boundary, boundary_inside, place_of_boundary, step_right}
 use Rattle.regress_input.proofs.UnitsIn.{utf8-units}
-use Rattle.regress_simulation.specs.FirstSetTables.{AllowedNextKeys, HasUnitsForTables, table_allows, unit_key_at}
-use Rattle.regress_plan.specs.TableKeysOfUnits.{key, has_16_bit_units, begins_utf8_character}
+use Rattle.regress_simulation.specs.FirstSetTables.{AllowedNextKeys, HasUnitsForTables, table_allows_key_or_end, unit_key_at}
+use Rattle.regress_plan.specs.TableKeysOfUnits.{key, is_16_bit_encoding, begins_utf8_character}
 use Rattle.regress_scan.specs.TreePlanAndText.{SearchInput}
 use Rattle.regress_scan.proofs.Allowing.{no-key}
 use Rattle.regress_scan.proofs.NextUnits.{unit-fits}
 use Rattle.regress_scan.proofs.FirstUnits.{own-key, fits-past, fits-behind}
-use Rattle.regress_plan.specs.declared.required_prefix.Prefix.{Prefix}
-use Rattle.regress_plan.specs.PrefixesAndPrefilters.{units_allowed_by_prefix, prefix_allows_units_at, AllowsOnlyAsciiFirst}
+use Rattle.regress_plan.specs.declared.required_prefix_types.Prefix.{Prefix}
+use Rattle.regress_plan.specs.PrefixesAndPrefilters.{units_allowed_by_prefix, prefix_allows_units_at, PrefixAllowsOnlyAsciiFirst}
 use Rattle.regress_scan.proofs.LowUnits.{fit-boundary}
-use Rattle.regress_scan.specs.StartSearch.{allows_at, AllowsNone, IsFirstAllowedBoundary, IsFirstBoundaryWhere, AllowsOnlyLeadBytes, SkipsNoBoundary, IsFoundInBytes, table_of_listed_units, prefix_fits_at}
+use Rattle.regress_scan.specs.StartSearch.{table_allows_unit_or_end_at, AllowsNone, IsFirstAllowedBoundary, IsFirstBoundaryWhere, AllowsOnlyLeadBytes, SkipsNoBoundary}
+use Rattle.regress_scan.specs.StartSearch.{IsFirstByteSearchHit, table_of_listed_units, prefix_fits_at}
 
 -- ---- Past a unit
 
@@ -78,8 +79,8 @@ lead-begins k is = elim (cases_lt k 0x80) [
       ap (λ (b : Bool). nat_le 0x80 k && b) (lt-leb k 0xBF (omega (arith, more))) ∙ and-false (nat_le 0x80 k)
 ]
 
-boundary-lead : (e : Encoding) (text : Text) → HasUnitsForTables e text → (table : AllowedNextKeys) → AllowsOnlyLeadBytes (has_16_bit_units e) table → (at k : ℕ)
-    → unit_key_at e (key (has_16_bit_units e)) text at ≡ Some k → k < 256 → table.keys k ≡ true → (has_byte_units e ≡ false → IsBoundary text at) → IsBoundary text at
+boundary-lead : (e : Encoding) (text : Text) → HasUnitsForTables e text → (table : AllowedNextKeys) → AllowsOnlyLeadBytes (is_16_bit_encoding e) table → (at k : ℕ)
+    → unit_key_at e (key (is_16_bit_encoding e)) text at ≡ Some k → k < 256 → table.keys k ≡ true → (is_byte_encoding e ≡ false → IsBoundary text at) → IsBoundary text at
 boundary-lead utf8 text has table leads at k there small allowed wide =
     boundary-byte text has.spelled at k (sym (own-key (slice_get (text_units_in_encoding utf8 text) at)) ∙ there) ∙ ap not (lead-begins k (leads refl k small allowed))
 boundary-lead utf16 text has table leads at k there small allowed wide = wide refl
@@ -92,7 +93,7 @@ module _ (w : SearchInput) (table : AllowedNextKeys) (from : ℕ) where
   pub record Scans (at : ℕ) : Type 0 where
     pub passed : from ≤ at
     pub inside : at ≤ units w.text
-    pub boundary : has_byte_units w.encoding ≡ false → IsBoundary w.text at
+    pub boundary : is_byte_encoding w.encoding ≡ false → IsBoundary w.text at
     pub none : AllowsNone w table from at
 
   pub scan-begins : HasRisingPlaceOffsets w.text → IsBoundary w.text from → Scans from
@@ -103,11 +104,11 @@ module _ (w : SearchInput) (table : AllowedNextKeys) (from : ℕ) where
     none = λ x on le less. absurd (omega (arith, le, less));
   }
 
-  excludes : (at k : ℕ) → unit_key_at w.encoding (key (has_16_bit_units w.encoding)) w.text at ≡ Some k → table.keys k ≡ false → allows_at w table at ≡ false
-  excludes at k there none = ap (table_allows table) there ∙ none
+  excludes : (at k : ℕ) → unit_key_at w.encoding (key (is_16_bit_encoding w.encoding)) w.text at ≡ Some k → table.keys k ≡ false → table_allows_unit_or_end_at w table at ≡ false
+  excludes at k there none = ap (table_allows_key_or_end table) there ∙ none
 
-  pub scan-goes : (at to k : ℕ) → Scans at → SkipsNoBoundary w.text (has_byte_units w.encoding) at to
-      → unit_key_at w.encoding (key (has_16_bit_units w.encoding)) w.text at ≡ Some k → table.keys k ≡ false → Scans to
+  pub scan-goes : (at to k : ℕ) → Scans at → SkipsNoBoundary w.text (is_byte_encoding w.encoding) at to
+      → unit_key_at w.encoding (key (is_16_bit_encoding w.encoding)) w.text at ≡ Some k → table.keys k ≡ false → Scans to
   scan-goes at to k s p there excluded = record {
     passed = let a = s.passed in let b = p.ahead in omega (arith, a, b);
     inside = p.inside;
@@ -116,18 +117,18 @@ module _ (w : SearchInput) (table : AllowedNextKeys) (from : ℕ) where
       | inl before ↦ s.none x on le before
       | inr after ↦ elim (cases_lt at x) [
         | inl more ↦ absurd (p.alone x on more less)
-        | inr most ↦ let here : at ≡ x = omega (arith, after, most) in subst (λ x. allows_at w table x ≡ false) here (excludes at k there excluded)
+        | inr most ↦ let here : at ≡ x = omega (arith, after, most) in subst (λ x. table_allows_unit_or_end_at w table x ≡ false) here (excludes at k there excluded)
       ]
     ];
   }
 
   module _ (has : HasUnitsForTables w.encoding w.text) where
-    pub scan-finds : (at k : ℕ) (is : Bool) → AllowsOnlyLeadBytes (has_16_bit_units w.encoding) table → Scans at → unit_key_at w.encoding (key (has_16_bit_units w.encoding)) w.text at ≡ Some k
+    pub scan-finds : (at k : ℕ) (is : Bool) → AllowsOnlyLeadBytes (is_16_bit_encoding w.encoding) table → Scans at → unit_key_at w.encoding (key (is_16_bit_encoding w.encoding)) w.text at ≡ Some k
         → k < 256 → is ≡ table.keys k → is ≡ true → IsFirstAllowedBoundary w table from (Some at)
     scan-finds at k is leads s there small asked holds = (
       boundary-lead w.encoding w.text has table leads at k there small (sym asked ∙ holds) s.boundary,
       s.passed,
-      ap (table_allows table) there ∙ sym asked ∙ holds,
+      ap (table_allows_key_or_end table) there ∙ sym asked ∙ holds,
       s.none,
     )
 
@@ -138,14 +139,14 @@ module _ (w : SearchInput) (table : AllowedNextKeys) (from : ℕ) where
     scan-ends at is s end asked holds = (
       end_boundary w.text has.is_text at (at-end at s end),
       s.passed,
-      ap (table_allows table) (no-key w.encoding w.text has at end) ∙ sym asked ∙ holds,
+      ap (table_allows_key_or_end table) (no-key w.encoding w.text has at end) ∙ sym asked ∙ holds,
       s.none,
     )
 
     pub scan-fails : (at : ℕ) (is : Bool) → Scans at → units w.text ≤ at → is ≡ table.end → is ≡ false → IsFirstAllowedBoundary w table from None
     scan-fails at is s end asked fails = λ x on le less. elim (cases_lt x at) [
       | inl before ↦ s.none x on le before
-      | inr after ↦ ap (table_allows table) (no-key w.encoding w.text has x (omega (arith, after, end))) ∙ sym asked ∙ fails
+      | inr after ↦ ap (table_allows_key_or_end table) (no-key w.encoding w.text has x (omega (arith, after, end))) ∙ sym asked ∙ fails
     ]
 
 -- ---- A few units
@@ -202,22 +203,22 @@ low-lead k low = ap (λ (b : Bool). b || (nat_le 0xC2 k && nat_le k 0xF4)) (lt-l
 pub low-leads : (us : List ℕ) (len : ℕ) (wide : Bool) → ((k : ℕ) → k < len → get_or us k 0 < 128) → AllowsOnlyLeadBytes wide (table_of_listed_units us len)
 low-leads us len wide low = few-leads us len wide (λ k less. low-lead (get_or us k 0) (low k less))
 
-byte-key : (e : Encoding) (text : Text) → has_byte_units e ≡ true → (at : ℕ) → unit_key_at e (key (has_16_bit_units e)) text at ≡ slice_get (bytes_of text) at
+byte-key : (e : Encoding) (text : Text) → is_byte_encoding e ≡ true → (at : ℕ) → unit_key_at e (key (is_16_bit_encoding e)) text at ≡ slice_get (bytes_of text) at
 byte-key utf8 text bytes at = own-key (slice_get (text_units_in_encoding utf8 text) at) ∙ ap (λ (us : List ℕ). slice_get us at) (utf8-units text.characters)
 byte-key utf16 text bytes at = cc
 byte-key ucs2 text bytes at = cc
 
-byte-small : (e : Encoding) (text : Text) → HasUnitsForTables e text → has_byte_units e ≡ true → (at k : ℕ) → unit_key_at e (key (has_16_bit_units e)) text at ≡ Some k → k < 256
+byte-small : (e : Encoding) (text : Text) → HasUnitsForTables e text → is_byte_encoding e ≡ true → (at k : ℕ) → unit_key_at e (key (is_16_bit_encoding e)) text at ≡ Some k → k < 256
 byte-small utf8 text has bytes at k there = unit-fits utf8 text has at k (sym (own-key (slice_get (text_units_in_encoding utf8 text) at)) ∙ there)
 byte-small utf16 text has bytes at k there = cc
 byte-small ucs2 text has bytes at k there = cc
 
-byte-count : (e : Encoding) (text : Text) → has_byte_units e ≡ true → IsSpelledIn e text → units text ≡ length (bytes_of text)
+byte-count : (e : Encoding) (text : Text) → is_byte_encoding e ≡ true → IsSpelledIn e text → units text ≡ length (bytes_of text)
 byte-count utf8 text bytes spelled = units-length utf8 text spelled ∙ ap length (utf8-units text.characters)
 byte-count utf16 text bytes spelled = cc
 byte-count ucs2 text bytes spelled = cc
 
-pub single_unit-bytes : (e : Encoding) → has_16_bit_units e ≡ false → has_byte_units e ≡ true
+pub single_unit-bytes : (e : Encoding) → is_16_bit_encoding e ≡ false → is_byte_encoding e ≡ true
 single_unit-bytes utf8 single_unit = refl
 single_unit-bytes utf16 single_unit = cc
 single_unit-bytes ucs2 single_unit = cc
@@ -229,7 +230,7 @@ bytes-there false text all e = cc
 
 -- what was found from a position on
 pub found-in : {are_bytes : Bool} {text : Text} {pos : ℕ} {found : Option ℕ} (w : SearchInput) (stands_at : List ℕ → ℕ → Bool) (from : ℕ) (there : Option ℕ)
-    → are_bytes ≡ has_byte_units w.encoding → text ≡ w.text → pos ≡ from → found ≡ there → IsFoundFrom are_bytes stands_at (bytes_of text) pos found → IsFoundInBytes w stands_at from there
+    → are_bytes ≡ is_byte_encoding w.encoding → text ≡ w.text → pos ≡ from → found ≡ there → IsFoundFrom are_bytes stands_at (bytes_of text) pos found → IsFirstByteSearchHit w stands_at from there
 found-in {are_bytes = are_bytes} {text = text} {pos = pos} w stands_at from there bytes is at same found =
     subst (λ b. IsFoundFrom b stands_at (bytes_of w.text) from there) bytes
     (subst (λ t. IsFoundFrom are_bytes stands_at (bytes_of t) from there) is
@@ -237,7 +238,7 @@ found-in {are_bytes = are_bytes} {text = text} {pos = pos} w stands_at from ther
     (subst (λ o. IsFoundFrom are_bytes stands_at (bytes_of text) pos o) same found)))
 
 -- the first of a few units, found in bytes
-pub few-found : (w : SearchInput) → HasUnitsForTables w.encoding w.text → (us : List ℕ) (len from : ℕ) → has_byte_units w.encoding ≡ true → AllowsOnlyLeadBytes (has_16_bit_units w.encoding) (table_of_listed_units us len)
+pub few-found : (w : SearchInput) → HasUnitsForTables w.encoding w.text → (us : List ℕ) (len from : ℕ) → is_byte_encoding w.encoding ≡ true → AllowsOnlyLeadBytes (is_16_bit_encoding w.encoding) (table_of_listed_units us len)
     → from ≤ units w.text → (found : Option ℕ) → IsFoundFrom true (λ bytes. is_member_byte_at_index (take len us) bytes) (bytes_of w.text) from found
     → IsFirstAllowedBoundary w (table_of_listed_units us len) from found
 few-found w has us len from bytes leads inside found f = by f.0 f.1 found f.2
@@ -261,10 +262,10 @@ few-found w has us len from bytes leads inside found f = by f.0 f.1 found f.2
     tested : (i : ℕ) → test i ≡ contains (take len us) (get_or all (from + i) 0)
     tested i = ap (contains (take len us)) (get_or-drop from all i 0)
 
-    allowed : (at : ℕ) → at < length all → allows_at w table at ≡ contains (take len us) (get_or all at 0)
-    allowed at less = ap (table_allows table) (byte-key w.encoding w.text bytes at ∙ slice_get-get_or all at 0 less)
+    allowed : (at : ℕ) → at < length all → table_allows_unit_or_end_at w table at ≡ contains (take len us) (get_or all at 0)
+    allowed at less = ap (table_allows_key_or_end table) (byte-key w.encoding w.text bytes at ∙ slice_get-get_or all at 0 less)
 
-    excluded : (at : ℕ) → from ≤ at → at < length all → test (at - from) ≡ false → allows_at w table at ≡ false
+    excluded : (at : ℕ) → from ≤ at → at < length all → test (at - from) ≡ false → table_allows_unit_or_end_at w table at ≡ false
     excluded at le less none =
         let back : at ≡ from + (at - from) = omega (arith, le) in
         allowed at less ∙ ap (λ at. contains (take len us) (get_or all at 0)) back ∙ sym (tested (at - from)) ∙ none
@@ -273,7 +274,7 @@ few-found w has us len from bytes leads inside found f = by f.0 f.1 found f.2
         → IsFirstAllowedBoundary w table from found
     by None none None e = λ x on le less. elim (cases_lt x (units w.text)) [
       | inl before ↦ excluded x le (omega (arith, before, count)) (none (x - from) (omega (arith, le, before, count, length-rest)))
-      | inr after ↦ ap (table_allows table) (no-key w.encoding w.text has x after)
+      | inr after ↦ ap (table_allows_key_or_end table) (no-key w.encoding w.text has x after)
     ]
     by None none (Some to) e = cc
     by (Some i) first None e = cc
@@ -294,8 +295,8 @@ few-found w has us len from bytes leads inside found f = by f.0 f.1 found f.2
 -- ---- The first units of a match
 
 -- the first place at which they fit, found in bytes
-pub fitting-found : (w : SearchInput) → HasUnitsForTables w.encoding w.text → (prefix : Prefix) → has_16_bit_units w.encoding ≡ false → 0 < prefix.len → AllowsOnlyAsciiFirst prefix → (from : ℕ)
-    → (found : Option ℕ) → IsFoundInBytes w (λ bytes index. prefix_allows_units_at (units_allowed_by_prefix prefix) bytes index prefix.len) from found
+pub fitting-found : (w : SearchInput) → HasUnitsForTables w.encoding w.text → (prefix : Prefix) → is_16_bit_encoding w.encoding ≡ false → 0 < prefix.len → PrefixAllowsOnlyAsciiFirst prefix → (from : ℕ)
+    → (found : Option ℕ) → IsFirstByteSearchHit w (λ bytes index. prefix_allows_units_at (units_allowed_by_prefix prefix) bytes index prefix.len) from found
     → IsFirstBoundaryWhere w (prefix_fits_at w prefix) from found
 fitting-found w has prefix single_unit some ascii from found f = by in_bytes.0 in_bytes.1 found in_bytes.2
   where
@@ -310,7 +311,7 @@ fitting-found w has prefix single_unit some ascii from found f = by in_bytes.0 i
     test : (at : ℕ) → Bool
     test at = prefix_allows_units_at (units_allowed_by_prefix prefix) all at prefix.len
 
-    same-units : (e : Encoding) → has_16_bit_units e ≡ false → map (key (has_16_bit_units e)) (text_units_in_encoding e w.text) ≡ all
+    same-units : (e : Encoding) → is_16_bit_encoding e ≡ false → map (key (is_16_bit_encoding e)) (text_units_in_encoding e w.text) ≡ all
     same-units utf8 n = map-id (text_units_in_encoding utf8 w.text) ∙ utf8-units w.text.characters
     same-units utf16 n = cc
     same-units ucs2 n = cc

@@ -1,8 +1,8 @@
-pub mod InsnMatchers
+pub mod OffsetsAfterMatchedInsns
 pub mod TreePlanAndText
-pub mod OffsetRangesAndPassingChars
+pub mod ConsecutivePassingCharsAndOffsetRanges
 pub mod PrefixCandidatesInRange
-pub mod ReadsAtOffset
+pub mod UnitsAndInsnReadsAtOffset
 pub mod StartSearch
 pub mod CharLoopExits
 pub mod DeadThreads
@@ -10,4 +10,4 @@ pub mod AlternationArmTables
 pub mod LookaheadAndExitVerdicts
 pub mod LazyCharLoopExits
 pub mod PrefixSearch
-pub mod UnitsWithoutLoopExit
+pub mod ConsecutiveMustIterateUnits

@@ -4,20 +4,20 @@ use Rattle.regex_meaning.specs.NumberListHelpers.{contains}
 use Rattle.regex_meaning.specs.Text.{Text, rightwards}
 use Rattle.regex_meaning.specs.CodeUnitOffsets.{IsBoundary, units}
 use Rattle.regex_meaning.specs.CodeUnits.{text_units_in_encoding}
-use Rattle.regress_input.specs.ReadsFromOffset.{past, bytes_of, has_byte_units, IsFoundFrom}
+use Rattle.regress_input.specs.CharAndByteReadsFromOffset.{past, bytes_of, is_byte_encoding, IsFoundFrom}
 use Rattle.regress_plan.specs.LookbehindFilter.{allows_start}
-use Rattle.regress_plan.specs.declared.required_prefix.Prefix.{Prefix}
+use Rattle.regress_plan.specs.declared.required_prefix_types.Prefix.{Prefix}
 use Rattle.regress_plan.specs.declared.plan.CandidateStarts.{CandidateStarts}
 use Rattle.regress_plan.specs.declared.plan.CandidateStarts.TheVariants as variant
 use Rattle.regress_plan.specs.PrefixesAndPrefilters.{units_allowed_by_prefix, prefix_allows_units_at}
-use Rattle.regress_plan.specs.TableKeysOfUnits.{key, has_16_bit_units, begins_utf8_character}
+use Rattle.regress_plan.specs.TableKeysOfUnits.{key, is_16_bit_encoding, begins_utf8_character}
 use Rattle.regress_plan.specs.Plans.{unit_table_at_candidate_starts}
-use Rattle.regress_simulation.specs.FirstSetTables.{AllowedNextKeys, table_allows, unit_key_at}
+use Rattle.regress_simulation.specs.FirstSetTables.{AllowedNextKeys, table_allows_key_or_end, unit_key_at}
 use Rattle.regress_scan.specs.TreePlanAndText.{SearchInput}
 
 -- The table allows the code unit at an offset, or the end of the text.
-abbrev pub allows_at : SearchInput → AllowedNextKeys → (at : ℕ) → Bool
-allows_at w table at = table_allows table (unit_key_at w.encoding (key (has_16_bit_units w.encoding)) w.text at)
+abbrev pub table_allows_unit_or_end_at : SearchInput → AllowedNextKeys → (at : ℕ) → Bool
+table_allows_unit_or_end_at w table at = table_allows_key_or_end table (unit_key_at w.encoding (key (is_16_bit_encoding w.encoding)) w.text at)
 
 -- The test passes at no boundary from `from` on and before `to`.
 abbrev pub NoneWhere : SearchInput → (test : ℕ → Bool) → (from to : ℕ) → Type 0
@@ -30,16 +30,16 @@ IsFirstBoundaryWhere w test from (Some to) = IsBoundary w.text to × (from ≤ t
 
 -- The table allows nothing at any boundary from `from` on and before `to`.
 abbrev pub AllowsNone : SearchInput → AllowedNextKeys → (from to : ℕ) → Type 0
-AllowsNone w table from to = NoneWhere w (λ at. allows_at w table at) from to
+AllowsNone w table from to = NoneWhere w (λ at. table_allows_unit_or_end_at w table at) from to
 
 -- The first boundary from `from` on where the table allows the code unit, or the end of the text.
 abbrev pub IsFirstAllowedBoundary : SearchInput → AllowedNextKeys → (from : ℕ) → Option ℕ → Type 0
-IsFirstAllowedBoundary w table from next = IsFirstBoundaryWhere w (λ at. allows_at w table at) from next
+IsFirstAllowedBoundary w table from next = IsFirstBoundaryWhere w (λ at. table_allows_unit_or_end_at w table at) from next
 
 -- The first offset from `from` on where the searcher matches in bytes; `None` if units are not
 -- bytes.
-abbrev pub IsFoundInBytes : SearchInput → (stands_at : List ℕ → ℕ → Bool) → (from : ℕ) → Option ℕ → Type 0
-IsFoundInBytes w stands_at from found = IsFoundFrom (has_byte_units w.encoding) stands_at (bytes_of w.text) from found
+abbrev pub IsFirstByteSearchHit : SearchInput → (stands_at : List ℕ → ℕ → Bool) → (from : ℕ) → Option ℕ → Type 0
+IsFirstByteSearchHit w stands_at from found = IsFoundFrom (is_byte_encoding w.encoding) stands_at (bytes_of w.text) from found
 
 -- The first boundary from `from` on where the table allows the code unit, or else the end of the
 -- text.
@@ -63,15 +63,15 @@ pub record SkipsNoBoundary (text : Text) (are_bytes : Bool) (at to : ℕ) : Type
 
 -- The keys of the text's code units.
 abbrev pub keys_in : SearchInput → List ℕ
-keys_in w = map (key (has_16_bit_units w.encoding)) (text_units_in_encoding w.encoding w.text)
+keys_in w = map (key (is_16_bit_encoding w.encoding)) (text_units_in_encoding w.encoding w.text)
 
 -- Each unit of the prefix may occur at an offset.
 abbrev pub prefix_fits_at : SearchInput → Prefix → (at : ℕ) → Bool
 prefix_fits_at w prefix at = prefix_allows_units_at (units_allowed_by_prefix prefix) (keys_in w) at prefix.len
 
 -- The first boundary from `from` on where the prefix may occur.
-abbrev pub IsFirstPrefixMatch : SearchInput → Prefix → (from : ℕ) → Option ℕ → Type 0
-IsFirstPrefixMatch w prefix from next = IsFirstBoundaryWhere w (prefix_fits_at w prefix) from next
+abbrev pub IsFirstBoundaryWherePrefixFits : SearchInput → Prefix → (from : ℕ) → Option ℕ → Type 0
+IsFirstBoundaryWherePrefixFits w prefix from next = IsFirstBoundaryWhere w (prefix_fits_at w prefix) from next
 
 -- The offset past the first character that the table allows.
 abbrev pub IsPastFirstAllowedChar : SearchInput → AllowedNextKeys → (from : ℕ) → Option ℕ → Type 0
@@ -82,7 +82,7 @@ IsPastFirstAllowedChar w table from (Some to) = (hit : ℕ) × IsFirstAllowedBou
 abbrev pub may_start_at : SearchInput → CandidateStarts → (at : ℕ) → Bool
 may_start_at w (variant.Prefix prefix prefilter) at = prefix_fits_at w prefix at
 may_start_at w (variant.Behind before) at = allows_start w.encoding before w.text at
-may_start_at w start at = allows_at w (unit_table_at_candidate_starts w.plan start) at
+may_start_at w start at = table_allows_unit_or_end_at w (unit_table_at_candidate_starts w.plan start) at
 
 -- The first candidate start from `from` on, by the plan.
 abbrev pub IsFirstCandidate : SearchInput → (from : ℕ) → Option ℕ → Type 0

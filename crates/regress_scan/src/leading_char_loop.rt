@@ -2,11 +2,11 @@
 
 ghost use Rattle.std.specs.Prelude.{◌≡◌, true, Some, option_and_then, slice_get};
 ghost use Rattle.regex_meaning.specs.CodeUnitOffsets.{IsBoundary, units};
-ghost use Rattle.regress_machine.specs.SearchResults.{TreeProgramCanSearchText};
-ghost use Rattle.regress_plan.specs.Plans.{char_loop_of};
+ghost use Rattle.regress_machine.specs.SearchFindsFirstOutcomeAtPlace.{TreeProgramCanSearchText};
+ghost use Rattle.regress_plan.specs.Plans.{op_as_char_loop};
 ghost use Rattle.regress_scan.specs.{DeadThreads.{MatchFailureExtendsUntil}, CharLoopExits.{HasAdvancedTo, ClassFitsText}, TreePlanAndText.{program_of}};
 
-use crate::class_scan::{scan_class_end, scan_single_unit_chars};
+use crate::class_scan::{scan_chars_of_class_end, scan_single_unit_chars};
 use crate::search_context::{SearchContext, text_end};
 use regress_input::cursor::Forward;
 use regress_plan::char_class_tables::Class;
@@ -76,7 +76,7 @@ pub fn skip_leading_char_loop<W: SearchContext>(planned: &W, from: usize) -> usi
 #[inline(always)]
 fn past_run<W: SearchContext>(planned: &W, run: CharLoop, from: usize) -> usize
     requires run { let ops = (W.searching planned.now).plan.ops.items in
-        option_and_then char_loop_of (slice_get ops 0) ≡ Some run }
+        option_and_then op_as_char_loop (slice_get ops 0) ≡ Some run }
     requires at { IsBoundary (W.searching planned.now).text from }
     requires can { let w = W.searching planned.now in TreeProgramCanSearchText (program_of w) w.tree w.text }
     ensures at { IsBoundary (W.searching planned.now).text result }
@@ -101,7 +101,7 @@ fn far_end<W: SearchContext>(planned: &W, class: &Class, from: usize) -> usize
 {
     let end = text_end(planned);
     if !class.single_unit {
-        return scan_class_end(planned, Forward, class, from, end);
+        return scan_chars_of_class_end(planned, Forward, class, from, end);
     }
     let (far, _count) = scan_single_unit_chars(planned, class, from, end);
     far

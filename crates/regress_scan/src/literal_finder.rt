@@ -4,7 +4,7 @@ ghost use Rattle.memchr.specs.Find.{FindsNeedle};
 
 use memchr::memmem::{self, Finder};
 use regress_plan::plan::CandidateStarts;
-use regress_plan::prefilters::Prefilter;
+use regress_plan::required_prefix_prefilters::RequiredPrefixPrefilter;
 
 /// The maximum length, in code units, of a text in which no literal is searched for. Building the
 /// finder takes as long as scanning such a text.
@@ -12,21 +12,21 @@ pub(crate) const LONG: usize = 1024;
 
 /// A finder of the bytes known at the start of each match. It is built once for a long text.
 #[derive(Drop)]
-pub struct LiteralFinder<'p> {
+pub struct StartLiteralFinder<'p> {
     finder: Option<Finder<'p>>,
 }
 
-impl<'p> LiteralFinder<'p> {
+impl<'p> StartLiteralFinder<'p> {
     /// Creates the finder of a search with this start in a text of `units` code units.
     pub fn new(start: &'p CandidateStarts, units: usize) -> Self {
         if units <= LONG {
-            return LiteralFinder { finder: None };
+            return StartLiteralFinder { finder: None };
         }
         let finder = match known_start_literal(start) {
             Some(row) => Some(Finder::new(row)),
             None => None,
         };
-        LiteralFinder { finder }
+        StartLiteralFinder { finder }
     }
 
     /// Returns the first index where the literal `row` occurs. Uses the cached finder if it
@@ -48,7 +48,7 @@ impl<'p> LiteralFinder<'p> {
 fn known_start_literal(start: &CandidateStarts) -> Option<&[u8]> {
     match start {
         CandidateStarts::Prefix {
-            prefilter: Prefilter::ByLiteral(known),
+            prefilter: RequiredPrefixPrefilter::ByLiteral(known),
             ..
         } => known.literal.units.get(..known.literal.len),
         _ => None,

@@ -3,19 +3,21 @@
 ghost use Rattle.std.specs.Prelude.{◌≡◌, ◌≤◌, ◌<◌, ◌+◌, true, length, take, IfSome};
 ghost use Rattle.std.proofs.Props.{props};
 ghost use Rattle.memchr.specs.Find.{OccursAt};
-ghost use Rattle.regress_plan.specs.PrefixesAndPrefilters.{units_allowed_by_prefix, prefix_allows_units_at, IsOnlyUnitAllowedAtPosition, IsLiteralOfOnlyAllowedUnits};
+ghost use Rattle.regress_plan.specs.PrefixesAndPrefilters.{units_allowed_by_prefix, prefix_allows_units_at, IsOnlyUnitAllowedAtPosition, IsLiteralForcedByPrefix};
 ghost use Rattle.regress_scan.specs.PrefixSearch.{FindsPrefix};
 
-use crate::literal_finder::LiteralFinder;
+use crate::literal_finder::StartLiteralFinder;
 use memchr::memchr;
 use regress_input::front::ByteSearcher;
-use regress_plan::required_prefix::{Literal, Prefix, RequiredUnit, is_mask_bit_clear};
+use regress_plan::required_prefix_types::{
+    Literal, Prefix, RequiredUnitAndOffset, is_mask_bit_clear,
+};
 
 /// A prefix of matches, and a unit of it that may be required.
 #[derive(Clone, Copy)]
 pub(crate) struct PrefixAndItsRequiredUnit<'p> {
     pub(crate) prefix: &'p Prefix,
-    pub(crate) rare: Option<RequiredUnit>,
+    pub(crate) rare: Option<RequiredUnitAndOffset>,
     ghost some: { 0 < prefix.now.len },
     ghost is_rare: { IfSome rare (λ r. IsOnlyUnitAllowedAtPosition prefix.now r) } by { Prim.hlevel props },
 }
@@ -37,11 +39,11 @@ impl ByteSearcher for PrefixAndItsRequiredUnit<'_> {
 /// A prefix of matches with a required literal, and the cached finder of the literal.
 #[derive(Drop)]
 pub(crate) struct PrefixAndLiteralFinder<'k, 'p> {
-    pub(crate) kept: &'k LiteralFinder<'k>,
+    pub(crate) kept: &'k StartLiteralFinder<'k>,
     pub(crate) prefix: &'p Prefix,
     pub(crate) literal: &'p Literal,
     ghost some: { 0 < prefix.now.len },
-    ghost is_literal: { IsLiteralOfOnlyAllowedUnits prefix.now literal.now } by { Prim.hlevel props },
+    ghost is_literal: { IsLiteralForcedByPrefix prefix.now literal.now } by { Prim.hlevel props },
 }
 
 impl ByteSearcher for PrefixAndLiteralFinder<'_, '_> {
@@ -78,7 +80,7 @@ fn find_fitting(prefix: &Prefix, bytes: &[u8]) -> Option<usize>
 
 // Returns that index, searching for the required unit.
 #[inline(always)]
-fn find_rare(prefix: &Prefix, rare: RequiredUnit, bytes: &[u8]) -> Option<usize>
+fn find_rare(prefix: &Prefix, rare: RequiredUnitAndOffset, bytes: &[u8]) -> Option<usize>
     requires { IsOnlyUnitAllowedAtPosition prefix.now rare }
     ensures { FindsPrefix prefix.now bytes.now result }
 {
@@ -99,13 +101,13 @@ fn find_rare(prefix: &Prefix, rare: RequiredUnit, bytes: &[u8]) -> Option<usize>
 // Returns that index, searching for the required literal.
 #[inline(always)]
 fn find_literal(
-    kept: &LiteralFinder<'_>,
+    kept: &StartLiteralFinder<'_>,
     prefix: &Prefix,
     literal: &Literal,
     bytes: &[u8],
 ) -> Option<usize>
     requires some { 0 < prefix.now.len }
-    requires literal { IsLiteralOfOnlyAllowedUnits prefix.now literal.now }
+    requires literal { IsLiteralForcedByPrefix prefix.now literal.now }
     ensures { FindsPrefix prefix.now bytes.now result }
 {
     let needle = &literal.units[..literal.len];
@@ -127,7 +129,7 @@ fn find_literal(
 // literal are not tested again.
 #[inline(always)]
 fn fits_beside(prefix: &Prefix, literal: &Literal, bytes: &[u8], at: usize) -> bool
-    requires literal { IsLiteralOfOnlyAllowedUnits prefix.now literal.now }
+    requires literal { IsLiteralForcedByPrefix prefix.now literal.now }
     requires row { OccursAt bytes.now (take literal.now.len literal.now.units) (at + literal.now.ahead) }
     ensures { result ≡ prefix_allows_units_at (units_allowed_by_prefix prefix.now) bytes.now at prefix.now.len }
 {

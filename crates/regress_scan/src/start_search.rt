@@ -2,25 +2,31 @@
 
 ghost use Rattle.std.specs.Prelude.{◌≡◌, ◌<◌, false, IfSome};
 ghost use Rattle.regex_meaning.specs.CodeUnitOffsets.{IsBoundary, units};
-ghost use Rattle.regress_input.specs.ReadsFromOffset.{has_byte_units};
-ghost use Rattle.regress_plan.specs.{LookbehindFilter.{HasOnlyLeadByteKeys}, PrefixesAndPrefilters.{AllowsOnlyAsciiFirst, IsLiteralOfOnlyAllowedUnits, IsOnlyUnitAllowedAtPosition, IsLiteralPrefilter, IsPrefilter}, TableKeysOfUnits.{has_16_bit_units}};
+ghost use Rattle.regress_input.specs.CharAndByteReadsFromOffset.{is_byte_encoding};
+ghost use Rattle.regress_plan.specs.LookbehindFilter.{LookbehindFilterKeysAreLeadBytes};
+ghost use Rattle.regress_plan.specs.PrefixesAndPrefilters.{PrefixAllowsOnlyAsciiFirst, IsLiteralForcedByPrefix, IsOnlyUnitAllowedAtPosition, IsLiteralPrefilterOfPrefix};
+ghost use Rattle.regress_plan.specs.PrefixesAndPrefilters.{IsPrefilterOfPrefix};
+ghost use Rattle.regress_plan.specs.TableKeysOfUnits.{is_16_bit_encoding};
 ghost use Rattle.regress_plan.specs.Plans.{unit_table_of_set_number};
 ghost use Rattle.regress_simulation.specs.FirstSetTables.{AllowedNextKeys};
-ghost use Rattle.regress_scan.specs.StartSearch.{IsFirstAllowedBoundary, IsFirstBoundaryWhere, IsFirstPrefixMatch, IsFirstCandidate, IsFoundInBytes, AllowsOnlyLeadBytes, SkipsNoBoundary, IsPastFirstAllowedChar, table_of_listed_units, may_start_at};
+ghost use Rattle.regress_scan.specs.StartSearch.{IsFirstAllowedBoundary, IsFirstBoundaryWhere, IsFirstBoundaryWherePrefixFits, IsFirstCandidate, IsFirstByteSearchHit};
+ghost use Rattle.regress_scan.specs.StartSearch.{AllowsOnlyLeadBytes, SkipsNoBoundary, IsPastFirstAllowedChar, table_of_listed_units, may_start_at};
 
 use crate::class_char_and_table_lookups::unit_key_at_offset;
 use crate::few_units_finder::FewUnitsFinder;
 use crate::literal_finder::LONG;
 use crate::prefix_search::{PrefixAndItsRequiredUnit, PrefixAndLiteralFinder};
-use crate::search_context::{SearchContext, offset_in, position_of_offset_in, text_end};
+use crate::search_context::{
+    SearchContext, offset_in_searched_text, position_in_searched_text, text_end,
+};
 use crate::start_search_by_bit_probes::{PrefixAndBitProbes, next_by_bit_probes};
 use regress_input::front::ByteSearcher;
-use regress_input::indexing::{CodeUnitKind, HasUnitType, InputIndexer};
-use regress_plan::first_set::FirstSet;
+use regress_input::indexing::{CodeUnitEncoding, HasUnitType, InputIndexer};
+use regress_plan::first_set_type::FirstSet;
 use regress_plan::lookbehind_filter::PrecedingCharFilter;
 use regress_plan::plan::CandidateStarts;
-use regress_plan::prefilters::{LiteralPrefilter, Prefilter};
-use regress_plan::required_prefix::{Literal, Prefix, RequiredUnit};
+use regress_plan::required_prefix_prefilters::{LiteralPrefilter, RequiredPrefixPrefilter};
+use regress_plan::required_prefix_types::{Literal, Prefix, RequiredUnitAndOffset};
 
 /// A set of code units with which a match may start. Contracts see its table.
 pub(crate) trait StartSet {
@@ -73,14 +79,14 @@ impl StartSet for FewUnitsFinder {
 fn past_unit<W: SearchContext>(planned: &W, at: usize) -> usize
     requires inside { at < units (W.searching planned.now).text }
     requires at { let w = W.searching planned.now in
-        has_byte_units w.encoding ≡ false → IsBoundary w.text at }
-    ensures { let w = W.searching planned.now in SkipsNoBoundary w.text (has_byte_units w.encoding) at result }
+        is_byte_encoding w.encoding ≡ false → IsBoundary w.text at }
+    ensures { let w = W.searching planned.now in SkipsNoBoundary w.text (is_byte_encoding w.encoding) at result }
 {
     let input = planned.input();
-    if <<W::Input as HasUnitType>::Units as CodeUnitKind>::ARE_BYTES {
+    if <<W::Input as HasUnitType>::Units as CodeUnitEncoding>::ARE_BYTES {
         at + 1
     } else {
-        offset_in(planned, input.past(position_of_offset_in(planned, at)))
+        offset_in_searched_text(planned, input.past(position_in_searched_text(planned, at)))
     }
 }
 
@@ -92,7 +98,7 @@ fn first_place<W: SearchContext, Set: StartSet>(
     from: usize,
 ) -> Option<usize>
     requires at { IsBoundary (W.searching planned.now).text from }
-    requires leads { AllowsOnlyLeadBytes (has_16_bit_units (W.searching planned.now).encoding) (Set.table set.now) }
+    requires leads { AllowsOnlyLeadBytes (is_16_bit_encoding (W.searching planned.now).encoding) (Set.table set.now) }
     ensures { IsFirstAllowedBoundary (W.searching planned.now) (Set.table set.now) from result }
 {
     let end = text_end(planned);
@@ -110,7 +116,8 @@ fn first_place<W: SearchContext, Set: StartSet>(
 #[inline(always)]
 fn next_among<W: SearchContext>(planned: &W, number: u32, from: usize) -> Option<usize>
     requires { IsBoundary (W.searching planned.now).text from }
-    ensures { let w = W.searching planned.now in IsFirstAllowedBoundary w (unit_table_of_set_number w.plan number) from result }
+    ensures { let w = W.searching planned.now in IsFirstAllowedBoundary w (unit_table_of_set_number w.plan number)
+        from result }
 {
     planned.lemma_plan_fits_program();
     match planned.first_set_with_number(number) {
@@ -127,11 +134,11 @@ fn find<W: SearchContext, Search: ByteSearcher>(
     from: usize,
 ) -> Option<usize>
     requires { IsBoundary (W.searching planned.now).text from }
-    ensures { IsFoundInBytes (W.searching planned.now) (Search.stands_at search.now) from result }
+    ensures { IsFirstByteSearchHit (W.searching planned.now) (Search.stands_at search.now) from result }
 {
-    let pos = position_of_offset_in(planned, from);
+    let pos = position_in_searched_text(planned, from);
     match planned.input().find_bytes(pos, search) {
-        Some(pos) => Some(offset_in(planned, pos)),
+        Some(pos) => Some(offset_in_searched_text(planned, pos)),
         None => None,
     }
 }
@@ -144,7 +151,7 @@ pub(crate) fn next_of_few_units<W: SearchContext>(
     from: usize,
 ) -> Option<usize>
     requires at { IsBoundary (W.searching planned.now).text from }
-    requires leads { let wide = has_16_bit_units (W.searching planned.now).encoding in
+    requires leads { let wide = is_16_bit_encoding (W.searching planned.now).encoding in
         AllowsOnlyLeadBytes wide (table_of_listed_units few.units few.len) }
     ensures { IsFirstAllowedBoundary (W.searching planned.now) (table_of_listed_units few.units few.len) from result }
 {
@@ -162,14 +169,14 @@ pub(crate) fn next_of_few_units<W: SearchContext>(
 fn next_prefix_match<W: SearchContext>(
     planned: &W,
     prefix: &Prefix,
-    rare: Option<RequiredUnit>,
+    rare: Option<RequiredUnitAndOffset>,
     from: usize,
 ) -> Option<usize>
     requires at { IsBoundary (W.searching planned.now).text from }
-    requires bytes { has_16_bit_units (W.searching planned.now).encoding ≡ false }
-    requires prefix { (0 < prefix.now.len) × AllowsOnlyAsciiFirst prefix.now }
+    requires bytes { is_16_bit_encoding (W.searching planned.now).encoding ≡ false }
+    requires prefix { (0 < prefix.now.len) × PrefixAllowsOnlyAsciiFirst prefix.now }
     requires rare { IfSome rare (λ r. IsOnlyUnitAllowedAtPosition prefix.now r) }
-    ensures { IsFirstPrefixMatch (W.searching planned.now) prefix.now from result }
+    ensures { IsFirstBoundaryWherePrefixFits (W.searching planned.now) prefix.now from result }
 {
     let fitting = PrefixAndItsRequiredUnit { prefix, rare };
     find(planned, &fitting, from)
@@ -184,10 +191,10 @@ fn next_literal<W: SearchContext>(
     from: usize,
 ) -> Option<usize>
     requires at { IsBoundary (W.searching planned.now).text from }
-    requires bytes { has_16_bit_units (W.searching planned.now).encoding ≡ false }
-    requires prefix { (0 < prefix.now.len) × AllowsOnlyAsciiFirst prefix.now }
-    requires literal { IsLiteralOfOnlyAllowedUnits prefix.now literal.now }
-    ensures { IsFirstPrefixMatch (W.searching planned.now) prefix.now from result }
+    requires bytes { is_16_bit_encoding (W.searching planned.now).encoding ≡ false }
+    requires prefix { (0 < prefix.now.len) × PrefixAllowsOnlyAsciiFirst prefix.now }
+    requires literal { IsLiteralForcedByPrefix prefix.now literal.now }
+    ensures { IsFirstBoundaryWherePrefixFits (W.searching planned.now) prefix.now from result }
 {
     let in_row = PrefixAndLiteralFinder {
         kept: planned.cached_literal_finder(),
@@ -206,11 +213,11 @@ fn next_known<W: SearchContext>(
     from: usize,
 ) -> Option<usize>
     requires at { IsBoundary (W.searching planned.now).text from }
-    requires bytes { has_16_bit_units (W.searching planned.now).encoding ≡ false }
+    requires bytes { is_16_bit_encoding (W.searching planned.now).encoding ≡ false }
     requires some { 0 < prefix.now.len }
-    requires ascii { AllowsOnlyAsciiFirst prefix.now }
-    requires known { IsLiteralPrefilter prefix.now known.now }
-    ensures { IsFirstPrefixMatch (W.searching planned.now) prefix.now from result }
+    requires ascii { PrefixAllowsOnlyAsciiFirst prefix.now }
+    requires known { IsLiteralPrefilterOfPrefix prefix.now known.now }
+    ensures { IsFirstBoundaryWherePrefixFits (W.searching planned.now) prefix.now from result }
 {
     if text_end(planned).saturating_sub(from) > LONG {
         return next_literal(planned, prefix, &known.literal, from);
@@ -227,11 +234,11 @@ fn next_in_short_text<W: SearchContext>(
     from: usize,
 ) -> Option<usize>
     requires at { IsBoundary (W.searching planned.now).text from }
-    requires bytes { has_16_bit_units (W.searching planned.now).encoding ≡ false }
+    requires bytes { is_16_bit_encoding (W.searching planned.now).encoding ≡ false }
     requires some { 0 < prefix.now.len }
-    requires ascii { AllowsOnlyAsciiFirst prefix.now }
-    requires known { IsLiteralPrefilter prefix.now known.now }
-    ensures { IsFirstPrefixMatch (W.searching planned.now) prefix.now from result }
+    requires ascii { PrefixAllowsOnlyAsciiFirst prefix.now }
+    requires known { IsLiteralPrefilterOfPrefix prefix.now known.now }
+    ensures { IsFirstBoundaryWherePrefixFits (W.searching planned.now) prefix.now from result }
 {
     if known.rare.is_none() {
         if let Some(probes) = &known.probes {
@@ -246,23 +253,24 @@ fn next_in_short_text<W: SearchContext>(
 fn first_filtered<W: SearchContext>(
     planned: &W,
     prefix: &Prefix,
-    prefilter: &Prefilter,
+    prefilter: &RequiredPrefixPrefilter,
     from: usize,
 ) -> Option<usize>
     requires at { IsBoundary (W.searching planned.now).text from }
     requires some { 0 < prefix.now.len }
-    requires ascii { AllowsOnlyAsciiFirst prefix.now }
-    requires filter { IsPrefilter (has_16_bit_units (W.searching planned.now).encoding) prefix.now prefilter.now }
-    ensures { IsFirstPrefixMatch (W.searching planned.now) prefix.now from result }
+    requires ascii { PrefixAllowsOnlyAsciiFirst prefix.now }
+    requires filter { IsPrefilterOfPrefix (is_16_bit_encoding (W.searching planned.now).encoding) prefix.now
+        prefilter.now }
+    ensures { IsFirstBoundaryWherePrefixFits (W.searching planned.now) prefix.now from result }
 {
     match prefilter {
-        Prefilter::Probes(probes) => next_by_bit_probes(
+        RequiredPrefixPrefilter::Probes(probes) => next_by_bit_probes(
             planned,
             PrefixAndBitProbes { prefix, probes },
             from,
         ),
-        Prefilter::ByLiteral(known) => next_known(planned, prefix, known, from),
-        Prefilter::Absent => next_prefix_match(planned, prefix, None, from),
+        RequiredPrefixPrefilter::ByLiteral(known) => next_known(planned, prefix, known, from),
+        RequiredPrefixPrefilter::Absent => next_prefix_match(planned, prefix, None, from),
     }
 }
 
@@ -273,14 +281,16 @@ fn first_filtered<W: SearchContext>(
 #[inline(always)]
 fn next_past<W: SearchContext>(planned: &W, few: FewUnitsFinder, from: usize) -> Option<usize>
     requires at { IsBoundary (W.searching planned.now).text from }
-    requires leads { let wide = has_16_bit_units (W.searching planned.now).encoding in
+    requires leads { let wide = is_16_bit_encoding (W.searching planned.now).encoding in
         AllowsOnlyLeadBytes wide (table_of_listed_units few.units few.len) }
     ensures { IsPastFirstAllowedChar (W.searching planned.now) (table_of_listed_units few.units few.len) from result }
 {
     let hit = next_of_few_units(planned, few, from)?;
-    Some(offset_in(
+    Some(offset_in_searched_text(
         planned,
-        planned.input().past(position_of_offset_in(planned, hit)),
+        planned
+            .input()
+            .past(position_in_searched_text(planned, hit)),
     ))
 }
 
@@ -292,7 +302,7 @@ fn next_by_lookbehind<W: SearchContext>(
     from: usize,
 ) -> Option<usize>
     requires at { IsBoundary (W.searching planned.now).text from }
-    requires leads { HasOnlyLeadByteKeys (has_16_bit_units (W.searching planned.now).encoding) before }
+    requires leads { LookbehindFilterKeysAreLeadBytes (is_16_bit_encoding (W.searching planned.now).encoding) before }
     ensures { let w = W.searching planned.now in
         IsFirstBoundaryWhere w (may_start_at w (CandidateStarts.Behind before)) from result }
 {
@@ -300,9 +310,9 @@ fn next_by_lookbehind<W: SearchContext>(
     let few = FewUnitsFinder { units: keys, len };
     match planned
         .input()
-        .next_left_pos(position_of_offset_in(planned, from))
+        .next_left_pos(position_in_searched_text(planned, from))
     {
-        Some(start) => next_past(planned, few, offset_in(planned, start)),
+        Some(start) => next_past(planned, few, offset_in_searched_text(planned, start)),
         None => {
             if edge {
                 Some(from)

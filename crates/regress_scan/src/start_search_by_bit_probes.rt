@@ -4,14 +4,15 @@
 ghost use Rattle.std.specs.Prelude.{◌≡◌, ◌≤◌, ◌<◌, ◌+◌, ◌-◌, ◌^◌, true, false};
 ghost use Rattle.std.proofs.Props.{props};
 ghost use Rattle.regex_meaning.specs.CodeUnitOffsets.{IsBoundary, units};
-ghost use Rattle.regress_plan.specs.PrefixesAndPrefilters.{AreMaskedUnitProbes, AllowsOnlyAsciiFirst};
-ghost use Rattle.regress_plan.specs.declared.required_prefix.Prefix as prefix;
-ghost use Rattle.regress_scan.specs.{PrefixCandidatesInRange.{NoPrefixFitsBetween, IsFirstPrefixFit, ProbesAreInRange}, StartSearch.{prefix_fits_at, IsFirstPrefixMatch}};
+ghost use Rattle.regress_plan.specs.PrefixesAndPrefilters.{ProbesPassAllUnitsPrefixAllows, PrefixAllowsOnlyAsciiFirst};
+ghost use Rattle.regress_plan.specs.declared.required_prefix_types.Prefix as prefix;
+ghost use Rattle.regress_scan.specs.PrefixCandidatesInRange.{NoPrefixFitsBetween, IsFirstPrefixFitInRange, ProbesAreInRange};
+ghost use Rattle.regress_scan.specs.StartSearch.{prefix_fits_at, IsFirstBoundaryWherePrefixFits};
 
 use crate::class_char_and_table_lookups::{unit_at_offset, unit_key_at_offset};
 use crate::search_context::{SearchContext, text_end};
-use regress_plan::prefilters::MaskedUnitProbe;
-use regress_plan::required_prefix::Prefix;
+use regress_plan::required_prefix_prefilters::MaskedUnitProbe;
+use regress_plan::required_prefix_types::Prefix;
 
 /// The number of offsets that are probed together.
 const BLOCK: usize = 32;
@@ -28,7 +29,7 @@ pub(crate) struct PrefixAndBitProbes<'p> {
     pub(crate) prefix: &'p Prefix,
     pub(crate) probes: &'p [MaskedUnitProbe; 4],
     ghost some: { 0 < prefix.now.len },
-    ghost are_probes: { AreMaskedUnitProbes prefix.now probes.now } by { Prim.hlevel props },
+    ghost are_probes: { ProbesPassAllUnitsPrefixAllows prefix.now probes.now } by { Prim.hlevel props },
 }
 
 // Checks whether each unit of the prefix may occur at an offset.
@@ -52,7 +53,7 @@ fn fits_here<W: SearchContext>(planned: &W, prefix: &Prefix, at: usize) -> bool
 #[inline(always)]
 fn all_pass<W: SearchContext>(planned: &W, probes: &[MaskedUnitProbe], at: usize) -> bool
     requires { ProbesAreInRange probes.now (at + 1) (units (W.searching planned.now).text) }
-    ensures { (f : prefix.Prefix) → AreMaskedUnitProbes f probes.now
+    ensures { (f : prefix.Prefix) → ProbesPassAllUnitsPrefixAllows f probes.now
         → prefix_fits_at (W.searching planned.now) f at ≡ true → result ≡ true }
 {
     let mut all = true;
@@ -75,7 +76,7 @@ fn some_pass<W: SearchContext>(
 ) -> bool
     requires room { ProbesAreInRange probes.now (from + count) (units (W.searching planned.now).text) }
     requires inside { from + count ≤ units (W.searching planned.now).text }
-    ensures { (f : prefix.Prefix) → AreMaskedUnitProbes f probes.now → result ≡ false
+    ensures { (f : prefix.Prefix) → ProbesPassAllUnitsPrefixAllows f probes.now → result ≡ false
         → NoPrefixFitsBetween (W.searching planned.now) f from (from + count) }
 {
     let mut some = false;
@@ -98,7 +99,7 @@ fn first_fitting<W: SearchContext>(
     requires some { 0 < prefix.now.len }
     requires room { 0 < count
         → from + count + prefix.now.len ≤ units (W.searching planned.now).text + 1 }
-    ensures { IsFirstPrefixFit (W.searching planned.now) prefix.now from (from + count) result }
+    ensures { IsFirstPrefixFitInRange (W.searching planned.now) prefix.now from (from + count) result }
 {
     let mut i = 0;
     'places: while i < count {
@@ -119,7 +120,7 @@ fn first_in_part<W: SearchContext>(
     from: usize,
 ) -> Option<usize>
     requires room { from + PART + probed.prefix.now.len ≤ units (W.searching planned.now).text }
-    ensures { IsFirstPrefixFit (W.searching planned.now) probed.entry.prefix.now from (from + PART) result }
+    ensures { IsFirstPrefixFitInRange (W.searching planned.now) probed.entry.prefix.now from (from + PART) result }
 {
     let probes = probed.probes;
     if some_pass(planned, probes, from, PART) {
@@ -138,7 +139,7 @@ fn first_in_parts<W: SearchContext>(
     from: usize,
 ) -> Option<usize>
     requires room { from + BLOCK + probed.prefix.now.len ≤ units (W.searching planned.now).text }
-    ensures { IsFirstPrefixFit (W.searching planned.now) probed.entry.prefix.now from (from + BLOCK) result }
+    ensures { IsFirstPrefixFitInRange (W.searching planned.now) probed.entry.prefix.now from (from + BLOCK) result }
 {
     let mut behind = 0;
     'parts: while behind < BLOCK {
@@ -156,7 +157,7 @@ fn first_in_parts<W: SearchContext>(
 fn block_passes<W: SearchContext>(planned: &W, probes: &[MaskedUnitProbe; 4], from: usize) -> bool
     requires room { ProbesAreInRange probes.now (from + BLOCK) (units (W.searching planned.now).text) }
     requires inside { from + BLOCK ≤ units (W.searching planned.now).text }
-    ensures { (f : prefix.Prefix) → AreMaskedUnitProbes f probes.now → result ≡ false
+    ensures { (f : prefix.Prefix) → ProbesPassAllUnitsPrefixAllows f probes.now → result ≡ false
         → NoPrefixFitsBetween (W.searching planned.now) f from (from + BLOCK) }
 {
     let seldom = &probes[..SELDOM];
@@ -171,7 +172,7 @@ fn first_in_block<W: SearchContext>(
     from: usize,
 ) -> Option<usize>
     requires room { from + BLOCK + probed.prefix.now.len ≤ units (W.searching planned.now).text }
-    ensures { IsFirstPrefixFit (W.searching planned.now) probed.entry.prefix.now from (from + BLOCK) result }
+    ensures { IsFirstPrefixFitInRange (W.searching planned.now) probed.entry.prefix.now from (from + BLOCK) result }
 {
     if block_passes(planned, probed.probes, from) {
         first_in_parts(planned, probed, from)
@@ -197,8 +198,8 @@ pub(crate) fn next_by_bit_probes<W: SearchContext>(
     from: usize,
 ) -> Option<usize>
     requires at { IsBoundary (W.searching planned.now).text from }
-    requires ascii { AllowsOnlyAsciiFirst probed.prefix.now }
-    ensures { IsFirstPrefixMatch (W.searching planned.now) probed.entry.prefix.now from result }
+    requires ascii { PrefixAllowsOnlyAsciiFirst probed.prefix.now }
+    ensures { IsFirstBoundaryWherePrefixFits (W.searching planned.now) probed.entry.prefix.now from result }
 {
     let mut left = places_left(text_end(planned), from, probed.prefix.len);
     let mut at = from;

@@ -9,10 +9,12 @@ use Rattle.regex_meaning.specs.CodeUnitOffsets.{place_at}
 use Rattle.regex_meaning.specs.OutcomesWithStepTicks.{nearest_first}
 use Rattle.regex_meaning.specs.CompilationRelation.{Program, LoopFields, JustFail, Jump, Alt, EnterLoop, LoopAgain, ResetCaptureGroup, Loop1CharBody}
 use Rattle.regex_meaning.specs.CompilationRelation.{BeginCaptureGroup, EndCaptureGroup}
-use Rattle.regress_machine.specs.Machine.{LoopData, State, Thread, running, waiting, goes, scans, state_at_ip, state_at_next_ip, go_if, with_some, only_if, first_runs_others_wait}
-use Rattle.regress_machine.specs.Machine.{iterate_or_leave_loop, next_iteration_unless_empty, loop_repeated, test_of, scan, act_on, act, range_swapped_if_leftwards, go}
+use Rattle.regress_machine.specs.Machine.{LoopData, State, Thread, running, waiting, goes, scans, state_with_ip, state_at_next_ip, go_if, with_some, only_if}
+use Rattle.regress_machine.specs.Machine.{first_running_and_others_waiting}
+use Rattle.regress_machine.specs.Machine.{iterate_or_leave_at_loop_head, effect_at_iteration_end, loop_again_effect, test_of, scan, act_on, act}
+use Rattle.regress_machine.specs.Machine.{range_swapped_if_leftwards, go}
 use Rattle.regress_simulation.specs.ThreadSimulation.{Simulates, FindsNothing}
-use Rattle.regress_simulation.specs.CharLoopExitStates.{most_first, fewest_first}
+use Rattle.regress_simulation.specs.CharLoopExitStatesByPreference.{most_first, fewest_first}
 use Rattle.regress_simulation.proofs.Rows.{both-ways, first-way, second-way, no-way, only-way, only-way-excluded, dead-end}
 use Rattle.regress_simulation.proofs.Loops.{only-simulates, some-simulates, again, leave, head-greedy, head-lazy, head-again, head-leave, head-dead}
 use Rattle.regress_simulation.proofs.Runs.{run-turn}
@@ -29,27 +31,27 @@ module _ (program : Program) (text : Text) (d : Direction) (s : State) where
   arm-fail exact here = dead-end program text d exact s (ap (λ i. act_on program text d i s) here)
 
   pub arm-jump : (exact : Bool) (target : ℕ) → slice_get program.insns s.ip ≡ Some (Jump target)
-      → Simulates program text exact d 1 (running (state_at_ip target s) ∷ []) (running s ∷ [])
-  arm-jump exact target here = only-way program text d s (state_at_ip target s) (ap (λ i. act_on program text d i s) here) exact
+      → Simulates program text exact d 1 (running (state_with_ip target s) ∷ []) (running s ∷ [])
+  arm-jump exact target here = only-way program text d s (state_with_ip target s) (ap (λ i. act_on program text d i s) here) exact
 
   -- ---- Alternatives
 
   module _ (secondary : ℕ) (here : slice_get program.insns s.ip ≡ Some (Alt secondary)) where
-    alt-turn : act program text d s ≡ goes (first_runs_others_wait (state_at_next_ip s ∷ state_at_ip secondary s ∷ []))
+    alt-turn : act program text d s ≡ goes (first_running_and_others_waiting (state_at_next_ip s ∷ state_with_ip secondary s ∷ []))
     alt-turn = ap (λ i. act_on program text d i s) here
 
-    pub alt-both : (exact : Bool) → Simulates program text exact d 1 (running (state_at_next_ip s) ∷ waiting (state_at_ip secondary s) ∷ []) (running s ∷ [])
-    alt-both exact = both-ways program text d s (state_at_next_ip s) (state_at_ip secondary s) alt-turn exact
+    pub alt-both : (exact : Bool) → Simulates program text exact d 1 (running (state_at_next_ip s) ∷ waiting (state_with_ip secondary s) ∷ []) (running s ∷ [])
+    alt-both exact = both-ways program text d s (state_at_next_ip s) (state_with_ip secondary s) alt-turn exact
 
-    pub alt-here : FindsNothing program text d (running (state_at_ip secondary s)) → Simulates program text false d 1 (running (state_at_next_ip s) ∷ []) (running s ∷ [])
-    alt-here none = first-way program text d s (state_at_next_ip s) (state_at_ip secondary s) alt-turn none
+    pub alt-here : FindsNothing program text d (running (state_with_ip secondary s)) → Simulates program text false d 1 (running (state_at_next_ip s) ∷ []) (running s ∷ [])
+    alt-here none = first-way program text d s (state_at_next_ip s) (state_with_ip secondary s) alt-turn none
 
-    pub alt-there : FindsNothing program text d (running (state_at_next_ip s)) → Simulates program text false d 1 (running (state_at_ip secondary s) ∷ []) (running s ∷ [])
-    alt-there none = second-way program text d s (state_at_next_ip s) (state_at_ip secondary s) alt-turn none
+    pub alt-there : FindsNothing program text d (running (state_at_next_ip s)) → Simulates program text false d 1 (running (state_with_ip secondary s) ∷ []) (running s ∷ [])
+    alt-there none = second-way program text d s (state_at_next_ip s) (state_with_ip secondary s) alt-turn none
 
-    pub alt-none : FindsNothing program text d (running (state_at_next_ip s)) → FindsNothing program text d (running (state_at_ip secondary s))
+    pub alt-none : FindsNothing program text d (running (state_at_next_ip s)) → FindsNothing program text d (running (state_with_ip secondary s))
         → Simulates program text false d 1 [] (running s ∷ [])
-    alt-none here_none there_none = no-way program text d s (state_at_next_ip s) (state_at_ip secondary s) alt-turn here_none there_none
+    alt-none here_none there_none = no-way program text d s (state_at_next_ip s) (state_with_ip secondary s) alt-turn here_none there_none
 
   -- ---- Groups
 
@@ -79,7 +81,7 @@ module _ (program : Program) (text : Text) (d : Direction) (s : State) where
   -- ---- The head of a loop
 
   -- where it begins iteration k
-  module _ (f : LoopFields) (begin k : ℕ) (is : act program text d s ≡ iterate_or_leave_loop f begin k s) where
+  module _ (f : LoopFields) (begin k : ℕ) (is : act program text d s ≡ iterate_or_leave_at_loop_head f begin k s) where
     abbrev on : State
     on = again f begin k s
 
@@ -113,8 +115,8 @@ module _ (program : Program) (text : Text) (d : Direction) (s : State) where
           with-slot exact 1 (running out ∷ waiting on ∷ []) (λ inside. both-ways program text d s out on (is ∙ head-lazy f begin k s inside more enough lazy) exact)
 
       -- by either preference
-      by-preference : (us : List Thread) → (act program text d s ≡ goes (first_runs_others_wait (on ∷ out ∷ [])) → Simulates program text false d 1 us (running s ∷ []))
-          → (act program text d s ≡ goes (first_runs_others_wait (out ∷ on ∷ [])) → Simulates program text false d 1 us (running s ∷ [])) → Simulates program text false d 1 us (running s ∷ [])
+      by-preference : (us : List Thread) → (act program text d s ≡ goes (first_running_and_others_waiting (on ∷ out ∷ [])) → Simulates program text false d 1 us (running s ∷ []))
+          → (act program text d s ≡ goes (first_running_and_others_waiting (out ∷ on ∷ [])) → Simulates program text false d 1 us (running s ∷ [])) → Simulates program text false d 1 us (running s ∷ [])
       by-preference us first second = with-slot false 1 us (λ inside. by inside f.greedy refl)
         where
           by : f.loop_id < length s.loops → (b : Bool) → f.greedy ≡ b → Simulates program text false d 1 us (running s ∷ [])
@@ -134,8 +136,8 @@ module _ (program : Program) (text : Text) (d : Direction) (s : State) where
   pub arm-again : (exact : Bool) (n : ℕ) (us : List Thread) (begin : ℕ) (f : LoopFields) → slice_get program.insns s.ip ≡ Some (LoopAgain begin) → slice_get program.insns begin ≡ Some (EnterLoop f)
       → ((e : LoopData) → slice_get s.loops f.loop_id ≡ Some e → e.iters < f.max_iters → Simulates program text exact d n us (running s ∷ [])) → Simulates program text exact d n us (running s ∷ [])
   arm-again exact n us begin f here there h =
-      some-simulates program text d exact n us s (slice_get s.loops f.loop_id) (λ e. next_iteration_unless_empty f begin e s)
-      (ap (λ i. act_on program text d i s) here ∙ ap (λ i. loop_repeated i begin s) there)
+      some-simulates program text d exact n us s (slice_get s.loops f.loop_id) (λ e. effect_at_iteration_end f begin e s)
+      (ap (λ i. act_on program text d i s) here ∙ ap (λ i. loop_again_effect i begin s) there)
       (λ e known is. only-simulates program text d exact n us s (nat_lt e.iters f.max_iters) _ is (λ before there. h e known (ltb-true e.iters f.max_iters before)))
 
   -- ---- A loop over one character
@@ -157,11 +159,11 @@ module _ (program : Program) (text : Text) (d : Direction) (s : State) where
     tries = min most_iters (prefix_len test (nearest_first text d place) + 1)
 
     pub greedy-turn : slice_get program.insns s.ip ≡ Some (Loop1CharBody least most_iters true)
-        → act program text d s ≡ scans tries (first_runs_others_wait (most_first text d place s least total))
+        → act program text d s ≡ scans tries (first_running_and_others_waiting (most_first text d place s least total))
     greedy-turn here =
-        run-turn program text d place s least most_iters true test here one at ∙ ap (λ n. scans tries (first_runs_others_wait (most_first text d place s least n))) (sym all)
+        run-turn program text d place s least most_iters true test here one at ∙ ap (λ n. scans tries (first_running_and_others_waiting (most_first text d place s least n))) (sym all)
 
     pub lazy-turn : slice_get program.insns s.ip ≡ Some (Loop1CharBody least most_iters false)
-        → act program text d s ≡ scans tries (first_runs_others_wait (fewest_first text d place s least total))
+        → act program text d s ≡ scans tries (first_running_and_others_waiting (fewest_first text d place s least total))
     lazy-turn here =
-        run-turn program text d place s least most_iters false test here one at ∙ ap (λ n. scans tries (first_runs_others_wait (fewest_first text d place s least n))) (sym all)
+        run-turn program text d place s least most_iters false test here one at ∙ ap (λ n. scans tries (first_running_and_others_waiting (fewest_first text d place s least n))) (sym all)

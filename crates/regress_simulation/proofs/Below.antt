@@ -5,8 +5,8 @@ use Rattle.std.specs.Prelude.{if◌then◌else◌, nat_lt, nat_le}
 use Rattle.regex_meaning.specs.Text.{Text, Direction}
 use Rattle.regex_meaning.specs.CompilationRelation.{Program, LoopFields}
 use Rattle.regex_meaning.proofs.Each.{Each, Each-append, Each-when}
-use Rattle.regress_machine.specs.Machine.{State, Thread, running, waiting, Next, goes, scans, ends, asks, stuck, Found, result_without_threads, state_at_ip, with_some}
-use Rattle.regress_machine.specs.Machine.{only_if, go, go_if, first_runs_others_wait, preferring, iterate_or_leave_loop, act, after_lookaround, search}
+use Rattle.regress_machine.specs.Machine.{State, Thread, running, waiting, Next, goes, scans, ends, asks, stuck, Found, result_without_threads, state_with_ip, with_some}
+use Rattle.regress_machine.specs.Machine.{only_if, go, go_if, first_running_and_others_waiting, preferring, iterate_or_leave_at_loop_head, act, after_lookaround, search}
 use Rattle.regress_machine.proofs.Search.{Later, never_stuck, waits-later, goes-later, scans-later, asked-inner}
 use Rattle.regress_simulation.specs.ThreadSimulation.{Within, FindsNothing}
 
@@ -112,7 +112,7 @@ module _ (program : Program) (text : Text) (n : ℕ) (d : Direction) where
   nothing-waiting [] h = nothing-here
   nothing-waiting (s ∷ ss) h = nothing-more (waiting s) (map waiting ss) (nothing-waits s h.0) (nothing-waiting ss h.1)
 
-  pub nothing-in_turn : (ss : List State) → EachNothing ss → DropAll (first_runs_others_wait ss)
+  pub nothing-in_turn : (ss : List State) → EachNothing ss → DropAll (first_running_and_others_waiting ss)
   nothing-in_turn [] h = nothing-here
   nothing-in_turn (s ∷ ss) h = nothing-more (running s) (map waiting ss) h.0 (nothing-waiting ss h.1)
 
@@ -122,13 +122,13 @@ module _ (program : Program) (text : Text) (n : ℕ) (d : Direction) where
 
   pub nothing-loop : (f : LoopFields) (begin k : ℕ) (s : State)
       → (nat_lt k f.max_iters ≡ true → Drops (running (record s { ip = begin + 1; loops = slice_set s.loops f.loop_id (record { iters = k; entry = s.pos }) })))
-      → (nat_le f.min_iters k ≡ true → Drops (running (state_at_ip f.exit s))) → NothingNext (iterate_or_leave_loop f begin k s)
+      → (nat_le f.min_iters k ≡ true → Drops (running (state_with_ip f.exit s))) → NothingNext (iterate_or_leave_at_loop_head f begin k s)
   nothing-loop f begin k s again leave =
       let more = record s { ip = begin + 1; loops = slice_set s.loops f.loop_id (record { iters = k; entry = s.pos }) } in
-      let out = state_at_ip f.exit s in
+      let out = state_with_ip f.exit s in
       let mores = if nat_lt k f.max_iters then more ∷ [] else [] in
       let outs = if nat_le f.min_iters k then out ∷ [] else [] in
-      nothing-only (nat_lt f.loop_id (length s.loops)) (goes (first_runs_others_wait (preferring f.greedy mores outs)))
+      nothing-only (nat_lt f.loop_id (length s.loops)) (goes (first_running_and_others_waiting (preferring f.greedy mores outs)))
       (nothing-in_turn (preferring f.greedy mores outs)
       (nothing-preferring f.greedy mores outs
       (Each-when (λ s. Drops (running s)) (nat_lt k f.max_iters) more again)

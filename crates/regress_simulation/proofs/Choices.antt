@@ -4,7 +4,8 @@ use Rattle.std.proofs.Common.{slice_get}
 use mathlib.Core.Logic.{inl, inr}
 use Rattle.regex_meaning.specs.Text.{Text, Direction}
 use Rattle.regex_meaning.specs.CompilationRelation.{Program, Alt}
-use Rattle.regress_machine.specs.Machine.{State, Thread, running, waiting, goes, first_runs_others_wait, Found, with_steps, search_after_effect, act, act_on, search}
+use Rattle.regress_machine.specs.Machine.{State, Thread, running, waiting, goes, first_running_and_others_waiting, Found, with_steps, search_after_effect, act, act_on}
+use Rattle.regress_machine.specs.Machine.{search}
 use Rattle.regress_machine.proofs.Search.{search_more}
 use Rattle.regress_simulation.specs.LiveAlternationArms.{IsArmKeptIfLive, AreArms}
 use Rattle.regress_simulation.specs.ThreadSimulation.{Within, Simulates, FindsNothing}
@@ -49,7 +50,7 @@ module _ (program : Program) (text : Text) (d : Direction) where
     wait arms = map waiting (map at arms)
 
     abbrev run : List ℕ → List Thread
-    run arms = first_runs_others_wait (map at arms)
+    run arms = first_running_and_others_waiting (map at arms)
 
     branches : (ip other : ℕ) → slice_get program.insns ip ≡ Some (Alt other) → act program text d (at ip) ≡ goes (running (at (ip + 1)) ∷ waiting (at other) ∷ [])
     branches ip other is = ap (λ o. act_on program text d o (at ip)) is

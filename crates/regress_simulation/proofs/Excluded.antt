@@ -13,8 +13,9 @@ use Rattle.regex_meaning.specs.CompilationRelation.{Program, Insn, Goal, JustFai
 use Rattle.regex_meaning.specs.CompilationRelation.{MatchAnyExceptLineTerminator, Alt, Jump, EnterLoop, LoopAgain, ResetCaptureGroup, Loop1CharBody}
 use Rattle.regex_meaning.specs.CompilationRelation.{BeginCaptureGroup, EndCaptureGroup, BackRef, Lookahead, Lookbehind}
 use Rattle.regex_meaning.proofs.TextLemmas.{offset-place_at}
-use Rattle.regress_machine.specs.Machine.{LoopData, State, running, waiting, Next, goes, asks, state_at_ip, state_at_next_ip, with_some, go, go_if, iterate_or_leave_loop}
-use Rattle.regress_machine.specs.Machine.{next_iteration_unless_empty, loop_repeated, test_of, has_bytes, on_to, read_one, read_bytes, stay_if, run_states, scan, act_on}
+use Rattle.regress_machine.specs.Machine.{LoopData, State, running, waiting, Next, goes, asks, state_with_ip, state_at_next_ip, with_some, go, go_if}
+use Rattle.regress_machine.specs.Machine.{iterate_or_leave_at_loop_head}
+use Rattle.regress_machine.specs.Machine.{effect_at_iteration_end, loop_again_effect, test_of, has_bytes, on_to, read_one, read_bytes, stay_if, run_states, scan, act_on}
 use Rattle.regress_machine.specs.Machine.{act, after_lookaround, range_swapped_if_leftwards}
 use Rattle.regress_machine.proofs.Beside.{Beside, nothing_left, one_more, beside, moved-zero}
 use Rattle.regress_simulation.specs.ThreadSimulation.{FindsNothing}
@@ -82,18 +83,18 @@ module _ (program : Program) (text : Text) (is : HasRisingPlaceOffsets text) (ma
     nothing-bytes bytes bar =
         subst (λ b. NoNext (go_if b (record s { ip = s.ip + 1; pos = s.pos + length bytes }))) (sym bar) (nothing-goes program text n rightwards)
 
-    nothing-again : (i : Option Insn) (begin : ℕ) → may_repeat program text s.pos may i begin ≡ false → NoNext (loop_repeated i begin s)
+    nothing-again : (i : Option Insn) (begin : ℕ) → may_repeat program text s.pos may i begin ≡ false → NoNext (loop_again_effect i begin s)
     nothing-again (Some (EnterLoop f)) begin bar =
-        nothing-some program text n rightwards (slice_get s.loops f.loop_id) (λ d. next_iteration_unless_empty f begin d s)
+        nothing-some program text n rightwards (slice_get s.loops f.loop_id) (λ d. effect_at_iteration_end f begin d s)
         (λ d e. nothing-only program text n rightwards (nat_lt d.iters f.max_iters) _ (by d (d.entry == s.pos && nat_lt f.min_iters (d.iters + 1))))
       where
-        by : (d : LoopData) (b : Bool) → NoNext (if b then goes [] else iterate_or_leave_loop f begin (d.iters + 1) s)
+        by : (d : LoopData) (b : Bool) → NoNext (if b then goes [] else iterate_or_leave_at_loop_head f begin (d.iters + 1) s)
         by d true = nothing-goes program text n rightwards
         by d false =
             let more = record s { ip = begin + 1; loops = slice_set s.loops f.loop_id (record { iters = d.iters + 1; entry = s.pos }) } in
             nothing-loop program text n rightwards f begin (d.iters + 1) s
             (λ h. known more refl (or-false-left (may (begin + 1)) (may f.exit) bar))
-            (λ h. known (state_at_ip f.exit s) refl (or-false-right (may (begin + 1)) (may f.exit) bar))
+            (λ h. known (state_with_ip f.exit s) refl (or-false-right (may (begin + 1)) (may f.exit) bar))
     nothing-again _ begin bar = tt
 
     -- ---- Lookarounds
@@ -110,13 +111,13 @@ module _ (program : Program) (text : Text) (is : HasRisingPlaceOffsets text) (ma
         (subst (λ b. DropAll program text n rightwards (after_lookaround b w None)) (sym bar) (nothing-here program text n rightwards))
 
     nothing-ahead : (negate : Bool) (continuation : ℕ) → (may continuation && (negate || may (s.ip + 1))) ≡ false
-        → NoNext (asks rightwards negate (state_at_next_ip s) (state_at_ip continuation s))
+        → NoNext (asks rightwards negate (state_at_next_ip s) (state_with_ip continuation s))
     nothing-ahead negate continuation bar = by (fails (may continuation) (negate || may (s.ip + 1)) bar)
       where
-        by : Fails (may continuation) (negate || may (s.ip + 1)) → NoNext (asks rightwards negate (state_at_next_ip s) (state_at_ip continuation s))
-        by (first out) = λ k g e few. nothing-resumed negate (state_at_ip continuation s) g.end refl out
+        by : Fails (may continuation) (negate || may (s.ip + 1)) → NoNext (asks rightwards negate (state_at_next_ip s) (state_with_ip continuation s))
+        by (first out) = λ k g e few. nothing-resumed negate (state_with_ip continuation s) g.end refl out
         by (second out inside) = λ k g e few.
-            nothing-failed negate (state_at_ip continuation s) g.end (or-false-left negate (may (s.ip + 1)) inside)
+            nothing-failed negate (state_with_ip continuation s) g.end (or-false-left negate (may (s.ip + 1)) inside)
             (nothing-ends program text n rightwards k (running (state_at_next_ip s)) g
             (known (state_at_next_ip s) refl (or-false-right negate (may (s.ip + 1)) inside)) e few)
 
@@ -201,16 +202,16 @@ module _ (program : Program) (text : Text) (is : HasRisingPlaceOffsets text) (ma
     nothing-insn (Some MatchAny) bar = nothing-read (test_of program (Some MatchAny)) bar
     nothing-insn (Some MatchAnyExceptLineTerminator) bar = nothing-read (test_of program (Some MatchAnyExceptLineTerminator)) bar
     nothing-insn (Some (Alt secondary)) bar =
-        nothing-more program text n rightwards (running (state_at_next_ip s)) (waiting (state_at_ip secondary s) ∷ [])
+        nothing-more program text n rightwards (running (state_at_next_ip s)) (waiting (state_with_ip secondary s) ∷ [])
         (known (state_at_next_ip s) refl (or-false-left (may (s.ip + 1)) (may secondary) bar))
-        (nothing-one program text n rightwards (waiting (state_at_ip secondary s)) (nothing-waits program text n rightwards (state_at_ip secondary s)
-        (known (state_at_ip secondary s) refl (or-false-right (may (s.ip + 1)) (may secondary) bar))))
-    nothing-insn (Some (Jump target)) bar = nothing-go program text n rightwards (state_at_ip target s) (known (state_at_ip target s) refl bar)
+        (nothing-one program text n rightwards (waiting (state_with_ip secondary s)) (nothing-waits program text n rightwards (state_with_ip secondary s)
+        (known (state_with_ip secondary s) refl (or-false-right (may (s.ip + 1)) (may secondary) bar))))
+    nothing-insn (Some (Jump target)) bar = nothing-go program text n rightwards (state_with_ip target s) (known (state_with_ip target s) refl bar)
     nothing-insn (Some (EnterLoop f)) bar =
         nothing-loop program text n rightwards f s.ip 0 s
         (λ h. known (record s { ip = s.ip + 1; loops = slice_set s.loops f.loop_id (record { iters = 0; entry = s.pos }) }) refl
         (or-false-left (may (s.ip + 1)) (f.min_iters == 0 && may f.exit) bar))
-        (λ h. known (state_at_ip f.exit s) refl
+        (λ h. known (state_with_ip f.exit s) refl
         (and-false-then (f.min_iters == 0) (may f.exit) (or-false-right (may (s.ip + 1)) (f.min_iters == 0 && may f.exit) bar)
         (let le = leb-true f.min_iters 0 h in eq-eqb f.min_iters 0 (omega (arith, le)))))
     nothing-insn (Some (LoopAgain begin)) bar = nothing-again (slice_get program.insns begin) begin bar
@@ -233,7 +234,7 @@ module _ (program : Program) (text : Text) (is : HasRisingPlaceOffsets text) (ma
     nothing-insn (Some (BackRef group icase)) bar = cc
     nothing-insn (Some (Lookahead negate start_group end_group continuation)) bar = nothing-ahead negate continuation bar
     nothing-insn (Some (Lookbehind negate start_group end_group continuation)) bar =
-        λ k g e few. nothing-resumed negate (state_at_ip continuation s) g.end refl bar
+        λ k g e few. nothing-resumed negate (state_with_ip continuation s) g.end refl bar
     nothing-insn (Some _) bar = nothing-stay _ bar
 
     pub insn-nothing : may_at program text s.pos may (slice_get program.insns s.ip) s.ip ≡ false → NothingBelow program text (suc n) rightwards 1 (running s ∷ [])

@@ -10,9 +10,10 @@ use Rattle.regex_meaning.specs.Text.{Text, Direction}
 use Rattle.regex_meaning.specs.CompilationRelation.{Program, LoopFields, Insn, Jump, Alt, EnterLoop, LoopAgain, ResetCaptureGroup, BeginCaptureGroup}
 use Rattle.regex_meaning.specs.CompilationRelation.{EndCaptureGroup}
 use Rattle.regex_meaning.proofs.Booleans.{and-left, and-right}
-use Rattle.regress_machine.specs.Machine.{LoopData, State, Thread, running, waiting, state_at_ip, with_some, only_if, go, range_swapped_if_leftwards, iterate_or_leave_loop, act_on, act}
+use Rattle.regress_machine.specs.Machine.{LoopData, State, Thread, running, waiting, state_with_ip, with_some, only_if, go, range_swapped_if_leftwards}
+use Rattle.regress_machine.specs.Machine.{iterate_or_leave_at_loop_head, act_on, act}
 use Rattle.regress_machine.proofs.Frames.{slice_get-set_same, slice_get-set_other}
-use Rattle.regress_simulation.specs.LoopsReadingNothing.{ReadsNothingAndLeadsOnward, ReadsNothingUntil, LastRequiredIterationReplacesOthers}
+use Rattle.regress_simulation.specs.LoopsReadingNothing.{ReadsNothingAndLeadsOnward, ReadsNothingUntil, LastRequiredEmptyIterationReplacesOthers}
 use Rattle.regress_simulation.specs.ThreadSimulation.{Simulates}
 use Rattle.regress_simulation.proofs.Simulates.{simulates-same, simulates-then, simulates-fewer, simulates-goes, simulates-waits, simulates-both}
 use Rattle.regress_simulation.proofs.Simulates.{simulates-twice}
@@ -107,7 +108,7 @@ module _ {program : Program} {stop : ℕ} where
   effects (closes ip id is rest) e = effects rest (at_one id then_close e)
 
 module _ (d : Direction) (at : ℕ) (x y : State) (e : ℕ → Effect) (came : Came d at x e y) where
-  came-on : (ip : ℕ) → Came d at x e (state_at_ip ip y)
+  came-on : (ip : ℕ) → Came d at x e (state_with_ip ip y)
   came-on ip = record { groups = came.groups; starts = came.starts; pos = came.pos; loops = came.loops; groups_length = came.groups_length; starts_length = came.starts_length }
 
   -- one group's range is another one
@@ -233,7 +234,7 @@ module _ (program : Program) (text : Text) (d : Direction) where
     unfolding effects
     forward stops x y e here came us h = h y here came
     forward (jumps ip to is rest) x y e here came us h =
-        one-on y (state_at_ip to y) us (turn-at y ip (Jump to) here is) (forward rest x (state_at_ip to y) e refl (came-on d at x y e came to) us h)
+        one-on y (state_with_ip to y) us (turn-at y ip (Jump to) here is) (forward rest x (state_with_ip to y) e refl (came-on d at x y e came to) us h)
     forward (resets ip id is rest) x y e here came us h =
         only-simulates program text d false 0 us y (nat_lt id (length y.groups)) (go (unset_at id y)) (turn-at y ip (ResetCaptureGroup id) here is)
         (λ inside turn. one-on y (unset_at id y) us turn
@@ -277,8 +278,8 @@ module _ (program : Program) (text : Text) (d : Direction) where
       alike stops y z e here there a b same =
           subst (λ z. Onto (running y ∷ []) z) (same-behind e y z same (here ∙ sym there) a b) (simulates-same program text false d (running y ∷ []))
       alike (jumps ip to is rest) y z e here there a b same =
-          both-on y z (state_at_ip to y) (state_at_ip to z) (turn-at y ip (Jump to) here is) (turn-at z ip (Jump to) there is)
-          (alike rest (state_at_ip to y) (state_at_ip to z) e refl refl (came-on d at w y e a to) (came-on d at x z e b to) same)
+          both-on y z (state_with_ip to y) (state_with_ip to z) (turn-at y ip (Jump to) here is) (turn-at z ip (Jump to) there is)
+          (alike rest (state_with_ip to y) (state_with_ip to z) e refl refl (came-on d at w y e a to) (came-on d at x z e b to) same)
       alike (resets ip id is rest) y z e here there a b same =
           only-simulates program text d false 0 (running y ∷ []) z (nat_lt id (length z.groups)) (go (unset_at id z)) (turn-at z ip (ResetCaptureGroup id) there is)
           (λ inside turn.
@@ -325,19 +326,19 @@ data Ways (program : Program) (stop : ℕ) : (ip : ℕ) → Type 0 where
 
 module _ (program : Program) (text : Text) (d : Direction) (stop : ℕ) (us : List Thread) (z : State) where
   abbrev IntoFrom : ℕ → Type 0
-  IntoFrom ip = Simulates program text false d 0 us (running (state_at_ip ip z) ∷ [])
+  IntoFrom ip = Simulates program text false d 0 us (running (state_with_ip ip z) ∷ [])
 
   silent : {ip : ℕ} → Ways program stop ip → IntoFrom stop → IntoFrom ip
   silent arrives on = on
-  silent (leads ip to is rest) on = one-on program text d stop z.pos (state_at_ip ip z) (state_at_ip to z) us (ap (λ i. act_on program text d i (state_at_ip ip z)) is) (silent rest on)
+  silent (leads ip to is rest) on = one-on program text d stop z.pos (state_with_ip ip z) (state_with_ip to z) us (ap (λ i. act_on program text d i (state_with_ip ip z)) is) (silent rest on)
   silent (forks ip other is next rest) on =
-      let after = state_at_ip other z in
+      let after = state_with_ip other z in
       let waits = simulates-fewer program text d 0 (1 + 0) us (waiting after ∷ []) (omega arith)
       (simulates-then program text false d 1 0 (waiting after ∷ []) (running after ∷ []) us (simulates-waits program text false d after) (silent rest on)) in
-      simulates-fewer program text d 0 (1 + 0) us (running (state_at_ip ip z) ∷ []) (omega arith)
-      (simulates-then program text false d 1 0 (running (state_at_ip ip z) ∷ []) (running (state_at_ip (ip + 1) z) ∷ waiting after ∷ []) us
-      (simulates-goes program text false d (state_at_ip ip z) (running (state_at_ip (ip + 1) z) ∷ waiting after ∷ []) (ap (λ i. act_on program text d i (state_at_ip ip z)) is))
-      (simulates-twice program text d us (running (state_at_ip (ip + 1) z)) (waiting after) (silent next on) waits))
+      simulates-fewer program text d 0 (1 + 0) us (running (state_with_ip ip z) ∷ []) (omega arith)
+      (simulates-then program text false d 1 0 (running (state_with_ip ip z) ∷ []) (running (state_with_ip (ip + 1) z) ∷ waiting after ∷ []) us
+      (simulates-goes program text false d (state_with_ip ip z) (running (state_with_ip (ip + 1) z) ∷ waiting after ∷ []) (ap (λ i. act_on program text d i (state_with_ip ip z)) is))
+      (simulates-twice program text d us (running (state_with_ip (ip + 1) z)) (waiting after) (silent next on) waits))
 
 -- ---- Iterations that have to be made
 
@@ -353,9 +354,9 @@ module _ (program : Program) (text : Text) (d : Direction) (begin stop : ℕ) (f
       let e_is : e ≡ record { iters = k; entry = s.pos } =
       set-known s.loops f.loop_id (record { iters = k; entry = s.pos }) e (sym (ap (λ ls. slice_get ls f.loop_id) loops) ∙ known) in
       let iters : e.iters ≡ k = ap (λ (e : LoopData). e.iters) e_is in
-      let turn : act program text d z ≡ iterate_or_leave_loop f begin (k + 1) z =
+      let turn : act program text d z ≡ iterate_or_leave_at_loop_head f begin (k + 1) z =
       again-counts program text d z f begin e (ap (slice_get program.insns) here ∙ goes_back) enters known before (λ same. omega (arith, iters, few, least))
-      ∙ ap (λ n. iterate_or_leave_loop f begin (n + 1) z) iters in
+      ∙ ap (λ n. iterate_or_leave_at_loop_head f begin (n + 1) z) iters in
       simulates-fewer program text d 0 (1 + 0) us (running z ∷ []) (omega arith)
       (simulates-then program text false d 1 0 (running z ∷ []) (running (again f begin (k + 1) z) ∷ []) us
       (loop-again program text d z f begin (k + 1) turn false (omega (arith, few, least, fits)) (omega (arith, few, least))) on))
@@ -407,7 +408,7 @@ module _ (program : Program) (text : Text) (d : Direction) (begin stop : ℕ) (f
     silent-will-do zero k s at = last-will-do k s at
     silent-will-do (suc n) k s at =
         let us = running (again f begin last s) ∷ [] in
-        let z = state_at_ip stop (again f begin k s) in
+        let z = state_with_ip stop (again f begin k s) in
         let twice = set-twice s.loops f.loop_id (record { iters = k; entry = s.pos }) (record { iters = last; entry = s.pos }) in
         silent program text d stop us z ways
         (next-begins k s z (omega (arith, at)) refl refl us
@@ -443,7 +444,7 @@ module _ (program : Program) (from stop : ℕ) (inside : stop < length program.i
   ways-on ip insn there (inr other) rest less =
       forks ip other.0 (there ∙ ap Some other.1) (rest (ip + 1) (omega arith) (omega (arith, less))) (rest other.0 other.2 other.3)
 
-pub last-iteration-will-do : LastRequiredIterationReplacesOthers
+pub last-iteration-will-do : LastRequiredEmptyIterationReplacesOthers
 last-iteration-will-do program text d begin f idle fits k few s = by idle.forks idle.reads_nothing
   where
     inside : idle.stop < length program.insns

@@ -14,11 +14,11 @@ use Rattle.regex_meaning.specs.CompilationRelation.{Program, Insn, Loop1CharBody
 use Rattle.regex_meaning.proofs.Each.{Each-map}
 use Rattle.regex_meaning.proofs.TextLemmas.{offset-place_at, place_at-offset}
 use Rattle.regress_machine.specs.Machine.{State, running, Next, with_some, go_if, scan, act, act_on, test_of, on_to, read_one, run_states}
-use Rattle.regress_machine.specs.SearchResults.{state_before_first_insn}
+use Rattle.regress_machine.specs.SearchFindsFirstOutcomeAtPlace.{state_before_first_insn}
 use Rattle.regress_simulation.specs.ThreadSimulation.{FindsNothing}
 use Rattle.regress_simulation.specs.FailingInsnsAtOffset.{may_at}
 use Rattle.regress_simulation.specs.FirstSetTables.{is_character_in_encoding, HasUnitsForTables, first_unit_key, unit_key_at}
-use Rattle.regress_simulation.specs.CharLoopExitStates.{behind, NothingAfterChars}
+use Rattle.regress_simulation.specs.CharLoopExitStatesByPreference.{behind, NothingAfterChars}
 use Rattle.regress_simulation.specs.RequiredPrefixes.{Allowed, unit_is_allowed, IsPrefix, RequiredPrefixesExclude}
 use Rattle.regress_simulation.proofs.Below.{NothingBelow, NothingNext, EachNothing, turn-nothing, nothing-go, nothing-goes, nothing-in_turn}
 use Rattle.regress_simulation.proofs.Below.{nothing-below-none, finds-nothing}

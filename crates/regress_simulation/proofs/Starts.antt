@@ -7,11 +7,11 @@ use Rattle.regex_meaning.specs.CodeUnitOffsets.{offset}
 use Rattle.regex_meaning.specs.FirstAndAllMatches.{Found as Match, match_at}
 use Rattle.regex_meaning.specs.CompilationRelation.{Program}
 use Rattle.regress_machine.specs.Machine.{running}
-use Rattle.regress_machine.specs.SearchResults.{TreeProgramCanSearchText, state_before_first_insn, end_of, turns_at, match_in_offsets}
+use Rattle.regress_machine.specs.SearchFindsFirstOutcomeAtPlace.{TreeProgramCanSearchText, state_before_first_insn, end_of, turns_at, match_in_offsets}
 use Rattle.regress_machine.proofs.Whole.{searches-find}
 use Rattle.regress_machine.proofs.Follows.{finds-match}
 use Rattle.regress_simulation.specs.ThreadSimulation.{FindsNothing}
-use Rattle.regress_simulation.specs.ExcludedMatchStarts.{FirstSetExcludesMatchStarts}
+use Rattle.regress_simulation.specs.MatchStartsExcludedByFirstSet.{FirstSetExcludesMatchStarts}
 use Rattle.regress_simulation.proofs.Simulates.{nothing-ends}
 use Rattle.regress_simulation.proofs.Tables.{covered-nothing}
 

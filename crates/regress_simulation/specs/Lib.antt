@@ -1,11 +1,11 @@
 pub mod ThreadSimulation
-pub mod StepsOfRemainingAndFinishedSearches
+pub mod ExecutorLoopInvariantAndSpentSteps
 pub mod FailingInsnsAtOffset
 pub mod FirstSetTables
-pub mod ExcludedMatchStarts
+pub mod MatchStartsExcludedByFirstSet
 pub mod RequiredPrefixes
-pub mod CharLoopExitStates
+pub mod CharLoopExitStatesByPreference
 pub mod LiveAlternationArms
 pub mod ForcedOneUnitLoopIterations
 pub mod LoopsReadingNothing
-pub mod EffectFreeLookarounds
+pub mod LookaroundContentsMatchingWithoutEffect

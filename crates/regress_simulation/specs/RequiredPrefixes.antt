@@ -7,7 +7,7 @@ use Rattle.regex_meaning.specs.FirstAndAllMatches.{match_at}
 use Rattle.regex_meaning.specs.CodeUnits.{Encoding}
 use Rattle.regex_meaning.specs.CompilationRelation.{Program}
 use Rattle.regress_machine.specs.Machine.{State, running}
-use Rattle.regress_machine.specs.SearchResults.{TreeProgramCanSearchText}
+use Rattle.regress_machine.specs.SearchFindsFirstOutcomeAtPlace.{TreeProgramCanSearchText}
 use Rattle.regress_simulation.specs.ThreadSimulation.{FindsNothing}
 use Rattle.regress_simulation.specs.FirstSetTables.{HasUnitsForTables, unit_key_at}
 

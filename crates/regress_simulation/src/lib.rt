@@ -6,14 +6,16 @@
 //! those of the machine.
 #![tactic(auto)]
 
-ghost use Rattle.regress_simulation.specs.{FailingInsnsAtOffset.{InsnsExcludedAtOffsetFindNothing}, LoopsReadingNothing.{LastRequiredIterationReplacesOthers}, RequiredPrefixes.{RequiredPrefixesExclude}};
-ghost use Rattle.regress_simulation.specs.{ThreadSimulation.{DroppingDeadThreadsKeepsEnd, SimulatingEndsAlike}, ExcludedMatchStarts.{FirstSetExcludesMatchStarts}};
-ghost use Rattle.regress_simulation.specs.FirstSetTables.{CoveredTablesExclude};
+ghost use Rattle.regress_simulation.specs.{FailingInsnsAtOffset.{InsnsExcludedAtOffsetFindNothing}, LoopsReadingNothing.{LastRequiredEmptyIterationReplacesOthers}};
+ghost use Rattle.regress_simulation.specs.RequiredPrefixes.{RequiredPrefixesExclude};
+ghost use Rattle.regress_simulation.specs.ThreadSimulation.{DroppingDeadThreadsKeepsEnd, SimulatingThreadsFindSameEnd};
+ghost use Rattle.regress_simulation.specs.MatchStartsExcludedByFirstSet.{FirstSetExcludesMatchStarts};
+ghost use Rattle.regress_simulation.specs.FirstSetTables.{StatesExcludedByTablesFindNothing};
 
 /// Threads that simulate those of a search find the same end, in no more steps. If steps are
 /// counted, they take exactly as many fewer as were spent.
-pub fn simulating_ends_alike()
-    ensures { SimulatingEndsAlike }
+pub fn simulating_threads_find_same_end()
+    ensures { SimulatingThreadsFindSameEnd }
 {}
 
 /// A thread that finds nothing may be dropped from a list of threads without changing the end.
@@ -30,7 +32,7 @@ pub fn closed_sets_exclude()
 /// A thread finds nothing if the table of its instruction excludes the code unit at its offset, or
 /// the end of the text. The tables only have to pass a check for each instruction.
 pub fn covered_tables_exclude()
-    ensures { CoveredTablesExclude }
+    ensures { StatesExcludedByTablesFindNothing }
 {}
 
 /// No match begins where the table of the first instruction excludes the code unit or the end.
@@ -40,7 +42,7 @@ pub fn covered_starts_exclude()
 
 /// If the body of a loop reads nothing, the last required iteration may replace any required one.
 pub fn last_iteration_suffices()
-    ensures { LastRequiredIterationReplacesOthers }
+    ensures { LastRequiredEmptyIterationReplacesOthers }
 {}
 
 /// No match begins where one of the next code units is not allowed by the required prefix.

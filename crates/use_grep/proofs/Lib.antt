@@ -1,4 +1,5 @@
 mod InParts
 mod Lines
+mod Near
 mod Parts
 mod Searched

@@ -2,17 +2,25 @@
 use Rattle.std.proofs.Common.{◌≡◌, ℕ, List, [], ◌∷◌, Bool, true, false, refl, ap, sym, subst, ◌∙◌, filter}
 use Rattle.std.specs.Prelude.{◌||◌, chars, is_some, slice_get, if◌then◌else◌}
 use Rattle.regex_meaning.specs.Tree.{Flags, Tree}
+use Rattle.regex_meaning.specs.FlagLettersAndEscaping.{flags_from_letters}
 use Rattle.regex_grammar.specs.Grammar.{Parses}
-use Rattle.regress_match.specs.ProgramTreesAndAnswers.{IsCompiledWith, unit_tree}
+use Rattle.regress_match.specs.ProgramTreesAndAnswers.{IsCompiledWith, tree_for_16_bit_units}
 use Rattle.regress_match.specs.declared.api.regex.Regex.{Regex}
+use Rattle.regress_match.proofs.FlagLemmas.{flags_by}
 use Rattle.regress_match.proofs.PatternLemmas.{searches-follow}
 use Rattle.regex_meaning.proofs.Each.{Each, Each-map}
-use Rattle.use_grep.specs.Selecting.{HasNoneInLines, IsLocal, IsSearchOf, framed, has_match, lines_of, searched}
+use Rattle.use_grep.specs.Selecting.{HasNoneInLines, IsLocal, IsSearchOf, framed, has_match, lines_of, searched, tree_flags}
 use Rattle.use_grep.proofs.InParts.{lines-have_none}
+
+-- the flags that differ in `i` alone
+pub flags-of_case : (b m d n u v : Bool) → m ≡ false → d ≡ false → n ≡ false → u ≡ false → v ≡ false → flags_by b m d n u v ≡ tree_flags b
+unfolding flags_from_letters
+flags-of_case true m d n u v em ed en eu ev = rw (em, ed, en, eu, ev) refl
+flags-of_case false m d n u v em ed en eu ev = rw (em, ed, en, eu, ev) refl
 
 is-search : (flags : Flags) (pattern : List ℕ) (re : Regex) → IsCompiledWith flags (chars pattern) re → IsSearchOf flags pattern re
 is-search flags pattern re is = record {
-  tree = unit_tree re;
+  tree = tree_for_16_bit_units re;
   parsed = is.parsed;
   found = λ tree parsed line. ap (λ answers. is_some (slice_get answers 0)) (searches-follow flags (chars pattern) re tree is parsed line 0).0;
 }
@@ -50,7 +58,7 @@ module _ (flags wanted : Flags) (same : flags ≡ wanted) (words whole_lines : B
       subst (λ b. IsSearchOf wanted (chosen b) re) (sym either) (subst (λ t. IsSearchOf wanted t re) is_framed (search-of text is))
 
   pub alone-is-one : IsCompiledWith flags (chars pattern) re → (tree : Tree) × Parses wanted (chars pattern) tree
-  alone-is-one is = (unit_tree re, subst (λ f. Parses f (chars pattern) (unit_tree re)) same is.parsed)
+  alone-is-one is = (tree_for_16_bit_units re, subst (λ f. Parses f (chars pattern) (tree_for_16_bit_units re)) same is.parsed)
 
 -- a pattern that is framed asks for one of the two
 pub by-words : (words whole_lines : Bool) → words ≡ true → (words || whole_lines) ≡ true

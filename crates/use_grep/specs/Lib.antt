@@ -1,2 +1,4 @@
+pub mod Joining
 pub mod Local
+pub mod Nearby
 pub mod Selecting

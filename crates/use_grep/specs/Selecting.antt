@@ -5,17 +5,22 @@ use Rattle.std.specs.List.{slice_split}
 use Rattle.regex_meaning.specs.Tree.{Tree, Flags}
 use Rattle.regex_meaning.specs.Text.{utf8_text}
 use Rattle.regex_meaning.specs.FlagLettersAndEscaping.{flags_from_letters}
-use Rattle.regex_meaning.specs.GroupsByNumberAndName.{Answer, answers_from}
+use Rattle.regex_meaning.specs.MatchGroupsByNumberAndName.{Answer, answers_from}
 use Rattle.regex_meaning.specs.Replace.{replaced}
 use Rattle.regex_grammar.specs.Grammar.{Parses}
 use Rattle.regress_match.specs.ProgramTreesAndAnswers.{utf8_answers}
 use Rattle.regress_match.specs.declared.api.regex.Regex.{Regex}
 use Rattle.use_grep.specs.Local.{is_local}
 use Rattle.use_grep.specs.declared.select.Line.{Line}
+use Rattle.use_grep.specs.declared.select.Part.{Part}
 
 -- the lines of a text, which line breaks end
 abbrev pub lines_of : (text : List ℕ) → List (List ℕ)
 lines_of text = slice_split (λ b. eqb b 10) text
+
+-- the lines of a text that NUL bytes end
+abbrev pub parts_of : (text : List ℕ) → List (List ℕ)
+parts_of text = slice_split (λ b. eqb b 0) text
 
 -- lines with their numbers
 abbrev pub numbered : (first : ℕ) → List (List ℕ) → List (ℕ × List ℕ)
@@ -34,25 +39,29 @@ is_selected re invert line = if invert then not (has_match re line) else has_mat
 abbrev pub shown : Line → ℕ × List ℕ
 shown line = (line.number, line.text.now)
 
--- what each match has of a line
-abbrev pub matched_parts : (line : List ℕ) → List Answer → List (List ℕ)
-matched_parts line matches = map (λ m. slice_range line m.range.0 m.range.1) matches
+-- a part of a line: where it begins, and its text
+abbrev pub shown_part : Part → ℕ × List ℕ
+shown_part part = (part.start, part.text.now)
 
--- in red; nothing of an empty part
-abbrev pub red : (part : List ℕ) → List ℕ
-red [] = []
-red part = 27 ∷ codes "[1;31m" ++ (part ++ 27 ∷ codes "[m")
+-- the part of a line that each match has
+abbrev pub matched_parts : (line : List ℕ) → List Answer → List (ℕ × List ℕ)
+matched_parts line matches = map (λ m. (m.range.0, slice_range line m.range.0 m.range.1)) matches
 
-abbrev pub red_part : (line : List ℕ) → Answer → List ℕ
-red_part line m = red (slice_range line m.range.0 m.range.1)
+-- a part with what begins and what ends its colour; nothing for an empty part
+abbrev pub painted : (start end part : List ℕ) → List ℕ
+painted start end [] = []
+painted start end part = start ++ (part ++ end)
 
--- a line with these matches in red, from an offset on
-abbrev pub colored_from : (line : List ℕ) → (from : ℕ) → List Answer → List ℕ
-colored_from line from matches = replaced line from (map (λ m. (m, red_part line m)) matches)
+abbrev pub painted_part : (line start end : List ℕ) → Answer → List ℕ
+painted_part line start end m = painted start end (slice_range line m.range.0 m.range.1)
 
--- a line with its matches in red
-abbrev pub colored : Regex → (line : List ℕ) → List ℕ
-colored re line = colored_from line 0 (utf8_answers re line 0)
+-- a line with these matches painted, from an offset on
+abbrev pub colored_from : (line start end : List ℕ) → (from : ℕ) → List Answer → List ℕ
+colored_from line start end from matches = replaced line from (map (λ m. (m, painted_part line start end m)) matches)
+
+-- a line with its matches painted
+abbrev pub colored : Regex → (line start end : List ℕ) → List ℕ
+colored re line start end = colored_from line start end 0 (utf8_answers re line 0)
 
 -- the flags that the pattern is read with
 abbrev pub tree_flags : (ignore_case : Bool) → Flags

@@ -8,7 +8,7 @@ use std::io;
 use std::io::Read;
 use thiserror::Error;
 
-// How many bytes are read at a time: so a block is no longer than its last line and this, however long one before was.
+// The number of bytes that are read at a time. A block is at most this much longer than its last line.
 const STEP: usize = 1 << 17;
 
 /// Why there is no next block.
@@ -20,7 +20,7 @@ pub enum BlockError {
     /// A line is longer than it may be.
     #[error("a line is too long")]
     TooLong,
-    /// There is no memory for the line.
+    /// An allocation for the line failed.
     #[error("out of memory")]
     Memory,
 }
@@ -31,13 +31,15 @@ impl From<AllocError> for BlockError {
     }
 }
 
-/// What gives the lines of a reader in blocks: it keeps one block, as long as a line may be and some.
+/// The lines of a reader, in blocks of whole lines. One block is kept in memory.
 #[derive(Drop)]
 pub struct Blocks<R: Read + Drop> {
     reader: R,
     longest: u64,
+    end_of_line: u8,
     buffer: Vec<u8>,
-    // where the lines end that were handed out, how much was taken for them, and how much was read
+    // where the lines end that were returned, how many bytes they take with their last line break, and how many were
+    // read
     end: usize,
     taken: usize,
     filled: usize,
@@ -47,15 +49,21 @@ pub struct Blocks<R: Read + Drop> {
 }
 
 impl<R: Read + Drop> Blocks<R> {
-    /// The lines of a reader, of at most so many bytes each.
+    /// Returns the blocks of a reader. Its lines end with `end_of_line` and have at most `longest` bytes each.
     ///
     /// # Errors
     ///
-    /// Where there is no memory for the block.
-    pub fn new(alloc: Global, reader: R, longest: u64) -> Result<Blocks<R>, AllocError> {
+    /// `AllocError` if an allocation fails.
+    pub fn new(
+        alloc: Global,
+        reader: R,
+        longest: u64,
+        end_of_line: u8,
+    ) -> Result<Blocks<R>, AllocError> {
         Ok(Blocks {
             reader,
             longest,
+            end_of_line,
             buffer: vec![in alloc; 0; STEP]?,
             end: 0,
             taken: 0,
@@ -63,11 +71,11 @@ impl<R: Read + Drop> Blocks<R> {
         })
     }
 
-    /// Goes on to the next lines, and answers whether there are any.
+    /// Reads the next block, and returns whether there is one.
     ///
     /// # Errors
     ///
-    /// `Read` where the reader fails, `TooLong` at a line that is too long, and `Memory` where there is none for it.
+    /// `Read` if the reader fails, `TooLong` if a line is too long, and `Memory` if an allocation fails.
     pub fn advance(&mut self) -> Result<bool, BlockError> {
         self.forget_taken();
         for _ in 0..u64::MAX {
@@ -75,7 +83,7 @@ impl<R: Read + Drop> Blocks<R> {
             if self.read_more()? == 0 {
                 return Ok(self.take_rest());
             }
-            if let Some(at) = memrchr(b'\n', &self.buffer[before..self.filled]) {
+            if let Some(at) = memrchr(self.end_of_line, &self.buffer[before..self.filled]) {
                 self.taken = before + at + 1;
                 self.end = before + at;
                 return Ok(true);
@@ -84,12 +92,12 @@ impl<R: Read + Drop> Blocks<R> {
         Ok(false)
     }
 
-    /// The lines gone on to, without the line break of the last one.
+    /// Returns the lines of the block, without the line break of the last one.
     pub fn lines(&self) -> &[u8] {
         &self.buffer[..self.end]
     }
 
-    // Moves what was not handed out to the front.
+    // Moves the bytes that were not returned to the front of the buffer.
     fn forget_taken(&mut self) {
         self.buffer.copy_within(self.taken..self.filled, 0);
         let left = self.filled - self.taken;
@@ -98,14 +106,14 @@ impl<R: Read + Drop> Blocks<R> {
         self.filled = left;
     }
 
-    // Takes what is left where there is nothing more to read, and answers whether that is something.
+    // Makes a block of the bytes that are left at the end of the file, and returns whether there are any.
     fn take_rest(&mut self) -> bool {
         self.taken = self.filled;
         self.end = self.filled;
         self.filled > 0
     }
 
-    // Reads behind what was read, and answers how much: nothing at the end.
+    // Reads more bytes into the buffer, and returns how many: 0 at the end of the file.
     fn read_more(&mut self) -> Result<usize, BlockError>
         ensures { IfOk result (λ n. self.new.filled ≡ self.old.filled + n) }
     {

@@ -1,14 +1,14 @@
-//! Patterns whose matches depend on the characters that they read alone, and on where words end: not on what else stands
-//! beside them, nor on what a group matched.
+//! Local patterns: their matches depend only on the characters that they read and on where words end. They do not
+//! depend on other characters beside them or on what a group matched.
 //!
-//! Such a pattern has no match in a line where it has none in a text with this line, so that texts are searched first. At
-//! the ends of a line a word ends in the text, too, since a line break is no word's character.
+//! If a local pattern has no match in a text, it has none in a line of the text. So whole texts are searched first. A
+//! word that ends at the end of a line also ends there in the text, since a line break is not a word character.
 #![tactic(auto, unfolding(regex_pattern_front::specs::AstToSpecTree::node_of, regress_program::specs::InnerNodeCountMeasure::inner_node_count))]
 
 ghost use Rattle.std.specs.Prelude.{◌≡◌, IfOk, IsTrue, chars};
 ghost use Rattle.regex_pattern_front.specs.AstToSpecTree.{node_of};
 ghost use Rattle.regress_match.specs.PublicFlagsAsSpecFlags.{spec_flags_of};
-ghost use Rattle.regress_program.specs.LeavesListsAndCharLoops.{cat_of};
+ghost use Rattle.regress_program.specs.LeafNodesAndOptimizableLoops.{cat_of};
 ghost use Rattle.use_grep.specs.{Local.{is_local as is_local_tree}, Selecting.{IsLocal}};
 
 use regex_pattern_front::ir::Node;
@@ -16,11 +16,11 @@ use regress_match::Flags;
 use regress_match::backends::try_parse;
 use std::alloc::{AllocError, Global};
 
-/// Whether a pattern is such a one. One that is refused is none.
+/// Checks whether a pattern is local in this sense. A pattern that is refused is not.
 ///
 /// # Errors
 ///
-/// Where there is no memory for its characters.
+/// `AllocError` if an allocation fails.
 pub fn is_local(alloc: Global, pattern: &str, flags: Flags) -> Result<bool, AllocError>
     ensures { IfOk result (λ b. IsTrue b → IsLocal (spec_flags_of flags) pattern.now) }
 {
@@ -31,15 +31,15 @@ pub fn is_local(alloc: Global, pattern: &str, flags: Flags) -> Result<bool, Allo
     }
 }
 
-// The characters of a text.
+// Returns the characters of a text.
 fn characters(alloc: Global, text: &str) -> Result<Vec<u32>, AllocError>
     ensures { IfOk result (λ v. v.items ≡ chars text.now) }
 {
     text.chars().map(u32::from).collect(alloc)
 }
 
-// Whether a node and each inside it is such a one. Along the last node inside each node it is a loop, so that neither
-// many alternatives nor groups in groups take stack.
+// Checks whether a node and each node inside it is local. It loops along the last node inside each node, so that
+// neither many alternatives nor nested groups take stack.
 #[cycle(is_local_node)]
 fn is_local_node(node: &Node) -> bool
     ensures { result ≡ is_local_tree (node_of node.now) }

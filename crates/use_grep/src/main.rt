@@ -1,32 +1,53 @@
 //! Prints the lines in which a pattern has a match, as `grep` does: `use_grep [OPTIONS] PATTERN [FILE]..`.
 //!
-//! It ends with status 0 where a line was selected, 1 where none was, and 2 where something was wrong.
+//! It ends with status 0 if a line was selected, 1 if none was, and 2 after an error.
 #![tactic(auto)]
 
-ghost use Rattle.std.specs.Prelude.{◌≡◌, if◌then◌else◌, nat_eq};
+ghost use Rattle.std.specs.Prelude.{◌≡◌, ◌&&◌, ◌||◌, if◌then◌else◌, nat_eq, not};
 
 mod blocks;
+mod colors;
+mod context;
+mod failure;
+mod glob;
+mod joining;
 mod local;
 mod options;
 mod pattern;
+mod patterns;
+mod print;
 mod search;
 mod select;
+mod walk;
 
-use crate::options::{LINE, Options};
-use crate::pattern::{compile, say_refused};
+use crate::failure::Failure;
+use crate::joining::joined;
+use crate::options::{LINE, Options, Output};
+use crate::pattern::{check_alone, compile, say_refused};
+use crate::patterns::{given_patterns, has_posix_class, may_refer};
 use crate::search::{Search, Tally};
-use anyhow::Result;
+use anyhow::{Result, bail};
+use std::fs;
+use std::io::ErrorKind;
 use std::process::ExitCode;
-use use_support::{CommandLine, Given, Program, TROUBLE, run};
+use use_support::{CommandLine, Given, Program, TROUBLE, run, run_row};
 
-// The status that tells what came of a search.
-fn status(tally: &Tally) -> u8
-    ensures { result ≡ (if tally.now.has_trouble then 2 else if nat_eq tally.now.selected 0 then 1 else 0) }
+// The status of a program that the signal `SIGPIPE` ends, as it ends grep.
+const BROKEN_PIPE: u8 = 141;
+
+// Returns the exit status of a search. With `-q` a selected line counts more than an error.
+fn status(tally: &Tally, is_quiet: bool) -> u8
+    ensures { result ≡ (if nat_eq tally.now.selected 0 then (if tally.now.has_trouble then 2 else 1)
+        else (if tally.now.has_trouble && not is_quiet then 2 else 0)) }
 {
-    if tally.has_trouble {
-        return TROUBLE;
+    if tally.selected == 0 {
+        return if tally.has_trouble { TROUBLE } else { 1 };
     }
-    if tally.selected == 0 { 1 } else { 0 }
+    if tally.has_trouble && !is_quiet {
+        TROUBLE
+    } else {
+        0
+    }
 }
 
 struct Grep;
@@ -37,15 +58,109 @@ impl Program for Grep {
     }
 
     fn run(rt: &HostRuntime, given: &Given<'_>) -> Result<u8> {
-        let options = Options::of(rt, given)?;
-        match compile(rt.alloc(), &options) {
-            Ok(query) => Ok(status(&Search::new(rt, &query, &options)?.all()?)),
-            Err(why) => {
-                say_refused(rt, &options, &why)?;
-                Ok(TROUBLE)
-            }
+        if given.has("rows") {
+            return run_rows(rt, given.text("rows"));
+        }
+        run_once(rt, given)
+    }
+}
+
+// A run for a row of a file. It has no rows of its own.
+struct RowRun;
+
+impl Program for RowRun {
+    fn line() -> &'static CommandLine {
+        &LINE
+    }
+
+    fn run(rt: &HostRuntime, given: &Given<'_>) -> Result<u8> {
+        run_once(rt, given)
+    }
+}
+
+// Runs once for each row of a file, which has the words of a command line, and prints the status of each.
+fn run_rows(rt: &HostRuntime, name: &str) -> Result<u8> {
+    let rows = fs::read_to_string(rt, name)?;
+    for row in rows.lines() {
+        println!(rt; "== {row}")?;
+        let status = run_row::<RowRun>(rt, row)?;
+        println!(rt; "status {status}")?;
+    }
+    Ok(0)
+}
+
+fn run_once(rt: &HostRuntime, given: &Given<'_>) -> Result<u8> {
+    let patterns = given_patterns(rt, given)?;
+    let pattern = joined(rt.alloc(), &patterns)?;
+    run_joined(rt, given, &patterns, pattern.as_str())
+}
+
+// Searches for the pattern that is made of these.
+fn run_joined(
+    rt: &HostRuntime,
+    given: &Given<'_>,
+    patterns: &[String],
+    joined: &str,
+) -> Result<u8> {
+    let options = Options::of(rt, given, joined)?;
+    run_checked(rt, &options, patterns)
+}
+
+// Searches, if the patterns are valid.
+fn run_checked(rt: &HostRuntime, options: &Options<'_>, patterns: &[String]) -> Result<u8> {
+    if options.is_fixed || are_patterns(rt, options, patterns)? {
+        search_files(rt, options)
+    } else {
+        Ok(TROUBLE)
+    }
+}
+
+// Checks the patterns, and reports what is wrong. Each of several has to be a pattern by itself that refers to no
+// group, since groups have other numbers in the pattern that is made of them.
+fn are_patterns(rt: &HostRuntime, options: &Options<'_>, patterns: &[String]) -> Result<bool> {
+    if has_posix_class(options.pattern) {
+        eprintln!(rt;
+            "use_grep: note: POSIX classes such as [[:alpha:]] do not exist in ECMAScript: write [A-Za-z]"
+        )?;
+    }
+    if patterns.len() < 2 {
+        return Ok(true);
+    }
+    for pattern in patterns {
+        let pattern = pattern.as_str();
+        if may_refer(pattern) {
+            bail!("of several patterns none may refer to a group: {pattern}");
+        }
+        if let Err(why) = check_alone(rt.alloc(), options, pattern) {
+            say_refused(rt, options, pattern, &why)?;
+            return Ok(false);
         }
     }
+    Ok(true)
+}
+
+fn search_files(rt: &HostRuntime, options: &Options<'_>) -> Result<u8> {
+    let query = match compile(rt.alloc(), options) {
+        Ok(query) => query,
+        Err(why) => {
+            say_refused(rt, options, options.pattern, &why)?;
+            return Ok(TROUBLE);
+        }
+    };
+    match Search::new(rt, &query, options)?.all() {
+        Ok(tally) => Ok(status(&tally, options.output == Output::Nothing)),
+        Err(why) => failed(&why),
+    }
+}
+
+// Returns the status of a search that failed because its output was closed. Other failures are errors.
+fn failed(why: &Failure) -> Result<u8> {
+    if let Failure::Write(cause) = why {
+        if cause.kind() == ErrorKind::BrokenPipe {
+            return Ok(BROKEN_PIPE);
+        }
+    }
+    bail!("{why}")
 }
 
 fn main(rt: HostRuntime) -> ExitCode {

@@ -16,10 +16,9 @@ use std::io;
 fn flags(options: &Options<'_>) -> Flags
     ensures { spec_flags_of result ≡ tree_flags options.now.ignore_case }
 {
-    if options.ignore_case {
-        Flags::from("i")
-    } else {
-        Flags::default()
+    Flags {
+        icase: options.ignore_case,
+        ..Flags::default()
     }
 }
 
@@ -31,11 +30,11 @@ pub struct Query {
     ghost none_in_lines: { IsTrue is_local → HasNoneInLines re },
 }
 
-/// The pattern of these options.
+/// Compiles the pattern of these options.
 ///
 /// # Errors
 ///
-/// Those of `Regex::with_flags`: the pattern has to be one by itself, without what `-w` and `-x` put around it.
+/// The errors of `Regex::with_flags`, also for the pattern without what `-w` and `-x` put around it.
 pub fn compile(alloc: Global, options: &Options<'_>) -> Result<Query, Error>
     ensures searched { IfOk result (λ q. IsSearchOf (tree_flags options.now.ignore_case)
         (searched options.now.words options.now.whole_lines options.now.pattern.now) q.re) }
@@ -58,7 +57,7 @@ pub fn compile(alloc: Global, options: &Options<'_>) -> Result<Query, Error>
     })
 }
 
-// The pattern between the ends of the line, or else between places that are no word's.
+// Returns the pattern with what `-x` or else `-w` puts around it.
 fn framed(alloc: Global, pattern: &str, whole_lines: bool) -> Result<String, AllocError>
     ensures { IfOk result (λ s. string_bytes s ≡ framed whole_lines pattern.now) }
 {
@@ -69,15 +68,33 @@ fn framed(alloc: Global, pattern: &str, whole_lines: bool) -> Result<String, All
     }
 }
 
-/// Says why a pattern is refused, with a `^` below the place where it is none.
+/// Checks that a pattern is one by itself, so that others can stand beside it.
 ///
 /// # Errors
 ///
-/// Where there is no memory to tell, or nothing can be written.
-pub fn say_refused(rt: &HostRuntime, options: &Options<'_>, why: &Error) -> io::Result<()> {
-    match Regex::diagnose(rt.alloc(), options.pattern, flags(options))? {
+/// The errors of `Regex::with_flags`.
+pub fn check_alone(alloc: Global, options: &Options<'_>, pattern: &str) -> Result<(), Error>
+    ensures { IfOk result (λ _. (tree : Tree)
+        × Parses (tree_flags options.now.ignore_case) (chars pattern.now) tree) }
+{
+    let _alone = Regex::with_flags(alloc, pattern, flags(options))?;
+    Ok(())
+}
+
+/// Prints why a pattern is refused, with a `^` below the place of the error.
+///
+/// # Errors
+///
+/// A write or an allocation that fails.
+pub fn say_refused(
+    rt: &HostRuntime,
+    options: &Options<'_>,
+    pattern: &str,
+    why: &Error,
+) -> io::Result<()> {
+    match Regex::diagnose(rt.alloc(), pattern, flags(options))? {
         Some(told) => {
-            let below = told.below_text(options.pattern);
+            let below = told.below_text(pattern);
             eprintln!(rt; "use_grep: {told}\n{below}")
         }
         None => eprintln!(rt; "use_grep: {why}"),

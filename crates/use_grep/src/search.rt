@@ -1,28 +1,33 @@
-//! Files that are searched, and what is printed of them.
+//! The search of files.
 
-ghost use Rattle.std.specs.Prelude.{◌≡◌, IfOk, false, true};
+ghost use Rattle.std.specs.Prelude.{◌≡◌, ◌<◌, IfOk, false, true};
 
 use crate::blocks::{BlockError, Blocks};
-use crate::options::Options;
+use crate::context::near;
+use crate::failure::Failure;
+use crate::options::{Operand, Options, Output};
 use crate::pattern::Query;
+use crate::print::{Row, Screen};
 use crate::select::{
-    Line, PLAIN, RED, colored, count_lines, how_many_fit, lines_of, matched_parts, selected,
-    selected_in, within_most,
+    Line, count_lines, how_many_fit, lines_of, parts_of, selected, selected_in, within_most,
 };
-use anyhow::{Result, bail};
-use simdutf8::compat::{Utf8Error, from_utf8};
+use crate::walk::{Step, Walk};
+use memchr::memchr;
+use simdutf8::compat::from_utf8;
+use std::alloc::{AllocError, Global};
+use std::collections::VecDeque;
 use std::fmt::Display;
 use std::fs::File;
-use std::io;
-use std::io::{BufWriter, Printer, Read, Write};
+use std::io::Read;
+use std::{fs, io, mem};
 
-// After how many blocks of a file, each of 128 KB or more, it is told again how far its search is.
+// Progress is shown after this many blocks of a file, each of 128 KB or more.
 const BLOCKS: u64 = 512;
 
-/// What came of a search.
+/// The result of a search.
 #[derive(Clone, Copy, Debug)]
 pub struct Tally {
-    /// How many lines were selected.
+    /// The number of selected lines.
     pub selected: u64,
     /// Whether something could not be searched.
     pub has_trouble: bool,
@@ -34,87 +39,225 @@ pub struct Search<'s, 'a> {
     rt: &'s HostRuntime,
     query: &'s Query,
     options: &'s Options<'a>,
-    out: BufWriter<Printer<'s, HostRuntime>>,
+    screen: Screen<'s, 'a>,
     tally: Tally,
+    // whether a line was printed, which `--` separates from the next group
+    has_printed: bool,
 }
 
-// A file that is searched: how many of its lines were read, and how many were selected.
-#[derive(Clone, Copy)]
+// How far a file is searched.
+#[derive(Drop)]
 struct Progress<'n> {
     name: &'n str,
     blocks: u64,
+    // how many lines were searched, and how many bytes they have, with what ends them
     lines: u64,
+    bytes: u64,
+    // how many lines were selected, and the number of the last one, or 0
     selected: u64,
+    latest: u64,
+    // the number of the last line that was printed, or 0
+    printed: u64,
+    // the lines just before the next one that may be printed before it
+    kept: VecDeque<Kept>,
     // whether no more of it is searched
     is_over: bool,
+    // whether it has a NUL byte
+    is_binary: bool,
+    // whether a line that is not text was selected or near a selected one, and is not printed
+    is_hidden: bool,
+}
+
+// A line that may be printed as context.
+#[derive(Drop)]
+struct Kept {
+    number: u64,
+    offset: u64,
+    raw: Vec<u8>,
+}
+
+impl<'n> Progress<'n> {
+    fn new(alloc: Global, name: &'n str, most: u64) -> Progress<'n> {
+        Progress {
+            name,
+            blocks: 0,
+            lines: 0,
+            bytes: 0,
+            selected: 0,
+            latest: 0,
+            printed: 0,
+            kept: VecDeque::new(alloc),
+            is_over: most == 0,
+            is_binary: false,
+            is_hidden: false,
+        }
+    }
+
+    // Ends the search at the first selected line of a binary file.
+    fn end_as_binary(&mut self) {
+        self.is_hidden = true;
+        self.is_over = true;
+    }
+
+    // Passes a line.
+    fn pass(&mut self, number: u64, raw: &[u8]) {
+        self.lines = number;
+        self.bytes = self
+            .bytes
+            .saturating_add(raw.len() as u64)
+            .saturating_add(1);
+    }
+
+    fn keep(
+        &mut self,
+        alloc: Global,
+        number: u64,
+        raw: &[u8],
+        most: u64,
+    ) -> Result<(), AllocError> {
+        self.kept.push_back(Kept {
+            number,
+            offset: self.bytes,
+            raw: Vec::from_slice(alloc, raw)?,
+        })?;
+        if self.kept.len() as u64 > most {
+            let _oldest = self.kept.pop_front();
+        }
+        Ok(())
+    }
 }
 
 impl<'s, 'a> Search<'s, 'a> {
-    /// A search of the files of these options.
+    /// Returns a search of the files of these options.
     ///
     /// # Errors
     ///
-    /// Where there is no memory for what is written.
+    /// An allocation that fails.
     pub fn new(
         rt: &'s HostRuntime,
         query: &'s Query,
         options: &'s Options<'a>,
     ) -> io::Result<Search<'s, 'a>> {
+        let has_names = match options.names {
+            Some(has_names) => has_names,
+            None => may_be_several(rt, options),
+        };
         Ok(Search {
             rt,
             query,
             options,
-            out: BufWriter::new(rt.alloc(), io::writer(rt))?,
+            screen: Screen::new(rt, options, has_names)?,
             tally: Tally {
                 selected: 0,
                 has_trouble: false,
             },
+            has_printed: false,
         })
     }
 
-    /// Searches all files, and prints what is selected. What cannot be searched is said.
+    /// Searches all files, and prints what is selected. What cannot be searched is reported.
     ///
     /// # Errors
     ///
-    /// Where nothing can be written, or there is no memory.
-    pub fn all(mut self) -> Result<Tally> {
-        for name in &self.options.files {
-            self.file(name)?;
+    /// A write or an allocation that fails.
+    pub fn all(mut self) -> Result<Tally, Failure> {
+        for operand in &self.options.operands {
+            self.operand(operand)?;
+            if self.is_done() {
+                break;
+            }
         }
-        self.out.flush()?;
+        self.screen.flush()?;
         Ok(self.tally)
     }
 
-    fn file(&mut self, name: &str) -> Result<()> {
+    // Whether nothing more can change what is printed.
+    fn is_done(&self) -> bool {
+        self.options.output == Output::Nothing && self.tally.selected > 0
+    }
+
+    fn operand(&mut self, operand: &Operand<'_>) -> Result<(), Failure> {
+        let name = operand.name;
+        if operand.is_lossy {
+            return self.cannot_read(name, &"the file name is not UTF-8");
+        }
         if name == "-" {
             return self.reader("(standard input)", self.rt.reader());
         }
+        if self.options.is_recursive && (name.is_empty() || is_directory(self.rt, name)) {
+            if name.is_empty() || self.options.globs.takes_dir(name)? {
+                self.directory(name)?;
+            }
+            return Ok(());
+        }
+        if self.options.globs.takes_file(name)? {
+            self.file(name)?;
+        }
+        Ok(())
+    }
+
+    fn directory(&mut self, name: &str) -> Result<(), Failure> {
+        let mut walk = Walk::new(self.rt, &self.options.globs, name)?;
+        for _ in 0..u64::MAX {
+            match walk.advance()? {
+                Some(Step::File(path)) => self.file(path.as_str())?,
+                Some(Step::Trouble(path, why)) => self.cannot_read(path.as_str(), &why)?,
+                None => break,
+            }
+            if self.is_done() {
+                break;
+            }
+        }
+        Ok(())
+    }
+
+    fn file(&mut self, name: &str) -> Result<(), Failure> {
         match File::open(self.rt, name) {
             Ok(file) => self.reader(name, file),
-            Err(why) => self.trouble(name, &why),
+            Err(why) => self.cannot_read(name, &why),
         }
     }
 
-    // Says what cannot be searched.
-    fn trouble<E: Display>(&mut self, what: &str, why: &E) -> Result<()>
+    // Reports a file that cannot be read, unless `-s` is given.
+    fn cannot_read<E: Display>(&mut self, what: &str, why: &E) -> Result<(), Failure>
         ensures { IfOk result (λ _. self.new.tally.has_trouble ≡ true) }
     {
-        self.out.flush()?;
+        self.mark_trouble();
+        if self.options.is_silent {
+            return Ok(());
+        }
+        self.tell(what, why)
+    }
+
+    // Reports an error, which the status shows.
+    fn trouble<E: Display>(&mut self, what: &str, why: &E) -> Result<(), Failure>
+        ensures { IfOk result (λ _. self.new.tally.has_trouble ≡ true) }
+    {
+        self.mark_trouble();
+        self.tell(what, why)
+    }
+
+    // Notes that something could not be searched, for the exit status.
+    fn mark_trouble(&mut self)
+        ensures { self.new.tally.has_trouble ≡ true }
+    {
         self.tally.has_trouble = true;
+    }
+
+    // Prints a message on standard error.
+    fn tell<E: Display>(&mut self, what: &str, why: &E) -> Result<(), Failure>
+        ensures { self.new.tally ≡ self.old.tally }
+    {
+        self.screen.flush()?;
         self.clear()?;
         eprintln!(self.rt; "use_grep: {what}: {why}")?;
         Ok(())
     }
 
-    fn reader<R: Read + Drop>(&mut self, name: &str, reader: R) -> Result<()> {
-        let mut blocks = Blocks::new(self.rt.alloc(), reader, self.options.longest)?;
-        let mut progress = Progress {
-            name,
-            blocks: 0,
-            lines: 0,
-            selected: 0,
-            is_over: self.options.most == 0,
-        };
+    fn reader<R: Read + Drop>(&mut self, name: &str, reader: R) -> Result<(), Failure> {
+        let alloc = self.rt.alloc();
+        let mut blocks = Blocks::new(alloc, reader, self.options.longest, self.options.end())?;
+        let mut progress = Progress::new(alloc, name, self.options.most);
         for _ in 0..u64::MAX {
             if progress.is_over {
                 break;
@@ -122,7 +265,7 @@ impl<'s, 'a> Search<'s, 'a> {
             match blocks.advance() {
                 Ok(true) => {
                     self.block(&mut progress, blocks.lines())?;
-                    self.tell(&mut progress)?;
+                    self.show_progress(&mut progress)?;
                 }
                 Ok(false) => progress.is_over = true,
                 Err(why) => self.give_up(&mut progress, &why)?,
@@ -131,17 +274,25 @@ impl<'s, 'a> Search<'s, 'a> {
         self.end(&progress)
     }
 
-    // Tells how far the search of a long file is.
-    fn tell(&self, progress: &mut Progress<'_>) -> io::Result<()> {
+    // Marks a file with a NUL byte as binary.
+    fn judge(&self, progress: &mut Progress<'_>, block: &[u8]) {
+        if !self.options.lossy && !self.options.nul && memchr(0, block).is_some() {
+            progress.is_binary = true;
+        }
+    }
+
+    // Shows how far the search of a long file is.
+    fn show_progress(&self, progress: &mut Progress<'_>) -> io::Result<()> {
         progress.blocks = progress.blocks.saturating_add(1);
         if !self.options.tells || progress.blocks % BLOCKS != 0 {
             return Ok(());
         }
-        let Progress { name, lines, .. } = *progress;
+        let name = progress.name;
+        let lines = progress.lines;
         eprint!(self.rt; "\r{name}: {lines} lines")
     }
 
-    // Clears what was told.
+    // Clears what was shown.
     fn clear(&self) -> io::Result<()> {
         if self.options.tells {
             eprint!(self.rt; "\r\u{1b}[K")?;
@@ -149,157 +300,364 @@ impl<'s, 'a> Search<'s, 'a> {
         Ok(())
     }
 
-    // Says why the rest of a file is not searched.
-    fn give_up(&mut self, progress: &mut Progress<'_>, why: &BlockError) -> Result<()> {
+    // Reports why the rest of a file is not searched.
+    fn give_up(&mut self, progress: &mut Progress<'_>, why: &BlockError) -> Result<(), Failure> {
         progress.is_over = true;
-        match why {
-            BlockError::Read(why) => self.trouble(progress.name, why),
-            _ => self.trouble_at(progress, why),
-        }
-    }
-
-    // Says what is wrong with the next line.
-    fn trouble_at<E: Display>(&mut self, progress: &Progress<'_>, why: &E) -> Result<()>
-        ensures { IfOk result (λ _. self.new.tally.has_trouble ≡ true) }
-    {
         let name = progress.name;
+        if let BlockError::Read(why) = why {
+            return self.cannot_read(name, why);
+        }
         let number = progress.lines.saturating_add(1);
         let what = format!(in self.rt.alloc(); "{name}:{number}")?;
         self.trouble(what.as_str(), why)
     }
 
-    fn block(&mut self, progress: &mut Progress<'_>, block: &[u8]) -> Result<()> {
-        if let Ok(text) = from_utf8(block) {
-            return self.text(progress, text);
+    // Searches a block of lines. NUL bytes end lines of a binary file, too.
+    fn block(&mut self, progress: &mut Progress<'_>, block: &[u8]) -> Result<(), Failure> {
+        self.judge(progress, block);
+        let is_binary = progress.is_binary;
+        if !is_binary {
+            if let Ok(text) = from_utf8(block) {
+                return self.text(progress, text);
+            }
         }
-        for line in block.split(|byte| *byte == b'\n') {
+        let end = self.options.end();
+        for line in block.split(|byte| *byte == end || is_binary && *byte == 0) {
             match from_utf8(line) {
                 Ok(text) => self.text(progress, text)?,
-                Err(why) => self.no_text(progress, line, &why)?,
+                Err(_) => self.no_text(progress, line)?,
             }
         }
         Ok(())
     }
 
-    // A line that is no UTF-8 is said and passed over, or searched with U+FFFD in place of what is none.
-    fn no_text(&mut self, progress: &mut Progress<'_>, line: &[u8], why: &Utf8Error) -> Result<()>
-        ensures { self.old.options.now.lossy ≡ false → progress.old.is_over ≡ false
-            → IfOk result (λ _. self.new.tally.has_trouble ≡ true) }
+    // A line that is not UTF-8 is searched with U+FFFD for what is not. If it is selected and not printed, that is
+    // marked.
+    fn no_text(&mut self, progress: &mut Progress<'_>, line: &[u8]) -> Result<(), Failure>
+        ensures { self.old.options.now.lossy ≡ false
+            → IfOk result (λ _. progress.old.selected < progress.new.selected → progress.new.is_hidden ≡ true) }
     {
-        if self.options.lossy {
-            let text = String::from_utf8_lossy(self.rt.alloc(), line)?;
-            return self.text(progress, text.as_str());
+        let selected = progress.selected;
+        let is_lossy = self.options.lossy;
+        let text = String::from_utf8_lossy(self.rt.alloc(), line)?;
+        let lines = self.cut(text.as_str())?;
+        self.lines(progress, &lines, Some(line))?;
+        if is_lossy {
+            return Ok(());
         }
-        if !progress.is_over {
-            self.trouble_at(progress, why)?;
-            progress.lines = progress.lines.saturating_add(1);
+        if progress.selected > selected {
+            progress.is_hidden = true;
         }
         Ok(())
     }
 
-    // A text of whole lines.
-    fn text(&mut self, progress: &mut Progress<'_>, text: &str) -> Result<()> {
+    // A text of whole lines. It is cut into lines only if it has to be.
+    fn text(&mut self, progress: &mut Progress<'_>, text: &str) -> Result<(), Failure> {
+        let options = self.options;
+        let cuts = options.invert || options.nul || options.offsets || options.context.is_on;
+        if cuts || !self.query.is_local || text.len() as u64 > options.longest {
+            let lines = self.cut(text)?;
+            return self.lines(progress, &lines, None);
+        }
         if progress.is_over {
             return Ok(());
         }
-        if self.options.invert || !self.query.is_local || text.len() as u64 > self.options.longest {
-            return self.cut_text(progress, text);
-        }
         let before = progress.lines;
         let Some(behind) = before.checked_add(count_lines(text)) else {
-            bail!("the file has too many lines");
+            return Err(Failure::TooLong);
         };
         let found = selected_in(self.rt.alloc(), self.query, text, before)?;
-        self.lines(progress, behind, &found)
+        for line in self.take(progress, &found) {
+            self.found(progress, line)?;
+        }
+        progress.lines = behind;
+        progress.is_over = progress.is_over || progress.selected >= self.options.most;
+        Ok(())
     }
 
-    // A text that is cut into lines, of which one may be too long.
-    fn cut_text(&mut self, progress: &mut Progress<'_>, text: &str) -> Result<()> {
+    // Cuts a text into lines.
+    fn cut<'t>(&self, text: &'t str) -> Result<Vec<&'t str>, AllocError> {
         let alloc = self.rt.alloc();
-        let lines = lines_of(alloc, text)?;
-        let fit = how_many_fit(&lines, self.options.longest);
+        if self.options.nul {
+            parts_of(alloc, text)
+        } else {
+            lines_of(alloc, text)
+        }
+    }
+
+    // Searches lines, of which one may be too long. A line that is not UTF-8 is alone, and its bytes are given.
+    fn lines(
+        &mut self,
+        progress: &mut Progress<'_>,
+        lines: &[&str],
+        raw: Option<&[u8]>,
+    ) -> Result<(), Failure> {
+        if progress.is_over {
+            return Ok(());
+        }
+        let fit = how_many_fit(lines, self.options.longest);
         let before = progress.lines;
         let Some(behind) = before.checked_add(fit as u64) else {
-            bail!("the file has too many lines");
+            return Err(Failure::TooLong);
         };
-        let re = &self.query.re;
-        let found = selected(alloc, re, self.options.invert, &lines[..fit], before)?;
-        self.lines(progress, behind, &found)?;
+        let fitting = &lines[..fit];
+        let alloc = self.rt.alloc();
+        let found = selected(alloc, &self.query.re, self.options.invert, fitting, before)?;
+        let latest = progress.latest;
+        let wanted = self.take(progress, &found);
+        if self.options.prints_lines() && !progress.is_over {
+            let numbers = self.numbers(progress, fit as u64, latest, wanted)?;
+            self.show(progress, fitting, raw, &numbers, wanted)?;
+        } else {
+            progress.lines = behind;
+        }
         if fit < lines.len() && !progress.is_over {
             self.give_up(progress, &BlockError::TooLong)?;
         }
         Ok(())
     }
 
-    // What was found in lines, of which so many were read then.
-    fn lines(
+    // Counts the lines that were found, as many as are wanted, and returns those to print.
+    fn take<'f, 't>(&self, progress: &mut Progress<'_>, found: &'f [Line<'t>]) -> &'f [Line<'t>] {
+        let most = self.options.most;
+        let wanted = within_most(found, progress.selected, most);
+        let count = wanted.len() as u64;
+        progress.selected = progress.selected.saturating_add(count);
+        if let [.., last] = wanted {
+            progress.latest = last.number;
+        }
+        if !self.options.prints_lines() {
+            progress.is_over = progress.selected >= most;
+            return &[];
+        }
+        if progress.is_binary && count > 0 {
+            progress.end_as_binary();
+            return &[];
+        }
+        wanted
+    }
+
+    // Prints a line that is selected, where no other is printed.
+    fn found(&mut self, progress: &mut Progress<'_>, line: &Line<'_>) -> Result<(), Failure> {
+        let row = Row {
+            number: line.number,
+            offset: 0,
+            raw: line.text.as_bytes(),
+            text: line.text,
+            is_selected: true,
+        };
+        self.print(progress, &row, true)
+    }
+}
+
+// Printing lines with their context.
+impl<'s, 'a> Search<'s, 'a> {
+    // Returns the numbers of the lines to print, of those that are kept and the next ones, of which the selected are
+    // given.
+    fn numbers(
+        &self,
+        progress: &Progress<'_>,
+        count: u64,
+        latest: u64,
+        found: &[Line<'_>],
+    ) -> Result<Vec<u64>, AllocError> {
+        let alloc = self.rt.alloc();
+        let context = self.options.context;
+        let mut numbers = Vec::new(alloc);
+        if context.is_on && latest > 0 {
+            numbers.push(latest)?;
+        }
+        for line in found {
+            numbers.push(line.number)?;
+        }
+        if !context.is_on {
+            return Ok(numbers);
+        }
+        let next = progress.lines.saturating_add(1);
+        let first = match progress.kept.front() {
+            Some(kept) => kept.number,
+            None => next,
+        };
+        let end = next.saturating_add(count);
+        near(alloc, context.before, context.after, &numbers, first, end)
+    }
+
+    // Prints those of the kept lines and of these that have one of the numbers, and passes these lines.
+    fn show(
         &mut self,
         progress: &mut Progress<'_>,
-        behind: u64,
-        found: &[Line<'_>],
-    ) -> Result<()> {
-        let most = self.options.most;
-        let shown = within_most(found, progress.selected, most);
-        for line in shown {
-            self.print(progress.name, line)?;
+        lines: &[&str],
+        raw: Option<&[u8]>,
+        numbers: &[u64],
+        selected: &[Line<'_>],
+    ) -> Result<(), Failure> {
+        let last = progress.lines.saturating_add(lines.len() as u64);
+        let mut numbers = Numbers::new(numbers);
+        self.show_kept(progress, &mut numbers)?;
+        let mut selected = selected.iter();
+        let mut next = number_of(selected.next());
+        for line in lines {
+            let number = progress.lines.saturating_add(1);
+            let bytes = bytes_of(line, raw);
+            let is_selected = next == Some(number);
+            if is_selected {
+                next = number_of(selected.next());
+            }
+            if numbers.takes(number) {
+                let row = Row {
+                    number,
+                    offset: progress.bytes,
+                    raw: bytes,
+                    text: line,
+                    is_selected,
+                };
+                self.print(progress, &row, raw.is_none())?;
+            } else {
+                self.keep(progress, number, bytes, last)?;
+            }
+            progress.pass(number, bytes);
         }
-        progress.lines = behind;
-        progress.selected = progress.selected.saturating_add(shown.len() as u64);
-        progress.is_over = progress.selected >= most;
+        let until = progress.latest.saturating_add(self.options.context.after);
+        progress.is_over = progress.selected >= self.options.most && last >= until;
         Ok(())
     }
 
-    fn print(&mut self, name: &str, line: &Line<'_>) -> Result<()> {
-        if self.options.count {
+    // Prints those of the kept lines that are now near a selected one.
+    fn show_kept(
+        &mut self,
+        progress: &mut Progress<'_>,
+        numbers: &mut Numbers<'_>,
+    ) -> Result<(), Failure> {
+        let mut kept = mem::replace(&mut progress.kept, VecDeque::new(self.rt.alloc()));
+        for _ in 0..kept.len() {
+            let Some(line) = kept.pop_front() else {
+                break;
+            };
+            if numbers.takes(line.number) {
+                let text = String::from_utf8_lossy(self.rt.alloc(), &line.raw)?;
+                let row = Row {
+                    number: line.number,
+                    offset: line.offset,
+                    raw: &line.raw,
+                    text: text.as_str(),
+                    is_selected: false,
+                };
+                self.print(progress, &row, text.as_bytes() == line.raw.as_slice())?;
+            } else {
+                progress.kept.push_back(line)?;
+            }
+        }
+        Ok(())
+    }
+
+    // Keeps a line that may be printed before one that comes after the last of those at hand.
+    fn keep(
+        &self,
+        progress: &mut Progress<'_>,
+        number: u64,
+        raw: &[u8],
+        last: u64,
+    ) -> Result<(), AllocError> {
+        let before = self.options.context.before;
+        if number.saturating_add(before) > last {
+            progress.keep(self.rt.alloc(), number, raw, before)?;
+        }
+        Ok(())
+    }
+
+    // Prints a line, unless it is not text. The end of the file reports it.
+    fn print(
+        &mut self,
+        progress: &mut Progress<'_>,
+        row: &Row<'_>,
+        is_text: bool,
+    ) -> Result<(), Failure>
+        ensures { is_text ≡ false → self.old.options.now.lossy ≡ false
+            → IfOk result (λ _. progress.new.is_hidden ≡ true) }
+    {
+        let is_hidden = !is_text && !self.options.lossy;
+        self.separate(progress, row.number)?;
+        if is_hidden {
+            progress.is_hidden = true;
             return Ok(());
         }
-        if self.options.only_matches {
-            return self.print_matches(name, line);
+        self.screen.row(self.query, progress.name, row)
+    }
+
+    // Separates a line from the group of lines with context before it.
+    fn separate(&mut self, progress: &mut Progress<'_>, number: u64) -> io::Result<()> {
+        if !self.options.context.is_on {
+            return Ok(());
         }
-        self.print_prefix(name, Some(line.number))?;
-        if self.options.color && !self.options.invert {
-            let colored = colored(self.rt.alloc(), &self.query.re, line.text)?;
-            writeln!(self.out, "{colored}")?;
-        } else {
-            writeln!(self.out, "{}", line.text)?;
+        let follows = progress.printed > 0 && progress.printed.saturating_add(1) == number;
+        if self.has_printed && !follows {
+            self.screen.gap()?;
         }
+        self.has_printed = true;
+        progress.printed = number;
+        progress.kept.clear();
         Ok(())
     }
 
-    fn print_matches(&mut self, name: &str, line: &Line<'_>) -> Result<()> {
-        for part in &matched_parts(self.rt.alloc(), &self.query.re, line.text)? {
-            if part.is_empty() {
-                continue;
-            }
-            self.print_prefix(name, Some(line.number))?;
-            if self.options.color {
-                writeln!(self.out, "{RED}{part}{PLAIN}")?;
-            } else {
-                writeln!(self.out, "{part}")?;
-            }
-        }
-        Ok(())
-    }
-
-    // The name of the file where there are several, and the number of a line where it is asked for.
-    fn print_prefix(&mut self, name: &str, number: Option<u64>) -> io::Result<()> {
-        if self.options.files.len() > 1 {
-            write!(self.out, "{name}:")?;
-        }
-        match number {
-            Some(number) if self.options.numbers => write!(self.out, "{number}:"),
-            _ => Ok(()),
-        }
-    }
-
-    // What is told behind the last line.
-    fn end(&mut self, progress: &Progress<'_>) -> Result<()> {
+    // Prints the result of a file.
+    fn end(&mut self, progress: &Progress<'_>) -> Result<(), Failure> {
         self.clear()?;
         self.tally.selected = self.tally.selected.saturating_add(progress.selected);
-        if self.options.count {
-            self.print_prefix(progress.name, None)?;
-            writeln!(self.out, "{}", progress.selected)?;
+        if progress.is_hidden && self.options.prints_lines() {
+            self.tell(progress.name, &"binary file matches")?;
         }
-        Ok(())
+        Ok(self.screen.end(progress.name, progress.selected)?)
+    }
+}
+
+// Numbers of lines, in order.
+#[derive(Drop)]
+struct Numbers<'n> {
+    numbers: &'n [u64],
+    at: usize,
+}
+
+impl<'n> Numbers<'n> {
+    fn new(numbers: &'n [u64]) -> Numbers<'n> {
+        Numbers { numbers, at: 0 }
+    }
+
+    // Whether the next one is this, which is taken then.
+    fn takes(&mut self, number: u64) -> bool {
+        let is_next = self.numbers.get(self.at) == Some(&number);
+        if is_next {
+            self.at = self.at.saturating_add(1);
+        }
+        is_next
+    }
+}
+
+// Returns the bytes of a line.
+fn bytes_of<'t>(line: &'t str, raw: Option<&'t [u8]>) -> &'t [u8] {
+    match raw {
+        Some(raw) => raw,
+        None => line.as_bytes(),
+    }
+}
+
+fn number_of(line: Option<&Line<'_>>) -> Option<u64> {
+    match line {
+        Some(line) => Some(line.number),
+        None => None,
+    }
+}
+
+fn is_directory(rt: &HostRuntime, name: &str) -> bool {
+    match fs::metadata(rt, name) {
+        Ok(metadata) => metadata.is_dir(),
+        Err(_) => false,
+    }
+}
+
+// Whether lines of several files may be printed, so that their names are.
+fn may_be_several(rt: &HostRuntime, options: &Options<'_>) -> bool {
+    match options.operands.as_slice() {
+        [only] => options.is_recursive && (only.name.is_empty() || is_directory(rt, only.name)),
+        _ => true,
     }
 }

@@ -3,19 +3,22 @@
 ghost use Rattle.std.specs.Prelude.{◌≡◌, ◌++◌, ◌∷◌, ◌+◌, ◌^◌, ◌<◌, [], IfErr, IfOk, false};
 ghost use Rattle.std.specs.Prelude.{◌-◌, IsCharBoundary, drop, filter, length, map, nat_lt, slice_range, string_bytes, take};
 ghost use Rattle.std.specs.List.{position_or_len};
-ghost use Rattle.regress_exec.specs.MatchAnswers.{answer_of};
-ghost use Rattle.regress_match.specs.{ProgramTreesAndAnswers.{utf8_answers}, CompileErrors.{IsOutOfMemory}, ExpansionsAndMatchRanges.{MatchFitsText, IsCharBoundaryRange}};
-ghost use Rattle.use_grep.specs.Selecting.{colored, is_selected, lines_of, matched_parts, numbered, red, red_part, shown};
+ghost use Rattle.regress_exec.specs.MatchesAsSpecAnswers.{answer_of};
+ghost use Rattle.regress_match.specs.{ProgramTreesAndAnswers.{utf8_answers}, CompileErrors.{IsOutOfMemory}};
+ghost use Rattle.regress_match.specs.ExpansionsAndMatchRanges.{MatchFitsText, IsCharBoundaryRange};
+ghost use Rattle.use_grep.specs.Selecting.{colored, is_selected, lines_of, matched_parts, numbered, painted, painted_part, parts_of, shown, shown_part};
 
 use crate::pattern::Query;
 use memchr::memchr_iter;
 use regress_match::{Match, Regex, SearchError};
 use std::alloc::{AllocError, Global};
 
-/// What begins and what ends red text on a terminal.
-pub const RED: &str = "\u{1b}[1;31m";
-
-pub const PLAIN: &str = "\u{1b}[m";
+/// The texts that begin and end coloured text on a terminal.
+#[derive(Clone, Copy, Debug)]
+pub struct Paint<'c> {
+    pub start: &'c str,
+    pub end: &'c str,
+}
 
 /// A line of a file, and its number there, from 1 on.
 #[derive(Clone, Copy, Debug)]
@@ -24,11 +27,11 @@ pub struct Line<'t> {
     pub text: &'t str,
 }
 
-/// Whether a line is selected: one with a match, or, inverted, one with none.
+/// Checks whether a line is selected: one with a match or, inverted, one without.
 ///
 /// # Errors
 ///
-/// `Memory` where there is no memory for the search.
+/// `Memory` if an allocation fails.
 pub fn is_selected(re: &Regex, invert: bool, line: &str) -> Result<bool, SearchError>
     ensures selected { IfOk result (λ b. b ≡ is_selected re.now invert line.now) }
     ensures refused { IfErr result IsOutOfMemory }
@@ -36,25 +39,36 @@ pub fn is_selected(re: &Regex, invert: bool, line: &str) -> Result<bool, SearchE
     Ok(re.find(line)?.is_some() != invert)
 }
 
-/// The lines of a text.
+/// Returns the lines of a text.
 ///
 /// # Errors
 ///
-/// Where there is no memory for the list.
+/// `AllocError` if an allocation fails.
 pub fn lines_of<'t>(alloc: Global, text: &'t str) -> Result<Vec<&'t str>, AllocError>
     ensures { IfOk result (λ v. map (λ l. l.now) v.items ≡ lines_of text.now) }
 {
     text.split('\n').collect(alloc)
 }
 
-/// How many lines a text has.
+/// Returns the parts of a text that NUL bytes end: its lines with `-z`.
+///
+/// # Errors
+///
+/// `AllocError` if an allocation fails.
+pub fn parts_of<'t>(alloc: Global, text: &'t str) -> Result<Vec<&'t str>, AllocError>
+    ensures { IfOk result (λ v. map (λ l. l.now) v.items ≡ parts_of text.now) }
+{
+    text.split('\0').collect(alloc)
+}
+
+/// Returns the number of lines of a text.
 pub fn count_lines(text: &str) -> u64
     ensures { result ≡ length (lines_of text.now) }
 {
     memchr_iter(b'\n', text.as_bytes()).count() as u64 + 1
 }
 
-/// How many lines stand before the first one that has more bytes than it may have: all of them where none has.
+/// Returns the number of lines before the first that has more than `longest` bytes, or of all lines if none has.
 pub fn how_many_fit(lines: &[&str], longest: u64) -> usize
     ensures { result ≡ position_or_len (λ l. nat_lt longest (length l.now)) lines.now }
 {
@@ -70,11 +84,12 @@ pub fn how_many_fit(lines: &[&str], longest: u64) -> usize
     fit
 }
 
-/// Those of these lines that are selected, all of them and in order, where so many stand before them in the file.
+/// Returns the selected lines, all of them and in order, with their numbers. `before` is the number of lines of the
+/// file before these.
 ///
 /// # Errors
 ///
-/// `Memory` where there is no memory for a search or the list.
+/// `Memory` if an allocation fails.
 pub fn selected<'t>(
     alloc: Global,
     re: &Regex,
@@ -98,12 +113,12 @@ pub fn selected<'t>(
     Ok(found)
 }
 
-/// Those of a text's lines that have a match. A text with none is not cut into lines where it is known that these have
-/// none.
+/// Returns the lines of a text that have a match, in order, with their numbers. `before` is the number of lines of the
+/// file before the text. A text without a match is not cut into lines if it is known that its lines have none.
 ///
 /// # Errors
 ///
-/// `Memory` where there is no memory for a search or the list.
+/// `Memory` if an allocation fails.
 pub fn selected_in<'t>(
     alloc: Global,
     query: &Query,
@@ -122,7 +137,7 @@ pub fn selected_in<'t>(
     selected(alloc, &query.re, false, &lines, before)
 }
 
-/// Those of the lines found that are shown, where so many were shown before, and at most so many are.
+/// Returns the lines that are shown of those found: `before` lines were shown before, and `most` are shown at most.
 pub fn within_most<'f, 't>(found: &'f [Line<'t>], before: u64, most: u64) -> &'f [Line<'t>]
     ensures { result.now ≡ take (most - before) found.now }
 {
@@ -134,57 +149,70 @@ pub fn within_most<'f, 't>(found: &'f [Line<'t>], before: u64, most: u64) -> &'f
     }
 }
 
-// One line more.
+// Adds a line.
 fn push<'t>(found: &mut Vec<Line<'t>>, number: u64, text: &'t str) -> Result<(), AllocError>
     ensures { IfOk result (λ _. map shown found.new.items ≡ map shown found.old.items ++ (number, text.now) ∷ []) }
 {
     Ok(found.push(Line { number, text })?)
 }
 
-/// The parts of a line that matched, in order, be they empty.
+/// A part of a line that matched, and where it begins in the line, in bytes.
+#[derive(Clone, Copy, Debug)]
+pub struct Part<'t> {
+    pub start: usize,
+    pub text: &'t str,
+}
+
+/// Returns the parts of a line that matched, in order. They may be empty.
 ///
 /// # Errors
 ///
-/// `Memory` where there is no memory for the search or the list.
+/// `Memory` if an allocation fails.
 pub fn matched_parts<'t>(
     alloc: Global,
     re: &Regex,
     line: &'t str,
-) -> Result<Vec<&'t str>, SearchError>
-    ensures parts { IfOk result (λ v. map (λ l. l.now) v.items
+) -> Result<Vec<Part<'t>>, SearchError>
+    ensures parts { IfOk result (λ v. map shown_part v.items
         ≡ matched_parts line.now (utf8_answers re.now line.now 0)) }
     ensures refused { IfErr result IsOutOfMemory }
 {
     let mut parts = Vec::new(alloc);
     for item in re.find_iter(line)? {
         let found = item?;
-        push_part(&mut parts, found.as_str(line))?;
+        push_part(&mut parts, found.start(), found.as_str(line))?;
     }
     Ok(parts)
 }
 
-// One part more.
-fn push_part<'t>(parts: &mut Vec<&'t str>, part: &'t str) -> Result<(), AllocError>
-    ensures { IfOk result (λ _. map (λ l. l.now) parts.new.items
-        ≡ map (λ l. l.now) parts.old.items ++ part.now ∷ []) }
+// Adds a part.
+fn push_part<'t>(parts: &mut Vec<Part<'t>>, start: usize, text: &'t str) -> Result<(), AllocError>
+    ensures { IfOk result (λ _. map shown_part parts.new.items
+        ≡ map shown_part parts.old.items ++ (start, text.now) ∷ []) }
 {
-    Ok(parts.push(part)?)
+    Ok(parts.push(Part { start, text })?)
 }
 
-/// A line with its matches in red. Of an empty one nothing is written.
+/// Returns a line with its matches painted. Nothing is written for an empty match.
 ///
 /// # Errors
 ///
-/// `Memory` where there is no memory for the search or the line.
-pub fn colored(alloc: Global, re: &Regex, line: &str) -> Result<String, SearchError>
-    ensures colored { IfOk result (λ s. string_bytes s ≡ colored re.now line.now) }
+/// `Memory` if an allocation fails.
+pub fn colored(
+    alloc: Global,
+    re: &Regex,
+    line: &str,
+    paint: Paint<'_>,
+) -> Result<String, SearchError>
+    ensures colored { IfOk result (λ s. string_bytes s
+        ≡ colored re.now line.now paint.entry.start.now paint.entry.end.now) }
     ensures refused { IfErr result IsOutOfMemory }
 {
     let mut made = String::new(alloc);
     let mut from = 0;
     for item in re.find_iter(line)? {
         let found = item?;
-        from = push_match(&mut made, line, from, &found)?;
+        from = push_match(&mut made, line, from, &found, paint)?;
     }
     push_rest(&mut made, line, from)?;
     Ok(made)
@@ -198,32 +226,35 @@ fn push_rest(made: &mut String, line: &str, from: usize) -> Result<(), AllocErro
     made.push_str(&line[from..])
 }
 
-// Writes what stands before a match, and the match. Answers where the line goes on behind it.
+// Writes what is between an offset and a match, and the match, painted. Returns where the match ends.
 fn push_match(
     made: &mut String,
     line: &str,
     from: usize,
     found: &Match,
+    paint: Paint<'_>,
 ) -> Result<usize, AllocError>
     requires before { IsCharBoundaryRange line.now (from, found.now.range.start) }
     requires fits { MatchFitsText line.now (answer_of found.now) }
     ensures made { IfOk result (λ _. string_bytes made.new ≡ string_bytes made.old
-        ++ (slice_range line.now from found.now.range.start ++ red_part line.now (answer_of found.now))) }
+        ++ (slice_range line.now from found.now.range.start
+        ++ painted_part line.now paint.entry.start.now paint.entry.end.now (answer_of found.now))) }
     ensures behind { IfOk result (λ to. to ≡ found.now.range.end) }
 {
     made.push_str(&line[from..found.start()])?;
-    push_red(made, found.as_str(line))?;
+    push_painted(made, found.as_str(line), paint)?;
     Ok(found.end())
 }
 
-// Writes a part in red.
-fn push_red(made: &mut String, part: &str) -> Result<(), AllocError>
-    ensures { IfOk result (λ _. string_bytes made.new ≡ string_bytes made.old ++ red part.now) }
+// Writes a part, painted.
+fn push_painted(made: &mut String, part: &str, paint: Paint<'_>) -> Result<(), AllocError>
+    ensures { IfOk result (λ _. string_bytes made.new ≡ string_bytes made.old
+        ++ painted paint.entry.start.now paint.entry.end.now part.now) }
 {
     if part.is_empty() {
         return Ok(());
     }
-    made.push_str(RED)?;
+    made.push_str(paint.start)?;
     made.push_str(part)?;
-    made.push_str(PLAIN)
+    made.push_str(paint.end)
 }

@@ -1,7 +1,7 @@
 -- A text that is cut into pieces.
 use Rattle.std.specs.Prelude.{◌≡◌, ◌≤◌, ℕ, List, [], ◌∷◌, ◌++◌, Option, Some, map, filter, flat_map, is_some, length, slice_range}
 use Rattle.regex_meaning.specs.Laws.{Each}
-use Rattle.regex_meaning.specs.GroupsByNumberAndName.{Answer}
+use Rattle.regex_meaning.specs.MatchGroupsByNumberAndName.{Answer}
 use Rattle.regress_match.specs.ExpansionsAndMatchRanges.{IsCharBoundaryRange}
 use Rattle.use_highlighter.specs.Tokens.{token_of}
 use Rattle.use_highlighter.specs.declared.pieces.Piece.{Piece}

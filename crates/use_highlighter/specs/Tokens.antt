@@ -3,7 +3,7 @@ use Rattle.std.specs.Prelude.{ℕ, List, [], ◌++◌, chars, codes, flat_map, i
 use Rattle.std.specs.List.{position_or_len}
 use Rattle.regex_meaning.specs.Tree.{Tree}
 use Rattle.regex_meaning.specs.FlagLettersAndEscaping.{flags_from_letters}
-use Rattle.regex_meaning.specs.GroupsByNumberAndName.{Answer, named_group}
+use Rattle.regex_meaning.specs.MatchGroupsByNumberAndName.{Answer, named_group}
 use Rattle.regex_grammar.specs.Grammar.{Parses}
 use Rattle.use_highlighter.specs.declared.tokens.Token.{Token}
 

@@ -20,7 +20,7 @@ use use_support::{CommandLine, Given, Program, run};
 
 const MB: usize = 1_000_000;
 
-// From which length on it is told on a terminal what is done with a text.
+// For texts of this length or more a message on the terminal says what is being done.
 const LONG: usize = 10 * MB;
 
 // The text of a file, or of standard input where its name is `-`.
@@ -33,7 +33,8 @@ fn text_of(rt: &HostRuntime, name: &str) -> Result<String> {
     text.context(format_args!("reading {name}"))
 }
 
-// The text of these options with its tokens in colour. Of a long one it is told on a terminal what is done with it.
+// The text of these options with its tokens in colour. For a long one a message on the terminal says what is being
+// done.
 fn colored(rt: &HostRuntime, options: &Options<'_>) -> Result<String> {
     let alloc = rt.alloc();
     let tokens = tokens(alloc, &options.tokens)?;

@@ -19,7 +19,7 @@ impl<'a> Options<'a> {
     ///
     /// # Errors
     ///
-    /// Where there is no memory for the words of the tokens.
+    /// `AllocError` if an allocation fails.
     pub fn of(alloc: Global, given: &Given<'a>) -> Result<Options<'a>, AllocError> {
         let style = if given.has("html") {
             Style::Html

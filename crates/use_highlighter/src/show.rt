@@ -22,7 +22,7 @@ pub enum Style {
 ///
 /// # Errors
 ///
-/// Where there is no memory for it.
+/// `AllocError` if an allocation fails.
 pub fn show(
     alloc: Global,
     style: Style,

@@ -1,28 +1,36 @@
 //! What callers conclude from the laws of the crates. Each function cites one law or two, and its clause follows from
 //! them.
 
-ghost use Rattle.std.specs.Prelude.{◌≡◌, ◌==◌, ◌≤◌, ◌<◌, ◌+◌, ◌-◌, ℕ, List, [], ◌∷◌, true, false, Option, Some, None, Result, Ok, Err, IfOk, IfSome, IsAscii, chars, codes, if◌then◌else◌, length, option_map, slice_get, string_bytes};
+ghost use Rattle.std.specs.Prelude.{◌≡◌, ◌==◌, ◌≤◌, ◌<◌, ◌+◌, ◌-◌, ℕ, List, [], ◌∷◌, true, false, Option, Some, None, Result, Ok, Err, IfOk, IfSome, IsAscii, chars};
+ghost use Rattle.std.specs.Prelude.{codes, if◌then◌else◌, length, option_map, slice_get, string_bytes};
 ghost use Rattle.std.specs.List.{list_all};
-ghost use Rattle.regex_meaning.specs.{GroupsByNumberAndName.{Answer, answers_from, group_names_by_id}, CodeUnitOffsets.{HasRisingPlaceOffsets, place_at}, FlagLettersAndEscaping.{flags_from_letters}};
-ghost use Rattle.regex_meaning.specs.{Laws.{StandInOrder}, Text.{Text, last_place, utf8_text}, Tree.{Flags, Tree, group_ids}};
-ghost use Rattle.regex_grammar.specs.{Grammar.{Parses}, GroupNameScan.{scanned_group_names}, Laws.{literal_tree}};
-ghost use Rattle.regress_exec.specs.{MatchAnswers.{answer_of}, RemainingAnswers.{NextYields, RemainingView}, WorkLimits.{WorkView}};
-ghost use Rattle.regress_exec.specs.declared.{exec.Match.{Match as TheMatch}, exec.SearchError.{SearchError as TheError}, exec.work_matches.WorkError.TheVariants.{WorkLimit}};
-ghost use Rattle.regress_match.specs.ProgramTreesAndAnswers.{IsCompiledWith, as_utf8, ascii_answers, byte_tree, unit_tree, utf8_answers};
-ghost use Rattle.regress_match.specs.{ExpansionsAndMatchRanges.{MatchFitsText}, SearchResults.{AllNone, CallsYield, NextResult, YieldsMatches}};
-ghost use Rattle.regress_match.specs.WorkBounds.{CallsYieldWithinWork, IsWorkBoundOfBothPrograms, NextResultWithinWork, YieldsWithinWork, total_work, work_per_unit_limit};
+ghost use Rattle.regex_meaning.specs.{MatchGroupsByNumberAndName.{Answer, answers_from, group_names_by_id}, CodeUnitOffsets.{HasRisingPlaceOffsets, place_at}};
+ghost use Rattle.regex_meaning.specs.FlagLettersAndEscaping.{flags_from_letters};
+ghost use Rattle.regex_meaning.specs.{Laws.{AreAscendingDisjointAnswersFrom}, Text.{Text, last_place, utf8_text}, Tree.{Flags, Tree, group_ids}};
+ghost use Rattle.regex_grammar.specs.{Grammar.{Parses}, GroupNameScan.{scanned_names_per_capturing_group}, Laws.{literal_tree}};
+ghost use Rattle.regress_exec.specs.{MatchesAsSpecAnswers.{answer_of}, RemainingAnswers.{NextYields, RemainingView}};
+ghost use Rattle.regress_exec.specs.AttemptsAndMatchesWithinWork.{RemainingAnswersAndWork};
+ghost use Rattle.regress_exec.specs.declared.{exec.Match.{Match as TheMatch}, exec.SearchError.{SearchError as TheError}};
+ghost use Rattle.regress_exec.specs.declared.exec.work_matches.WorkError.TheVariants.{WorkLimit};
+ghost use Rattle.regress_match.specs.ProgramTreesAndAnswers.{IsCompiledWith, bytes_as_utf8_text, ascii_answers, tree_for_byte_units, tree_for_16_bit_units, utf8_answers};
+ghost use Rattle.regress_match.specs.{ExpansionsAndMatchRanges.{MatchFitsText}, SearchResults.{AllNone, NextCallsYield, NextResult, YieldsMatches}};
+ghost use Rattle.regress_match.specs.WorkBounds.{NextCallsYieldWithinWork, IsHigherOfProgramWorkBounds, WorkMatchesNextResultType, YieldsMatchesIfWorkSuffices};
+ghost use Rattle.regress_match.specs.WorkBounds.{enough_work_for_text};
+ghost use Rattle.regress_match.specs.WorkBounds.{work_per_unit_limit};
 ghost use Rattle.regress_match.specs.declared.api.regex.Regex.{Regex as TheRegex};
 
-use regex_grammar::{escaped_bytes_are_read, groups_are_counted, names_are_found, one_tree};
+use regex_grammar::{
+    escaped_bytes_are_read, one_tree, scan_counts_pattern_groups, scan_finds_group_names,
+};
 use regex_meaning::{
-    answer_count_is_bounded, answers_are_ordered_without_overlap, encodings_are_texts,
-    resumed_search_yields_rest, same_answers_in_ascii,
+    answer_count_is_bounded, answers_are_ordered_without_overlap, ascii_and_utf8_answers_agree,
+    encoded_texts_have_rising_offsets, resuming_after_nonempty_match_yields_rest,
 };
 use regress_match::api::{
     matches_stand_in_text, searches_answer_in_turn, searches_answer_in_work,
     searches_follow_the_pattern, whole_matches_give_back, work_bounds_are_limited,
 };
-use regress_match::exec::last_match_ends_the_list;
+use regress_match::exec::match_at_text_end_is_last;
 use regress_match::{Error, Match, Regex, SearchError, escape};
 use std::alloc::Global;
 
@@ -34,7 +42,7 @@ use std::alloc::Global;
 ///
 /// The same as `Regex::new`.
 pub fn compile_literal(alloc: Global, text: &str) -> Result<Regex, Error>
-    ensures { IfOk result (λ re. unit_tree re ≡ literal_tree (flags_from_letters []) (chars text.now)) }
+    ensures { IfOk result (λ re. tree_for_16_bit_units re ≡ literal_tree (flags_from_letters []) (chars text.now)) }
 {
     escaped_bytes_are_read();
     one_tree();
@@ -45,12 +53,12 @@ pub fn compile_literal(alloc: Global, text: &str) -> Result<Regex, Error>
 /// The groups of a pattern are those that a scan of its text counts and names.
 pub fn groups_are_those_of_the_text(re: &Regex)
     ensures { (flags : Flags) (pattern : List ℕ) → IsCompiledWith flags pattern re.now →
-        let root = (unit_tree re.now).root in let names = scanned_group_names false pattern in
+        let root = (tree_for_16_bit_units re.now).root in let names = scanned_names_per_capturing_group false pattern in
         (length (group_ids root) ≡ length names)
         × (group_names_by_id root ≡ (if list_all (λ name. length name == 0) names then [] else names)) }
 {
-    groups_are_counted();
-    names_are_found();
+    scan_counts_pattern_groups();
+    scan_finds_group_names();
 }
 
 // ---- Matches
@@ -90,18 +98,18 @@ pub fn first_match_is_a_slice(re: &Regex, text: &str)
 
 /// The matches are in order, and none overlaps another.
 pub fn matches_are_in_order(re: &Regex, text: &str)
-    ensures { StandInOrder 0 (utf8_answers re.now text.now 0) }
+    ensures { AreAscendingDisjointAnswersFrom 0 (utf8_answers re.now text.now 0) }
 {
-    encodings_are_texts();
+    encoded_texts_have_rising_offsets();
     answers_are_ordered_without_overlap();
 }
 
 /// There is at most one match more than there are characters.
 pub fn matches_are_few(re: &Regex, text: &str)
-    ensures { let it = as_utf8 re.now text.now in (place : ℕ) → place_at it 0 ≡ Some place
+    ensures { let it = bytes_as_utf8_text re.now text.now in (place : ℕ) → place_at it 0 ≡ Some place
         → length (utf8_answers re.now text.now 0) ≤ last_place it - place + 1 }
 {
-    encodings_are_texts();
+    encoded_texts_have_rising_offsets();
     answer_count_is_bounded();
 }
 
@@ -110,15 +118,15 @@ pub fn search_resumes_after_first_match(re: &Regex, text: &str)
     ensures { (m : Answer) (rest : List Answer) → utf8_answers re.now text.now 0 ≡ m ∷ rest → m.range.0 < m.range.1
         → utf8_answers re.now text.now m.range.1 ≡ rest }
 {
-    encodings_are_texts();
-    resumed_search_yields_rest();
+    encoded_texts_have_rising_offsets();
+    resuming_after_nonempty_match_yields_rest();
 }
 
 /// An ASCII text has the same matches by either kind of search.
 pub fn same_matches_in_ascii(re: &Regex, text: &str)
     ensures { IsAscii text.now → ascii_answers re.now text.now 0 ≡ utf8_answers re.now text.now 0 }
 {
-    same_answers_in_ascii();
+    ascii_and_utf8_answers_agree();
 }
 
 // ---- Iterators
@@ -126,7 +134,7 @@ pub fn same_matches_in_ascii(re: &Regex, text: &str)
 /// After `None`, an iterator over matches returns `None` for good.
 pub fn none_is_final()
     ensures { (tree : Tree) (text : Text) (start : ℕ) (it behind : RemainingView) (rs : List NextResult)
-        → YieldsMatches tree text start it → CallsYield it (None ∷ rs) behind → AllNone rs }
+        → YieldsMatches tree text start it → NextCallsYield it (None ∷ rs) behind → AllNone rs }
 {
     searches_answer_in_turn();
 }
@@ -137,23 +145,25 @@ pub fn no_item_follows_match_at_text_end()
         → NextYields before (Some (Ok m)) behind → m.range.start ≡ before.text_end
         → NextYields behind (Some item) later → ⊥ }
 {
-    last_match_ends_the_list();
+    match_at_text_end_is_last();
 }
 
 /// The first item of a search within a work budget is `WorkLimit` only if the budget was less than the bound.
 pub fn work_limit_means_too_small_a_budget()
-    ensures { (tree : Tree) (text : Text) (start per_unit work : ℕ) (it behind : WorkView) (rs : List NextResultWithinWork)
-        → YieldsWithinWork tree text start per_unit work it
-        → CallsYieldWithinWork it (Some (Err WorkLimit) ∷ rs) behind → work < total_work per_unit text }
+    ensures { (tree : Tree) (text : Text) (start per_unit work : ℕ) (it behind : RemainingAnswersAndWork)
+        (rs : List WorkMatchesNextResultType)
+        → YieldsMatchesIfWorkSuffices tree text start per_unit work it
+        → NextCallsYieldWithinWork it (Some (Err WorkLimit) ∷ rs) behind → work < enough_work_for_text per_unit text }
 {
     searches_answer_in_work();
 }
 
 /// With a budget by the limit of the pattern's bounds, the work is enough, whichever bound is used.
 pub fn budget_by_the_limit_is_enough()
-    ensures { (re : TheRegex) (text : Text) (start per_unit work : ℕ) (it : WorkView) → IsWorkBoundOfBothPrograms re per_unit
-        → YieldsWithinWork (byte_tree re) text start per_unit work it
-        → total_work (work_per_unit_limit re) text ≤ work → it.enough ≡ true }
+    ensures { (re : TheRegex) (text : Text) (start per_unit work : ℕ) (it : RemainingAnswersAndWork) →
+        IsHigherOfProgramWorkBounds re per_unit
+        → YieldsMatchesIfWorkSuffices (tree_for_byte_units re) text start per_unit work it
+        → enough_work_for_text (work_per_unit_limit re) text ≤ work → it.enough ≡ true }
 {
     work_bounds_are_limited();
 }

@@ -4,17 +4,19 @@ use Rattle.std.specs.Prelude.{Option, Some, None, Result, IfOk, IfSome, option_m
 use Rattle.std.proofs.lemmas.Bool.{and_parts, cases_Bool}
 use Rattle.regex_meaning.specs.SearchAnswers.{answer_at, first_answer}
 use Rattle.regex_meaning.specs.Laws.{IsRange, is_within_pair}
-use Rattle.regex_meaning.specs.GroupsByNumberAndName.{Answer}
+use Rattle.regex_meaning.specs.MatchGroupsByNumberAndName.{Answer}
 use Rattle.regex_meaning.specs.CodeUnitOffsets.{IsBoundary, HasRisingPlaceOffsets, units}
 use Rattle.regex_meaning.specs.Text.{Text, is_unit_boundary, ucs2_text, utf16_text}
 use Rattle.regex_meaning.proofs.AnswerLemmas.{first_answer-stands}
 use Rattle.regex_meaning.proofs.TextLemmas.{ucs2_text-IsText, utf16_text-IsText}
 use Rattle.regex_meaning.proofs.UnitLemmas.{AreUnits, unit_boundary-between, unit_boundary-place_at, units-utf16}
 use Rattle.regex_meaning.proofs.UnitLengths.{ucs2_text-units}
-use Rattle.regress_exec.specs.MatchAnswers.{answer_of}
+use Rattle.regress_exec.specs.MatchesAsSpecAnswers.{answer_of}
 use Rattle.regress_exec.specs.declared.exec.Match.{Match}
-use Rattle.regress_match.specs.ProgramTreesAndAnswers.{as_ucs2, as_utf16, ucs2_answer_at, ucs2_answers, unit_tree, utf16_answer_at, utf16_answers}
-use Rattle.regress_match.specs.ExpansionsAndMatchRanges.{MatchFitsCodeUnits}
+use Rattle.regress_match.specs.ProgramTreesAndAnswers.{units_as_ucs2_text, units_as_utf16_text, ucs2_answer_beginning_at, ucs2_answers, tree_for_16_bit_units}
+use Rattle.regress_match.specs.ProgramTreesAndAnswers.{utf16_answer_beginning_at}
+use Rattle.regress_match.specs.ProgramTreesAndAnswers.{utf16_answers}
+use Rattle.regress_match.specs.ExpansionsAndMatchRanges.{MatchRangesLieWithinUnits}
 use Rattle.regress_match.specs.declared.api.regex.Regex.{Regex}
 use Rattle.regress_match.proofs.FlagLemmas.{IfOk-map}
 use Rattle.regress_match.proofs.FoundLemmas.{at-first, first-fits_units, head-first}
@@ -27,54 +29,54 @@ not-true false e = refl
 
 -- what is known of a match that is found from a start on
 pub record Stands (us : List ℕ) (u : Bool) (start : ℕ) (m : Answer) : Type 0 where
-  pub fits : MatchFitsCodeUnits us m
+  pub fits : MatchRangesLieWithinUnits us m
   pub behind : start ≤ m.range.0
   pub whole : IsTrue u → is_within_pair us m.range.1 ≡ false
 
 module _ (re : Regex) (us : List ℕ) (small : AreUnits us) where
-  whole-end : (end : ℕ) → IsBoundary (as_utf16 re us) end → is_within_pair us end ≡ false
+  whole-end : (end : ℕ) → IsBoundary (units_as_utf16_text re us) end → is_within_pair us end ≡ false
   whole-end end at =
-      let unicode = (unit_tree re).flags.unicode in
+      let unicode = (tree_for_16_bit_units re).flags.unicode in
       not-true (is_within_pair us end)
       ((and_parts (nat_le end (length us)) (not (is_within_pair us end))
       (sym (unit_boundary-between us end small) ∙ unit_boundary-place_at us unicode end ∙ at)).1)
 
   -- the first answer from a start on, in a text of these units
   first-in : (u : Bool) (text : Text) → HasRisingPlaceOffsets text → units text ≡ length us → ((end : ℕ) → IsBoundary text end → IsTrue u → is_within_pair us end ≡ false)
-      → (start : ℕ) (m : Answer) → first_answer (unit_tree re).root text start ≡ Some m → Stands us u start m
+      → (start : ℕ) (m : Answer) → first_answer (tree_for_16_bit_units re).root text start ≡ Some m → Stands us u start m
   first-in u text is size whole start m e =
-      let stands = first_answer-stands (unit_tree re).root text is start m e in
+      let stands = first_answer-stands (tree_for_16_bit_units re).root text is start m e in
       record {
-        fits = first-fits_units (unit_tree re).root text is us size start m e;
+        fits = first-fits_units (tree_for_16_bit_units re).root text is us size start m e;
         behind = stands.0;
         whole = whole m.range.1 stands.1.2;
       }
 
-  first-utf16 : (start : ℕ) (m : Answer) → first_answer (unit_tree re).root (as_utf16 re us) start ≡ Some m → Stands us true start m
+  first-utf16 : (start : ℕ) (m : Answer) → first_answer (tree_for_16_bit_units re).root (units_as_utf16_text re us) start ≡ Some m → Stands us true start m
   first-utf16 start m e =
-      let unicode = (unit_tree re).flags.unicode in
-      first-in true (as_utf16 re us) (utf16_text-IsText us unicode) (units-utf16 us unicode small) (λ end at _. whole-end end at) start m e
+      let unicode = (tree_for_16_bit_units re).flags.unicode in
+      first-in true (units_as_utf16_text re us) (utf16_text-IsText us unicode) (units-utf16 us unicode small) (λ end at _. whole-end end at) start m e
 
-  first-ucs2 : (start : ℕ) (m : Answer) → first_answer (unit_tree re).root (as_ucs2 re us) start ≡ Some m → Stands us false start m
+  first-ucs2 : (start : ℕ) (m : Answer) → first_answer (tree_for_16_bit_units re).root (units_as_ucs2_text re us) start ≡ Some m → Stands us false start m
   first-ucs2 start m e =
-      let unicode = (unit_tree re).flags.unicode in
-      first-in false (as_ucs2 re us) (ucs2_text-IsText us unicode) (ucs2_text-units us unicode) (λ end at no. absurd (cc no)) start m e
+      let unicode = (tree_for_16_bit_units re).flags.unicode in
+      first-in false (units_as_ucs2_text re us) (ucs2_text-IsText us unicode) (ucs2_text-units us unicode) (λ end at no. absurd (cc no)) start m e
 
   -- the first match from a start on
   first-found : (u : Bool) (start : ℕ) (m : Answer)
       → slice_get (if u then utf16_answers re us start else ucs2_answers re us start) 0 ≡ Some m → Stands us u start m
   first-found true start m e =
-      first-utf16 start m (sym (head-first (unit_tree re).root (as_utf16 re us) (utf16_text-IsText us (unit_tree re).flags.unicode) start) ∙ e)
+      first-utf16 start m (sym (head-first (tree_for_16_bit_units re).root (units_as_utf16_text re us) (utf16_text-IsText us (tree_for_16_bit_units re).flags.unicode) start) ∙ e)
   first-found false start m e =
-      first-ucs2 start m (sym (head-first (unit_tree re).root (as_ucs2 re us) (ucs2_text-IsText us (unit_tree re).flags.unicode) start) ∙ e)
+      first-ucs2 start m (sym (head-first (tree_for_16_bit_units re).root (units_as_ucs2_text re us) (ucs2_text-IsText us (tree_for_16_bit_units re).flags.unicode) start) ∙ e)
 
   -- the match that begins there
   here-found : (u : Bool) (start : ℕ) (m : Answer)
-      → (if u then utf16_answer_at re us start else ucs2_answer_at re us start) ≡ Some m → Stands us u start m
+      → (if u then utf16_answer_beginning_at re us start else ucs2_answer_beginning_at re us start) ≡ Some m → Stands us u start m
   here-found true start m e =
-      first-utf16 start m (at-first (unit_tree re).root (as_utf16 re us) (utf16_text-IsText us (unit_tree re).flags.unicode) start m e)
+      first-utf16 start m (at-first (tree_for_16_bit_units re).root (units_as_utf16_text re us) (utf16_text-IsText us (tree_for_16_bit_units re).flags.unicode) start m e)
   here-found false start m e =
-      first-ucs2 start m (at-first (unit_tree re).root (as_ucs2 re us) (ucs2_text-IsText us (unit_tree re).flags.unicode) start m e)
+      first-ucs2 start m (at-first (tree_for_16_bit_units re).root (units_as_ucs2_text re us) (ucs2_text-IsText us (tree_for_16_bit_units re).flags.unicode) start m e)
 
 module _ (p : Pattern) (us : List ℕ) (index : ℕ) where
   standing : (m : Answer) → Stands us p.flags.unicode (start_of p us index) m → StandsFrom p us index m
@@ -94,7 +96,7 @@ module _ (p : Pattern) (us : List ℕ) (index start : ℕ) (s : start ≡ start_
   list_by u from = if u then utf16_answers p.re us from else ucs2_answers p.re us from
 
   abbrev here_by : (u : Bool) → (at : ℕ) → Option Answer
-  here_by u at = if u then utf16_answer_at p.re us at else ucs2_answer_at p.re us at
+  here_by u at = if u then utf16_answer_beginning_at p.re us at else ucs2_answer_beginning_at p.re us at
 
   pub first-ok : (u : Bool) (answers : List Answer) → p.flags.unicode ≡ u → answers ≡ list_by u start → IfOk r (λ m. option_map answer_of m ≡ slice_get answers 0)
       → IfOk r (λ m. option_map answer_of m ≡ first_match p us index)

@@ -1,6 +1,6 @@
 -- What is left of matches that are replaced one after the other.
 use Rattle.std.proofs.Common.{◌≡◌, ℕ, List, [], ◌∷◌, length, map, refl, arith, sym, subst}
-use Rattle.regex_meaning.specs.GroupsByNumberAndName.{Answer}
+use Rattle.regex_meaning.specs.MatchGroupsByNumberAndName.{Answer}
 use Rattle.use_regexp.specs.Replace.{StandInUnits}
 
 -- of nothing nothing is made

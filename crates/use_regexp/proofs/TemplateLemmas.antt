@@ -5,9 +5,9 @@ use Rattle.std.specs.Prelude.{Option, Some, None, IfSome, if◌then◌else◌, o
 use Rattle.std.specs.List.{list_all}
 use Rattle.std.specs.Option.{option_or}
 use Rattle.regex_meaning.specs.Laws.{Each}
-use Rattle.regex_meaning.specs.GroupsByNumberAndName.{Answer, first_range, group, ids_named, named_group}
+use Rattle.regex_meaning.specs.MatchGroupsByNumberAndName.{Answer, first_range, group, ids_named, named_group}
 use Rattle.regex_meaning.specs.Outcomes.{group_range}
-use Rattle.regress_match.specs.ExpansionsAndMatchRanges.{MatchFitsCodeUnits, IsRangeWithinUnits}
+use Rattle.regress_match.specs.ExpansionsAndMatchRanges.{MatchRangesLieWithinUnits, IsRangeWithinUnits}
 use Rattle.regex_meaning.specs.Replace.{text_of}
 use Rattle.use_regexp.specs.Template.{IsWritten, Said, is_ascii, is_group, named_text, numbered, said, said_in, say, two_digits}
 
@@ -73,19 +73,19 @@ module _ (us : List ℕ) where
   get-within (g ∷ groups) zero h = h.0
   get-within (g ∷ groups) (suc id) h = get-within groups id h.1
 
-  range-within : (m : Answer) (id : ℕ) → MatchFitsCodeUnits us m → IfSome (group_range m.captures id) (IsRangeWithinUnits us)
+  range-within : (m : Answer) (id : ℕ) → MatchRangesLieWithinUnits us m → IfSome (group_range m.captures id) (IsRangeWithinUnits us)
   range-within m id fits = unwrapped (slice_get m.captures id) (get-within m.captures id fits.groups)
 
   -- a group by number stands in the text
-  pub group-within : (m : Answer) (number : ℕ) → MatchFitsCodeUnits us m → IfSome (group m number) (IsRangeWithinUnits us)
+  pub group-within : (m : Answer) (number : ℕ) → MatchRangesLieWithinUnits us m → IfSome (group m number) (IsRangeWithinUnits us)
   group-within m zero fits = fits.whole
   group-within m (suc id) fits = range-within m id fits
 
-  first-within : (m : Answer) (ids : List ℕ) → MatchFitsCodeUnits us m → IfSome (first_range m ids) (IsRangeWithinUnits us)
+  first-within : (m : Answer) (ids : List ℕ) → MatchRangesLieWithinUnits us m → IfSome (first_range m ids) (IsRangeWithinUnits us)
   first-within m [] fits = tt
   first-within m (id ∷ ids) fits = either (group_range m.captures id) (first_range m ids) (range-within m id fits) (first-within m ids fits)
 
   -- so does one by name
-  pub named-within : (m : Answer) (name : List ℕ) → MatchFitsCodeUnits us m → IfSome (named_group m name) (IsRangeWithinUnits us)
+  pub named-within : (m : Answer) (name : List ℕ) → MatchRangesLieWithinUnits us m → IfSome (named_group m name) (IsRangeWithinUnits us)
   named-within m [] fits = tt
   named-within m (c ∷ name) fits = first-within m (ids_named m (c ∷ name)) fits

@@ -2,9 +2,9 @@
 use Rattle.std.specs.Prelude.{◌≡◌, ◌≤◌, ℕ, Bool, false, List, Option, IsTrue, if◌then◌else◌, slice_get}
 use Rattle.std.specs.Option.{option_map_or}
 use Rattle.regex_meaning.specs.Laws.{is_within_pair}
-use Rattle.regex_meaning.specs.GroupsByNumberAndName.{Answer}
-use Rattle.regress_match.specs.ProgramTreesAndAnswers.{ucs2_answer_at, ucs2_answers, utf16_answer_at, utf16_answers}
-use Rattle.regress_match.specs.ExpansionsAndMatchRanges.{MatchFitsCodeUnits}
+use Rattle.regex_meaning.specs.MatchGroupsByNumberAndName.{Answer}
+use Rattle.regress_match.specs.ProgramTreesAndAnswers.{ucs2_answer_beginning_at, ucs2_answers, utf16_answer_beginning_at, utf16_answers}
+use Rattle.regress_match.specs.ExpansionsAndMatchRanges.{MatchRangesLieWithinUnits}
 use Rattle.use_regexp.specs.Flags.{keeps_index}
 use Rattle.use_regexp.specs.Units.{character_start}
 use Rattle.use_regexp.specs.declared.pattern.Pattern.{Pattern}
@@ -35,7 +35,8 @@ module _ (p : Pattern) (text : List ℕ) where
   -- the match that begins at an index, if there is one
   unfoldable pub match_here : (index : ℕ) → Option Answer
   match_here index =
-      if p.flags.unicode then utf16_answer_at p.re text (start_of index) else ucs2_answer_at p.re text (start_of index)
+      if p.flags.unicode then utf16_answer_beginning_at p.re text (start_of index)
+      else ucs2_answer_beginning_at p.re text (start_of index)
 
   -- the match of a search: with `y` the one that begins at its index, otherwise the first one from there on
   abbrev pub found : (last : ℕ) → Option Answer
@@ -43,6 +44,6 @@ module _ (p : Pattern) (text : List ℕ) where
 
   -- A match that is found from an index on is a range of the text after it, and does not end within a surrogate pair.
   pub record StandsFrom (index : ℕ) (m : Answer) : Type 0 where
-    pub fits : MatchFitsCodeUnits text m
+    pub fits : MatchRangesLieWithinUnits text m
     pub behind : start_of index ≤ m.range.0
     pub whole : IsTrue p.flags.unicode → is_within_pair text m.range.1 ≡ false

@@ -26,7 +26,8 @@ flags_of letters = if are_flags letters then Some (flags_in letters) else None
 abbrev pub letters_of : Flags → List ℕ
 letters_of f =
     letter_if_flag_set f.has_indices 100 ++ letter_if_flag_set f.global 103 ++ letter_if_flag_set f.ignore_case 105
-    ++ letter_if_flag_set f.multiline 109 ++ letter_if_flag_set f.dot_all 115 ++ letter_if_flag_set f.unicode 117 ++ letter_if_flag_set f.sticky 121
+    ++ letter_if_flag_set f.multiline 109 ++ letter_if_flag_set f.dot_all 115
+    ++ letter_if_flag_set f.unicode 117 ++ letter_if_flag_set f.sticky 121
 
 -- the flags of the tree of the pattern
 abbrev pub tree_flags : Flags → tree.Flags

@@ -2,7 +2,7 @@
 use Rattle.std.specs.Prelude.{◌≡◌, ℕ, List, [], ◌∷◌, Option, Some, None, if◌then◌else◌, ◌==◌}
 use Rattle.std.specs.Bool.{MatchBool}
 use Rattle.std.specs.Option.{option_to_list}
-use Rattle.regex_meaning.specs.GroupsByNumberAndName.{Answer}
+use Rattle.regex_meaning.specs.MatchGroupsByNumberAndName.{Answer}
 use Rattle.use_regexp.specs.Exec.{found, last_behind}
 use Rattle.use_regexp.specs.Units.{advanced}
 use Rattle.use_regexp.specs.declared.pattern.Pattern.{Pattern}

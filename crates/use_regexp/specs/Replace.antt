@@ -1,13 +1,13 @@
 -- Replacement of matches (21.2.5.9, RegExp.prototype[@@replace]).
 use Rattle.std.specs.Prelude.{◌≡◌, ◌≤◌, ℕ, List, [], ◌∷◌, Result, Vec, length, map}
 use Rattle.std.specs.Borrow.{Bor}
-use Rattle.regex_meaning.specs.GroupsByNumberAndName.{Answer}
+use Rattle.regex_meaning.specs.MatchGroupsByNumberAndName.{Answer}
 use Rattle.regex_meaning.specs.Replace.{replaced}
 use Rattle.regress_exec.specs.declared.exec.Match.{Match}
-use Rattle.regress_match.specs.ClosureReplacements as answered
-use Rattle.regress_match.specs.ReplacementClosures.{ClosureCanBeCalled}
+use Rattle.regress_match.specs.ClosureReplacementForAnyResultType as answered
+use Rattle.regress_match.specs.ReplacementClosuresReturningStrings.{ClosureCanBeCalled}
 use Rattle.regress_match.specs.CompileErrors.{IsOutOfMemory}
-use Rattle.regress_match.specs.ExpansionsAndMatchRanges.{MatchFitsCodeUnits}
+use Rattle.regress_match.specs.ExpansionsAndMatchRanges.{MatchRangesLieWithinUnits}
 use Rattle.regress_match.specs.declared.api.compile_and_replace_errors.ReplaceError.{ReplaceError}
 use Rattle.regress_match.specs.declared.api.compile_and_replace_errors.ReplaceError.TheVariants.{Search, Closure}
 use Rattle.use_regexp.specs.Loops.{AreTaken}
@@ -17,7 +17,7 @@ use Rattle.use_regexp.specs.declared.pattern.Pattern.{Pattern}
 -- each match is a range of the text, and begins after the offset and after the end of the previous match, or there
 abbrev pub StandInUnits : (text : List ℕ) → (from : ℕ) → List Answer → Type 0
 StandInUnits text from [] = from ≤ length text
-StandInUnits text from (m ∷ ms) = (from ≤ m.range.0) × MatchFitsCodeUnits text m × StandInUnits text m.range.1 ms
+StandInUnits text from (m ∷ ms) = (from ≤ m.range.0) × MatchRangesLieWithinUnits text m × StandInUnits text m.range.1 ms
 
 -- these matches, each with the expansion of the template for it
 abbrev pub substituted : (text template : List ℕ) → List Answer → List (Answer × List ℕ)

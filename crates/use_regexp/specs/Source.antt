@@ -25,7 +25,8 @@ abbrev pub escaped_from : (escaped in_class : Bool) → List ℕ → List ℕ
 escaped_from escaped in_class [] = []
 escaped_from true in_class (c ∷ cs) = behind_backslash c ++ escaped_from false in_class cs
 escaped_from false in_class (c ∷ cs) =
-    (if wants_backslash in_class c then 92 ∷ behind_backslash c else c ∷ []) ++ escaped_from (c == 92) (class_behind in_class c) cs
+    (if wants_backslash in_class c then 92 ∷ behind_backslash c else c ∷ [])
+    ++ escaped_from (c == 92) (class_behind in_class c) cs
 
 -- the escaped source
 abbrev pub escaped_source : List ℕ → List ℕ

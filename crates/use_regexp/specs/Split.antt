@@ -4,9 +4,9 @@ use Rattle.std.specs.Prelude.{option_and_then, if◌then◌else◌, nat_lt, ◌=
 use Rattle.std.specs.Bool.{MatchBool}
 use Rattle.std.specs.Option.{option_map_or}
 use Rattle.regex_meaning.specs.Laws.{is_within_pair}
-use Rattle.regex_meaning.specs.GroupsByNumberAndName.{Answer}
+use Rattle.regex_meaning.specs.MatchGroupsByNumberAndName.{Answer}
 use Rattle.regex_meaning.specs.Outcomes.{Groups}
-use Rattle.regress_match.specs.ExpansionsAndMatchRanges.{MatchFitsCodeUnits}
+use Rattle.regress_match.specs.ExpansionsAndMatchRanges.{MatchRangesLieWithinUnits}
 use Rattle.use_regexp.specs.Exec.{first_match, match_here}
 use Rattle.use_regexp.specs.Units.{advanced}
 use Rattle.use_regexp.specs.declared.pattern.Pattern.{Pattern}
@@ -60,7 +60,7 @@ module _ (p : Pattern) (text : List ℕ) where
 
   -- a separator is a range of the text after the start of the piece, and does not end within a surrogate pair
   pub record IsSeparator (from : ℕ) (m : Answer) : Type 0 where
-    pub fits : MatchFitsCodeUnits text m
+    pub fits : MatchRangesLieWithinUnits text m
     pub behind : CutsNone from → from ≤ m.range.0
     pub goes_on : CutsNone from → from < m.range.1
     pub whole : CutsNone m.range.1

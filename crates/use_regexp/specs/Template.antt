@@ -4,7 +4,7 @@ use Rattle.std.specs.Prelude.{if◌then◌else◌, nat_le, nat_lt, ◌==◌}
 use Rattle.std.specs.List.{list_all}
 use Rattle.std.specs.Option.{option_map_or}
 use Rattle.std.specs.Char.{is_ascii_digit}
-use Rattle.regex_meaning.specs.GroupsByNumberAndName.{Answer, group, named_group, named_groups}
+use Rattle.regex_meaning.specs.MatchGroupsByNumberAndName.{Answer, group, named_group, named_groups}
 use Rattle.regex_meaning.specs.Replace.{text_of}
 
 -- the expansion of the first units of a template, and the rest of it

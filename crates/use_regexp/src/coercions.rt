@@ -11,8 +11,8 @@ const MAX_LENGTH: u64 = 0x1F_FFFF_FFFF_FFFF;
 
 /// Converts a number to a length (7.1.15, ToLength), as `exec` converts `lastIndex`.
 ///
-/// The fraction is dropped. NaN and a number below 0 give 0. A number above 2^53 - 1 gives 2^53 - 1, which is past the end
-/// of each text.
+/// The fraction is dropped. NaN and a number below 0 give 0. A number above 2^53 - 1 gives 2^53 - 1, which is past the
+/// end of each text.
 pub fn to_length(number: f64) -> usize
     ensures { result ≡ length_of number }
 {
@@ -21,7 +21,8 @@ pub fn to_length(number: f64) -> usize
 
 /// Converts a number to an integer of 32 bits (7.1.6, ToUint32), as `split` converts its limit.
 ///
-/// The fraction is dropped, and what is left is taken modulo 2^32: -1 gives 4,294,967,295. NaN and the infinities give 0.
+/// The fraction is dropped, and what is left is taken modulo 2^32: -1 gives 4,294,967,295. NaN and the infinities give
+/// 0.
 pub fn to_uint32(number: f64) -> u32
     ensures { result ≡ uint32_of number }
 {

@@ -13,8 +13,8 @@ const LETTERS: [u16; 7] = [100, 103, 105, 109, 115, 117, 121];
 /// The flags of a regular expression (21.2.5). `d` is a flag of the 13th edition (ES2022).
 #[derive(Clone, Copy, Debug, Default, PartialEq, Eq)]
 pub struct Flags {
-    /// Results of `exec` have the array `indices` (`d`). It does not change a search, since a [`Match`](crate::Match) always
-    /// has the indices.
+    /// Results of `exec` have the array `indices` (`d`). It does not change a search, since a [`Match`](crate::Match)
+    /// always has the indices.
     pub has_indices: bool,
     /// A search continues at the end of the previous one, and calls that replace or match use all matches (`g`).
     pub global: bool,

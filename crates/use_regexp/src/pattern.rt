@@ -2,7 +2,7 @@
 
 ghost use Rattle.std.specs.Prelude.{◌≡◌, ◌++◌, ◌∷◌, ◌≤◌, [], IfErr, IfOk, IfSome, IsTrue, false, if◌then◌else◌, length, map, option_map, slice_get};
 ghost use Rattle.std.specs.Option.{option_to_list};
-ghost use Rattle.regress_exec.specs.MatchAnswers.{answer_of};
+ghost use Rattle.regress_exec.specs.MatchesAsSpecAnswers.{answer_of};
 ghost use Rattle.regress_match.specs.CompileErrors.{IsOutOfMemory};
 ghost use Rattle.use_regexp.specs.Refusals.{CanRefuse};
 
@@ -26,13 +26,13 @@ impl Pattern {
     ghost use Rattle.use_regexp.specs.Exec.{StandsFrom, first_match, found, last_behind, match_here, search_index as search_index_of};
     ghost use Rattle.use_regexp.specs.Loops.{AreFoundInTurn, AreTaken, next_last};
 
-    /// Compiles a pattern with the flags of these letters (21.2.3.2.2, RegExpInitialize). With `u` the source is read as
-    /// UTF-16; without it each code unit is a character.
+    /// Compiles a pattern with the flags of these letters (21.2.3.2.2, RegExpInitialize). With `u` the source is read
+    /// as UTF-16; without it each code unit is a character.
     ///
     /// # Errors
     ///
-    /// `Flags` if a letter is not that of a flag or occurs twice, `Pattern` if the pattern is refused, and `Memory` if an
-    /// allocation fails.
+    /// `Flags` if a letter is not that of a flag or occurs twice, `Pattern` if the pattern is refused, and `Memory` if
+    /// an allocation fails.
     pub fn new(alloc: Global, source: &[u16], letters: &[u16]) -> Result<Pattern, RegExpError>
         ensures compiled { IfOk result (IsPatternOf source.now letters.now) }
         ensures refused { IfErr result (CanRefuse source.now letters.now) }
@@ -86,9 +86,9 @@ impl Pattern {
         }
     }
 
-    /// Returns the match of a search with this `lastIndex` (21.2.5.2.2, RegExpBuiltinExec). With `g` or `y` the search begins
-    /// at `lastIndex`, otherwise at 0. With `y` no other index is tried. With `u` an index within a surrogate pair means the
-    /// start of the pair.
+    /// Returns the match of a search with this `lastIndex` (21.2.5.2.2, RegExpBuiltinExec). With `g` or `y` the search
+    /// begins at `lastIndex`, otherwise at 0. With `y` no other index is tried. With `u` an index within a surrogate
+    /// pair means the start of the pair.
     ///
     /// # Errors
     ///
@@ -118,8 +118,8 @@ impl Pattern {
         }
     }
 
-    /// Returns `lastIndex` after a search. With `g` or `y` it is the end of the match, or 0 without a match. Otherwise it is
-    /// unchanged.
+    /// Returns `lastIndex` after a search. With `g` or `y` it is the end of the match, or 0 without a match. Otherwise
+    /// it is unchanged.
     pub fn last_behind(&self, last_index: usize, found: Option<&Match>) -> usize
         ensures { result ≡ last_behind self.now last_index (option_map (λ m. answer_of m.now) found.entry) }
     {
@@ -132,7 +132,8 @@ impl Pattern {
         }
     }
 
-    // Returns the index at which a loop over matches continues after a match: its end, or one character further if it is empty.
+    // Returns the index at which a loop over matches continues after a match: its end, or one character further if it
+    // is empty.
     pub(crate) fn next_last(&self, text: &[u16], found: &Match) -> usize
         requires { found.now.range.end ≤ length text.now }
         ensures { result ≡ next_last self.now text.now (answer_of found.now) }
@@ -159,8 +160,8 @@ impl Pattern {
         Ok(matches)
     }
 
-    /// Returns all matches from the index `first` on with `g`, and otherwise the match of a search with this `lastIndex`, if
-    /// there is one.
+    /// Returns all matches from the index `first` on with `g`, and otherwise the match of a search with this
+    /// `lastIndex`, if there is one.
     ///
     /// # Errors
     ///

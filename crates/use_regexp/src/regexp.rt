@@ -1,7 +1,7 @@
 //! The RegExp object: a compiled pattern, and the index at which its next search begins.
 
 ghost use Rattle.std.specs.Prelude.{◌≡◌, IfErr, IfOk, OnErr, if◌then◌else◌, is_some, map, option_map, slice_get};
-ghost use Rattle.regress_exec.specs.MatchAnswers.{answer_of};
+ghost use Rattle.regress_exec.specs.MatchesAsSpecAnswers.{answer_of};
 ghost use Rattle.regress_match.specs.CompileErrors.{IsOutOfMemory};
 ghost use Rattle.use_regexp.specs.{Compiled.{IsPatternOf}, Exec.{found, last_behind}, Loops.{AreTaken, LeavesTaken}, Refusals.{CanRefuse}};
 ghost use Rattle.use_regexp.specs.Source.{escaped_source, literal_of};
@@ -17,13 +17,14 @@ use std::alloc::{AllocError, Global};
 #[derive(Drop)]
 pub struct RegExp {
     pub(crate) pattern: Pattern,
-    /// `lastIndex` in code units (21.2.6.1): the index at which the next search begins with `g` or `y`. Any value is allowed; a
-    /// search from past the end of the text finds no match.
+    /// `lastIndex` in code units (21.2.6.1): the index at which the next search begins with `g` or `y`. Any value is
+    /// allowed; a search from past the end of the text finds no match.
     ///
-    /// The property of a script's object may hold any value, which a call coerces. So before a call a host sets this field to
-    /// the property's number, converted by [`to_length`](crate::to_length). After `exec`, `test`, `match_text`, `replace` and
-    /// `replace_with` it writes the field back to the property if the flags have `g` or `y`; otherwise the property keeps its
-    /// value.
+    /// The property of a script's object may hold any value, which a call coerces. So before a call a host sets this
+    /// field to the property's number, converted by [`to_length`](crate::to_length). After `exec`, `test`,
+    /// `match_text`, `replace` and
+    /// `replace_with` it writes the field back to the property if the flags have `g` or `y`; otherwise the property
+    /// keeps its value.
     pub last_index: usize,
 }
 
@@ -32,8 +33,8 @@ impl RegExp {
     ///
     /// # Errors
     ///
-    /// `Flags` if a letter is not that of a flag or occurs twice, `Pattern` if the pattern is refused, and `Memory` if an
-    /// allocation fails.
+    /// `Flags` if a letter is not that of a flag or occurs twice, `Pattern` if the pattern is refused, and `Memory` if
+    /// an allocation fails.
     pub fn new(alloc: Global, source: &[u16], letters: &[u16]) -> Result<RegExp, RegExpError>
         ensures compiled { IfOk result (λ r. IsPatternOf source.now letters.now r.pattern) }
         ensures first { IfOk result (λ r. r.last_index ≡ 0) }
@@ -81,12 +82,12 @@ impl RegExp {
         Ok(text)
     }
 
-    /// Returns the first match from `lastIndex` on with `g`, the match that begins at `lastIndex` with `y`, and otherwise the
-    /// first match in the text (21.2.5.2). With `g` or `y` `lastIndex` becomes the end of the match, or 0 without a match. With
-    /// `u` an index within a surrogate pair means the start of the pair.
+    /// Returns the first match from `lastIndex` on with `g`, the match that begins at `lastIndex` with `y`, and
+    /// otherwise the first match in the text (21.2.5.2). With `g` or `y` `lastIndex` becomes the end of the match, or 0
+    /// without a match. With `u` an index within a surrogate pair means the start of the pair.
     ///
-    /// The array `indices` of a result with the flag `d` (22.2.7.2 of the 13th edition) is [`Match::groups`]: a range is a pair
-    /// of indices, and a group that did not match has none. Its `groups` are [`Match::named_groups`].
+    /// The array `indices` of a result with the flag `d` (22.2.7.2 of the 13th edition) is [`Match::groups`]: a range
+    /// is a pair of indices, and a group that did not match has none. Its `groups` are [`Match::named_groups`].
     ///
     /// # Errors
     ///
@@ -123,8 +124,8 @@ impl RegExp {
         Ok(found.is_some())
     }
 
-    /// Returns the start of the match that `exec` finds with a `lastIndex` of 0, or `None` without a match. `lastIndex` is
-    /// unchanged (21.2.5.10).
+    /// Returns the start of the match that `exec` finds with a `lastIndex` of 0, or `None` without a match. `lastIndex`
+    /// is unchanged (21.2.5.10).
     ///
     /// # Errors
     ///
@@ -169,8 +170,9 @@ impl RegExp {
         self.last_index = last_index;
     }
 
-    /// Returns all matches from `lastIndex` on with `g`, and otherwise the match of `exec`, if there is one. `lastIndex` is
-    /// unchanged (21.2.5.8 of the 11th edition, `[Symbol.matchAll]`, which the 9th edition does not have).
+    /// Returns all matches from `lastIndex` on with `g`, and otherwise the match of `exec`, if there is one.
+    /// `lastIndex` is unchanged (21.2.5.8 of the 11th edition, `[Symbol.matchAll]`, which the 9th edition does not
+    /// have).
     ///
     /// # Errors
     ///

@@ -3,8 +3,9 @@
 ghost use Rattle.std.specs.Prelude.{◌≡◌, ◌++◌, ◌≤◌, IfErr, IfOk, OnErr, drop, length, map, slice_range};
 ghost use Rattle.std.specs.Result.{IsOkAnd};
 ghost use Rattle.regex_meaning.specs.Replace.{replaced};
-ghost use Rattle.regress_exec.specs.MatchAnswers.{answer_of};
-ghost use Rattle.regress_match.specs.{ClosureReplacements.{IsClosureErrorOrOutOfMemory}, ReplacementClosures.{ClosureCanBeCalled}, CompileErrors.{IsOutOfMemory}, ExpansionsAndMatchRanges.{MatchFitsCodeUnits}};
+ghost use Rattle.regress_exec.specs.MatchesAsSpecAnswers.{answer_of};
+ghost use Rattle.regress_match.specs.{ClosureReplacementForAnyResultType.{IsClosureErrorOrOutOfMemory}, ReplacementClosuresReturningStrings.{ClosureCanBeCalled}};
+ghost use Rattle.regress_match.specs.{CompileErrors.{IsOutOfMemory}, ExpansionsAndMatchRanges.{MatchRangesLieWithinUnits}};
 ghost use Rattle.use_regexp.specs.Loops.{LeavesTaken};
 ghost use Rattle.use_regexp.specs.Replace.{CanBeTaken, CanRefuseAt, CanRefuseWith, IsReplaced, IsReplacedBy, IsReplacedWith, StandInUnits, substituted};
 
@@ -14,12 +15,14 @@ use regress_match::{Match, ReplaceError, SearchError};
 use std::alloc::{AllocError, Global};
 
 impl RegExp {
-    /// Returns the text with the expansion of a template in place of each match with `g`, and otherwise of the match of `exec`
-    /// (21.2.5.9, `[Symbol.replace]`). Without a match it is the text itself. `lastIndex` is set like by `match_text`.
+    /// Returns the text with the expansion of a template in place of each match with `g`, and otherwise of the match of
+    /// `exec` (21.2.5.9, `[Symbol.replace]`). Without a match it is the text itself. `lastIndex` is set like by
+    /// `match_text`.
     ///
-    /// In a template `$$` stands for `$`, `$&` for the match, `` $` `` for the text before it and `$'` for the text after it.
-    /// `$` with one or two digits stands for a group, if there is one with this number, and `$<name>` for a group by name, if
-    /// any group has a name. Any other `$` stands for itself.
+    /// In a template `$$` stands for `$`, `$&` for the match, `` $` `` for the text before it and `$'` for the text
+    /// after it.
+    /// `$` with one or two digits stands for a group, if there is one with this number, and `$<name>` for a group by
+    /// name, if any group has a name. Any other `$` stands for itself.
     ///
     /// # Errors
     ///
@@ -43,9 +46,9 @@ impl RegExp {
         Ok(made)
     }
 
-    /// Returns the text with the result of a closure in place of each match with `g`, and otherwise of the match of `exec`
-    /// (21.2.5.9). The closure is called for one match after another, and not again after an error. `lastIndex` is set like by
-    /// `match_text`.
+    /// Returns the text with the result of a closure in place of each match with `g`, and otherwise of the match of
+    /// `exec` (21.2.5.9). The closure is called for one match after another, and not again after an error. `lastIndex`
+    /// is set like by `match_text`.
     ///
     /// # Errors
     ///
@@ -77,7 +80,7 @@ impl RegExp {
 // Appends the text between `from` and a match, and returns the end of the match.
 fn reach(made: &mut Vec<u16>, text: &[u16], from: usize, found: &Match) -> Result<usize, AllocError>
     requires rising { from ≤ found.now.range.start }
-    requires fits { MatchFitsCodeUnits text.now (answer_of found.now) }
+    requires fits { MatchRangesLieWithinUnits text.now (answer_of found.now) }
     ensures made { IfOk result (λ _. made.new.items
         ≡ made.old.items ++ slice_range text.now from found.now.range.start) }
     ensures behind { IfOk result (λ to. to ≡ found.now.range.end) }

@@ -1,7 +1,7 @@
 //! Splitting of texts at matches.
 
 ghost use Rattle.std.specs.Prelude.{◌≡◌, ◌++◌, ◌∷◌, ◌⊎◌, ◌≤◌, [], IfErr, IfNone, IfOk, IfSome, None, Some, length, map, option_map, take};
-ghost use Rattle.regress_exec.specs.MatchAnswers.{answer_of, range_of};
+ghost use Rattle.regress_exec.specs.MatchesAsSpecAnswers.{answer_of, range_as_pair};
 ghost use Rattle.regress_match.specs.CompileErrors.{IsOutOfMemory};
 ghost use Rattle.use_regexp.specs.Split.{ArePieces, IsSeparator, IsSplit, before_end as before_end_of, chosen, pieces_of_none, separator};
 
@@ -12,9 +12,10 @@ use regress_match::{Match, Range, SearchError};
 use std::alloc::{AllocError, Global};
 
 impl RegExp {
-    /// Splits the text at the matches, and returns the ranges between them (21.2.5.12, `[Symbol.split]`). The range before a
-    /// match is followed by the ranges of the groups of the match, `None` for a group that did not match. The list has at most
-    /// `limit` items; without a limit `limit` is 2^32 - 1. A host coerces the limit by [`to_uint32`](crate::to_uint32).
+    /// Splits the text at the matches, and returns the ranges between them (21.2.5.12, `[Symbol.split]`). The range
+    /// before a match is followed by the ranges of the groups of the match, `None` for a group that did not match. The
+    /// list has at most `limit` items; without a limit `limit` is 2^32 - 1. A host coerces the limit by
+    /// [`to_uint32`](crate::to_uint32).
     ///
     /// An empty match splits only between two characters. `lastIndex`, `g` and `y` have no effect.
     ///
@@ -28,7 +29,7 @@ impl RegExp {
         limit: u32,
     ) -> Result<Vec<Option<Range<usize>>>, SearchError>
         ensures split { IfOk result (λ v.
-            IsSplit self.now.pattern text.now limit (map (option_map range_of) v.items)) }
+            IsSplit self.now.pattern text.now limit (map (option_map range_as_pair) v.items)) }
         ensures refused { IfErr result IsOutOfMemory }
     {
         let limit = limit as usize;
@@ -47,7 +48,7 @@ impl Pattern {
         text: &[u16],
         limit: usize,
     ) -> Result<Vec<Option<Range<usize>>>, SearchError>
-        ensures pieces { IfOk result (λ v. map (option_map range_of) v.items
+        ensures pieces { IfOk result (λ v. map (option_map range_as_pair) v.items
             ≡ take limit (pieces_of_none self.now text.now)) }
         ensures refused { IfErr result IsOutOfMemory }
     {
@@ -66,7 +67,7 @@ impl Pattern {
         text: &[u16],
         limit: usize,
     ) -> Result<Vec<Option<Range<usize>>>, SearchError>
-        ensures pieces { IfOk result (λ v. ArePieces self.now text.now limit (map (option_map range_of) v.items)) }
+        ensures pieces { IfOk result (λ v. ArePieces self.now text.now limit (map (option_map range_as_pair) v.items)) }
         ensures refused { IfErr result IsOutOfMemory }
     {
         let mut pieces = Vec::new(alloc);
@@ -106,8 +107,8 @@ impl Pattern {
         self.separator(text, from)
     }
 
-    // Returns the next separator after the start of a piece: a match that does not end there, and begins before the end of
-    // the text.
+    // Returns the next separator after the start of a piece: a match that does not end there, and begins before the end
+    // of the text.
     fn separator(&self, text: &[u16], from: usize) -> Result<Option<Match>, SearchError>
         requires { from ≤ length text.now }
         ensures found { IfOk result (λ m. option_map answer_of m ≡ separator self.now text.now from) }
@@ -119,7 +120,8 @@ impl Pattern {
         Ok(before_end(text, chosen))
     }
 
-    // Returns the first match from the start of a piece on; if that is empty there, the first match from the next index on.
+    // Returns the first match from the start of a piece on; if that is empty there, the first match from the next index
+    // on.
     fn passed(
         &self,
         text: &[u16],
@@ -158,8 +160,8 @@ fn push_piece(
     start: usize,
     end: usize,
 ) -> Result<(), AllocError>
-    ensures { IfOk result (λ _. map (option_map range_of) pieces.new.items
-        ≡ map (option_map range_of) pieces.old.items ++ Some (start, end) ∷ []) }
+    ensures { IfOk result (λ _. map (option_map range_as_pair) pieces.new.items
+        ≡ map (option_map range_as_pair) pieces.old.items ++ Some (start, end) ∷ []) }
 {
     Ok(pieces.push(Some(start..end))?)
 }
@@ -170,7 +172,8 @@ fn push_pieces(
     from: usize,
     found: &Match,
 ) -> Result<(), AllocError>
-    ensures { IfOk result (λ _. map (option_map range_of) pieces.new.items ≡ map (option_map range_of) pieces.old.items
+    ensures { IfOk result (λ _. map (option_map range_as_pair) pieces.new.items
+        ≡ map (option_map range_as_pair) pieces.old.items
         ++ Some (from, found.now.range.start) ∷ (answer_of found.now).captures) }
 {
     push_piece(pieces, from, found.start())?;

@@ -3,9 +3,9 @@
 ghost use Rattle.std.specs.Prelude.{◌≡◌, ◌++◌, ◌<◌, IfOk, IfSome, IsTrue, None, Some, if◌then◌else◌, length, option_map, position, string_bytes};
 ghost use Rattle.std.specs.Char.{is_ascii_digit};
 ghost use Rattle.std.specs.List.{list_all};
-ghost use Rattle.regex_meaning.specs.{GroupsByNumberAndName.{Answer}, Replace.{text_of}};
-ghost use Rattle.regress_exec.specs.MatchAnswers.{answer_of, range_of};
-ghost use Rattle.regress_match.specs.ExpansionsAndMatchRanges.{MatchFitsCodeUnits, IsRangeWithinUnits};
+ghost use Rattle.regex_meaning.specs.{MatchGroupsByNumberAndName.{Answer}, Replace.{text_of}};
+ghost use Rattle.regress_exec.specs.MatchesAsSpecAnswers.{answer_of, range_as_pair};
+ghost use Rattle.regress_match.specs.ExpansionsAndMatchRanges.{MatchRangesLieWithinUnits, IsRangeWithinUnits};
 ghost use Rattle.use_regexp.specs.Template.{IsWritten, behind_dollar, is_ascii, is_greater, is_group as is_group_of, name_end as name_end_of, named};
 ghost use Rattle.use_regexp.specs.Template.{named_text, numbered, plain, said, substitution, two_digits as two_digits_of};
 
@@ -18,7 +18,8 @@ const LESS: u16 = 60;
 
 const GREATER: u16 = 62;
 
-// Appends the expansion of a template for a match (21.1.3.16.1, GetSubstitution). Each iteration reads at least one unit.
+// Appends the expansion of a template for a match (21.1.3.16.1, GetSubstitution). Each iteration reads at least one
+// unit.
 pub(crate) fn substitute(
     alloc: Global,
     out: &mut Vec<u16>,
@@ -26,7 +27,7 @@ pub(crate) fn substitute(
     found: &Match,
     template: &[u16],
 ) -> Result<(), AllocError>
-    requires { MatchFitsCodeUnits text.now (answer_of found.now) }
+    requires { MatchRangesLieWithinUnits text.now (answer_of found.now) }
     ensures { IfOk result (λ _. out.new.items
         ≡ out.old.items ++ substitution text.now (answer_of found.now) template.now) }
 {
@@ -49,7 +50,7 @@ fn push_said<'a>(
     first: u16,
     behind: &'a [u16],
 ) -> Result<&'a [u16], AllocError>
-    requires { MatchFitsCodeUnits text.now (answer_of found.now) }
+    requires { MatchRangesLieWithinUnits text.now (answer_of found.now) }
     ensures { IfOk result (λ rest. IsWritten out.old.items out.new.items rest.now
         (said text.now (answer_of found.now) first behind.now)) }
 {
@@ -68,7 +69,7 @@ fn push_behind_dollar<'a>(
     found: &Match,
     signs: &'a [u16],
 ) -> Result<&'a [u16], AllocError>
-    requires { MatchFitsCodeUnits text.now (answer_of found.now) }
+    requires { MatchRangesLieWithinUnits text.now (answer_of found.now) }
     ensures { IfOk result (λ rest. IsWritten out.old.items out.new.items rest.now
         (behind_dollar text.now (answer_of found.now) signs.now)) }
 {
@@ -88,7 +89,7 @@ fn push_behind_dollar<'a>(
 
 // Appends the expansion of `$` and one unit: a `$`, the match, or the text before or after it; otherwise both units.
 fn push_plain(out: &mut Vec<u16>, text: &[u16], found: &Match, sign: u16) -> Result<(), AllocError>
-    requires { MatchFitsCodeUnits text.now (answer_of found.now) }
+    requires { MatchRangesLieWithinUnits text.now (answer_of found.now) }
     ensures { IfOk result (λ _. out.new.items ≡ out.old.items ++ plain text.now (answer_of found.now) sign) }
 {
     if sign == 38 {
@@ -114,8 +115,8 @@ fn is_digit(unit: u16) -> bool
     matches!(unit, 48..=57)
 }
 
-// Appends the text of the group with the number of two digits, or of one digit if there is no such group; otherwise `$` and
-// the digit.
+// Appends the text of the group with the number of two digits, or of one digit if there is no such group; otherwise `$`
+// and the digit.
 fn push_numbered<'a>(
     out: &mut Vec<u16>,
     text: &[u16],
@@ -123,7 +124,7 @@ fn push_numbered<'a>(
     digit: u16,
     rest: &'a [u16],
 ) -> Result<&'a [u16], AllocError>
-    requires fits { MatchFitsCodeUnits text.now (answer_of found.now) }
+    requires fits { MatchRangesLieWithinUnits text.now (answer_of found.now) }
     requires digit { IsTrue (is_ascii_digit digit) }
     ensures { IfOk result (λ left. IsWritten out.old.items out.new.items left.now
         (numbered text.now (answer_of found.now) digit rest.now)) }
@@ -169,7 +170,7 @@ fn push_named<'a>(
     found: &Match,
     rest: &'a [u16],
 ) -> Result<&'a [u16], AllocError>
-    requires { MatchFitsCodeUnits text.now (answer_of found.now) }
+    requires { MatchRangesLieWithinUnits text.now (answer_of found.now) }
     ensures { IfOk result (λ left. IsWritten out.old.items out.new.items left.now
         (named text.now (answer_of found.now) rest.now)) }
 {
@@ -209,7 +210,7 @@ fn push_name(
     found: &Match,
     name: &[u16],
 ) -> Result<(), AllocError>
-    requires { MatchFitsCodeUnits text.now (answer_of found.now) }
+    requires { MatchRangesLieWithinUnits text.now (answer_of found.now) }
     ensures { IfOk result (λ _. out.new.items
         ≡ out.old.items ++ named_text text.now (answer_of found.now) name.now) }
 {
@@ -240,9 +241,9 @@ fn push_range(
     text: &[u16],
     range: Option<Range<usize>>,
 ) -> Result<(), AllocError>
-    requires { IfSome (option_map range_of range) (IsRangeWithinUnits text.now) }
+    requires { IfSome (option_map range_as_pair range) (IsRangeWithinUnits text.now) }
     ensures { IfOk result (λ _. (m : Answer) → out.new.items
-        ≡ out.old.items ++ text_of text.now m (option_map range_of range)) }
+        ≡ out.old.items ++ text_of text.now m (option_map range_as_pair range)) }
 {
     match range {
         Some(range) => out.extend_from_slice(&text[range.start..range.end]),

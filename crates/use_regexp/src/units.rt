@@ -34,7 +34,8 @@ fn is_within_pair(text: &[u16], index: usize) -> bool
     is_high(text[index - 1]) && is_low(text[index])
 }
 
-// Returns the start of the character at an index: with `u`, one unit before an index within a surrogate pair (21.2.2.2).
+// Returns the start of the character at an index: with `u`, one unit before an index within a surrogate pair
+// (21.2.2.2).
 pub(crate) fn character_start(unicode: bool, text: &[u16], index: usize) -> usize
     ensures { result ≡ start_of unicode text.now index }
 {

@@ -15,8 +15,8 @@ const NO_LIMIT: u32 = u32::MAX;
 ///
 /// # Errors
 ///
-/// `SyntaxError` if the pattern or its flags are refused. `Malformed` if the line is malformed, after the answers of the calls
-/// before the error. `Memory` if an allocation fails.
+/// `SyntaxError` if the pattern or its flags are refused. `Malformed` if the line is malformed, after the answers of
+/// the calls before the error. `Memory` if an allocation fails.
 pub fn answer(alloc: Global, out: &mut String, line: &str) -> Result<(), Stop> {
     let units = units_of(alloc, line)?;
     let line = behind_blanks(&units);
@@ -209,7 +209,8 @@ fn index_or_none(out: &mut String, at: Option<usize>) -> Result<(), AllocError> 
     }
 }
 
-// Writes the result of `match`: with `g` the texts of all matches, or `null` if there are none; otherwise the result of `exec`.
+// Writes the result of `match`: with `g` the texts of all matches, or `null` if there are none; otherwise the result of
+// `exec`.
 fn matches(alloc: Global, out: &mut String, re: &mut RegExp, text: &[u16]) -> Result<(), Stop> {
     let flags = re.flags();
     let mut found = re.match_text(alloc, text)?;
@@ -278,7 +279,8 @@ fn replace_with(
     }
 }
 
-// Returns the replacement of a match for `replaceWith`: `<index:match|group..>`, with `-` for a group that did not match.
+// Returns the replacement of a match for `replaceWith`: `<index:match|group..>`, with `-` for a group that did not
+// match.
 fn told(alloc: Global, text: &[u16], found: &Match) -> Result<Vec<u16>, AllocError> {
     let start = found.start();
     let begun = format!(in alloc; "<{start}")?;

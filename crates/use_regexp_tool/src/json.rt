@@ -55,8 +55,8 @@ pub fn truth(out: &mut String, value: bool) -> Result<(), AllocError> {
     out.push_str(if value { "true" } else { "false" })
 }
 
-/// Writes the result of `exec`: the start of the match, its text and the texts of its groups, and those of the named groups;
-/// with `indices`, also the same with indices in place of texts.
+/// Writes the result of `exec`: the start of the match, its text and the texts of its groups, and those of the named
+/// groups; with `indices`, also the same with indices in place of texts.
 pub fn exec(
     out: &mut String,
     indices: bool,

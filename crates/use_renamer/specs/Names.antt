@@ -4,7 +4,7 @@ use Rattle.std.specs.Prelude.{Contains, map, flat_map, filter, find, is_none, co
 use Rattle.std.specs.Prelude.{string_bytes}
 use Rattle.std.specs.List.{list_any}
 use Rattle.std.specs.Option.{option_map_or}
-use Rattle.regex_meaning.specs.GroupsByNumberAndName.{Answer, named_groups}
+use Rattle.regex_meaning.specs.MatchGroupsByNumberAndName.{Answer, named_groups}
 use Rattle.regex_meaning.specs.Replace.{replaced}
 use Rattle.regress_match.specs.ProgramTreesAndAnswers.{utf8_answers}
 use Rattle.regress_match.specs.ExpansionsAndMatchRanges.{matches_with_expansions}

@@ -61,8 +61,8 @@ pub fn list(rt: &HostRuntime, path: &str) -> Result<Folder> {
 ///
 /// # Errors
 ///
-/// Any error of renaming a file, and an error if its new name exists by now. Then the files before it are renamed, and no
-/// other file is.
+/// Any error of renaming a file, and an error if its new name exists by now. Then the files before it are renamed, and
+/// no other file is.
 pub fn apply(rt: &HostRuntime, folder: &str, plan: &[Rename]) -> Result<()> {
     let tells = rt.stderr().is_terminal() && plan.len() >= MANY;
     for (done, Rename { from, to }) in plan.iter().enumerate() {

@@ -1,7 +1,7 @@
 //! The named groups of matches.
 
 ghost use Rattle.std.specs.Prelude.{◌≡◌, ◌++◌, IfErr, IfOk, IfSome, option_map, string_bytes};
-ghost use Rattle.regress_exec.specs.MatchAnswers.{answer_of, range_of};
+ghost use Rattle.regress_exec.specs.MatchesAsSpecAnswers.{answer_of, range_as_pair};
 ghost use Rattle.regress_match.specs.{CompileErrors.{IsOutOfMemory}, ExpansionsAndMatchRanges.{MatchFitsText, IsCharBoundaryRange}};
 ghost use Rattle.use_renamer.specs.Names.{described, groups_shown, parts_of};
 
@@ -42,9 +42,9 @@ fn push_group(
     name: &str,
     range: Option<Range<usize>>,
 ) -> Result<(), AllocError>
-    requires { IfSome (option_map range_of range) (IsCharBoundaryRange text.now) }
+    requires { IfSome (option_map range_as_pair range) (IsCharBoundaryRange text.now) }
     ensures { IfOk result (λ _. string_bytes line.new
-        ≡ string_bytes line.old ++ described text.now (name.now, option_map range_of range)) }
+        ≡ string_bytes line.old ++ described text.now (name.now, option_map range_as_pair range)) }
 {
     let Some(range) = range else {
         return Ok(());

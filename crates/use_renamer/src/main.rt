@@ -1,7 +1,7 @@
 //! Renames the files of a folder by replacing the matches of a pattern in their names.
 //!
-//! The exit status is 0 if all files are renamed, or would be with `--apply`; 1 if the renamings are refused, and then none is
-//! done; and 2 for an error.
+//! The exit status is 0 if all files are renamed, or would be with `--apply`; 1 if the renamings are refused, and then
+//! none is done; and 2 for an error.
 #![tactic(auto)]
 
 mod command;

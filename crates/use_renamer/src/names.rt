@@ -7,7 +7,8 @@ ghost use Rattle.use_renamer.specs.Names.{is_among, is_file_name};
 // The maximum length of a name in bytes.
 const LONGEST: usize = 255;
 
-/// Returns whether a name is a valid file name: of 1 to 255 bytes, neither `.` nor `..`, without a slash and without a NUL.
+/// Returns whether a name is a valid file name: of 1 to 255 bytes, neither `.` nor `..`, without a slash and without a
+/// NUL.
 pub fn is_file_name(name: &str) -> bool
     ensures { result ≡ is_file_name name.now }
 {

@@ -63,8 +63,8 @@ impl From<AllocError> for Refusal {
     }
 }
 
-/// Returns the renamings of the files whose names change, in the order of the files. A new name has the expansion of the
-/// template in place of each match. `others` are the names of all else in the folder.
+/// Returns the renamings of the files whose names change, in the order of the files. A new name has the expansion of
+/// the template in place of each match. `others` are the names of all else in the folder.
 ///
 /// # Errors
 ///

@@ -5,8 +5,8 @@ use anyhow::{Context, Result};
 use regress_match::Regex;
 use std::alloc::{AllocError, Global};
 
-/// Prints each row of standard input with one more field: the renamings, or why they are refused. A row has four fields,
-/// separated by `~`: a pattern, a template, the names of the files, and those of all else in the folder.
+/// Prints each row of standard input with one more field: the renamings, or why they are refused. A row has four
+/// fields, separated by `~`: a pattern, a template, the names of the files, and those of all else in the folder.
 ///
 /// # Errors
 ///

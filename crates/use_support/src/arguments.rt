@@ -1,5 +1,6 @@
 //! Descriptions of command lines, and the arguments given on them.
 
+use crate::Words;
 use clap::{Arg, ArgAction, ArgMatches, Command, value_parser};
 use std::alloc::{AllocError, Global};
 
@@ -28,12 +29,21 @@ pub enum Form {
     Choice(&'static str, &'static [&'static str], &'static str, &'static str),
     /// `--ID NAME`, required and repeatable: the short letter, and the value's name.
     Each(char, &'static str),
+    /// `--ID NAME`, repeatable: an optional short letter, and the value's name. A value may begin
+    /// with a hyphen.
+    Any(Option<char>, &'static str),
+    /// `--ID`, which prints the help. It replaces `clap`'s own option, so that `-h` is free.
+    Help,
+    /// `--ID`, with a short letter, which prints the program's name and this version.
+    Version(char, &'static str),
     /// A required word.
     Word(&'static str),
     /// An optional word: its name, and its default.
     WordOr(&'static str, &'static str),
-    /// Any number of words: their name, and their default if there are none.
-    WordsOr(&'static str, &'static str),
+    /// An optional word, which need not be UTF-8: its name.
+    WordIf(&'static str),
+    /// Any number of words, which need not be UTF-8: their name.
+    Words(&'static str),
 }
 
 // Returns an option with an optional short letter.
@@ -95,13 +105,27 @@ impl Argument {
                 .value_name(name)
                 .required(true)
                 .action(ArgAction::Append),
+            Form::Any(letter, name) => option(alloc, id, letter)
+                .value_name(name)
+                .allow_hyphen_values(true)
+                .action(ArgAction::Append),
+            Form::Help => option(alloc, id, None).action(ArgAction::Help),
+            Form::Version(letter, _) => option(alloc, id, Some(letter)).action(ArgAction::Version),
             Form::Word(name) => word(alloc, id, name).required(true),
             Form::WordOr(name, default) => word(alloc, id, name).default_value(default),
-            Form::WordsOr(name, default) => word(alloc, id, name)
-                .num_args(0..)
-                .default_value(default),
+            Form::WordIf(name) => word(alloc, id, name),
+            Form::Words(name) => word(alloc, id, name).num_args(0..),
         };
         arg.help(self.2).hide(self.2.is_empty())
+    }
+
+    // Sets what the whole command needs for the argument: no second option for help or the version.
+    fn set<'a>(&self, command: Command<'a>) -> Command<'a> {
+        match self.1 {
+            Form::Help => command.disable_help_flag(true),
+            Form::Version(_, text) => command.disable_version_flag(true).version(text),
+            _ => command,
+        }
     }
 }
 
@@ -112,12 +136,14 @@ impl CommandLine {
     ///
     /// `AllocError` if an allocation fails.
     pub(crate) fn command<'a>(&self, alloc: Global) -> Result<Command<'a>, AllocError> {
-        let mut command = Command::new(alloc, self.name).about(self.about);
+        let mut command = Command::new(alloc, self.name)
+            .about(self.about)
+            .args_override_self(true);
         if !self.after.is_empty() {
             command = command.after_help(self.after);
         }
         for argument in self.arguments {
-            command = command.arg(argument.arg(alloc))?;
+            command = argument.set(command).arg(argument.arg(alloc))?;
         }
         Ok(command)
     }
@@ -128,6 +154,10 @@ impl CommandLine {
 pub struct Given<'a> {
     // Each value with its argument's id; a switch has an empty text.
     values: Vec<(&'static str, &'a str)>,
+    // The words that are not UTF-8, with U+FFFD for what is not.
+    lossy: Vec<&'a str>,
+    // A value that is not UTF-8, of an argument that has to be.
+    unreadable: Option<&'a str>,
 }
 
 impl<'a> Given<'a> {
@@ -136,21 +166,47 @@ impl<'a> Given<'a> {
         alloc: Global,
         line: &'static CommandLine,
         matches: &ArgMatches<'a>,
+        words: &'a Words,
     ) -> Result<Self, AllocError> {
-        let mut values = Vec::new(alloc);
+        let mut given = Given {
+            values: Vec::new(alloc),
+            lossy: words.lossy_texts(alloc)?,
+            unreadable: None,
+        };
         for argument in line.arguments {
             let id = argument.0;
             if let Form::Switch(_) = argument.1 {
                 if matches.get_flag(id) {
-                    values.push((id, ""))?;
+                    given.values.push((id, ""))?;
                 }
             } else if let Some(texts) = matches.get_strs(id) {
-                for text in texts {
-                    values.push((id, *text))?;
-                }
+                given.push_all(argument, texts)?;
             }
         }
-        Ok(Given { values })
+        Ok(given)
+    }
+
+    // Adds the values of an argument.
+    fn push_all(&mut self, argument: &Argument, texts: &[&'a str]) -> Result<(), AllocError> {
+        let is_text = !matches!(argument.1, Form::WordIf(_) | Form::Words(_));
+        for text in texts {
+            if is_text && !self.lossy.is_empty() && text.contains('\u{fffd}') {
+                self.unreadable = Some(*text);
+            }
+            self.values.push((argument.0, *text))?;
+        }
+        Ok(())
+    }
+
+    // Returns a value that should be text and is not UTF-8.
+    pub(crate) fn unreadable(&self) -> Option<&'a str> {
+        self.unreadable
+    }
+
+    /// Checks whether the value of a `WordIf` or a `Words` was not UTF-8. It has U+FFFD for what was
+    /// not.
+    pub fn is_lossy(&self, word: &str) -> bool {
+        self.lossy.iter().any(|of| *of == word)
     }
 
     /// Checks whether the argument was given, or has a default.

@@ -1,12 +1,12 @@
 -- What the first item of a search in so much work tells, and how much is enough.
 use Rattle.std.proofs.Common.{◌≡◌, ◌≤◌, ◌<◌, ◌+◌, ◌*◌, ◌^◌, ◌∙◌, ℕ, List, true, false, ap, sym, subst}
 use Rattle.std.specs.Prelude.{Option, Some, None, Result, Ok, Err, SomeIff}
-use Rattle.regress_exec.specs.WorkLimits.{NextYieldsWithinWork, WorkView}
+use Rattle.regress_exec.specs.AttemptsAndMatchesWithinWork.{NextYieldsWithinWork, RemainingAnswersAndWork}
 use Rattle.regress_exec.specs.declared.exec.Match.{Match}
 use Rattle.regress_exec.specs.declared.exec.work_matches.WorkError.{WorkError}
 use Rattle.regress_exec.specs.declared.exec.work_matches.WorkError.TheVariants.{WorkLimit}
-use Rattle.regress_match.specs.ProgramTreesAndAnswers.{as_utf8, byte_tree, utf8_answers}
-use Rattle.regress_match.specs.WorkBounds.{YieldsWithinWork, total_work}
+use Rattle.regress_match.specs.ProgramTreesAndAnswers.{bytes_as_utf8_text, tree_for_byte_units, utf8_answers}
+use Rattle.regress_match.specs.WorkBounds.{YieldsMatchesIfWorkSuffices, enough_work_for_text}
 use Rattle.regress_match.specs.declared.api.regex.Regex.{Regex}
 use Rattle.use_validator.specs.Judge.{by_matches}
 use Rattle.use_validator.specs.declared.judge.Verdict.{Verdict}
@@ -14,7 +14,7 @@ use Rattle.use_validator.specs.declared.judge.Verdict.TheVariants.{Matches, NoMa
 
 -- ---- The first item
 
-module _ (re : Regex) (text : List ℕ) (per_unit work : ℕ) (it behind : WorkView) (yields : YieldsWithinWork (byte_tree re) (as_utf8 re text) 0 per_unit work it) where
+module _ (re : Regex) (text : List ℕ) (per_unit work : ℕ) (it behind : RemainingAnswersAndWork) (yields : YieldsMatchesIfWorkSuffices (tree_for_byte_units re) (bytes_as_utf8_text re text) 0 per_unit work it) where
   abbrev truth : Verdict
   truth = by_matches (utf8_answers re text 0)
 
@@ -29,7 +29,7 @@ module _ (re : Regex) (text : List ℕ) (per_unit work : ℕ) (it behind : WorkV
   work-none gives = ap by_matches (sym gives.0.0 ∙ yields.answers)
 
   -- want of work does not come where it is enough
-  pub never-out : total_work per_unit (as_utf8 re text) ≤ work → (item : Result Match WorkError) (e : WorkError) → item ≡ Err e → e ≡ WorkLimit
+  pub never-out : enough_work_for_text per_unit (bytes_as_utf8_text re text) ≤ work → (item : Result Match WorkError) (e : WorkError) → item ≡ Err e → e ≡ WorkLimit
       → NextYieldsWithinWork it (Some item) behind → ⊥
   never-out enough item e is limit gives =
       let out = subst (λ e. NextYieldsWithinWork it (Some (Err e)) behind) limit (subst (λ r. NextYieldsWithinWork it (Some r) behind) is gives) in

@@ -1,15 +1,15 @@
 -- What is said of a text by a pattern within a limit of steps.
 use Rattle.std.specs.Prelude.{◌≡◌, ◌⊎◌, ℕ, Bool, true, false, List, [], ◌∷◌, nat_le}
-use Rattle.regex_meaning.specs.GroupsByNumberAndName.{Answer}
+use Rattle.regex_meaning.specs.MatchGroupsByNumberAndName.{Answer}
 use Rattle.regex_meaning.specs.StepBudget.{need_from}
-use Rattle.regress_match.specs.ProgramTreesAndAnswers.{as_utf8, byte_tree, utf8_answers}
+use Rattle.regress_match.specs.ProgramTreesAndAnswers.{bytes_as_utf8_text, tree_for_byte_units, utf8_answers}
 use Rattle.regress_match.specs.declared.api.regex.Regex.{Regex}
 use Rattle.use_validator.specs.declared.judge.Verdict.{Verdict}
 use Rattle.use_validator.specs.declared.judge.Verdict.TheVariants.{Matches, NoMatch, OutOfSteps}
 
 -- the steps that the first match needs, or that there is none
 abbrev pub steps_needed : Regex → (text : List ℕ) → ℕ
-steps_needed re text = need_from (byte_tree re) (as_utf8 re text) 0
+steps_needed re text = need_from (tree_for_byte_units re) (bytes_as_utf8_text re text) 0
 
 -- whether there are matches
 abbrev pub by_matches : List Answer → Verdict
@@ -28,4 +28,5 @@ verdict_of re text steps = within (nat_le (steps_needed re text) steps) (utf8_an
 -- Whether there are matches, or else that the steps are not enough to tell: that only where they are not.
 abbrev pub IsToldOf : Regex → (text : List ℕ) → (steps : ℕ) → Verdict → Type 0
 IsToldOf re text steps verdict =
-    (verdict ≡ by_matches (utf8_answers re text 0)) ⊎ ((nat_le (steps_needed re text) steps ≡ false) × (verdict ≡ OutOfSteps))
+    (verdict ≡ by_matches (utf8_answers re text 0))
+    ⊎ ((nat_le (steps_needed re text) steps ≡ false) × (verdict ≡ OutOfSteps))

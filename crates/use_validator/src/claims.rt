@@ -1,4 +1,4 @@
-//! What is said of a value alone.
+//! Keywords that check a value without its properties or items.
 
 ghost use Rattle.std.specs.Prelude.{◌≡◌, chars, length};
 ghost use Rattle.serde_json.specs.View.{view};

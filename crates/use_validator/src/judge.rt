@@ -1,7 +1,7 @@
 //! Texts in which a pattern has a match.
 
 ghost use Rattle.std.specs.Prelude.{◌≡◌, ◌≤◌, ◌<◌, ◌^◌, IfOk, SomeIff};
-ghost use Rattle.regress_match.specs.{ProgramTreesAndAnswers.{as_utf8, utf8_answers}, WorkBounds.{total_work}};
+ghost use Rattle.regress_match.specs.{ProgramTreesAndAnswers.{bytes_as_utf8_text, utf8_answers}, WorkBounds.{enough_work_for_text}};
 ghost use Rattle.use_validator.specs.Judge.{IsToldOf, by_matches, verdict_of};
 
 use regress_match::{BoundedRegex, Regex, SearchError, WorkError};
@@ -18,11 +18,11 @@ pub enum Verdict {
     OutOfSteps,
 }
 
-/// Whether the pattern has a match in the text, in at most so many steps.
+/// Checks whether the pattern has a match in the text, with at most `steps` steps.
 ///
 /// # Errors
 ///
-/// Where there is no memory for the search.
+/// `AllocError` if an allocation fails.
 pub fn judge(re: &Regex, text: &str, steps: u64) -> Result<Verdict, AllocError>
     ensures { IfOk result (λ verdict. verdict ≡ verdict_of re.now text.now steps) }
 {
@@ -37,11 +37,12 @@ pub fn judge(re: &Regex, text: &str, steps: u64) -> Result<Verdict, AllocError>
     }
 }
 
-/// The same; where the steps are not enough and the pattern has a bound, it is told all the same, in as much work as is enough.
+/// Like `judge`. If the steps are not enough and the pattern has a work bound, searches once more with a work budget
+/// that is enough.
 ///
 /// # Errors
 ///
-/// Where there is no memory for the searches.
+/// `AllocError` if an allocation fails.
 pub fn decide(re: &Regex, text: &str, steps: u64) -> Result<Verdict, AllocError>
     ensures { IfOk result (IsToldOf re.now text.now steps) }
 {
@@ -60,7 +61,7 @@ pub fn decide(re: &Regex, text: &str, steps: u64) -> Result<Verdict, AllocError>
 
 // How much work is enough for all matches of a text, where that is a number.
 fn enough(bounded: &BoundedRegex<'_>, text: &str) -> Option<u64>
-    ensures { let all = total_work bounded.now.per_unit (as_utf8 bounded.now.re text.now) in
+    ensures { let all = enough_work_for_text bounded.now.per_unit (bytes_as_utf8_text bounded.now.re text.now) in
         SomeIff result (all < 2 ^ 64) all }
 {
     bounded.work_per_unit().checked_mul(text.len() as u64 + 1)
@@ -68,7 +69,7 @@ fn enough(bounded: &BoundedRegex<'_>, text: &str) -> Option<u64>
 
 // Whether the pattern has a match in the text, in so much work, which is enough to tell.
 fn judge_in_work(bounded: &BoundedRegex<'_>, text: &str, work: u64) -> Result<Verdict, AllocError>
-    requires { total_work bounded.now.per_unit (as_utf8 bounded.now.re text.now) ≤ work }
+    requires { enough_work_for_text bounded.now.per_unit (bytes_as_utf8_text bounded.now.re text.now) ≤ work }
     ensures { IfOk result (λ verdict. verdict ≡ by_matches (utf8_answers bounded.now.re text.now 0)) }
 {
     let Ok(mut matches) = bounded.find_from(text, 0, work) else {

@@ -6,12 +6,12 @@ ghost use Rattle.use_validator.specs.Pointer.{LeadsToMember, escape, longer};
 
 use std::alloc::{AllocError, Global};
 
-/// The pointer to a member of what another one points to: `/` and the member's name, in which `~` is written `~0` and `/` is
-/// written `~1` (section 3). The name of an item is its number.
+/// The pointer to a member of what another one points to: `/` and the member's name, in which `~` is written `~0` and
+/// `/` is written `~1` (section 3). The name of an item is its number.
 ///
 /// # Errors
 ///
-/// Where there is no memory for it.
+/// `AllocError` if an allocation fails.
 pub fn child(alloc: Global, pointer: &str, name: &str) -> Result<String, AllocError>
     ensures { IfOk result (λ s. string_bytes s ≡ longer pointer.now name.now) }
 {

@@ -1,4 +1,4 @@
-//! What is told of a value.
+//! The report on a value: failures and annotations.
 
 ghost use Rattle.use_validator.specs.Outcomes.{IsTold};
 
@@ -14,7 +14,7 @@ pub enum Outcome {
     Undecided,
 }
 
-/// A value that is not said to be as its schema asks.
+/// A value that does not conform to its schema, or of which that is undecided.
 #[derive(Drop)]
 pub struct Finding {
     /// Where the value stands (a JSON Pointer).
@@ -59,7 +59,7 @@ fn hex_digit(n: u32) -> char {
     char::from_digit(n, 16).unwrap_or('?')
 }
 
-/// What is told of a value, in the order in which it is found.
+/// The failures and annotations of a value, in the order in which the walk finds them.
 #[derive(Drop)]
 pub struct Report {
     pub findings: Vec<Finding>,

@@ -220,7 +220,7 @@ impl<'p> Walk<'p> {
 }
 
 impl<'p> Walk<'p> {
-    // Checks a value with what is said of it alone.
+    // Checks a value with the keywords that need no other part of the schema.
     fn check_rules(
         self,
         part: &Part<'_>,

@@ -4,8 +4,8 @@ ghost use Rattle.std.specs.Prelude.{◌≡◌, [], ◌∷◌, IfSome, MatchOptio
 ghost use Rattle.std.specs.List.{list_any};
 ghost use Rattle.std.specs.Iterator.{UpTo, YieldsFirstBy, at_most, item_count};
 ghost use Rattle.std.specs.Iterator.SizeHint.{IsWithinCount};
-ghost use Rattle.regex_meaning.specs.GroupsByNumberAndName.{named_groups as groups_of_names};
-ghost use Rattle.regress_exec.specs.{MatchAnswers.{answer_of, range_of}, GroupIterators.{all_groups, is_new as is_new_name, distinct_names_from}};
+ghost use Rattle.regex_meaning.specs.MatchGroupsByNumberAndName.{named_groups as groups_of_names};
+ghost use Rattle.regress_exec.specs.{MatchesAsSpecAnswers.{answer_of, range_as_pair}, GroupIterators.{all_groups, is_new as is_new_name, distinct_names_from}};
 
 use crate::exec::Match;
 use std::iter::FusedIterator;
@@ -67,10 +67,10 @@ fn new_names_from(names: &[String], from: usize) -> usize
 fn is_new(name: &str, before: &[String]) -> bool
     ensures { result ≡ is_new_name name.now (map string_bytes before.now) }
 {
-    !name.is_empty() && !is_among(name, before)
+    !name.is_empty() && !is_among_names(name, before)
 }
 
-fn is_among(name: &str, names: &[String]) -> bool
+fn is_among_names(name: &str, names: &[String]) -> bool
     ensures { result ≡ list_any (λ other. bytes_eq name.now (string_bytes other)) names.now }
 {
     names.iter().any(|other| name == other.as_str())
@@ -87,7 +87,7 @@ pub struct Groups<'m> {
 
 impl<'m> Model for Groups<'m> {
     ghost use Rattle.std.specs.Prelude.{ℕ, List, Option, drop};
-    ghost use Rattle.regress_exec.specs.{MatchAnswers.{answer_of}, GroupIterators.{all_groups}};
+    ghost use Rattle.regress_exec.specs.{MatchesAsSpecAnswers.{answer_of}, GroupIterators.{all_groups}};
 
     ghost Value = { List (Option (ℕ × ℕ)) };
 
@@ -109,7 +109,7 @@ impl<'m> Groups<'m> {
 impl<'m> Iterator for Groups<'m> {
     type Item = Option<Range<usize>>;
 
-    ghost next_gives = { YieldsFirstBy (option_map range_of) (λ rest. rest) };
+    ghost next_gives = { YieldsFirstBy (option_map range_as_pair) (λ rest. rest) };
 
     ghost remaining = { item_count (λ rest. rest) };
 
@@ -153,7 +153,7 @@ pub struct NamedGroups<'m> {
 
 impl<'m> Model for NamedGroups<'m> {
     ghost use Rattle.std.specs.Prelude.{ℕ, List, Option};
-    ghost use Rattle.regress_exec.specs.{MatchAnswers.{answer_of}, GroupIterators.{named_groups_from}};
+    ghost use Rattle.regress_exec.specs.{MatchesAsSpecAnswers.{answer_of}, GroupIterators.{named_groups_from}};
 
     ghost Value = { List (List ℕ × Option (ℕ × ℕ)) };
 
@@ -175,7 +175,7 @@ impl<'m> NamedGroups<'m> {
 impl<'m> Iterator for NamedGroups<'m> {
     type Item = (&'m str, Option<Range<usize>>);
 
-    ghost next_gives = { YieldsFirstBy (λ item. (item.0.now, option_map range_of item.1)) (λ rest. rest) };
+    ghost next_gives = { YieldsFirstBy (λ item. (item.0.now, option_map range_as_pair item.1)) (λ rest. rest) };
 
     ghost remaining = { item_count (λ rest. rest) };
 

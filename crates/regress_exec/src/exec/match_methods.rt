@@ -1,8 +1,8 @@
 //! The accessors of a match: its range, and its groups by number and by name.
 
 ghost use Rattle.std.specs.Prelude.{◌≡◌, ◌≤◌, IfOk, IsCharBoundary, map, option_map, slice_range};
-ghost use Rattle.regex_meaning.specs.{Outcomes.{group_range}, GroupsByNumberAndName.{first_range, group as group_of, ids_named, named_group as group_of_name}};
-ghost use Rattle.regress_exec.specs.MatchAnswers.{answer_of, range_of};
+ghost use Rattle.regex_meaning.specs.{Outcomes.{group_range}, MatchGroupsByNumberAndName.{first_range, group as group_of, ids_named, named_group as group_of_name}};
+ghost use Rattle.regress_exec.specs.MatchesAsSpecAnswers.{answer_of, range_as_pair};
 
 use crate::exec::Match;
 use std::alloc::AllocError;
@@ -46,7 +46,7 @@ impl Match {
     /// numbered from 1. Returns `None` if there is no such group, if it did not match, or if
     /// `captures` was truncated before it.
     pub fn group(&self, idx: usize) -> Option<Range<usize>>
-        ensures { option_map range_of result ≡ group_of (answer_of self.now) idx }
+        ensures { option_map range_as_pair result ≡ group_of (answer_of self.now) idx }
     {
         if idx == 0 {
             Some(self.range())
@@ -59,7 +59,7 @@ impl Match {
     /// matched, in order of their numbers. Returns `None` if none of them matched, and for the
     /// empty name, which marks a group without a name.
     pub fn named_group(&self, name: &str) -> Option<Range<usize>>
-        ensures { option_map range_of result ≡ group_of_name (answer_of self.now) name.now }
+        ensures { option_map range_as_pair result ≡ group_of_name (answer_of self.now) name.now }
     {
         if name.is_empty() {
             None
@@ -71,7 +71,7 @@ impl Match {
     // Returns the first range of a group with this name that matched. The name may be the empty
     // one.
     pub(super) fn first_named(&self, name: &str) -> Option<Range<usize>>
-        ensures { option_map range_of result
+        ensures { option_map range_as_pair result
             ≡ first_range (answer_of self.now) (ids_named (answer_of self.now) name.now) }
     {
         let names = self.names.as_slice();
@@ -112,7 +112,7 @@ fn copy_of(range: &Range<usize>) -> Range<usize>
 // Returns the range of the group with this id. Returns `None` if it did not match or there is no
 // such id.
 fn range_at(captures: &[Option<Range<usize>>], id: usize) -> Option<Range<usize>>
-    ensures { option_map range_of result ≡ group_range (map (option_map range_of) captures.now) id }
+    ensures { option_map range_as_pair result ≡ group_range (map (option_map range_as_pair) captures.now) id }
 {
     match captures.get(id) {
         Some(Some(range)) => Some(copy_of(range)),

@@ -4,7 +4,8 @@ ghost use Rattle.std.specs.Prelude.{◌≡◌, ◌<◌, ◌⊎◌, ℕ, true, Op
 ghost use Rattle.std.specs.Iterator.{at_most};
 ghost use Rattle.std.specs.Option.{ForSome};
 ghost use Rattle.regex_meaning.specs.{CodeUnitOffsets.{IsBoundary, units}, StepBudget.{answers_within, finishes_within}};
-ghost use Rattle.regress_exec.specs.{RemainingAnswers.{remaining_answers_from, items_left}, WorkLimits.{WorkView, IsWorkLimitOrMemoryCause, NextYieldsWithinWork, is_work_enough}};
+ghost use Rattle.regress_exec.specs.RemainingAnswers.{remaining_answers_from, items_left};
+ghost use Rattle.regress_exec.specs.AttemptsAndMatchesWithinWork.{RemainingAnswersAndWork, IsWorkLimitOrMemoryCause, NextYieldsWithinWork, is_work_enough};
 
 use super::{Match, MatchProducer, advance_matches};
 use std::marker::Model;
@@ -45,7 +46,7 @@ pub struct WorkMatches<P: WorkLimitedProducer> {
 }
 
 impl<P: WorkLimitedProducer> Model for WorkMatches<P> {
-    ghost Value = { WorkView };
+    ghost Value = { RemainingAnswersAndWork };
 
     ghost view = { λ m. record {
       come = remaining_answers_from (P.tree m.mp) (P.text m.mp) (P.budget m.mp)

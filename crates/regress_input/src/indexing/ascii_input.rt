@@ -4,9 +4,9 @@ ghost use Rattle.std.specs.Prelude.{◌≡◌, refl, ◌<◌, ◌^◌, nat_le, �
 ghost use Rattle.std.proofs.Common.{rules};
 ghost use Rattle.regex_meaning.specs.Text.{ascii_text, fold_ascii};
 ghost use Rattle.regex_meaning.proofs.{CharactersIn.{ascii-characters}, TextLemmas.{ascii_text-IsText}};
-ghost use Rattle.regress_input.specs.{ByteTextsAreUtf8.{ascii_text-IsInUtf8}, ValidlyEncodedTexts.{ascii_text-IsSpelled, ascii_text-fits}};
+ghost use Rattle.regress_input.specs.{ByteTextsAreUtf8.{ascii_text-IsInUtf8}, TextSpellingAndOffsetLimit.{ascii_text-IsSpelled, ascii_text-fits}};
 
-use super::{ByteUnitKind, CharProperties, ElementType, HasUnitType, InputIndexer};
+use super::{ByteCodeUnitEncoding, CharProperties, ElementType, HasUnitType, InputIndexer};
 use crate::position::{DefPosition, IndexPosition};
 
 impl ElementType for u8 {
@@ -72,7 +72,7 @@ impl<'a> AsciiInput<'a> {
 }
 
 impl<'a> HasUnitType for AsciiInput<'a> {
-    type Units = ByteUnitKind;
+    type Units = ByteCodeUnitEncoding;
 }
 
 impl<'a> InputIndexer for AsciiInput<'a> {
@@ -107,12 +107,12 @@ impl<'a> InputIndexer for AsciiInput<'a> {
     }
 
     #[inline(always)]
-    fn character_right(&self, pos: DefPosition<'a>) -> (u8, DefPosition<'a>) {
+    fn read_existing_char_right(&self, pos: DefPosition<'a>) -> (u8, DefPosition<'a>) {
         (self.input[pos.offset], IndexPosition::new(pos.offset + 1))
     }
 
     #[inline(always)]
-    fn character_left(&self, pos: DefPosition<'a>) -> (u8, DefPosition<'a>) {
+    fn read_existing_char_left(&self, pos: DefPosition<'a>) -> (u8, DefPosition<'a>) {
         let start = pos.offset - 1;
         (self.input[start], IndexPosition::new(start))
     }

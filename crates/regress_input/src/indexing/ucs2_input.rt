@@ -4,9 +4,10 @@ ghost use Rattle.std.specs.Prelude.{◌≡◌, refl, ◌<◌, ◌*◌, ◌^◌, 
 ghost use Rattle.std.proofs.Common.{rules};
 ghost use Rattle.regex_meaning.specs.Text.{ucs2_text, fold_code_point};
 ghost use Rattle.regex_meaning.proofs.{CharactersIn.{ucs2-characters}, TextLemmas.{ucs2_text-IsText}};
-ghost use Rattle.regress_input.specs.{Utf16.{AreU16Units}, ReadsFromOffset.{vacuous_without_byte_units}, ValidlyEncodedTexts.{ucs2_text-IsSpelled, ucs2_text-fits}};
+ghost use Rattle.regress_input.specs.{Utf16CharactersAtOffsets.{AreU16Units}, CharAndByteReadsFromOffset.{vacuous_without_byte_units}};
+ghost use Rattle.regress_input.specs.TextSpellingAndOffsetLimit.{ucs2_text-IsSpelled, ucs2_text-fits};
 
-use super::{CharProperties, ElementType, HasUnitType, InputIndexer, Ucs2UnitKind};
+use super::{CharProperties, ElementType, HasUnitType, InputIndexer, Ucs2CodeUnitEncoding};
 use crate::front::fold_code_point;
 use crate::position::{DefPosition, IndexPosition};
 
@@ -66,7 +67,7 @@ impl CharProperties for Utf16CharProperties {
 }
 
 impl<'a> HasUnitType for Ucs2Input<'a> {
-    type Units = Ucs2UnitKind;
+    type Units = Ucs2CodeUnitEncoding;
 }
 
 impl<'a> InputIndexer for Ucs2Input<'a> {
@@ -101,7 +102,7 @@ impl<'a> InputIndexer for Ucs2Input<'a> {
     }
 
     #[inline(always)]
-    fn character_right(&self, pos: DefPosition<'a>) -> (u32, DefPosition<'a>) {
+    fn read_existing_char_right(&self, pos: DefPosition<'a>) -> (u32, DefPosition<'a>) {
         (
             self.input[pos.offset] as u32,
             IndexPosition::new(pos.offset + 1),
@@ -109,7 +110,7 @@ impl<'a> InputIndexer for Ucs2Input<'a> {
     }
 
     #[inline(always)]
-    fn character_left(&self, pos: DefPosition<'a>) -> (u32, DefPosition<'a>) {
+    fn read_existing_char_left(&self, pos: DefPosition<'a>) -> (u32, DefPosition<'a>) {
         let start = pos.offset - 1;
         (self.input[start] as u32, IndexPosition::new(start))
     }

@@ -3,11 +3,14 @@
 ghost use Rattle.std.specs.Prelude.{◌≡◌, refl, ◌<◌, ◌*◌, ◌^◌, length};
 ghost use Rattle.regex_meaning.specs.Text.{utf16_text};
 ghost use Rattle.regex_meaning.proofs.{CharactersIn.{utf16-characters}, TextLemmas.{utf16_text-IsText}};
-ghost use Rattle.regress_input.specs.{Utf16.{AreU16Units}, ReadsFromOffset.{vacuous_without_byte_units}, ValidlyEncodedTexts.{utf16_text-IsSpelled, utf16_text-fits}};
+ghost use Rattle.regress_input.specs.{Utf16CharactersAtOffsets.{AreU16Units}, CharAndByteReadsFromOffset.{vacuous_without_byte_units}};
+ghost use Rattle.regress_input.specs.TextSpellingAndOffsetLimit.{utf16_text-IsSpelled, utf16_text-fits};
 
-use super::{CharProperties, HasUnitType, InputIndexer, Utf16CharProperties, Utf16UnitKind};
+use super::{
+    CharProperties, HasUnitType, InputIndexer, Utf16CharProperties, Utf16CodeUnitEncoding,
+};
 use crate::position::{DefPosition, IndexPosition};
-use crate::utf16;
+use crate::utf16_decoding;
 
 /// A text in UTF-16. A high surrogate and the low surrogate after it are one character; any other
 /// unit is a character by itself.
@@ -32,7 +35,7 @@ impl<'a> Utf16Input<'a> {
 }
 
 impl<'a> HasUnitType for Utf16Input<'a> {
-    type Units = Utf16UnitKind;
+    type Units = Utf16CodeUnitEncoding;
 }
 
 impl<'a> InputIndexer for Utf16Input<'a> {
@@ -67,16 +70,16 @@ impl<'a> InputIndexer for Utf16Input<'a> {
     }
 
     #[inline(always)]
-    fn character_right(&self, pos: DefPosition<'a>) -> (u32, DefPosition<'a>) {
+    fn read_existing_char_right(&self, pos: DefPosition<'a>) -> (u32, DefPosition<'a>) {
         let at = pos.offset;
-        let (c, end) = utf16::character_at(self.input, at);
+        let (c, end) = utf16_decoding::character_at(self.input, at);
         (c, IndexPosition::new(end))
     }
 
     #[inline(always)]
-    fn character_left(&self, pos: DefPosition<'a>) -> (u32, DefPosition<'a>) {
+    fn read_existing_char_left(&self, pos: DefPosition<'a>) -> (u32, DefPosition<'a>) {
         let at = pos.offset;
-        let (c, start) = utf16::character_before(self.input, at);
+        let (c, start) = utf16_decoding::character_before(self.input, at);
         (c, IndexPosition::new(start))
     }
 

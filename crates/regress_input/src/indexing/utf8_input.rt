@@ -4,12 +4,12 @@ ghost use Rattle.std.specs.Prelude.{◌≡◌, refl, ◌<◌, ◌^◌, ◌==◌,
 ghost use Rattle.regex_meaning.specs.Text.{utf8_text, is_scalar, fold_char};
 ghost use Rattle.regex_meaning.proofs.{CharactersIn.{utf8-characters}, TextLemmas.{utf8_text-IsText}};
 ghost use Rattle.std.proofs.Common.{rules};
-ghost use Rattle.regress_input.specs.{ByteTextsAreUtf8.{utf8_text-IsInUtf8}, ValidlyEncodedTexts.{utf8_text-IsSpelled, utf8_text-fits}};
+ghost use Rattle.regress_input.specs.{ByteTextsAreUtf8.{utf8_text-IsInUtf8}, TextSpellingAndOffsetLimit.{utf8_text-IsSpelled, utf8_text-fits}};
 
-use super::{ByteUnitKind, CharProperties, ElementType, HasUnitType, InputIndexer};
+use super::{ByteCodeUnitEncoding, CharProperties, ElementType, HasUnitType, InputIndexer};
 use crate::front::fold_code_point;
 use crate::position::{DefPosition, IndexPosition};
-use crate::utf8;
+use crate::utf8_decoding;
 
 impl ElementType for char {
     ghost number = { λ c. c };
@@ -66,7 +66,7 @@ impl<'a> Utf8Input<'a> {
 }
 
 impl<'a> HasUnitType for Utf8Input<'a> {
-    type Units = ByteUnitKind;
+    type Units = ByteCodeUnitEncoding;
 }
 
 impl<'a> InputIndexer for Utf8Input<'a> {
@@ -101,16 +101,16 @@ impl<'a> InputIndexer for Utf8Input<'a> {
     }
 
     #[inline(always)]
-    fn character_right(&self, pos: DefPosition<'a>) -> (char, DefPosition<'a>) {
+    fn read_existing_char_right(&self, pos: DefPosition<'a>) -> (char, DefPosition<'a>) {
         let at = pos.offset;
-        let (c, end) = utf8::character_at(self.input.as_bytes(), at);
+        let (c, end) = utf8_decoding::character_at(self.input.as_bytes(), at);
         (c, IndexPosition::new(end))
     }
 
     #[inline(always)]
-    fn character_left(&self, pos: DefPosition<'a>) -> (char, DefPosition<'a>) {
+    fn read_existing_char_left(&self, pos: DefPosition<'a>) -> (char, DefPosition<'a>) {
         let at = pos.offset;
-        let (c, start) = utf8::character_before(self.input.as_bytes(), at);
+        let (c, start) = utf8_decoding::character_before(self.input.as_bytes(), at);
         (c, IndexPosition::new(start))
     }
 

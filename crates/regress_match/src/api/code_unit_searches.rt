@@ -2,10 +2,11 @@
 
 ghost use Rattle.std.specs.Prelude.{◌≡◌, ◌<◌, ◌⊎◌, IfErr, IfOk, IsTrue, false, length, nat_le, not};
 ghost use Rattle.regex_meaning.specs.Text.{is_unit_boundary as is_boundary_of};
-ghost use Rattle.regress_match.specs.{ProgramTreesAndAnswers.{as_ucs2, as_utf16, unit_tree}, CompileErrors.{IsOutOfMemory}, SearchResults.{YieldsMatches}};
+ghost use Rattle.regress_match.specs.{ProgramTreesAndAnswers.{units_as_ucs2_text, units_as_utf16_text, tree_for_16_bit_units}, CompileErrors.{IsOutOfMemory}};
+ghost use Rattle.regress_match.specs.SearchResults.{YieldsMatches};
 
 use crate::api::{Regex, SearchError};
-use crate::executors::{DefaultUcs2Executor, DefaultUtf16Executor};
+use crate::executor_aliases_per_encoding::{DefaultUcs2Executor, DefaultUtf16Executor};
 use regress_exec::exec::Matches;
 
 impl Regex {
@@ -25,7 +26,8 @@ impl Regex {
         start: usize,
     ) -> Result<Matches<DefaultUtf16Executor<'r, 't>>, SearchError>
         requires { IsTrue (is_boundary_of text.now start) ⊎ (length text.now < start) }
-        ensures answers { IfOk result (YieldsMatches (unit_tree self.now) (as_utf16 self.now text.now) start) }
+        ensures answers { IfOk result (YieldsMatches (tree_for_16_bit_units self.now)
+            (units_as_utf16_text self.now text.now) start) }
         ensures ended { IfOk result (λ it. it.ended ≡ not (nat_le start (length text.now))) }
         ensures refused { IfErr result IsOutOfMemory }
     {
@@ -45,7 +47,8 @@ impl Regex {
         text: &'t [u16],
         start: usize,
     ) -> Result<Matches<DefaultUcs2Executor<'r, 't>>, SearchError>
-        ensures answers { IfOk result (YieldsMatches (unit_tree self.now) (as_ucs2 self.now text.now) start) }
+        ensures answers { IfOk result (YieldsMatches (tree_for_16_bit_units self.now)
+            (units_as_ucs2_text self.now text.now) start) }
         ensures ended { IfOk result (λ it. it.ended ≡ not (nat_le start (length text.now))) }
         ensures refused { IfErr result IsOutOfMemory }
     {

@@ -1,7 +1,7 @@
 //! Errors of compiling a pattern and of replacing matches.
 
 ghost use Rattle.std.specs.Prelude.{◌≡◌};
-ghost use Rattle.regress_match.specs.CompileErrors.{diagnosis_of, error_of_emit, error_of_parse};
+ghost use Rattle.regress_match.specs.CompileErrors.{diagnosis_in_error, error_of_emit, error_of_parse};
 
 use regex_pattern_front::diagnosis::Diagnosis;
 use regex_pattern_front::parse::ParseError;
@@ -28,7 +28,7 @@ impl Error {
     /// Returns what is wrong with a pattern that is refused as `Parse(Syntax)`, and where. The place
     /// is in code points of the pattern.
     pub fn diagnosis(self) -> Option<Diagnosis>
-        ensures { result ≡ diagnosis_of self }
+        ensures { result ≡ diagnosis_in_error self }
     {
         match self {
             Error::Parse(ParseError::Syntax(diagnosis)) => Some(diagnosis),

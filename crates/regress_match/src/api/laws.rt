@@ -1,6 +1,7 @@
 //! Laws of searches that callers may cite. They are functions that do nothing.
 
-ghost use Rattle.regress_match.specs.{Laws.{MatchesStandInText, SearchesFollowThePattern}, SearchResults.{SearchesAnswerInTurn}, WorkBounds.{SearchesAnswerInWork, WorkBoundsAreLimited}};
+ghost use Rattle.regress_match.specs.{Laws.{MatchesStandInText, SearchesFollowThePattern}, SearchResults.{SearchesAnswerInTurn}};
+ghost use Rattle.regress_match.specs.WorkBounds.{SearchesAnswerInWork, WorkPerUnitLimitSuffices};
 
 /// States that a search yields the matches of the list one after another, and then `None` for good.
 /// It ends earlier only if an allocation fails.
@@ -30,5 +31,5 @@ pub fn matches_stand_in_text()
 /// States that no work bound of a pattern exceeds `work_per_unit_limit`, which depends on its two
 /// programs alone. So a budget by that number is enough for every search of the pattern.
 pub fn work_bounds_are_limited()
-    ensures { WorkBoundsAreLimited }
+    ensures { WorkPerUnitLimitSuffices }
 {}

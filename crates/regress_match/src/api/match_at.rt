@@ -2,12 +2,13 @@
 
 ghost use Rattle.std.specs.Prelude.{◌≡◌, ◌<◌, ◌⊎◌, IfErr, IfOk, IfSome, IsAscii, IsCharBoundary, IsTrue, length, option_map};
 ghost use Rattle.regex_meaning.specs.Text.{is_unit_boundary as is_boundary_of};
-ghost use Rattle.regress_exec.specs.MatchAnswers.{answer_of};
-ghost use Rattle.regress_match.specs.{ProgramTreesAndAnswers.{ascii_answer_at, ucs2_answer_at, utf16_answer_at, utf8_answer_at}, CompileErrors.{IsOutOfMemory}};
-ghost use Rattle.regress_match.specs.ExpansionsAndMatchRanges.{MatchFitsText, MatchFitsCodeUnits};
+ghost use Rattle.regress_exec.specs.MatchesAsSpecAnswers.{answer_of};
+ghost use Rattle.regress_match.specs.ProgramTreesAndAnswers.{ascii_answer_beginning_at, ucs2_answer_beginning_at, utf16_answer_beginning_at, utf8_answer_beginning_at};
+ghost use Rattle.regress_match.specs.CompileErrors.{IsOutOfMemory};
+ghost use Rattle.regress_match.specs.ExpansionsAndMatchRanges.{MatchFitsText, MatchRangesLieWithinUnits};
 
 use crate::api::{Match, Regex, SearchError};
-use crate::executors::DefaultAsciiExecutor;
+use crate::executor_aliases_per_encoding::DefaultAsciiExecutor;
 use regress_exec::exec::ProducerFromProgramAndText;
 use regress_exec::search_loop::match_at;
 
@@ -27,7 +28,7 @@ impl Regex {
     /// `Memory` if an allocation for the search fails.
     pub fn match_at(&self, text: &str, at: usize) -> Result<Option<Match>, SearchError>
         requires { IsCharBoundary text.now at ⊎ (length text.now < at) }
-        ensures found { IfOk result (λ m. option_map answer_of m ≡ utf8_answer_at self.now text.now at) }
+        ensures found { IfOk result (λ m. option_map answer_of m ≡ utf8_answer_beginning_at self.now text.now at) }
         ensures fits { IfOk result (λ m. IfSome m (λ found. MatchFitsText text.now (answer_of found))) }
         ensures refused { IfErr result IsOutOfMemory }
     {
@@ -41,7 +42,7 @@ impl Regex {
     /// `Memory` if an allocation for the search fails.
     pub fn match_at_ascii(&self, text: &str, at: usize) -> Result<Option<Match>, SearchError>
         requires { IsAscii text.now }
-        ensures found { IfOk result (λ m. option_map answer_of m ≡ ascii_answer_at self.now text.now at) }
+        ensures found { IfOk result (λ m. option_map answer_of m ≡ ascii_answer_beginning_at self.now text.now at) }
         ensures fits { IfOk result (λ m. IfSome m (λ found. MatchFitsText text.now (answer_of found))) }
         ensures refused { IfErr result IsOutOfMemory }
     {
@@ -59,8 +60,8 @@ impl Regex {
     /// `Memory` if an allocation for the search fails.
     pub fn match_at_utf16(&self, text: &[u16], at: usize) -> Result<Option<Match>, SearchError>
         requires { IsTrue (is_boundary_of text.now at) ⊎ (length text.now < at) }
-        ensures found { IfOk result (λ m. option_map answer_of m ≡ utf16_answer_at self.now text.now at) }
-        ensures fits { IfOk result (λ m. IfSome m (λ found. MatchFitsCodeUnits text.now (answer_of found))) }
+        ensures found { IfOk result (λ m. option_map answer_of m ≡ utf16_answer_beginning_at self.now text.now at) }
+        ensures fits { IfOk result (λ m. IfSome m (λ found. MatchRangesLieWithinUnits text.now (answer_of found))) }
         ensures refused { IfErr result IsOutOfMemory }
     {
         match_at(&mut self.utf16_search(text)?, at)
@@ -76,8 +77,8 @@ impl Regex {
     ///
     /// `Memory` if an allocation for the search fails.
     pub fn match_at_ucs2(&self, text: &[u16], at: usize) -> Result<Option<Match>, SearchError>
-        ensures found { IfOk result (λ m. option_map answer_of m ≡ ucs2_answer_at self.now text.now at) }
-        ensures fits { IfOk result (λ m. IfSome m (λ found. MatchFitsCodeUnits text.now (answer_of found))) }
+        ensures found { IfOk result (λ m. option_map answer_of m ≡ ucs2_answer_beginning_at self.now text.now at) }
+        ensures fits { IfOk result (λ m. IfSome m (λ found. MatchRangesLieWithinUnits text.now (answer_of found))) }
         ensures refused { IfErr result IsOutOfMemory }
     {
         match_at(&mut self.ucs2_search(text)?, at)

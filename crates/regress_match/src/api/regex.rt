@@ -3,19 +3,20 @@
 ghost use Rattle.std.specs.Prelude.{◌≡◌, ◌<◌, ◌⊎◌, IfErr, IfOk, IfSome, IsAscii, IsCharBoundary, chars, false, length, nat_le, not, option_map, slice_get, []};
 ghost use Rattle.regex_meaning.specs.FlagLettersAndEscaping.{flags_from_letters};
 ghost use Rattle.regex_pattern_front.specs.AstToSpecTree.{tree_of};
-ghost use Rattle.regress_exec.specs.MatchAnswers.{answer_of};
-ghost use Rattle.regress_match.specs.{CompileErrors.{IsOutOfMemory, IsPatternRefusedWith}, ExpansionsAndMatchRanges.{MatchFitsText, MatchesAreOrderedFrom}, SearchResults.{YieldsMatches}};
+ghost use Rattle.regress_exec.specs.MatchesAsSpecAnswers.{answer_of};
+ghost use Rattle.regress_match.specs.{CompileErrors.{IsOutOfMemory, IsPatternRefusedWith}, ExpansionsAndMatchRanges.{MatchFitsText, MatchesFitTextInOrderFrom}};
+ghost use Rattle.regress_match.specs.SearchResults.{YieldsMatches};
 
 use crate::api::diagnosis::code_points;
 use crate::api::{Error, Flags};
-use crate::executors::{
+use crate::executor_aliases_per_encoding::{
     DefaultAsciiExecutor, DefaultExecutor, LimitedExecutor, search_with_executor_from,
 };
 use regex_pattern_front::parse::try_parse;
 use regress_exec::exec;
 use regress_exec::exec::{Match, MatchProducer, SearchError};
 use regress_program::emit::emit_both;
-use regress_program::insn::{CompiledRegex, CompiledUnits};
+use regress_program::insn::{CompiledRegex, CompiledRegexFor16BitUnits};
 use std::alloc::{AllocError, Global};
 
 /// An iterator over the matches of a pattern in a UTF-8 text. Contracts see the remaining answers.
@@ -34,12 +35,14 @@ pub struct Regex {
     // the program for texts of bytes
     cr: CompiledRegex,
     // the program for texts of 16-bit code units
-    units: CompiledUnits,
+    units: CompiledRegexFor16BitUnits,
 }
 
 impl Regex {
     ghost use Rattle.regress_match.specs.PublicFlagsAsSpecFlags.{spec_flags_of};
-    ghost use Rattle.regress_match.specs.ProgramTreesAndAnswers.{IsCompiledWith, as_ascii, as_utf8, ascii_answers, byte_tree, utf8_search_ends_within_steps, unit_tree, utf8_answers, utf8_answers_within_steps};
+    ghost use Rattle.regress_match.specs.ProgramTreesAndAnswers.{IsCompiledWith, bytes_as_ascii_text, bytes_as_utf8_text, ascii_answers, tree_for_byte_units};
+    ghost use Rattle.regress_match.specs.ProgramTreesAndAnswers.{steps_suffice_for_whole_utf8_search};
+    ghost use Rattle.regress_match.specs.ProgramTreesAndAnswers.{tree_for_16_bit_units, utf8_answers, utf8_answers_within_steps};
 
     /// Compiles a pattern with the default flags (`crates/use_dates` compiles `\d{4}-\d\d-\d\d`).
     ///
@@ -102,9 +105,9 @@ impl Regex {
 
     /// Returns the pattern that searches texts of bytes with `cr` and texts of 16-bit code units
     /// with `units`. Does not allocate.
-    pub fn from_programs(cr: CompiledRegex, units: CompiledUnits) -> Regex
-        ensures bytes { byte_tree result ≡ tree_of cr }
-        ensures units { unit_tree result ≡ tree_of units }
+    pub fn from_programs(cr: CompiledRegex, units: CompiledRegexFor16BitUnits) -> Regex
+        ensures bytes { tree_for_byte_units result ≡ tree_of cr }
+        ensures units { tree_for_16_bit_units result ≡ tree_of units }
     {
         Regex { cr, units }
     }
@@ -136,7 +139,7 @@ impl Regex {
     }
 
     // Returns the program that searches texts of 16-bit code units.
-    pub(super) fn unit_program(&self) -> &CompiledUnits
+    pub(super) fn unit_program(&self) -> &CompiledRegexFor16BitUnits
         ensures { result.now ≡ self.now.units }
     {
         &self.units
@@ -180,8 +183,9 @@ impl Regex {
     ///
     /// `Memory` if an allocation for the search fails.
     pub fn find_iter<'r, 't>(&'r self, text: &'t str) -> Result<Matches<'r, 't>, SearchError>
-        ensures answers { IfOk result (YieldsMatches (byte_tree self.now) (as_utf8 self.now text.now) 0) }
-        ensures stand { IfOk result (λ it. MatchesAreOrderedFrom text.now 0 it.answers) }
+        ensures answers { IfOk result (YieldsMatches (tree_for_byte_units self.now)
+            (bytes_as_utf8_text self.now text.now) 0) }
+        ensures stand { IfOk result (λ it. MatchesFitTextInOrderFrom text.now 0 it.answers) }
         ensures live { IfOk result (λ it. it.ended ≡ false) }
         ensures refused { IfErr result IsOutOfMemory }
     {
@@ -195,8 +199,9 @@ impl Regex {
     /// `Memory` if an allocation for the search fails.
     pub fn find_iter_ascii<'t>(&self, text: &'t str) -> Result<AsciiMatches<'_, 't>, SearchError>
         requires { IsAscii text.now }
-        ensures answers { IfOk result (YieldsMatches (byte_tree self.now) (as_ascii self.now text.now) 0) }
-        ensures stand { IfOk result (λ it. MatchesAreOrderedFrom text.now 0 it.answers) }
+        ensures answers { IfOk result (YieldsMatches (tree_for_byte_units self.now)
+            (bytes_as_ascii_text self.now text.now) 0) }
+        ensures stand { IfOk result (λ it. MatchesFitTextInOrderFrom text.now 0 it.answers) }
         ensures live { IfOk result (λ it. it.ended ≡ false) }
         ensures refused { IfErr result IsOutOfMemory }
     {
@@ -219,8 +224,9 @@ impl Regex {
         start: usize,
     ) -> Result<Matches<'r, 't>, SearchError>
         requires { IsCharBoundary text.now start ⊎ (length text.now < start) }
-        ensures answers { IfOk result (YieldsMatches (byte_tree self.now) (as_utf8 self.now text.now) start) }
-        ensures stand { IfOk result (λ it. MatchesAreOrderedFrom text.now start it.answers) }
+        ensures answers { IfOk result (YieldsMatches (tree_for_byte_units self.now)
+            (bytes_as_utf8_text self.now text.now) start) }
+        ensures stand { IfOk result (λ it. MatchesFitTextInOrderFrom text.now start it.answers) }
         ensures ended { IfOk result (λ it. it.ended ≡ not (nat_le start (length text.now))) }
         ensures refused { IfErr result IsOutOfMemory }
     {
@@ -249,9 +255,9 @@ impl Regex {
         requires { IsCharBoundary text.now start ⊎ (length text.now < start) }
         ensures answers { IfOk result (λ it. it.answers
             ≡ utf8_answers_within_steps steps self.now text.now start) }
-        ensures stand { IfOk result (λ it. MatchesAreOrderedFrom text.now start it.answers) }
+        ensures stand { IfOk result (λ it. MatchesFitTextInOrderFrom text.now start it.answers) }
         ensures limited { IfOk result (λ it. it.limited
-            ≡ not (utf8_search_ends_within_steps steps self.now text.now start)) }
+            ≡ not (steps_suffice_for_whole_utf8_search steps self.now text.now start)) }
         ensures ended { IfOk result (λ it. it.ended ≡ not (nat_le start (length text.now))) }
         ensures refused { IfErr result IsOutOfMemory }
     {
@@ -272,8 +278,9 @@ impl Regex {
         start: usize,
     ) -> Result<AsciiMatches<'r, 't>, SearchError>
         requires { IsAscii text.now }
-        ensures answers { IfOk result (YieldsMatches (byte_tree self.now) (as_ascii self.now text.now) start) }
-        ensures stand { IfOk result (λ it. MatchesAreOrderedFrom text.now start it.answers) }
+        ensures answers { IfOk result (YieldsMatches (tree_for_byte_units self.now)
+            (bytes_as_ascii_text self.now text.now) start) }
+        ensures stand { IfOk result (λ it. MatchesFitTextInOrderFrom text.now start it.answers) }
         ensures ended { IfOk result (λ it. it.ended ≡ not (nat_le start (length text.now))) }
         ensures refused { IfErr result IsOutOfMemory }
     {

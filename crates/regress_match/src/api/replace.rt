@@ -2,9 +2,9 @@
 
 ghost use Rattle.std.specs.Prelude.{◌≡◌, ◌≤◌, ◌++◌, IfErr, IfOk, IsCharBoundary, drop, false, slice_range, string_bytes, take};
 ghost use Rattle.regex_meaning.specs.Replace.{replaced};
-ghost use Rattle.regress_exec.specs.MatchAnswers.{answer_of};
+ghost use Rattle.regress_exec.specs.MatchesAsSpecAnswers.{answer_of};
 ghost use Rattle.regress_match.specs.{Laws.{WholeMatchesGiveBack}, ProgramTreesAndAnswers.{utf8_answers}, CompileErrors.{IsOutOfMemory}};
-ghost use Rattle.regress_match.specs.ExpansionsAndMatchRanges.{MatchFitsText, MatchesAreOrderedFrom, matches_with_expansions};
+ghost use Rattle.regress_match.specs.ExpansionsAndMatchRanges.{MatchFitsText, MatchesFitTextInOrderFrom, matches_with_expansions};
 
 mod closures;
 mod expansion;
@@ -52,7 +52,8 @@ impl Regex {
     /// `Memory` if an allocation for the search or the text fails.
     pub fn replace_all(&self, text: &str, replacement: &str) -> Result<String, SearchError>
         ensures made { IfOk result (λ s. string_bytes s
-            ≡ replaced text.now 0 (matches_with_expansions text.now replacement.now (utf8_answers self.now text.now 0))) }
+            ≡ replaced text.now 0 (matches_with_expansions text.now replacement.now
+            (utf8_answers self.now text.now 0))) }
         ensures refused { IfErr result IsOutOfMemory }
     {
         expand_each(self.allocator(), self.find_iter(text)?, text, replacement)
@@ -98,7 +99,7 @@ fn expand_first<P: MatchProducer + Drop>(
     text: &str,
     replacement: &str,
 ) -> Result<String, SearchError>
-    requires { MatchesAreOrderedFrom text.now 0 matches.answers }
+    requires { MatchesFitTextInOrderFrom text.now 0 matches.answers }
     ensures made { IfOk result (λ s. string_bytes s
         ≡ replaced text.now 0 (matches_with_expansions text.now replacement.now (take 1 matches.answers))) }
     ensures refused { matches.limited ≡ false → IfErr result IsOutOfMemory }
@@ -120,7 +121,7 @@ fn expand_each<P: MatchProducer + Drop>(
     text: &str,
     replacement: &str,
 ) -> Result<String, SearchError>
-    requires { MatchesAreOrderedFrom text.now 0 matches.answers }
+    requires { MatchesFitTextInOrderFrom text.now 0 matches.answers }
     ensures made { IfOk result (λ s. string_bytes s
         ≡ replaced text.now 0 (matches_with_expansions text.now replacement.now matches.answers)) }
     ensures refused { matches.limited ≡ false → IfErr result IsOutOfMemory }

@@ -3,14 +3,16 @@
 
 ghost use Rattle.std.specs.Prelude.{◌≡◌, ◌<◌, IfErr, IfOk, None, Some, option_map, unwrap_or};
 ghost use Rattle.regex_meaning.specs.CodeUnitOffsets.{units};
-ghost use Rattle.regress_match.specs.{ProgramTreesAndAnswers.{IsBoundaryOrPastEnd, as_ucs2, as_utf16, as_utf8, byte_tree, unit_tree}, CompileErrors.{IsOutOfMemory}, Resuming.{ResumesFrom}};
+ghost use Rattle.regress_match.specs.ProgramTreesAndAnswers.{IsBoundaryOrPastEnd, units_as_ucs2_text, units_as_utf16_text, bytes_as_utf8_text, tree_for_byte_units};
+ghost use Rattle.regress_match.specs.ProgramTreesAndAnswers.{tree_for_16_bit_units};
+ghost use Rattle.regress_match.specs.{CompileErrors.{IsOutOfMemory}, Resuming.{ResumesFrom}};
 
 use crate::api::{Match, Regex, SearchError};
-use crate::executors::{
+use crate::executor_aliases_per_encoding::{
     DefaultExecutor, DefaultUcs2Executor, DefaultUtf16Executor, LimitedExecutor,
 };
 use regress_exec::exec::{MatchProducer, ProducerFromProgramAndText};
-use regress_exec::search_loop::AnchoredSearch;
+use regress_exec::search_loop::SingleAttemptExecutor;
 use regress_input::indexing::InputIndexer;
 
 /// A match, and the offset from which the list of matches continues after it.
@@ -33,9 +35,10 @@ impl Regex {
         &'r self,
         text: &'t str,
     ) -> Result<DefaultExecutor<'r, 't>, SearchError>
-        ensures tree { IfOk result (λ e. ⟦<DefaultExecutor<'r, 't> as MatchProducer>⟧.tree e ≡ byte_tree self.now) }
+        ensures tree { IfOk result (λ e. ⟦<DefaultExecutor<'r, 't> as MatchProducer>⟧.tree e ≡
+            tree_for_byte_units self.now) }
         ensures text { IfOk result (λ e. ⟦<DefaultExecutor<'r, 't> as MatchProducer>⟧.text e
-            ≡ as_utf8 self.now text.now) }
+            ≡ bytes_as_utf8_text self.now text.now) }
         ensures budget { IfOk result (λ e. ⟦<DefaultExecutor<'r, 't> as MatchProducer>⟧.budget e ≡ None) }
         ensures refused { IfErr result IsOutOfMemory }
     {
@@ -53,9 +56,10 @@ impl Regex {
         text: &'t str,
         steps: u64,
     ) -> Result<LimitedExecutor<'r, 't>, SearchError>
-        ensures tree { IfOk result (λ e. ⟦<LimitedExecutor<'r, 't> as MatchProducer>⟧.tree e ≡ byte_tree self.now) }
+        ensures tree { IfOk result (λ e. ⟦<LimitedExecutor<'r, 't> as MatchProducer>⟧.tree e ≡
+            tree_for_byte_units self.now) }
         ensures text { IfOk result (λ e. ⟦<LimitedExecutor<'r, 't> as MatchProducer>⟧.text e
-            ≡ as_utf8 self.now text.now) }
+            ≡ bytes_as_utf8_text self.now text.now) }
         ensures budget { IfOk result (λ e. ⟦<LimitedExecutor<'r, 't> as MatchProducer>⟧.budget e ≡ Some steps) }
         ensures refused { IfErr result IsOutOfMemory }
     {
@@ -73,9 +77,9 @@ impl Regex {
         text: &'t [u16],
     ) -> Result<DefaultUtf16Executor<'r, 't>, SearchError>
         ensures tree { IfOk result (λ e. ⟦<DefaultUtf16Executor<'r, 't> as MatchProducer>⟧.tree e
-            ≡ unit_tree self.now) }
+            ≡ tree_for_16_bit_units self.now) }
         ensures text { IfOk result (λ e. ⟦<DefaultUtf16Executor<'r, 't> as MatchProducer>⟧.text e
-            ≡ as_utf16 self.now text.now) }
+            ≡ units_as_utf16_text self.now text.now) }
         ensures budget { IfOk result (λ e. ⟦<DefaultUtf16Executor<'r, 't> as MatchProducer>⟧.budget e ≡ None) }
         ensures refused { IfErr result IsOutOfMemory }
     {
@@ -91,9 +95,10 @@ impl Regex {
         &'r self,
         text: &'t [u16],
     ) -> Result<DefaultUcs2Executor<'r, 't>, SearchError>
-        ensures tree { IfOk result (λ e. ⟦<DefaultUcs2Executor<'r, 't> as MatchProducer>⟧.tree e ≡ unit_tree self.now) }
+        ensures tree { IfOk result (λ e. ⟦<DefaultUcs2Executor<'r, 't> as MatchProducer>⟧.tree e ≡
+            tree_for_16_bit_units self.now) }
         ensures text { IfOk result (λ e. ⟦<DefaultUcs2Executor<'r, 't> as MatchProducer>⟧.text e
-            ≡ as_ucs2 self.now text.now) }
+            ≡ units_as_ucs2_text self.now text.now) }
         ensures budget { IfOk result (λ e. ⟦<DefaultUcs2Executor<'r, 't> as MatchProducer>⟧.budget e ≡ None) }
         ensures refused { IfErr result IsOutOfMemory }
     {
@@ -116,7 +121,7 @@ impl Regex {
 ///
 /// - `StepLimit` if more steps are needed than are left; then none is left.
 /// - `Memory` if an allocation for the search fails. The steps taken until then stay spent.
-pub fn next_from<E: AnchoredSearch>(
+pub fn next_from<E: SingleAttemptExecutor>(
     search: &mut E,
     start: usize,
 ) -> Result<Option<Step>, SearchError>
@@ -139,7 +144,7 @@ pub fn next_from<E: AnchoredSearch>(
 
 // Returns the offset of a position, or `usize::MAX`, which is past the end of every text, if there
 // is none.
-fn offset_of_position<E: AnchoredSearch>(
+fn offset_of_position<E: SingleAttemptExecutor>(
     search: &E,
     position: Option<<E::Input as InputIndexer>::Position>,
 ) -> usize

@@ -2,8 +2,11 @@
 
 ghost use Rattle.std.specs.Prelude.{◌≡◌, ◌<◌, ◌⊎◌, IfErr, IfOk, IfSome, IsAscii, IsCharBoundary, IsTrue, length, nat_le, not};
 ghost use Rattle.regex_meaning.specs.Text.{is_unit_boundary as is_boundary_of};
-ghost use Rattle.regress_match.specs.{ProgramTreesAndAnswers.{as_ascii, as_ucs2, as_utf8, as_utf16, byte_tree, unit_tree}, CompileErrors.{IsOutOfMemory}};
-ghost use Rattle.regress_match.specs.{ExpansionsAndMatchRanges.{MatchesAreOrderedFrom}, WorkBounds.{IsWorkBoundOfBothPrograms, YieldsWithinWork, higher}};
+ghost use Rattle.regress_match.specs.ProgramTreesAndAnswers.{bytes_as_ascii_text, units_as_ucs2_text, bytes_as_utf8_text, units_as_utf16_text, tree_for_byte_units};
+ghost use Rattle.regress_match.specs.ProgramTreesAndAnswers.{tree_for_16_bit_units};
+ghost use Rattle.regress_match.specs.CompileErrors.{IsOutOfMemory};
+ghost use Rattle.regress_match.specs.ExpansionsAndMatchRanges.{MatchesFitTextInOrderFrom};
+ghost use Rattle.regress_match.specs.WorkBounds.{IsHigherOfProgramWorkBounds, YieldsMatchesIfWorkSuffices, higher};
 
 use crate::api::{Regex, SearchError};
 use regress_bounded::executor::BoundedExecutor;
@@ -61,7 +64,8 @@ impl Regex {
     /// `AllocError` if an allocation for computing the bound fails.
     pub fn bounded(&self) -> Result<Option<BoundedRegex<'_>>, AllocError>
         ensures pattern { IfOk result (λ found. IfSome found (λ bounded. bounded.re ≡ self.now)) }
-        ensures enough { IfOk result (λ found. IfSome found (λ bounded. IsWorkBoundOfBothPrograms self.now bounded.per_unit)) }
+        ensures enough { IfOk result (λ found. IfSome found (λ bounded. IsHigherOfProgramWorkBounds self.now
+            bounded.per_unit)) }
     {
         let Some(bytes) = WorkBound::bound_for_bytes(self.byte_program())? else {
             return Ok(None);
@@ -86,7 +90,7 @@ impl Regex {
     ///
     /// `AllocError` if an allocation for computing the bound fails.
     pub fn work_per_unit(&self) -> Result<Option<u64>, AllocError>
-        ensures { IfOk result (λ found. IfSome found (IsWorkBoundOfBothPrograms self.now)) }
+        ensures { IfOk result (λ found. IfSome found (IsHigherOfProgramWorkBounds self.now)) }
     {
         match self.bounded()? {
             Some(bounded) => Ok(Some(bounded.work_per_unit())),
@@ -100,7 +104,7 @@ impl<'r> BoundedRegex<'r> {
     /// all matches together, in any of the encodings.
     pub fn work_per_unit(&self) -> u64
         ensures number { result ≡ self.now.per_unit }
-        ensures enough { IsWorkBoundOfBothPrograms self.now.re result }
+        ensures enough { IsHigherOfProgramWorkBounds self.now.re result }
     {
         higher(self.bytes.per_unit(), self.units.per_unit())
     }
@@ -127,9 +131,10 @@ impl<'r> BoundedRegex<'r> {
         work: u64,
     ) -> Result<MatchesInWork<'r, Utf8Input<'t>>, SearchError>
         requires { IsCharBoundary text.now start ⊎ (length text.now < start) }
-        ensures yields { IfOk result (YieldsWithinWork (byte_tree self.now.re) (as_utf8 self.now.re text.now)
+        ensures yields { IfOk result (YieldsMatchesIfWorkSuffices (tree_for_byte_units self.now.re)
+            (bytes_as_utf8_text self.now.re text.now)
             start self.now.per_unit work) }
-        ensures stand { IfOk result (λ it. MatchesAreOrderedFrom text.now start it.come.answers) }
+        ensures stand { IfOk result (λ it. MatchesFitTextInOrderFrom text.now start it.come.answers) }
         ensures ended { IfOk result (λ it. it.come.ended ≡ not (nat_le start (length text.now))) }
         ensures refused { IfErr result IsOutOfMemory }
     {
@@ -153,9 +158,10 @@ impl<'r> BoundedRegex<'r> {
         work: u64,
     ) -> Result<MatchesInWork<'r, AsciiInput<'t>>, SearchError>
         requires { IsAscii text.now }
-        ensures yields { IfOk result (YieldsWithinWork (byte_tree self.now.re) (as_ascii self.now.re text.now)
+        ensures yields { IfOk result (YieldsMatchesIfWorkSuffices (tree_for_byte_units self.now.re)
+            (bytes_as_ascii_text self.now.re text.now)
             start self.now.per_unit work) }
-        ensures stand { IfOk result (λ it. MatchesAreOrderedFrom text.now start it.come.answers) }
+        ensures stand { IfOk result (λ it. MatchesFitTextInOrderFrom text.now start it.come.answers) }
         ensures ended { IfOk result (λ it. it.come.ended ≡ not (nat_le start (length text.now))) }
         ensures refused { IfErr result IsOutOfMemory }
     {
@@ -180,7 +186,8 @@ impl<'r> BoundedRegex<'r> {
         work: u64,
     ) -> Result<MatchesInWork<'r, Utf16Input<'t>>, SearchError>
         requires { IsTrue (is_boundary_of text.now start) ⊎ (length text.now < start) }
-        ensures yields { IfOk result (YieldsWithinWork (unit_tree self.now.re) (as_utf16 self.now.re text.now)
+        ensures yields { IfOk result (YieldsMatchesIfWorkSuffices (tree_for_16_bit_units self.now.re)
+            (units_as_utf16_text self.now.re text.now)
             start self.now.per_unit work) }
         ensures ended { IfOk result (λ it. it.come.ended ≡ not (nat_le start (length text.now))) }
         ensures refused { IfErr result IsOutOfMemory }
@@ -205,7 +212,8 @@ impl<'r> BoundedRegex<'r> {
         start: usize,
         work: u64,
     ) -> Result<MatchesInWork<'r, Ucs2Input<'t>>, SearchError>
-        ensures yields { IfOk result (YieldsWithinWork (unit_tree self.now.re) (as_ucs2 self.now.re text.now)
+        ensures yields { IfOk result (YieldsMatchesIfWorkSuffices (tree_for_16_bit_units self.now.re)
+            (units_as_ucs2_text self.now.re text.now)
             start self.now.per_unit work) }
         ensures ended { IfOk result (λ it. it.come.ended ≡ not (nat_le start (length text.now))) }
         ensures refused { IfErr result IsOutOfMemory }

@@ -3,12 +3,12 @@
 
 ghost use Rattle.std.specs.Prelude.{◌≡◌, ◌<◌, ◌^◌, ◌+◌, ℕ, IfOk, OnOk, IsTrue, IsSome, if◌then◌else◌, reverse};
 ghost use Rattle.regex_meaning.specs.CodeUnitOffsets.{IsBoundary};
-ghost use Rattle.regress_program.specs.InsnMeanings.{spec_insn_of};
-ghost use Rattle.regress_machine.specs.InsnEffects.{state_after_char_loop_at, IsNotStuck};
-ghost use Rattle.regress_scan.specs.InsnMatchers.{ByteInsnHasByteText, char_test_of};
+ghost use Rattle.regress_program.specs.InsnsAndStartPredicatesAsSpec.{insn_as_spec_insn};
+ghost use Rattle.regress_machine.specs.InsnEffects.{state_after_char_loop_to_offset, IsNotStuck};
+ghost use Rattle.regress_scan.specs.OffsetsAfterMatchedInsns.{ByteInsnHasByteText, char_test_of_insn};
 ghost use Rattle.regress_pikevm.specs.{InsnEffects.{effect_of_char_loop, ReachesExits, PushesExit}, States.{state_of, next_threads}};
 
-use super::insn_matchers;
+use super::read_or_assertion_insn_matchers;
 use super::states::{NextStates, State, copy_state};
 use regress_exec::program_and_input::ProgramAndInput;
 use regress_input::cursor::Direction;
@@ -63,7 +63,7 @@ fn loop_exits<Input: InputIndexer, Dir: Direction>(
     dir: Dir,
     state: &State<Input::Position>,
 ) -> Result<(usize, Vec<State<Input::Position>>), AllocError>
-    requires test { IsSome (char_test_of searched.now.program.now body) }
+    requires test { IsSome (char_test_of_insn searched.now.program.now body) }
     requires boundary { IsBoundary (Input.text searched.now.input)
         (Input.Position.offset state.now.pos) }
     requires bytes { ByteInsnHasByteText body (Input.text searched.now.input) Input.Units.ARE_BYTES }
@@ -79,7 +79,7 @@ fn loop_exits<Input: InputIndexer, Dir: Direction>(
         if count == run.max_iters {
             return Ok((count, states));
         }
-        if !insn_matchers::insn_accepts_next_char(searched, body, dir, &mut at) {
+        if !read_or_assertion_insn_matchers::insn_accepts_next_char(searched, body, dir, &mut at) {
             return Ok((count + 1, states));
         }
         count += 1;
@@ -97,16 +97,19 @@ fn push_if_wanted<P: PositionType>(
     ensures { OnOk result (PushesExit P.offset wanted at state.now states.old.items states.new.items) }
 {
     if wanted {
-        states.push(exit_state(at, state)?)?;
+        states.push(copy_state_after_char_loop(at, state)?)?;
     }
     Ok(())
 }
 
 /// Returns the state after a char loop that exits at a position.
-pub fn exit_state<P: PositionType>(at: P, state: &State<P>) -> Result<State<P>, AllocError>
+pub fn copy_state_after_char_loop<P: PositionType>(
+    at: P,
+    state: &State<P>,
+) -> Result<State<P>, AllocError>
     requires { state.now.ip + 2 < 2 ^ 64 }
     ensures { IfOk result (λ s. state_of P.offset s
-        ≡ state_after_char_loop_at (P.offset at) (state_of P.offset state.now)) }
+        ≡ state_after_char_loop_to_offset (P.offset at) (state_of P.offset state.now)) }
 {
     let mut next = copy_state(state)?;
     next.ip += 2;

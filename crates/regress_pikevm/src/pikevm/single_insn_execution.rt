@@ -3,15 +3,17 @@
 ghost use Rattle.std.specs.Prelude.{◌≡◌, ◌<◌, ◌≤◌, ◌^◌, ◌+◌, IfOk, IsTrue, Some, map, [], ◌∷◌, length};
 ghost use Rattle.regex_meaning.specs.CodeUnitOffsets.{units};
 ghost use Rattle.regex_pattern_front.specs.AstToSpecTree.{tree_of};
-ghost use Rattle.regress_input.specs.ReadsFromOffset.{direction_of_forward_flag};
-ghost use Rattle.regress_program.specs.{CompilationOfTreesAsFunction.{compiled}, InsnMeanings.{spec_insn_of, spec_loop_fields_of}};
-ghost use Rattle.regress_machine.specs.Machine.{running, waiting, goes, asks, state_at_ip, state_at_next_ip, range_swapped_if_leftwards, iterate_or_leave_loop, next_iteration_unless_empty, loop_repeated};
-ghost use Rattle.regress_machine.specs.InsnEffects.{group_opened, group_closed, group_reset, iteration_entered, IsNotStuck, is_text_test};
+ghost use Rattle.regress_input.specs.CharAndByteReadsFromOffset.{direction_of_forward_flag};
+ghost use Rattle.regress_program.specs.{CompilationOfTreesAsFunction.{compiled}, InsnsAndStartPredicatesAsSpec.{insn_as_spec_insn, loop_fields_as_spec}};
+ghost use Rattle.regress_machine.specs.Machine.{running, waiting, goes, asks, state_with_ip, state_at_next_ip, range_swapped_if_leftwards, iterate_or_leave_at_loop_head};
+ghost use Rattle.regress_machine.specs.Machine.{effect_at_iteration_end, loop_again_effect};
+ghost use Rattle.regress_machine.specs.InsnEffects.{begin_capture_group_effect, end_capture_group_effect, reset_capture_group_effect, body_entered_with_iteration_count};
+ghost use Rattle.regress_machine.specs.InsnEffects.{IsNotStuck, is_read_or_assertion_insn};
 ghost use Rattle.regress_pikevm.specs.{InsnEffects.{effect_at, effect_of_insn, effect_of_range_backref, effect_of_backref}, States.{state_of, loop_of, next_threads}};
-ghost use Rattle.regress_scan.specs.InsnMatchers.{ByteInsnHasByteText};
+ghost use Rattle.regress_scan.specs.OffsetsAfterMatchedInsns.{ByteInsnHasByteText};
 
 use super::char_loops::{CharLoopBoundsAndGreed, execute_char_loop};
-use super::insn_matchers;
+use super::read_or_assertion_insn_matchers;
 use super::states::{LoopData, NextStates, State, copy_state};
 use regress_exec::program_and_input::ProgramAndInput;
 use regress_input::cursor::Direction;
@@ -19,7 +21,7 @@ use regress_input::front::{CaptureGroupID, LoopID};
 use regress_input::indexing::InputIndexer;
 use regress_input::position::PositionType;
 use regress_program::insn::{Insn, LoopFields};
-use regress_scan::insn_matchers::backref_matches;
+use regress_scan::insns_that_read_or_test_text::backref_matches;
 use std::alloc::AllocError;
 
 /// Executes the instruction at the state.
@@ -30,7 +32,7 @@ pub fn execute_insn<Input: InputIndexer, Dir: Direction>(
     dir: Dir,
     state: State<Input::Position>,
 ) -> Result<NextStates<Input::Position>, AllocError>
-    requires code { map spec_insn_of insns.now ≡ (compiled (tree_of searched.now.program.now)).insns }
+    requires code { map insn_as_spec_insn insns.now ≡ (compiled (tree_of searched.now.program.now)).insns }
     requires can { let s = searched.now in
         IsNotStuck (effect_at Input.Position.offset s.program.now (Input.text s.input) Dir.FORWARD state) }
     requires inside { Input.Position.offset state.pos ≤ units (Input.text searched.now.input) }
@@ -49,7 +51,7 @@ fn perform<Input: InputIndexer, Dir: Direction>(
     dir: Dir,
     mut state: State<Input::Position>,
 ) -> Result<NextStates<Input::Position>, AllocError>
-    requires code { map spec_insn_of insns.now ≡ (compiled (tree_of searched.now.program.now)).insns }
+    requires code { map insn_as_spec_insn insns.now ≡ (compiled (tree_of searched.now.program.now)).insns }
     requires can { let s = searched.now in IsNotStuck (effect_of_insn Input.Position.offset
         s.program.now (Input.text s.input) Dir.FORWARD insn state) }
     requires bytes { ByteInsnHasByteText insn (Input.text searched.now.input) Input.Units.ARE_BYTES }
@@ -109,14 +111,19 @@ fn execute_test<Input: InputIndexer, Dir: Direction>(
 ) -> NextStates<Input::Position>
     requires can { let s = searched.now in IsNotStuck (effect_of_insn Input.Position.offset
         s.program.now (Input.text s.input) Dir.FORWARD insn state) }
-    requires reader { IsTrue (is_text_test (spec_insn_of insn)) }
+    requires reader { IsTrue (is_read_or_assertion_insn (insn_as_spec_insn insn)) }
     requires bytes { ByteInsnHasByteText insn (Input.text searched.now.input) Input.Units.ARE_BYTES }
     requires inside { Input.Position.offset state.pos ≤ units (Input.text searched.now.input) }
     requires within { state.ip + 1 < 2 ^ 64 }
     ensures { let s = searched.now in next_threads Input.Position.offset result
         ≡ effect_of_insn Input.Position.offset s.program.now (Input.text s.input) Dir.FORWARD insn state }
 {
-    if insn_matchers::insn_matches(searched, insn, dir, &mut state.pos) {
+    if read_or_assertion_insn_matchers::read_or_assertion_insn_matches(
+        searched,
+        insn,
+        dir,
+        &mut state.pos,
+    ) {
         state.ip += 1;
         NextStates::Continue(state)
     } else {
@@ -128,7 +135,7 @@ fn execute_test<Input: InputIndexer, Dir: Direction>(
 fn fork<P: PositionType>(secondary: u32, mut state: State<P>) -> Result<NextStates<P>, AllocError>
     requires { state.ip + 1 < 2 ^ 64 }
     ensures { let s = state_of P.offset state in IfOk result (λ t. next_threads P.offset t
-        ≡ goes (running (state_at_next_ip s) ∷ waiting (state_at_ip secondary s) ∷ [])) }
+        ≡ goes (running (state_at_next_ip s) ∷ waiting (state_with_ip secondary s) ∷ [])) }
 {
     let mut second = copy_state(&state)?;
     second.ip = secondary as usize;
@@ -146,7 +153,7 @@ fn fork_lookaround<P: PositionType>(
 ) -> Result<NextStates<P>, AllocError>
     requires { state.ip + 1 < 2 ^ 64 }
     ensures { let s = state_of P.offset state in IfOk result (λ t. next_threads P.offset t
-        ≡ asks (direction_of_forward_flag forward) negate (state_at_next_ip s) (state_at_ip continuation s)) }
+        ≡ asks (direction_of_forward_flag forward) negate (state_at_next_ip s) (state_with_ip continuation s)) }
 {
     let mut inner = copy_state(&state)?;
     inner.ip += 1;
@@ -162,9 +169,9 @@ fn fork_lookaround<P: PositionType>(
 // ---- Groups
 
 fn open_group<P: PositionType>(id: CaptureGroupID, mut state: State<P>) -> NextStates<P>
-    requires can { IsNotStuck (group_opened id (state_of P.offset state)) }
+    requires can { IsNotStuck (begin_capture_group_effect id (state_of P.offset state)) }
     requires within { state.ip + 1 < 2 ^ 64 }
-    ensures { next_threads P.offset result ≡ group_opened id (state_of P.offset state) }
+    ensures { next_threads P.offset result ≡ begin_capture_group_effect id (state_of P.offset state) }
 {
     let id = id as usize;
     state.ip += 1;
@@ -178,9 +185,11 @@ fn close_group<P: PositionType, Dir: Direction>(
     dir: Dir,
     mut state: State<P>,
 ) -> NextStates<P>
-    requires can { IsNotStuck (group_closed id (direction_of_forward_flag Dir.FORWARD) (state_of P.offset state)) }
+    requires can { IsNotStuck (end_capture_group_effect id (direction_of_forward_flag Dir.FORWARD)
+        (state_of P.offset state)) }
     requires within { state.ip + 1 < 2 ^ 64 }
-    ensures { next_threads P.offset result ≡ group_closed id (direction_of_forward_flag Dir.FORWARD) (state_of P.offset state) }
+    ensures { next_threads P.offset result ≡ end_capture_group_effect id (direction_of_forward_flag Dir.FORWARD)
+        (state_of P.offset state) }
 {
     let id = id as usize;
     let start = state.starts[id];
@@ -199,9 +208,9 @@ fn ordered_span<P: PositionType, Dir: Direction>(_dir: Dir, from: P, to: P) -> (
 }
 
 fn reset_group<P: PositionType>(id: CaptureGroupID, mut state: State<P>) -> NextStates<P>
-    requires can { IsNotStuck (group_reset id (state_of P.offset state)) }
+    requires can { IsNotStuck (reset_capture_group_effect id (state_of P.offset state)) }
     requires within { state.ip + 1 < 2 ^ 64 }
-    ensures { next_threads P.offset result ≡ group_reset id (state_of P.offset state) }
+    ensures { next_threads P.offset result ≡ reset_capture_group_effect id (state_of P.offset state) }
 {
     state.ip += 1;
     state.groups[id as usize] = None;
@@ -240,7 +249,8 @@ fn match_range_again<Input: InputIndexer, Dir: Direction>(
         (Input.text searched.now.input) Dir.FORWARD icase range state) }
     requires within { state.ip + 1 < 2 ^ 64 }
     ensures { let at = Input.Position.offset in
-        next_threads at result ≡ effect_of_range_backref at (Input.text searched.now.input) Dir.FORWARD icase range state }
+        next_threads at result ≡ effect_of_range_backref at (Input.text searched.now.input) Dir.FORWARD icase
+        range state }
 {
     let Some(span) = range else {
         state.ip += 1;
@@ -264,10 +274,11 @@ fn begin_iteration<P: PositionType>(
     k: usize,
     mut state: State<P>,
 ) -> Result<NextStates<P>, AllocError>
-    requires can { IsNotStuck (iterate_or_leave_loop (spec_loop_fields_of fields) begin k (state_of P.offset state)) }
+    requires can { IsNotStuck (iterate_or_leave_at_loop_head (loop_fields_as_spec fields) begin k
+        (state_of P.offset state)) }
     requires within { begin + 1 < 2 ^ 64 }
     ensures { IfOk result (λ t. next_threads P.offset t
-        ≡ iterate_or_leave_loop (spec_loop_fields_of fields) begin k (state_of P.offset state)) }
+        ≡ iterate_or_leave_at_loop_head (loop_fields_as_spec fields) begin k (state_of P.offset state)) }
 {
     let may_leave = fields.min_iters <= k;
     if k >= fields.max_iters {
@@ -300,7 +311,7 @@ fn enter_iteration<P: PositionType>(
 ) -> State<P>
     requires known { id < length state.loops.items }
     requires within { begin + 1 < 2 ^ 64 }
-    ensures { state_of P.offset result ≡ iteration_entered id begin k (state_of P.offset state) }
+    ensures { state_of P.offset result ≡ body_entered_with_iteration_count id begin k (state_of P.offset state) }
 {
     state.ip = begin + 1;
     state.loops[id as usize] = LoopData {
@@ -316,10 +327,10 @@ fn end_body<P: PositionType>(
     begin: usize,
     state: State<P>,
 ) -> Result<NextStates<P>, AllocError>
-    requires can { IsNotStuck (loop_repeated (Some (spec_insn_of head)) begin (state_of P.offset state)) }
+    requires can { IsNotStuck (loop_again_effect (Some (insn_as_spec_insn head)) begin (state_of P.offset state)) }
     requires within { begin + 1 < 2 ^ 64 }
     ensures { IfOk result (λ t. next_threads P.offset t
-        ≡ loop_repeated (Some (spec_insn_of head)) begin (state_of P.offset state)) }
+        ≡ loop_again_effect (Some (insn_as_spec_insn head)) begin (state_of P.offset state)) }
 {
     match head {
         Insn::EnterLoop { .. } => {
@@ -340,10 +351,11 @@ fn end_iteration<P: PositionType>(
     state: State<P>,
 ) -> Result<NextStates<P>, AllocError>
     requires can { IsNotStuck
-        (next_iteration_unless_empty (spec_loop_fields_of fields) begin (loop_of P.offset last) (state_of P.offset state)) }
+        (effect_at_iteration_end (loop_fields_as_spec fields) begin (loop_of P.offset last) (state_of P.offset state)) }
     requires within { begin + 1 < 2 ^ 64 }
     ensures { IfOk result (λ t. next_threads P.offset t
-        ≡ next_iteration_unless_empty (spec_loop_fields_of fields) begin (loop_of P.offset last) (state_of P.offset state)) }
+        ≡ effect_at_iteration_end (loop_fields_as_spec fields) begin (loop_of P.offset last)
+        (state_of P.offset state)) }
 {
     if last.entry == state.pos && fields.min_iters < last.iters + 1 {
         Ok(NextStates::Dead)

@@ -4,7 +4,7 @@ ghost use Rattle.std.specs.Prelude.{◌≡◌, IfOk, map, replicate, option_map}
 ghost use Rattle.std.specs.Option.{option_to_list};
 ghost use Rattle.regex_pattern_front.specs.AstToSpecTree.{tree_of};
 ghost use Rattle.regress_program.specs.CompilationOfTreesAsFunction.{compiled};
-ghost use Rattle.regress_machine.specs.{Machine.{after_lookaround}, SearchResults.{state_before_first_insn}};
+ghost use Rattle.regress_machine.specs.{Machine.{after_lookaround}, SearchFindsFirstOutcomeAtPlace.{state_before_first_insn}};
 ghost use Rattle.regress_pikevm.specs.States.{state_of, running_thread};
 
 use regress_input::position::PositionType;

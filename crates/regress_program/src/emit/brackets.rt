@@ -3,9 +3,10 @@
 ghost use Rattle.std.specs.Prelude.{◌≡◌, ◌||◌, ◌&&◌, nat_lt, is_some, map, OnOk, IfSome};
 ghost use Rattle.std.specs.Int.{is_in_range};
 ghost use Rattle.std.specs.List.{list_all};
-ghost use Rattle.regex_meaning.specs.{NumberListHelpers.{contains}, Tree.{bracket}, CompilationRelation.{is_ascii_set}, Outcomes.{in_intervals}, StartPredicate.{bytes_that_pass}};
-ghost use Rattle.regex_pattern_front.specs.{AstToSpecTree.{class_as_spec}, ByteSetMembers.{ascii_bitmap_bytes}, Intervals.{interval_of}};
-ghost use Rattle.regress_program.specs.EmitterModel.{IsEmitted, emitter_state, with_bracket_table_entry};
+ghost use Rattle.regex_meaning.specs.{NumberListHelpers.{contains}, Tree.{bracket}, CompilationRelation.{is_uninverted_ascii_class}, Outcomes.{in_intervals}};
+ghost use Rattle.regex_meaning.specs.StartPredicate.{bytes_that_pass};
+ghost use Rattle.regex_pattern_front.specs.{AstToSpecTree.{class_as_spec}, ByteSetMembers.{member_bytes_of_ascii_bitmap}, Intervals.{interval_of}};
+ghost use Rattle.regress_program.specs.EmitterStateAndAppendedCode.{IsEmitted, emitter_state, with_bracket_table_entry};
 
 use crate::emit::emitter::{Emitter, FoldingCharLoopLookbehindMode};
 use regex_pattern_front::bytesearch::AsciiBitmap;
@@ -50,8 +51,8 @@ impl Emitter {
 
 // Returns the set as a bitmap if it has only bytes below 128.
 fn ascii_bitmap(contents: &BracketContents) -> Option<AsciiBitmap>
-    ensures found { is_some result ≡ is_ascii_set (class_as_spec contents.now) }
-    ensures members { IfSome result (λ b. ascii_bitmap_bytes b
+    ensures found { is_some result ≡ is_uninverted_ascii_class (class_as_spec contents.now) }
+    ensures members { IfSome result (λ b. member_bytes_of_ascii_bitmap b
         ≡ bytes_that_pass (in_intervals (class_as_spec contents.now).intervals)) }
 {
     if !is_ascii(contents) {
@@ -62,7 +63,7 @@ fn ascii_bitmap(contents: &BracketContents) -> Option<AsciiBitmap>
 
 // Returns the members of these intervals that are below 128.
 fn ascii_members(intervals: &[Interval]) -> AsciiBitmap
-    ensures { ascii_bitmap_bytes result
+    ensures { member_bytes_of_ascii_bitmap result
         ≡ bytes_that_pass (λ b. nat_lt b 128 && in_intervals (map interval_of intervals.now) b) }
 {
     let mut bitmap = AsciiBitmap::default();
@@ -74,8 +75,8 @@ fn ascii_members(intervals: &[Interval]) -> AsciiBitmap
 
 // Adds the members of the interval that are below 128.
 fn add_ascii_members(interval: Interval, bitmap: &mut AsciiBitmap)
-    ensures { ascii_bitmap_bytes bitmap.new
-        ≡ bytes_that_pass (λ b. contains (ascii_bitmap_bytes bitmap.old) b
+    ensures { member_bytes_of_ascii_bitmap bitmap.new
+        ≡ bytes_that_pass (λ b. contains (member_bytes_of_ascii_bitmap bitmap.old) b
         || (nat_lt b 128 && is_in_range interval.first interval.last b)) }
 {
     let end = interval.last.min(127) + 1;
@@ -86,12 +87,12 @@ fn add_ascii_members(interval: Interval, bitmap: &mut AsciiBitmap)
 
 // Checks whether the set has only bytes below 128.
 fn is_ascii(contents: &BracketContents) -> bool
-    ensures { result ≡ is_ascii_set (class_as_spec contents.now) }
+    ensures { result ≡ is_uninverted_ascii_class (class_as_spec contents.now) }
 {
-    !contents.invert && are_ascii(contents.cps.intervals())
+    !contents.invert && intervals_are_ascii(contents.cps.intervals())
 }
 
-fn are_ascii(intervals: &[Interval]) -> bool
+fn intervals_are_ascii(intervals: &[Interval]) -> bool
     ensures { result ≡ list_all (λ i. nat_lt i.last 128 || nat_lt i.last i.first) intervals.now }
 {
     intervals.iter().all(|i| i.last < 128 || i.last < i.first)

@@ -1,15 +1,21 @@
 //! The emitter, which appends the code of nodes to the code emitted so far.
-#![tactic(auto, using(std::proofs::lemmas::Grind::common_steps), unfolding(regex_pattern_front::specs::AstToSpecTree::node_of, crate::specs::CompilationOfTreesAsFunction::code_of, crate::specs::EmitterModel::node_with_char_loops_if_enabled, crate::specs::CompilationOfTreesAsFunction::loop_count, crate::specs::CompilationOfTreesAsFunction::brackets_of, crate::specs::CompilationOfTreesAsFunction::node_insn_count))]
+#![tactic(auto, using(std::proofs::lemmas::Grind::common_steps), unfolding(regex_pattern_front::specs::AstToSpecTree::node_of, crate::specs::CompilationOfTreesAsFunction::code_of, crate::specs::EmitterStateAndAppendedCode::node_with_char_loops_if_enabled, crate::specs::CompilationOfTreesAsFunction::loop_count, crate::specs::CompilationOfTreesAsFunction::brackets_of, crate::specs::CompilationOfTreesAsFunction::node_insn_count))]
 
 ghost use Rattle.std.specs.Prelude.{◌≡◌, ◌&&◌, ◌+◌, ◌-◌, ◌<◌, ◌^◌, true, length, map, IfOk, OnOk, IsTrue, if◌then◌else◌};
-ghost use Rattle.regex_meaning.specs.{Tree.{every_node_passes}, WellFormedTrees.{sets_and_strings_fit_instructions}, CompilationRelation.{EnterLoop, lookaround_insn}};
+ghost use Rattle.regex_meaning.specs.{Tree.{every_node_passes}, WellFormedTrees.{set_sizes_and_characters_fit_instructions}};
+ghost use Rattle.regex_meaning.specs.CompilationRelation.{EnterLoop, lookaround_insn};
 ghost use Rattle.regex_pattern_front.specs.{OptimizedTrees.{reads_one_character as is_one_character}, AstToSpecTree.{class_as_spec, node_of}};
-ghost use Rattle.regress_plan.specs.InsnsAsSpecInsns.{spec_loop_fields_of};
-ghost use Rattle.regress_program.specs.{InsnMeanings.{spec_insn_of}, CompilationOfTreesAsFunction.{group_reset_insns}, LeavesListsAndCharLoops.{is_leaf}};
-ghost use Rattle.regress_program.specs.EmitterModel.{HasIndexRoom, emitter_state, with_insn_appended, with_insns_appended, with_insn_at, with_loop, empty_state, IsEmitted};
-ghost use Rattle.regress_program.specs.EmitterModel.{lookaround_as_spec};
+ghost use Rattle.regress_plan.specs.InsnsAsSpecInsns.{loop_fields_as_spec};
+ghost use Rattle.regress_program.specs.{InsnsAndStartPredicatesAsSpec.{insn_as_spec_insn}, CompilationOfTreesAsFunction.{group_reset_insns}};
+ghost use Rattle.regress_program.specs.LeafNodesAndOptimizableLoops.{is_leaf};
+ghost use Rattle.regress_program.specs.EmitterStateAndAppendedCode.{HasIndexRoomForNode, emitter_state, with_insn_appended, with_insns_appended, with_insn_at, with_loop};
+ghost use Rattle.regress_program.specs.EmitterStateAndAppendedCode.{empty_state};
+ghost use Rattle.regress_program.specs.EmitterStateAndAppendedCode.{IsEmitted};
+ghost use Rattle.regress_program.specs.EmitterStateAndAppendedCode.{lookaround_as_spec};
 
-use crate::emit::leaf_insns::{anchor_insn, byte_set_insn, char_set_insn, word_boundary_insn};
+use crate::emit::small_set_and_assertion_insns::{
+    anchor_insn, byte_set_insn, char_set_insn, word_boundary_insn,
+};
 use crate::insn::EmittedCode;
 use regex_pattern_front::ir::Node;
 use regex_pattern_front::optimizer::reads_one_character;
@@ -30,7 +36,7 @@ pub(crate) struct FoldingCharLoopLookbehindMode {
 impl FoldingCharLoopLookbehindMode {
     // Returns the index in the code of part `at` of `count` parts. Inside a lookbehind the order is
     // reversed.
-    pub(crate) fn index_in_emission_order(self, at: usize, count: usize) -> usize
+    pub(crate) fn index_of_part_in_emission_order(self, at: usize, count: usize) -> usize
         requires { at < count }
         ensures value { result ≡ (if self.behind then count - 1 - at else at) }
         ensures within { result < count }
@@ -48,20 +54,20 @@ impl FoldingCharLoopLookbehindMode {
 
 /// The fields of a lookaround other than its contents.
 #[derive(Clone, Copy)]
-pub(crate) struct LookaroundFields {
+pub(crate) struct LookaroundFieldsWithoutContents {
     pub(crate) negate: bool,
     pub(crate) backwards: bool,
     pub(crate) start_group: CaptureGroupID,
     pub(crate) end_group: CaptureGroupID,
 }
 
-impl LookaroundFields {
+impl LookaroundFieldsWithoutContents {
     // Builds the fields of a lookaround that encloses these groups.
     pub(crate) fn new(
         negate: bool,
         backwards: bool,
         groups: Range<CaptureGroupID>,
-    ) -> LookaroundFields
+    ) -> LookaroundFieldsWithoutContents
         ensures { result ≡ record {
           negate = negate;
           backwards = backwards;
@@ -69,7 +75,7 @@ impl LookaroundFields {
           end_group = groups.end;
         } }
     {
-        LookaroundFields {
+        LookaroundFieldsWithoutContents {
             negate,
             backwards,
             start_group: groups.start,
@@ -78,9 +84,9 @@ impl LookaroundFields {
     }
 
     pub(crate) fn insn(self, continuation: u32) -> Insn
-        ensures { spec_insn_of result ≡ lookaround_insn (lookaround_as_spec self) continuation }
+        ensures { insn_as_spec_insn result ≡ lookaround_insn (lookaround_as_spec self) continuation }
     {
-        let LookaroundFields {
+        let LookaroundFieldsWithoutContents {
             negate,
             backwards,
             start_group,
@@ -126,7 +132,7 @@ impl Emitter {
 
     // Returns the emitted code.
     pub(crate) fn into_emitted_code(self) -> EmittedCode
-        ensures insns { map spec_insn_of result.insns.items ≡ (emitter_state self).insns }
+        ensures insns { map insn_as_spec_insn result.insns.items ≡ (emitter_state self).insns }
         ensures brackets { map class_as_spec result.brackets.items ≡ (emitter_state self).brackets }
         ensures loops { result.loops ≡ (emitter_state self).loops }
     {
@@ -149,8 +155,8 @@ impl Emitter {
         node: &Node,
     ) -> Result<(), AllocError>
         requires leaf { is_leaf (node_of node.now) ≡ true }
-        requires sets { IsTrue (every_node_passes sets_and_strings_fit_instructions (node_of node.now)) }
-        requires room { HasIndexRoom (emitter_state self.old) (node_of node.now) }
+        requires sets { IsTrue (every_node_passes set_sizes_and_characters_fit_instructions (node_of node.now)) }
+        requires room { HasIndexRoomForNode (emitter_state self.old) (node_of node.now) }
         ensures { OnOk result (IsEmitted mode (node_of node.now) self.old self.new) }
     {
         match node {
@@ -196,7 +202,8 @@ impl Emitter {
         start: CaptureGroupID,
         end: CaptureGroupID,
     ) -> Result<(), AllocError>
-        ensures { OnOk result (emitter_state self.new ≡ with_insns_appended (group_reset_insns start end) (emitter_state self.old)) }
+        ensures { OnOk result (emitter_state self.new ≡ with_insns_appended (group_reset_insns start end)
+            (emitter_state self.old)) }
     {
         for id in start..end {
             self.append_insn(Insn::ResetCaptureGroup(id))?;
@@ -205,7 +212,7 @@ impl Emitter {
     }
 
     // Counts one more loop.
-    pub(crate) fn count_one_more_loop(&mut self)
+    pub(crate) fn increment_loop_count(&mut self)
         requires { (emitter_state self.old).loops + 1 < 2 ^ 16 }
         ensures { emitter_state self.new ≡ with_loop (emitter_state self.old) }
     {
@@ -222,7 +229,8 @@ impl Emitter {
 
     // Appends an instruction.
     pub(crate) fn append_insn(&mut self, insn: Insn) -> Result<(), AllocError>
-        ensures { OnOk result (emitter_state self.new ≡ with_insn_appended (spec_insn_of insn) (emitter_state self.old)) }
+        ensures { OnOk result (emitter_state self.new ≡ with_insn_appended (insn_as_spec_insn insn)
+            (emitter_state self.old)) }
     {
         self.insns.push(insn)?;
         Ok(())
@@ -231,7 +239,7 @@ impl Emitter {
     // Replaces the instruction at an index.
     pub(crate) fn replace_insn_at(&mut self, place: usize, insn: Insn)
         requires { place < length (emitter_state self.old).insns }
-        ensures { emitter_state self.new ≡ with_insn_at place (spec_insn_of insn) (emitter_state self.old) }
+        ensures { emitter_state self.new ≡ with_insn_at place (insn_as_spec_insn insn) (emitter_state self.old) }
     {
         self.insns[place] = insn;
     }
@@ -239,7 +247,7 @@ impl Emitter {
 
 // Returns the first instruction of a loop.
 pub(crate) fn loop_head_insn(fields: LoopFields) -> Insn
-    ensures { spec_insn_of result ≡ EnterLoop (spec_loop_fields_of fields) }
+    ensures { insn_as_spec_insn result ≡ EnterLoop (loop_fields_as_spec fields) }
 {
     Insn::EnterLoop {
         greedy: fields.greedy,

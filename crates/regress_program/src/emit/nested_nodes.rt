@@ -1,16 +1,20 @@
 //! Emits nested nodes. Pending parts are on the heap, so nested nodes need no stack.
-#![tactic(auto, using(std::proofs::lemmas::Grind::common_steps), unfolding(regex_pattern_front::specs::AstToSpecTree::node_of, crate::specs::EmitterModel::node_with_char_loops_if_enabled))]
+#![tactic(auto, using(std::proofs::lemmas::Grind::common_steps), unfolding(regex_pattern_front::specs::AstToSpecTree::node_of, crate::specs::EmitterStateAndAppendedCode::node_with_char_loops_if_enabled))]
 
 ghost use Rattle.std.specs.Prelude.{◌≡◌, ◌+◌, ◌<◌, ◌^◌, [], length, not, OnOk, IsTrue};
 ghost use Rattle.regex_meaning.specs.Tree.{alt, capture_group, lookaround, loop as loop_of, loop_1_char_body, every_node_passes};
-ghost use Rattle.regex_meaning.specs.WellFormedTrees.{sets_and_strings_fit_instructions};
+ghost use Rattle.regex_meaning.specs.WellFormedTrees.{set_sizes_and_characters_fit_instructions};
 ghost use Rattle.regex_pattern_front.specs.AstToSpecTree.{node_of, spec_quantifier_of};
-ghost use Rattle.regress_program.specs.{LeavesListsAndCharLoops.{cat_of, is_leaf}, EmitterModel.{HasIndexRoom, node_with_char_loops_if_enabled, node_with_char_loops_of_mode, emitter_state, IsEmitted, lookaround_as_spec}};
-ghost use Rattle.regress_program.specs.PendingEmission.{CanEmitPending, FitsIndexWidths, EmitsOrBeginsPendingPart, BeginsEmittingNode, BeginsEmittingRemainingAlternatives, BeginsEmittingNodeList, emitter_and_pending_parts, with_remaining_alternatives_emitted, with_lookaround_end};
+ghost use Rattle.regress_program.specs.LeafNodesAndOptimizableLoops.{cat_of, is_leaf};
+ghost use Rattle.regress_program.specs.EmitterStateAndAppendedCode.{HasIndexRoomForNode, node_with_char_loops_if_enabled, node_to_emit_in_mode, emitter_state, IsEmitted};
+ghost use Rattle.regress_program.specs.EmitterStateAndAppendedCode.{lookaround_as_spec};
+ghost use Rattle.regress_program.specs.PendingEmission.{CanEmitPendingPart, FitsIndexWidths, PendingPartIsEmittedOrBegun, BeginsEmittingNode};
+ghost use Rattle.regress_program.specs.PendingEmission.{BeginsEmittingRemainingAlternatives, BeginsEmittingNodeList, emitter_and_pending_parts};
+ghost use Rattle.regress_program.specs.PendingEmission.{with_remaining_alternatives_emitted, with_lookaround_end};
 ghost use Rattle.regress_program.specs.PendingEmission.{with_loop_end};
 
 use crate::emit::emitter::{
-    Emitter, FoldingCharLoopLookbehindMode, LookaroundFields, loop_head_insn,
+    Emitter, FoldingCharLoopLookbehindMode, LookaroundFieldsWithoutContents, loop_head_insn,
 };
 use regex_pattern_front::ir::{Node, Quantifier};
 use regex_pattern_front::types::CaptureGroupID;
@@ -23,7 +27,7 @@ const FEW: usize = 16;
 
 // A part of the code that is still to be emitted.
 #[derive(Clone, Copy)]
-pub(crate) enum PendingCode<'a> {
+pub(crate) enum UnemittedCodePart<'a> {
     // A node.
     Node(FoldingCharLoopLookbehindMode, &'a Node),
     // The nodes of a list, in order.
@@ -35,7 +39,7 @@ pub(crate) enum PendingCode<'a> {
     Jump(u32),
     GroupEnd(CaptureGroupID),
     // The end of the lookaround whose first instruction is at this index.
-    LookaroundEnd(LookaroundFields, u32),
+    LookaroundEnd(LookaroundFieldsWithoutContents, u32),
     // The end of the loop whose first instruction is at this index.
     LoopEnd(LoopFields, u32),
 }
@@ -47,12 +51,12 @@ impl Emitter {
         mode: FoldingCharLoopLookbehindMode,
         node: &Node,
     ) -> Result<(), AllocError>
-        requires sets { IsTrue (every_node_passes sets_and_strings_fit_instructions (node_of node.now)) }
-        requires room { HasIndexRoom (emitter_state self.old) (node_with_char_loops_of_mode mode node.now) }
-        ensures { OnOk result (IsEmitted mode (node_with_char_loops_of_mode mode node.now) self.old self.new) }
+        requires sets { IsTrue (every_node_passes set_sizes_and_characters_fit_instructions (node_of node.now)) }
+        requires room { HasIndexRoomForNode (emitter_state self.old) (node_to_emit_in_mode mode node.now) }
+        ensures { OnOk result (IsEmitted mode (node_to_emit_in_mode mode node.now) self.old self.new) }
     {
         let mut rest = Vec::with_capacity(*self.insns.allocator(), FEW)?;
-        rest.push(PendingCode::Node(mode, node))?;
+        rest.push(UnemittedCodePart::Node(mode, node))?;
         while let Some(next) = rest.pop() {
             self.emit_pending(next, &mut rest)?;
         }
@@ -63,26 +67,27 @@ impl Emitter {
     // rest.
     fn emit_pending<'a>(
         &mut self,
-        next: PendingCode<'a>,
-        rest: &mut Vec<PendingCode<'a>>,
+        next: UnemittedCodePart<'a>,
+        rest: &mut Vec<UnemittedCodePart<'a>>,
     ) -> Result<(), AllocError>
-        requires { CanEmitPending next (emitter_state self.old) }
-        ensures { OnOk result (EmitsOrBeginsPendingPart next.entry (emitter_and_pending_parts self.old rest.old) (emitter_and_pending_parts self.new rest.new)) }
+        requires { CanEmitPendingPart next (emitter_state self.old) }
+        ensures { OnOk result (PendingPartIsEmittedOrBegun next.entry (emitter_and_pending_parts self.old rest.old)
+            (emitter_and_pending_parts self.new rest.new)) }
     {
         match next {
-            PendingCode::Node(mode, node) => self.begin(mode, node, rest),
-            PendingCode::Row(mode, nodes) => self.begin_node_list(mode, nodes, rest),
-            PendingCode::Others(mode, branch, others) => self.begin_other_arms(
+            UnemittedCodePart::Node(mode, node) => self.begin(mode, node, rest),
+            UnemittedCodePart::Row(mode, nodes) => self.begin_node_list(mode, nodes, rest),
+            UnemittedCodePart::Others(mode, branch, others) => self.begin_other_arms(
                 mode, branch, others, rest,
             ),
-            PendingCode::Jump(place) => {
+            UnemittedCodePart::Jump(place) => {
                 let target = self.next();
                 self.replace_insn_at(place as usize, Insn::Jump { target });
                 Ok(())
             }
-            PendingCode::GroupEnd(id) => self.append_insn(Insn::EndCaptureGroup(id)),
-            PendingCode::LookaroundEnd(look, head) => self.end_lookaround(look, head),
-            PendingCode::LoopEnd(fields, begin) => self.end_loop(fields, begin),
+            UnemittedCodePart::GroupEnd(id) => self.append_insn(Insn::EndCaptureGroup(id)),
+            UnemittedCodePart::LookaroundEnd(look, head) => self.end_lookaround(look, head),
+            UnemittedCodePart::LoopEnd(fields, begin) => self.end_loop(fields, begin),
         }
     }
 
@@ -91,11 +96,12 @@ impl Emitter {
         &mut self,
         mode: FoldingCharLoopLookbehindMode,
         node: &'a Node,
-        rest: &mut Vec<PendingCode<'a>>,
+        rest: &mut Vec<UnemittedCodePart<'a>>,
     ) -> Result<(), AllocError>
-        requires sets { IsTrue (every_node_passes sets_and_strings_fit_instructions (node_of node.now)) }
-        requires room { HasIndexRoom (emitter_state self.old) (node_with_char_loops_of_mode mode node.now) }
-        ensures { OnOk result (BeginsEmittingNode mode (node_with_char_loops_of_mode mode node.now) (emitter_and_pending_parts self.old rest.old) (emitter_and_pending_parts self.new rest.new)) }
+        requires sets { IsTrue (every_node_passes set_sizes_and_characters_fit_instructions (node_of node.now)) }
+        requires room { HasIndexRoomForNode (emitter_state self.old) (node_to_emit_in_mode mode node.now) }
+        ensures { OnOk result (BeginsEmittingNode mode (node_to_emit_in_mode mode node.now)
+            (emitter_and_pending_parts self.old rest.old) (emitter_and_pending_parts self.new rest.new)) }
     {
         match node {
             Node::Cat(nodes) => self.begin_node_list(mode, nodes, rest),
@@ -108,7 +114,11 @@ impl Emitter {
                 end_group,
                 contents,
             } => {
-                let look = LookaroundFields::new(*negate, *backwards, *start_group..*end_group);
+                let look = LookaroundFieldsWithoutContents::new(
+                    *negate,
+                    *backwards,
+                    *start_group..*end_group,
+                );
                 self.begin_lookaround(mode, look, contents, rest)
             }
             Node::Loop {
@@ -135,17 +145,19 @@ impl Emitter {
         &mut self,
         mode: FoldingCharLoopLookbehindMode,
         nodes: &'a [Node],
-        rest: &mut Vec<PendingCode<'a>>,
+        rest: &mut Vec<UnemittedCodePart<'a>>,
     ) -> Result<(), AllocError>
-        requires sets { IsTrue (every_node_passes sets_and_strings_fit_instructions (cat_of nodes.now)) }
-        requires room { HasIndexRoom (emitter_state self.old) (node_with_char_loops_if_enabled mode.narrow (cat_of nodes.now)) }
-        ensures { OnOk result (BeginsEmittingNodeList mode nodes.now (emitter_and_pending_parts self.old rest.old) (emitter_and_pending_parts self.new rest.new)) }
+        requires sets { IsTrue (every_node_passes set_sizes_and_characters_fit_instructions (cat_of nodes.now)) }
+        requires room { HasIndexRoomForNode (emitter_state self.old) (node_with_char_loops_if_enabled mode.narrow
+            (cat_of nodes.now)) }
+        ensures { OnOk result (BeginsEmittingNodeList mode nodes.now (emitter_and_pending_parts self.old rest.old)
+            (emitter_and_pending_parts self.new rest.new)) }
     {
         let mut left = nodes;
         while let Some((first, others)) = left.split_first() {
             if has_children(first) {
-                rest.push(PendingCode::Row(mode, others))?;
-                rest.push(PendingCode::Node(mode, first))?;
+                rest.push(UnemittedCodePart::Row(mode, others))?;
+                rest.push(UnemittedCodePart::Node(mode, first))?;
                 return Ok(());
             }
             self.emit_leaf(mode, first)?;
@@ -161,18 +173,20 @@ impl Emitter {
         mode: FoldingCharLoopLookbehindMode,
         first: &'a Node,
         others: &'a Node,
-        rest: &mut Vec<PendingCode<'a>>,
+        rest: &mut Vec<UnemittedCodePart<'a>>,
     ) -> Result<(), AllocError>
-        requires first { IsTrue (every_node_passes sets_and_strings_fit_instructions (node_of first.now)) }
-        requires others { IsTrue (every_node_passes sets_and_strings_fit_instructions (node_of others.now)) }
-        requires room { HasIndexRoom (emitter_state self.old) (alt (node_with_char_loops_of_mode mode first.now) (node_with_char_loops_of_mode mode others.now)) }
-        ensures { OnOk result (BeginsEmittingNode mode (alt (node_with_char_loops_of_mode mode first.now) (node_with_char_loops_of_mode mode others.now))
+        requires first { IsTrue (every_node_passes set_sizes_and_characters_fit_instructions (node_of first.now)) }
+        requires others { IsTrue (every_node_passes set_sizes_and_characters_fit_instructions (node_of others.now)) }
+        requires room { HasIndexRoomForNode (emitter_state self.old) (alt (node_to_emit_in_mode mode first.now)
+            (node_to_emit_in_mode mode others.now)) }
+        ensures { OnOk result (BeginsEmittingNode mode (alt (node_to_emit_in_mode mode first.now)
+            (node_to_emit_in_mode mode others.now))
             (emitter_and_pending_parts self.old rest.old) (emitter_and_pending_parts self.new rest.new)) }
     {
         let branch = self.next();
         self.append_insn(Insn::Alt { secondary: 0 })?;
-        rest.push(PendingCode::Others(mode, branch, others))?;
-        rest.push(PendingCode::Node(mode, first))?;
+        rest.push(UnemittedCodePart::Others(mode, branch, others))?;
+        rest.push(UnemittedCodePart::Node(mode, first))?;
         Ok(())
     }
 
@@ -184,20 +198,22 @@ impl Emitter {
         mode: FoldingCharLoopLookbehindMode,
         branch: u32,
         others: &'a Node,
-        rest: &mut Vec<PendingCode<'a>>,
+        rest: &mut Vec<UnemittedCodePart<'a>>,
     ) -> Result<(), AllocError>
         requires branch { branch < length (emitter_state self.old).insns }
-        requires sets { IsTrue (every_node_passes sets_and_strings_fit_instructions (node_of others.now)) }
-        requires room { FitsIndexWidths (with_remaining_alternatives_emitted mode.unicode mode.behind branch (node_with_char_loops_of_mode mode others.now) (emitter_state self.old)) }
-        ensures { OnOk result (BeginsEmittingRemainingAlternatives mode branch (node_with_char_loops_of_mode mode others.now)
+        requires sets { IsTrue (every_node_passes set_sizes_and_characters_fit_instructions (node_of others.now)) }
+        requires room { FitsIndexWidths (with_remaining_alternatives_emitted mode.unicode mode.behind branch
+            (node_to_emit_in_mode mode others.now) (emitter_state self.old)) }
+        ensures { OnOk result (BeginsEmittingRemainingAlternatives mode branch
+            (node_to_emit_in_mode mode others.now)
             (emitter_and_pending_parts self.old rest.old) (emitter_and_pending_parts self.new rest.new)) }
     {
         let jump = self.next();
         self.append_insn(Insn::Jump { target: 0 })?;
         let secondary = self.next();
         self.replace_insn_at(branch as usize, Insn::Alt { secondary });
-        rest.push(PendingCode::Jump(jump))?;
-        rest.push(PendingCode::Node(mode, others))?;
+        rest.push(UnemittedCodePart::Jump(jump))?;
+        rest.push(UnemittedCodePart::Node(mode, others))?;
         Ok(())
     }
 
@@ -206,16 +222,18 @@ impl Emitter {
         mode: FoldingCharLoopLookbehindMode,
         id: CaptureGroupID,
         contents: &'a Node,
-        rest: &mut Vec<PendingCode<'a>>,
+        rest: &mut Vec<UnemittedCodePart<'a>>,
     ) -> Result<(), AllocError>
-        requires sets { IsTrue (every_node_passes sets_and_strings_fit_instructions (node_of contents.now)) }
-        requires room { HasIndexRoom (emitter_state self.old) (capture_group id [] (node_with_char_loops_of_mode mode contents.now)) }
-        ensures { OnOk result (BeginsEmittingNode mode (capture_group id [] (node_with_char_loops_of_mode mode contents.now))
+        requires sets { IsTrue (every_node_passes set_sizes_and_characters_fit_instructions (node_of contents.now)) }
+        requires room { HasIndexRoomForNode (emitter_state self.old)
+            (capture_group id [] (node_to_emit_in_mode mode contents.now)) }
+        ensures { OnOk result (BeginsEmittingNode mode (capture_group id [] (node_to_emit_in_mode mode
+            contents.now))
             (emitter_and_pending_parts self.old rest.old) (emitter_and_pending_parts self.new rest.new)) }
     {
         self.append_insn(Insn::BeginCaptureGroup(id))?;
-        rest.push(PendingCode::GroupEnd(id))?;
-        rest.push(PendingCode::Node(mode, contents))?;
+        rest.push(UnemittedCodePart::GroupEnd(id))?;
+        rest.push(UnemittedCodePart::Node(mode, contents))?;
         Ok(())
     }
 
@@ -224,28 +242,34 @@ impl Emitter {
     fn begin_lookaround<'a>(
         &mut self,
         mode: FoldingCharLoopLookbehindMode,
-        look: LookaroundFields,
+        look: LookaroundFieldsWithoutContents,
         contents: &'a Node,
-        rest: &mut Vec<PendingCode<'a>>,
+        rest: &mut Vec<UnemittedCodePart<'a>>,
     ) -> Result<(), AllocError>
-        requires sets { IsTrue (every_node_passes sets_and_strings_fit_instructions (node_of contents.now)) }
-        requires room { HasIndexRoom (emitter_state self.old) (lookaround (lookaround_as_spec look) (node_with_char_loops_of_mode mode contents.now)) }
-        ensures { OnOk result (BeginsEmittingNode mode (lookaround (lookaround_as_spec look) (node_with_char_loops_of_mode mode contents.now))
+        requires sets { IsTrue (every_node_passes set_sizes_and_characters_fit_instructions (node_of contents.now)) }
+        requires room { HasIndexRoomForNode (emitter_state self.old) (lookaround (lookaround_as_spec look)
+            (node_to_emit_in_mode mode contents.now)) }
+        ensures { OnOk result (BeginsEmittingNode mode (lookaround (lookaround_as_spec look)
+            (node_to_emit_in_mode mode contents.now))
             (emitter_and_pending_parts self.old rest.old) (emitter_and_pending_parts self.new rest.new)) }
     {
         let head = self.next();
         self.append_insn(look.insn(0))?;
-        rest.push(PendingCode::LookaroundEnd(look, head))?;
+        rest.push(UnemittedCodePart::LookaroundEnd(look, head))?;
         let inside = FoldingCharLoopLookbehindMode {
             unicode: mode.unicode,
             narrow: mode.narrow,
             behind: look.backwards,
         };
-        rest.push(PendingCode::Node(inside, contents))?;
+        rest.push(UnemittedCodePart::Node(inside, contents))?;
         Ok(())
     }
 
-    fn end_lookaround(&mut self, look: LookaroundFields, head: u32) -> Result<(), AllocError>
+    fn end_lookaround(
+        &mut self,
+        look: LookaroundFieldsWithoutContents,
+        head: u32,
+    ) -> Result<(), AllocError>
         requires head { head < length (emitter_state self.old).insns }
         requires room { length (emitter_state self.old).insns + 1 < 2 ^ 32 }
         ensures { OnOk result
@@ -264,13 +288,13 @@ impl Emitter {
         quant: &Quantifier,
         groups: &Range<CaptureGroupID>,
         loopee: &'a Node,
-        rest: &mut Vec<PendingCode<'a>>,
+        rest: &mut Vec<UnemittedCodePart<'a>>,
     ) -> Result<(), AllocError>
-        requires sets { IsTrue (every_node_passes sets_and_strings_fit_instructions (node_of loopee.now)) }
-        requires room { HasIndexRoom (emitter_state self.old) (loop_of (spec_quantifier_of quant.now)
-            groups.now.start groups.now.end (node_with_char_loops_of_mode mode loopee.now)) }
+        requires sets { IsTrue (every_node_passes set_sizes_and_characters_fit_instructions (node_of loopee.now)) }
+        requires room { HasIndexRoomForNode (emitter_state self.old) (loop_of (spec_quantifier_of quant.now)
+            groups.now.start groups.now.end (node_to_emit_in_mode mode loopee.now)) }
         ensures { OnOk result (BeginsEmittingNode mode (loop_of (spec_quantifier_of quant.now)
-            groups.now.start groups.now.end (node_with_char_loops_of_mode mode loopee.now))
+            groups.now.start groups.now.end (node_to_emit_in_mode mode loopee.now))
             (emitter_and_pending_parts self.old rest.old) (emitter_and_pending_parts self.new rest.new)) }
     {
         let begin = self.next();
@@ -282,10 +306,10 @@ impl Emitter {
             exit: 0,
         };
         self.append_insn(loop_head_insn(fields))?;
-        self.count_one_more_loop();
+        self.increment_loop_count();
         self.emit_group_resets(groups.start, groups.end)?;
-        rest.push(PendingCode::LoopEnd(fields, begin))?;
-        rest.push(PendingCode::Node(mode, loopee))?;
+        rest.push(UnemittedCodePart::LoopEnd(fields, begin))?;
+        rest.push(UnemittedCodePart::Node(mode, loopee))?;
         Ok(())
     }
 
@@ -305,12 +329,13 @@ impl Emitter {
         mode: FoldingCharLoopLookbehindMode,
         quant: &Quantifier,
         loopee: &'a Node,
-        rest: &mut Vec<PendingCode<'a>>,
+        rest: &mut Vec<UnemittedCodePart<'a>>,
     ) -> Result<(), AllocError>
-        requires sets { IsTrue (every_node_passes sets_and_strings_fit_instructions (node_of loopee.now)) }
-        requires room { HasIndexRoom (emitter_state self.old)
-            (loop_1_char_body (spec_quantifier_of quant.now) (node_with_char_loops_of_mode mode loopee.now)) }
-        ensures { OnOk result (BeginsEmittingNode mode (loop_1_char_body (spec_quantifier_of quant.now) (node_with_char_loops_of_mode mode loopee.now))
+        requires sets { IsTrue (every_node_passes set_sizes_and_characters_fit_instructions (node_of loopee.now)) }
+        requires room { HasIndexRoomForNode (emitter_state self.old)
+            (loop_1_char_body (spec_quantifier_of quant.now) (node_to_emit_in_mode mode loopee.now)) }
+        ensures { OnOk result (BeginsEmittingNode mode (loop_1_char_body (spec_quantifier_of quant.now)
+            (node_to_emit_in_mode mode loopee.now))
             (emitter_and_pending_parts self.old rest.old) (emitter_and_pending_parts self.new rest.new)) }
     {
         self.append_insn(Insn::Loop1CharBody {
@@ -318,7 +343,7 @@ impl Emitter {
             max_iters: quant.max.unwrap_or(usize::MAX),
             greedy: quant.greedy,
         })?;
-        rest.push(PendingCode::Node(mode, loopee))?;
+        rest.push(UnemittedCodePart::Node(mode, loopee))?;
         Ok(())
     }
 }

@@ -5,10 +5,10 @@ ghost use Rattle.std.specs.Prelude.{◌≡◌, ◌+◌, ◌-◌, ◌^◌, Some, 
 ghost use Rattle.std.proofs.Common.{refl};
 ghost use Rattle.regex_meaning.specs.Tree.{group_ids};
 ghost use Rattle.regex_pattern_front.specs.AstToSpecTree.{node_of};
-ghost use Rattle.regress_program.specs.{CompilationOfTreesAsFunction.{node_insn_count, own_size as own_size_of, loop_count}, ProgramSizePerNode.{count_node}};
+ghost use Rattle.regress_program.specs.{CompilationOfTreesAsFunction.{node_insn_count, own_size as own_size_of, loop_count}, GroupLoopInsnCountsPerNode.{count_node}};
 
-use crate::emit::literals::{chunk_count, insn_count_of_strings};
-use crate::emit::tree_walk::{NodeVisitor, walk};
+use crate::emit::byte_sequences_and_string_sets::{chunk_count, insn_count_of_strings};
+use crate::emit::tree_walk_with_visitor::{PreorderNodeVisitor, walk};
 use regex_pattern_front::ir::Node;
 
 /// The number of groups, loops and instructions. Each count saturates at `usize::MAX`.
@@ -53,14 +53,14 @@ impl ProgramSize {
     }
 }
 
-impl NodeVisitor for ProgramSize {
+impl PreorderNodeVisitor for ProgramSize {
     ghost step = { λ n it. Some (count_node n it) };
 
     ghost passes_rows = { λ first rest it. refl };
 
     ghost passes_ends = { λ it. refl };
 
-    fn visit_single_node(&mut self, node: &Node) -> bool {
+    fn visit_node_or_stop_walk(&mut self, node: &Node) -> bool {
         match node {
             Node::Cat(_) => return true,
             Node::CaptureGroup { .. } => self.groups = self.groups.saturating_add(1),

@@ -7,12 +7,14 @@ ghost use Rattle.std.specs.List.{list_all};
 ghost use Rattle.std.specs.Str.{is_utf8, chars, continuation_len};
 ghost use Rattle.regex_pattern_front.specs.AstToSpecTree.{node_of, spec_quantifier_of};
 ghost use Rattle.regex_meaning.specs.Tree.{every_node_passes};
-ghost use Rattle.regex_meaning.specs.WellFormedTrees.{number_of_goal_nodes, ends_in_goal, goal_is_last, IsWellFormed, is_one_character as is_one_character_node};
+ghost use Rattle.regex_meaning.specs.WellFormedTrees.{number_of_goal_nodes, ends_in_goal, only_goal_node_is_last, IsWellFormed};
+ghost use Rattle.regex_meaning.specs.WellFormedTrees.{is_one_character as is_one_character_node};
 ghost use Rattle.regex_meaning.specs.WellFormedTrees.{is_min_at_most_max as is_quantifier_in_order};
-ghost use Rattle.regress_program.specs.{GroupIds.{is_well_formed_node as is_node_sound}, EmitterModel.{strings_as_code_points}, TreeWalk.{step_of_test}, CountOfGoalNodes.{visit_goal}};
+ghost use Rattle.regress_program.specs.{GroupIdsInWellFormednessCheck.{is_well_formed_node as is_node_sound}, EmitterStateAndAppendedCode.{strings_as_code_points}};
+ghost use Rattle.regress_program.specs.{TryFoldOverTreeNodes.{step_of_test}, AtMostOneGoalNodeCheck.{visit_goal}};
 
-use crate::emit::group_id_and_range_checks::span_of_valid_group_ids;
-use crate::emit::tree_walk::{NodeVisitor, walk};
+use crate::emit::group_id_and_range_check::group_id_span_if_ids_valid;
+use crate::emit::tree_walk_with_visitor::{PreorderNodeVisitor, walk};
 use regex_pattern_front::ir;
 use regex_pattern_front::ir::{Node, Quantifier};
 
@@ -38,7 +40,7 @@ fn is_root_well_formed(root: &Node) -> bool
     if !is_goal_last(root) {
         return false;
     }
-    let Some(span) = span_of_valid_group_ids(root) else {
+    let Some(span) = group_id_span_if_ids_valid(root) else {
         return false;
     };
     if span.high as usize > span.count {
@@ -49,25 +51,25 @@ fn is_root_well_formed(root: &Node) -> bool
 
 // Checks whether there is exactly one `Goal`, and it is last.
 fn is_goal_last(root: &Node) -> bool
-    ensures { result ≡ goal_is_last (node_of root.now) }
+    ensures { result ≡ only_goal_node_is_last (node_of root.now) }
 {
     has_one_goal(root) && is_goal_at_end(root)
 }
 
 // A visitor that looks for `Goal`, and stops at a second one.
 #[derive(Drop)]
-struct SingleGoalNodeVisitor {
+struct SecondGoalNodeDetector {
     found: bool,
 }
 
-impl NodeVisitor for SingleGoalNodeVisitor {
+impl PreorderNodeVisitor for SecondGoalNodeDetector {
     ghost step = { visit_goal };
 
     ghost passes_rows = { λ first rest it. refl };
 
     ghost passes_ends = { λ it. refl };
 
-    fn visit_single_node(&mut self, node: &Node) -> bool {
+    fn visit_node_or_stop_walk(&mut self, node: &Node) -> bool {
         match node {
             Node::Goal => {
                 let first = !self.found;
@@ -83,7 +85,7 @@ impl NodeVisitor for SingleGoalNodeVisitor {
 fn has_one_goal(root: &Node) -> bool
     ensures { result ≡ (number_of_goal_nodes (node_of root.now) == 1) }
 {
-    let mut goals = SingleGoalNodeVisitor { found: false };
+    let mut goals = SecondGoalNodeDetector { found: false };
     walk(&mut goals, root) && goals.found
 }
 
@@ -111,17 +113,17 @@ struct WellFormedNodeCheck {
     groups: usize,
 }
 
-impl NodeVisitor for WellFormedNodeCheck {
+impl PreorderNodeVisitor for WellFormedNodeCheck {
     ghost step = { λ n it. step_of_test (is_node_sound it.groups n) it };
 
     ghost passes_rows = { λ first rest it. refl };
 
     ghost passes_ends = { λ it. refl };
 
-    fn visit_single_node(&mut self, node: &Node) -> bool {
+    fn visit_node_or_stop_walk(&mut self, node: &Node) -> bool {
         match node {
             Node::CharSet(members) => members.len() <= 4,
-            Node::ByteSet(members) => members.len() <= 4 && are_ascii(members),
+            Node::ByteSet(members) => members.len() <= 4 && bytes_are_ascii(members),
             Node::ByteSequence(bytes) => is_nonempty_utf8(bytes),
             Node::StringSet { alternatives, .. } => are_code_points(alternatives),
             Node::BackRef { group, .. } => 1 <= *group && *group as usize <= self.groups,
@@ -141,7 +143,7 @@ fn has_well_formed_nodes(node: &Node, groups: usize) -> bool
     walk(&mut WellFormedNodeCheck { groups }, node)
 }
 
-fn are_ascii(bytes: &[u8]) -> bool
+fn bytes_are_ascii(bytes: &[u8]) -> bool
     ensures { result ≡ list_all (λ b. nat_lt b 128) bytes.now }
 {
     bytes.iter().all(|b| *b < 128)
@@ -194,7 +196,7 @@ fn is_one_character(node: &Node) -> bool
         | Node::Bracket(_)
         | Node::MatchAny
         | Node::MatchAnyExceptLineTerminator => true,
-        Node::ByteSequence(bytes) => char_count(bytes) == 1,
+        Node::ByteSequence(bytes) => utf8_char_count(bytes) == 1,
         Node::Cat(_) => false,
         Node::Empty
         | Node::Goal
@@ -211,7 +213,7 @@ fn is_one_character(node: &Node) -> bool
 }
 
 // Returns the number of characters of these bytes in UTF-8.
-fn char_count(bytes: &[u8]) -> usize
+fn utf8_char_count(bytes: &[u8]) -> usize
     ensures { result ≡ length (chars bytes.now) }
 {
     let Some((first, rest)) = bytes.split_first() else {

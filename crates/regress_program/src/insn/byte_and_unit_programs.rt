@@ -3,12 +3,14 @@
 ghost use Rattle.std.specs.Prelude.{◌≡◌, IfOk, true, false, map};
 ghost use Rattle.regex_pattern_front.specs.AstToSpecTree.{tree_of};
 ghost use Rattle.regex_meaning.specs.CompilationRelation.{tree_contains_byte_nodes};
-ghost use Rattle.regress_program.specs.{InsnMeanings.{spec_start_predicate_of, spec_insn_of}, StartPredicatesAndAllocation.{IsCompactPredicate}, CompilationOfTreesAsFunction.{compiled}, OptimizedTreeUnlessNoOpt.{optimized_tree_unless_no_opt}};
+ghost use Rattle.regress_program.specs.InsnsAndStartPredicatesAsSpec.{start_predicate_as_spec, insn_as_spec_insn};
+ghost use Rattle.regress_program.specs.{StartPredicatesAndWhenTheyAllocate.{PredicateBitmapHasOverThreeBytes, is_anchored_tree}, CompilationOfTreesAsFunction.{compiled}};
+ghost use Rattle.regress_program.specs.OptimizedTreeUnlessNoOpt.{optimized_tree_unless_no_opt};
 ghost use Rattle.regress_program.specs.ProgramFieldsMatchTree.{IsPlanForUnitWidth};
 
 use crate::insn::common_program_part::Program;
 use crate::insn::plan_for_16_bit_units::{PlanAndCodeFor16BitUnits, copy_plan};
-use crate::insn::start_predicates::StartPredicate;
+use crate::insn::start_predicate_type::StartPredicate;
 use regress_plan::insn::Insn;
 use regress_plan::plan::Plan;
 use std::alloc::AllocError;
@@ -52,10 +54,19 @@ impl CompiledRegex {
     /// Returns the start predicate, which holds wherever the pattern matches.
     #[inline(always)]
     pub fn start_pred(&self) -> &StartPredicate
-        ensures predicate { spec_start_predicate_of result.now ≡ (compiled (tree_of self.now)).start_pred }
-        ensures short { IsCompactPredicate result.now }
+        ensures predicate { start_predicate_as_spec result.now ≡ (compiled (tree_of self.now)).start_pred }
+        ensures short { PredicateBitmapHasOverThreeBytes result.now }
     {
         &self.start_pred
+    }
+
+    /// Checks whether every alternative of the pattern begins with `^`, without the flag `m`. Then the pattern
+    /// matches only at the left end of a text. A `^` inside a loop or a lookaround does not count.
+    #[inline(always)]
+    pub fn is_anchored(&self) -> bool
+        ensures { result ≡ is_anchored_tree (tree_of self.now) }
+    {
+        self.start_pred.is_anchored()
     }
 
     /// Returns the plan of the program, for executors that search by plans.
@@ -96,15 +107,17 @@ impl Deref for CompiledRegex {
 }
 
 /// The program of a well-formed pattern tree without byte sets and byte sequences, for texts of
-/// 16-bit code units: a `Program`, to which it derefs, and a plan of the tree to run, in which
-/// loops over one character are char loops. Only the compiler makes one. Contracts see the tree.
+/// 16-bit code units: a `Program`, to which it derefs, whether the tree is anchored, and a plan of
+/// the tree to run, in which loops over one character are char loops. Only the compiler makes one.
+/// Contracts see the tree.
 #[derive(Drop)]
-pub struct CompiledUnits {
+pub struct CompiledRegexFor16BitUnits {
     pub(crate) program: Program,
+    pub(crate) anchored: bool,
     pub(crate) run: PlanAndCodeFor16BitUnits,
 }
 
-impl Model for CompiledUnits {
+impl Model for CompiledRegexFor16BitUnits {
     ghost use Rattle.std.specs.Coded.{codes};
     ghost use Rattle.regex_pattern_front.specs.contracts.ir.Node as node;
     ghost use Rattle.regex_pattern_front.specs.declared.ir.Regex.{Regex};
@@ -117,10 +130,10 @@ impl Model for CompiledUnits {
 
     ghost view = { λ p. p.program };
 
-    ghost invariant = { λ p. IsUnitProgram p.program p.run };
+    ghost invariant = { λ p. IsUnitProgram p.program p.anchored p.run };
 }
 
-impl CompiledUnits {
+impl CompiledRegexFor16BitUnits {
     /// Returns the part that it has in common with programs for bytes.
     #[inline(always)]
     pub fn program_common_to_both_unit_kinds(&self) -> &Program
@@ -128,6 +141,15 @@ impl CompiledUnits {
         ensures no_bytes { tree_contains_byte_nodes (tree_of self.now).root ≡ false }
     {
         &self.program
+    }
+
+    /// Checks whether every alternative of the pattern begins with `^`, without the flag `m`. Then the pattern
+    /// matches only at the left end of a text. A `^` inside a loop or a lookaround does not count.
+    #[inline(always)]
+    pub fn is_anchored(&self) -> bool
+        ensures { result ≡ is_anchored_tree (tree_of self.now) }
+    {
+        self.anchored
     }
 
     /// Returns the plan of the tree to run, for executors that search by plans.
@@ -149,7 +171,8 @@ impl CompiledUnits {
     /// Returns the instructions of the tree to run.
     #[inline(always)]
     pub fn insns_of_tree_to_run(&self) -> &[Insn]
-        ensures { map spec_insn_of result.now ≡ (compiled (optimized_tree_unless_no_opt (tree_of self.now))).insns }
+        ensures { map insn_as_spec_insn result.now ≡ (compiled
+            (optimized_tree_unless_no_opt (tree_of self.now))).insns }
     {
         &self.run.code.insns
     }
@@ -162,14 +185,15 @@ impl CompiledUnits {
     pub fn clone(&self) -> Result<Self, AllocError>
         ensures { IfOk result (λ p. p ≡ self.now) }
     {
-        Ok(CompiledUnits {
+        Ok(CompiledRegexFor16BitUnits {
             program: self.program.clone()?,
+            anchored: self.anchored,
             run: self.run.clone()?,
         })
     }
 }
 
-impl Deref for CompiledUnits {
+impl Deref for CompiledRegexFor16BitUnits {
     type Target = Program;
 
     ghost use Rattle.std.specs.Prelude.{◌≡◌};

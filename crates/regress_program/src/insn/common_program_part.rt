@@ -3,7 +3,8 @@
 ghost use Rattle.std.specs.Prelude.{◌≡◌, ◌<◌, ◌^◌, IsTrue, IfOk, [], get_or, map, string_bytes};
 ghost use Rattle.regex_pattern_front.specs.AstToSpecTree.{tree_of, spec_flags_of, class_as_spec};
 ghost use Rattle.regex_meaning.specs.WellFormedTrees.{is_well_formed};
-ghost use Rattle.regress_program.specs.{InsnMeanings.{spec_insn_of}, CompilationOfTreesAsFunction.{node_insn_count, compiled}, ProgramFieldsMatchTree.{IsCodeOfTree}, OptimizedTreeUnlessNoOpt.{optimized_tree_unless_no_opt}};
+ghost use Rattle.regress_program.specs.{InsnsAndStartPredicatesAsSpec.{insn_as_spec_insn}, CompilationOfTreesAsFunction.{node_insn_count, compiled}};
+ghost use Rattle.regress_program.specs.{ProgramFieldsMatchTree.{IsCodeOfTree}, OptimizedTreeUnlessNoOpt.{optimized_tree_unless_no_opt}};
 ghost use Rattle.regress_plan.specs.{TableKeysOfUnits.{is_16_bit_width}, Plans.{IsPlanOf}};
 ghost use Rattle.std.specs.Arc.{arc_value};
 
@@ -52,7 +53,7 @@ impl Program {
     /// Returns the instructions. Execution starts at the first one.
     #[inline(always)]
     pub fn insns(&self) -> &[Insn]
-        ensures code { map spec_insn_of result.now ≡ (compiled (tree_of self.now)).insns }
+        ensures code { map insn_as_spec_insn result.now ≡ (compiled (tree_of self.now)).insns }
         ensures well_formed { IsTrue (is_well_formed (tree_of self.now).root) }
     {
         &self.code.insns

@@ -26,7 +26,7 @@ impl Model for GroupNames {
 
     ghost Value = { List (List ℕ) };
 
-    ghost use Rattle.regress_program.specs.StoredNames.{stored_names};
+    ghost use Rattle.regress_program.specs.GroupNamesOwnedOrShared.{stored_names};
 
     ghost view = { λ names. stored_names names.held };
 }

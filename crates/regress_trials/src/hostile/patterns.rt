@@ -6,7 +6,7 @@ use regex_pattern_front::ir;
 use regress_match::backends::{emit, emit_units, optimize, try_parse};
 use regress_match::{Error, Flags, Regex};
 use regress_program::emit::EmitError;
-use regress_program::insn::{CompiledRegex, CompiledUnits, StartPredicate};
+use regress_program::insn::{CompiledRegex, CompiledRegexFor16BitUnits, StartPredicate};
 use regress_program::startpredicate::predicate_for_re;
 use regress_trees::tree_of;
 use std::alloc::Global;
@@ -16,7 +16,7 @@ use std::alloc::Global;
 pub struct Compiled {
     pub regex: Regex,
     pub bytes: CompiledRegex,
-    pub units: CompiledUnits,
+    pub units: CompiledRegexFor16BitUnits,
 }
 
 // The tree of a pattern.
@@ -35,7 +35,7 @@ fn tree_of_row(alloc: Global, pattern: &str, flags: &str) -> Result<ir::Regex, P
 }
 
 // The program for 16-bit units. In place of a tree that reads bytes stands one that always matches.
-fn units_of(alloc: Global, tree: &ir::Regex) -> Result<CompiledUnits, ParseFault> {
+fn units_of(alloc: Global, tree: &ir::Regex) -> Result<CompiledRegexFor16BitUnits, ParseFault> {
     match emit_units(alloc, tree) {
         Err(EmitError::BytesInUnits) => {
             let always = tree_of(alloc, "goal").ok_or(ParseFault::Refused)?;
@@ -45,7 +45,10 @@ fn units_of(alloc: Global, tree: &ir::Regex) -> Result<CompiledUnits, ParseFault
     }
 }
 
-fn of_programs(bytes: CompiledRegex, units: CompiledUnits) -> Result<Compiled, ParseFault> {
+fn of_programs(
+    bytes: CompiledRegex,
+    units: CompiledRegexFor16BitUnits,
+) -> Result<Compiled, ParseFault> {
     let regex = Regex::from_programs(bytes.clone()?, units.clone()?);
     Ok(Compiled {
         regex,

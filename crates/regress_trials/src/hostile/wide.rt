@@ -8,7 +8,7 @@ use crate::hostile::executors::finds;
 use crate::hostile::lists::are_found;
 use regress_match::backends::{DefaultUcs2Executor, DefaultUtf16Executor};
 use regress_match::{Regex, is_unit_boundary};
-use regress_program::insn::CompiledUnits;
+use regress_program::insn::CompiledRegexFor16BitUnits;
 
 /// Whether an offset cuts no pair of the units, or is past the end.
 pub fn is_unit_start(units: &[u16], offset: usize) -> bool
@@ -31,7 +31,7 @@ pub fn all_in_utf16(
 
 /// Whether an executor finds the first of them.
 pub fn asked_in_utf16(
-    re: &CompiledUnits,
+    re: &CompiledRegexFor16BitUnits,
     units: &[u16],
     start: usize,
     wanted: &str,
@@ -54,7 +54,7 @@ pub fn all_in_ucs2(
 
 /// Whether an executor finds the first of them.
 pub fn asked_in_ucs2(
-    re: &CompiledUnits,
+    re: &CompiledRegexFor16BitUnits,
     units: &[u16],
     start: usize,
     wanted: &str,

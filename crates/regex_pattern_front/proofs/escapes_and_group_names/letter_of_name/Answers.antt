@@ -8,7 +8,7 @@ use Rattle.regex_pattern_front.proofs.escapes_and_group_names.letter_of_name.Goa
 pub returns-in_default : goal.returns-in_default
 returns-in_default c =
     let none : (if c.args.is_first then is_ascii_identifier_start c.in-Some.letter else is_ascii_identifier_part c.in-Some.letter) ≡ false =
-    sym c.may_stand_in_name.ensures ∙ c.if-may_stand_in_name.false in
+    sym c.is_allowed_in_name.ensures ∙ c.if-is_allowed_in_name.false in
     let same : c.in-Some.letter ≡ c.args.c = scalar-same {o = c.from_u32.result} {c = c.args.c} {x = c.in-Some.letter} c.from_u32.ensures.value c.in-Some.is in
     rw same at none
 

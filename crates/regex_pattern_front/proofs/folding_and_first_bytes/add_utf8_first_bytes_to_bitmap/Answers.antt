@@ -1,6 +1,6 @@
 use Rattle.std.proofs.Common.{◌≡◌, ℕ, ◌+◌, Bool, ◌∷◌, [], false, get_or, sym, ◌∙◌, inl, inr, arith}
 use Rattle.regex_meaning.specs.StartPredicate.{chars_with_first_byte, intersects}
-use Rattle.regex_pattern_front.specs.ByteSetMembers.{byte_bitmap_bytes}
+use Rattle.regex_pattern_front.specs.ByteSetMembers.{member_bytes_of_byte_bitmap}
 use Rattle.regex_pattern_front.specs.Intervals.{interval_of}
 use Rattle.regex_pattern_front.proofs.AddedBytes.{with_bytes_below, with_bytes-from, with_bytes-more, with_bytes-same, with_bytes-to}
 use Rattle.regex_pattern_front.proofs.FirstByteLemmas.{none-outside}
@@ -15,8 +15,8 @@ loop-byte-init c =
 pub loop-byte-preserved : goal.loop-byte-preserved
 loop-byte-preserved c =
     let test : ℕ → Bool = λ b. intersects (chars_with_first_byte b) (interval_of c.args.interval ∷ []) in
-    let old = byte_bitmap_bytes c.args.bitmap.now in
-    let now = byte_bitmap_bytes c.loop-byte.bitmap in
+    let old = member_bytes_of_byte_bitmap c.args.bitmap.now in
+    let now = member_bytes_of_byte_bitmap c.loop-byte.bitmap in
     elim c.if-may_begin.branch [
       | then-may_begin w ↦ with_bytes-more old now _ test c.loop-byte.byte (sym c.may_begin.ensures ∙ w.if-may_begin.true) c.loop-byte.invariant (rw w.bitmap-is w.set.ensures)
       | else-may_begin w ↦ rw w.bitmap-is (with_bytes-same old now test c.loop-byte.byte (sym c.may_begin.ensures ∙ w.if-may_begin.false) c.loop-byte.invariant)
@@ -24,15 +24,15 @@ loop-byte-preserved c =
 
 pub returns : goal.returns
 returns c =
-    c.loop-byte.invariant ∙ with_bytes-to (byte_bitmap_bytes c.args.bitmap.now) (λ b. intersects (chars_with_first_byte b) (interval_of c.args.interval ∷ [])) c.loop-byte.byte
+    c.loop-byte.invariant ∙ with_bytes-to (member_bytes_of_byte_bitmap c.args.bitmap.now) (λ b. intersects (chars_with_first_byte b) (interval_of c.args.interval ∷ [])) c.loop-byte.byte
     (λ b above h. none-outside c.args.interval.first c.args.interval.last _ _ _ _ c.min.ensures c.min-2.ensures (c.utf8_first_byte-least.ensures.begins (omega arith)) (c.utf8_first_byte-greatest.ensures.begins (omega arith)) b (inr (omega arith)))
 
 pub returns-after-may_begin : goal.returns-after-may_begin
 returns-after-may_begin c =
     let test : ℕ → Bool = λ b. intersects (chars_with_first_byte b) (interval_of c.args.interval ∷ []) in
-    let old = byte_bitmap_bytes c.args.bitmap.now in
-    let now = byte_bitmap_bytes c.loop-byte.bitmap in
-    let next = byte_bitmap_bytes c.if-may_begin.bitmap in
+    let old = member_bytes_of_byte_bitmap c.args.bitmap.now in
+    let now = member_bytes_of_byte_bitmap c.loop-byte.bitmap in
+    let next = member_bytes_of_byte_bitmap c.if-may_begin.bitmap in
     let added : next ≡ with_bytes_below old test (c.loop-byte.byte + 1) = elim c.if-may_begin.branch [
       | then-may_begin w ↦ with_bytes-more old now next test c.loop-byte.byte (sym c.may_begin.ensures ∙ w.if-may_begin.true) c.loop-byte.invariant (rw w.bitmap-is w.set.ensures)
       | else-may_begin w ↦ rw w.bitmap-is (with_bytes-same old now test c.loop-byte.byte (sym c.may_begin.ensures ∙ w.if-may_begin.false) c.loop-byte.invariant)

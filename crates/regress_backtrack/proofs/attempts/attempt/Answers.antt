@@ -4,8 +4,8 @@ use Rattle.regex_meaning.specs.CodeUnitOffsets.{units}
 use Rattle.regress_input.proofs.Places.{boundary_inside}
 use Rattle.regress_program.specs.CompilationOfTreesAsFunction.{compiled}
 use Rattle.regress_exec.proofs.Searchable.{can-search}
-use Rattle.regress_exec.specs.Attempts.{ticks_of_attempt_at}
-use Rattle.regress_exec.specs.BudgetAndContinuationAfterSearch.{SpendsNeedOrReachesLimit, AllocFailureCostsOneStep}
+use Rattle.regress_exec.specs.AttemptResultsAndStartsToTry.{ticks_of_attempt_at}
+use Rattle.regress_exec.specs.StepBudgetAndContinuationAfterSearch.{SpendsNeedOrReachesLimit, AllocFailureCostsAtLeastOneStep}
 use Rattle.regress_exec.specs.declared.exec.SearchError.TheVariants.{Memory}
 use Rattle.regress_exec.proofs.Budget.{handed}
 use Rattle.regress_backtrack.specs.State.{StateModel, current_thread_state_of, last_mark_log}
@@ -13,7 +13,7 @@ use Rattle.regress_scan.specs.TreePlanAndText.{program_of}
 use Rattle.regress_backtrack.specs.AttemptResults.{HasSlots}
 use Rattle.regress_backtrack.specs.SearchProgressAndFinalState.{found_from_state, NeedStepsAtLeast}
 use Rattle.regress_backtrack.specs.StepsTakenFromBudget.{step_limit}
-use Rattle.regress_machine.specs.SearchResults.{state_before_first_insn}
+use Rattle.regress_machine.specs.SearchFindsFirstOutcomeAtPlace.{state_before_first_insn}
 use Rattle.regress_machine.specs.Machine.{running}
 use Rattle.regress_backtrack.proofs.Attempting.{Begins, first-state, begins, attempt-ends, attempt-spends, attempt-stops, found-with, spends-none}
 use Rattle.regress_backtrack.proofs.Attempting.{stopped-takes, takes-none, tells-memory}
@@ -40,31 +40,31 @@ state-here g c =
     ap (λ h. current_thread_state_of h 0 at) c.in_ok-begin.ensures.begun ∙ first-state (program_of w) c.groups-groups.result c.number_of_loops-loops.result _ at refl groups loops
     ∙ ap (state_before_first_insn (program_of w)) c.pos_to_offset-at.ensures
 
-pub search_rightwards_from_op-requires-clause-inside : goal.search_rightwards_from_op-requires-clause-inside
-search_rightwards_from_op-requires-clause-inside g c =
+pub run_thread_rightwards_to_preferred_end-requires-clause-inside : goal.run_thread_rightwards_to_preferred_end-requires-clause-inside
+run_thread_rightwards_to_preferred_end-requires-clause-inside g c =
     let text = (g.W.SearchContext.searching c.args.planned.now).text in
     subst (λ at. at ≤ units text) (sym c.pos_to_offset-at.ensures)
     (boundary_inside text (g.met.W.SearchContext.is_text c.args.planned.now) (g.W.Input.Position.PositionType.offset c.args.pos) c.requires.can.1)
 
-pub search_rightwards_from_op-requires-clause-noted : goal.search_rightwards_from_op-requires-clause-noted
-search_rightwards_from_op-requires-clause-noted g c = subst (λ (h : StateModel). length h.log ≤ last_mark_log h.marks) (sym c.in_ok-begin.ensures.begun) (omega arith)
+pub run_thread_rightwards_to_preferred_end-requires-clause-noted : goal.run_thread_rightwards_to_preferred_end-requires-clause-noted
+run_thread_rightwards_to_preferred_end-requires-clause-noted g c = subst (λ (h : StateModel). length h.log ≤ last_mark_log h.marks) (sym c.in_ok-begin.ensures.begun) (omega arith)
 
-pub search_rightwards_from_op-requires-clause-answers : goal.search_rightwards_from_op-requires-clause-answers
-search_rightwards_from_op-requires-clause-answers g c =
+pub run_thread_rightwards_to_preferred_end-requires-clause-answers : goal.run_thread_rightwards_to_preferred_end-requires-clause-answers
+run_thread_rightwards_to_preferred_end-requires-clause-answers g c =
     let w = g.W.SearchContext.searching c.args.planned.now in
-    let b = search-here g (goal.at.search_rightwards_from_op-requires-clause-answers g c).In_ok-begin in
-    let first = state-here g (goal.at.search_rightwards_from_op-requires-clause-answers g c).In_ok-begin in
+    let b = search-here g (goal.at.run_thread_rightwards_to_preferred_end-requires-clause-answers g c).In_ok-begin in
+    let first = state-here g (goal.at.run_thread_rightwards_to_preferred_end-requires-clause-answers g c).In_ok-begin in
     subst IsSome (sym (ap (found_from_state w true) first ∙ b.searches)) refl
 
 pub returns-in-Ok-clause-found : goal.returns-in-Ok-clause-found
 returns-in-Ok-clause-found g c =
     let w = g.W.SearchContext.searching c.args.planned.now in
     let offset = g.W.Input.Position.PositionType.offset in
-    let groups = (current_thread_state_of c.search_rightwards_from_op.new.memory 0 0).groups in
+    let groups = (current_thread_state_of c.run_thread_rightwards_to_preferred_end.new.memory 0 0).groups in
     let b = search-here g (goal.at.returns-in-Ok-clause-found g c).In_ok-begin in
     let first = state-here g (goal.at.returns-in-Ok-clause-found g c).In_ok-begin in
     found-with offset c.end_position.result groups ∙ ap (option_map (λ e. (e, groups))) c.end_position.ensures
-    ∙ attempt-ends w (offset c.args.pos) c.pos_to_offset-at.result c.begin.new.self c.search_rightwards_from_op.new.memory _ _ _ c.in-Ok.end b first c.in-Ok.ensures.ran
+    ∙ attempt-ends w (offset c.args.pos) c.pos_to_offset-at.result c.begin.new.self c.run_thread_rightwards_to_preferred_end.new.memory _ _ _ c.in-Ok.end b first c.in-Ok.ensures.ran
 
 pub returns-in-Ok-clause-steps : goal.returns-in-Ok-clause-steps
 returns-in-Ok-clause-steps g c =
@@ -72,8 +72,8 @@ returns-in-Ok-clause-steps g c =
     let at = g.W.Input.Position.PositionType.offset c.args.pos in
     let begun = (goal.at.returns-in-Ok-clause-steps g c).In_ok-begin in
     let budget = g.S.StepCounter.budget in
-    attempt-spends w at c.pos_to_offset-at.result c.begin.new.self (budget c.args.course.now.steps) (budget c.search_rightwards_from_op.new.course.steps) g.S.StepCounter.COUNTS (search-here g begun) (state-here g begun)
-    c.search_rightwards_from_op.new.memory c.in-Ok.end c.end_position.result c.in-Ok.ensures.ran
+    attempt-spends w at c.pos_to_offset-at.result c.begin.new.self (budget c.args.course.now.steps) (budget c.run_thread_rightwards_to_preferred_end.new.course.steps) g.S.StepCounter.COUNTS (search-here g begun) (state-here g begun)
+    c.run_thread_rightwards_to_preferred_end.new.memory c.in-Ok.end c.end_position.result c.in-Ok.ensures.ran
 
 pub returns-in-Err-clause-steps : goal.returns-in-Err-clause-steps
 returns-in-Err-clause-steps g c =
@@ -84,7 +84,7 @@ returns-in-Err-clause-steps g c =
     let budget = g.S.StepCounter.budget in
     let counts = g.S.StepCounter.COUNTS in
     let before = budget c.args.course.now.steps in
-    let after = budget c.search_rightwards_from_op.new.course.steps in
+    let after = budget c.run_thread_rightwards_to_preferred_end.new.course.steps in
     subst (λ e. SpendsNeedOrReachesLimit {X = Option g.row.W-Input-Position.Denot} (ticks_of_attempt_at w.tree w.text at) (step_limit counts before) (Err e) (step_limit counts after)) (sym c.cause.ensures)
     (attempt-stops w at c.pos_to_offset-at.result c.begin.new.self before after counts b first (Option g.row.W-Input-Position.Denot) c.requires.fresh c.in-Err.ensures.stopped)
 
@@ -94,9 +94,9 @@ returns-in-Err-clause-begun g c =
     let budget = g.S.StepCounter.budget in
     let counts = g.S.StepCounter.COUNTS in
     let before = budget c.args.course.now.steps in
-    let after = budget c.search_rightwards_from_op.new.course.steps in
-    let begun = HasSlots w.tree c.search_rightwards_from_op.new.memory in
-    subst (λ e. AllocFailureCostsOneStep {X = Option g.row.W-Input-Position.Denot} begun (step_limit counts before) (Err e) (step_limit counts after)) (sym c.cause.ensures)
+    let after = budget c.run_thread_rightwards_to_preferred_end.new.course.steps in
+    let begun = HasSlots w.tree c.run_thread_rightwards_to_preferred_end.new.memory in
+    subst (λ e. AllocFailureCostsAtLeastOneStep {X = Option g.row.W-Input-Position.Denot} begun (step_limit counts before) (Err e) (step_limit counts after)) (sym c.cause.ensures)
     (stopped-takes (Option g.row.W-Input-Position.Denot) counts begun (NeedStepsAtLeast w true (running (current_thread_state_of c.begin.new.self 0 c.pos_to_offset-at.result) ∷ [])) before after c.requires.fresh c.in-Err.ensures.stopped)
 
 pub returns-in_err-begin-clause-steps : goal.returns-in_err-begin-clause-steps
@@ -119,8 +119,8 @@ returns-in_err-begin-clause-begun g c =
 pub returns-in_err-begin-clause-cause : goal.returns-in_err-begin-clause-cause
 returns-in_err-begin-clause-cause g c = tells-memory c.from_residual.result c.from_residual.ensures.1 c.requires.fresh
 
-pub search_rightwards_from_op-requires-clause-sound : goal.search_rightwards_from_op-requires-clause-sound
-search_rightwards_from_op-requires-clause-sound g c = c.requires.sound
+pub run_thread_rightwards_to_preferred_end-requires-clause-sound : goal.run_thread_rightwards_to_preferred_end-requires-clause-sound
+run_thread_rightwards_to_preferred_end-requires-clause-sound g c = c.requires.sound
 
 pub returns-in_err-begin-clause-sound : goal.returns-in_err-begin-clause-sound
 returns-in_err-begin-clause-sound g c = sound-same c.requires.sound

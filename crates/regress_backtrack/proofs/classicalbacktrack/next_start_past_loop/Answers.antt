@@ -1,5 +1,5 @@
 use Rattle.std.proofs.Common.{arith, le_refl, subst, sym}
-use Rattle.regress_exec.specs.Attempts.{NoMatchAt}
+use Rattle.regress_exec.specs.AttemptResultsAndStartsToTry.{NoMatchAt}
 use Rattle.regress_backtrack.proofs.NextStarts.{next-further, past-run}
 use Rattle.regress_backtrack.proofs.classicalbacktrack.next_start_past_loop.Goals as goal
 
@@ -9,12 +9,12 @@ returns-then-past-start g c = (c.requires.at, le_refl _, λ at on le less. absur
 pub returns : goal.returns
 returns g c =
     let w = g.W.SearchContext.searching c.args.planned.now in
-    let tried = c.offset_in.result in
-    let from = c.offset_in-start.result in
+    let tried = c.offset_in_searched_text.result in
+    let from = c.offset_in_searched_text-start.result in
     let past = c.skip_leading_char_loop-past.result in
     let behind = c.skip_leading_char_loop-past.ensures in
-    let none = subst (NoMatchAt w.tree w.text) (sym c.offset_in.ensures) c.requires.vain in
+    let none = subst (NoMatchAt w.tree w.text) (sym c.offset_in_searched_text.ensures) c.requires.vain in
     let first =
-    past-run w (g.met.W.SearchContext.has_units c.args.planned.now).is_text tried from past behind.at (omega (arith, c.offset_in.ensures, c.offset_in-start.ensures, c.requires.ahead))
+    past-run w (g.met.W.SearchContext.has_units c.args.planned.now).is_text tried from past behind.at (omega (arith, c.offset_in_searched_text.ensures, c.offset_in_searched_text-start.ensures, c.requires.ahead))
     (omega (arith, c.if-past-start.false)) none behind.vain in
-    rw (← c.offset_in-start.ensures) (next-further w.tree w.text from past _ first (rw (← c.position_of_offset_in.ensures) c.next_candidate_start.ensures))
+    rw (← c.offset_in_searched_text-start.ensures) (next-further w.tree w.text from past _ first (rw (← c.position_in_searched_text.ensures) c.next_candidate_start.ensures))

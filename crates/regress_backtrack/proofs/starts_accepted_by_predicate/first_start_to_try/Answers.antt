@@ -3,9 +3,9 @@ use Rattle.std.specs.Prelude.{IfSome, option_map, option_and_then}
 use Rattle.regex_meaning.specs.Text.{rightwards}
 use Rattle.regex_meaning.specs.CodeUnitOffsets.{IsBoundary, read}
 use Rattle.regress_exec.proofs.Skips.{untried}
-use Rattle.regress_exec.specs.Attempts.{first_filtered_start}
+use Rattle.regress_exec.specs.AttemptResultsAndStartsToTry.{first_filtered_start}
 use Rattle.regress_input.proofs.Places.{boundary_inside}
-use Rattle.regress_program.specs.InsnMeanings.{spec_start_predicate_of}
+use Rattle.regress_program.specs.InsnsAndStartPredicatesAsSpec.{start_predicate_as_spec}
 use Rattle.regress_backtrack.proofs.TriedPlaces.{and-then-mapped, fewer, is-first, reads-bytes, tried-here, tried-on}
 use Rattle.regress_backtrack.proofs.starts_accepted_by_predicate.first_start_to_try.Goals as goal
 
@@ -30,10 +30,10 @@ returns-then-lets_through g c =
     let input = c.args.input.now in
     let text = g.Input.InputIndexer.text input in
     let is = g.met.Input.InputIndexer.is_text input in
-    let reads = reads-bytes g.Input.Units.CodeUnitKind.encoding g.Input.Units.CodeUnitKind.ARE_BYTES text g.Input.Units.CodeUnitKind.by_encoding c.requires.bytes (g.met.Input.InputIndexer.characters input) (g.met.Input.InputIndexer.in_utf8 input) in
+    let reads = reads-bytes g.Input.Units.CodeUnitEncoding.encoding g.Input.Units.CodeUnitEncoding.ARE_BYTES text g.Input.Units.CodeUnitEncoding.by_encoding c.requires.bytes (g.met.Input.InputIndexer.characters input) (g.met.Input.InputIndexer.in_utf8 input) in
     let offset = g.Input.Position.PositionType.offset in
     let here = subst (λ o. IfSome o (λ p. IsBoundary text (offset p))) c.in-Some.is c.places.invariant.boundary in
-    let s = spec_start_predicate_of c.args.start.now in
+    let s = start_predicate_as_spec c.args.start.now in
     is-first s text is reads.scalars (offset c.args.from) (Some (offset c.in-Some.at)) c.requires.at (λ tree e.
     sym (c.places.invariant.same tree e ∙ ap (option_and_then (λ p. first_filtered_start tree text (offset p))) c.in-Some.is
     ∙ tried-here tree text is s e (offset c.in-Some.at) here (sym c.lets_through.ensures ∙ c.if-lets_through.true)))
@@ -45,7 +45,7 @@ places-preserved g c =
     let is = g.met.Input.InputIndexer.is_text input in
     let offset = g.Input.Position.PositionType.offset in
     let here = subst (λ o. IfSome o (λ p. IsBoundary text (offset p))) c.in-Some.is c.places.invariant.boundary in
-    let s = spec_start_predicate_of c.args.start.now in
+    let s = start_predicate_as_spec c.args.start.now in
     record {
       boundary = c.next_right_pos-next.ensures.boundary;
       same = λ tree e.
@@ -69,7 +69,7 @@ returns g c =
     let input = c.args.input.now in
     let text = g.Input.InputIndexer.text input in
     let is = g.met.Input.InputIndexer.is_text input in
-    let reads = reads-bytes g.Input.Units.CodeUnitKind.encoding g.Input.Units.CodeUnitKind.ARE_BYTES text g.Input.Units.CodeUnitKind.by_encoding c.requires.bytes (g.met.Input.InputIndexer.characters input) (g.met.Input.InputIndexer.in_utf8 input) in
+    let reads = reads-bytes g.Input.Units.CodeUnitEncoding.encoding g.Input.Units.CodeUnitEncoding.ARE_BYTES text g.Input.Units.CodeUnitEncoding.by_encoding c.requires.bytes (g.met.Input.InputIndexer.characters input) (g.met.Input.InputIndexer.in_utf8 input) in
     let offset = g.Input.Position.PositionType.offset in
-    is-first (spec_start_predicate_of c.args.start.now) text is reads.scalars (offset c.args.from) None c.requires.at (λ tree e.
+    is-first (start_predicate_as_spec c.args.start.now) text is reads.scalars (offset c.args.from) None c.requires.at (λ tree e.
     sym (c.places.invariant.same tree e ∙ ap (option_and_then (λ p. first_filtered_start tree text (offset p))) c.in_default.is))

@@ -4,8 +4,8 @@ use Rattle.regex_meaning.specs.CodeUnitOffsets.{IsBoundary}
 use Rattle.regex_meaning.specs.StartPredicate.{start_predicate}
 use Rattle.regex_meaning.specs.Tree.{Tree}
 use Rattle.regress_exec.proofs.Skips.{untried}
-use Rattle.regress_exec.specs.Attempts.{first_filtered_start}
-use Rattle.regress_program.specs.InsnMeanings.{spec_start_predicate_of}
+use Rattle.regress_exec.specs.AttemptResultsAndStartsToTry.{first_filtered_start}
+use Rattle.regress_program.specs.InsnsAndStartPredicatesAsSpec.{start_predicate_as_spec}
 use Rattle.regress_backtrack.proofs.starts_accepted_by_predicate.first_start_to_try.Given as goal
 
 abbrev pub invariant-places : goal.invariant-places
@@ -15,7 +15,7 @@ invariant-places g l =
     record {
       boundary : IfSome l.next (λ p. IsBoundary text (offset p));
       same :
-          (tree : Tree) → start_predicate tree ≡ spec_start_predicate_of l.fn.start
+          (tree : Tree) → start_predicate tree ≡ start_predicate_as_spec l.fn.start
           → first_filtered_start tree text (offset l.fn.from) ≡ option_and_then (λ p. first_filtered_start tree text (offset p)) l.next;
     }
 

@@ -11,7 +11,7 @@ pub returns : goal.returns
 returns g c =
     let input = c.args.input.now in
     let text = g.Input.InputIndexer.text input in
-    let are = g.Input.Units.CodeUnitKind.ARE_BYTES in
-    let reads = reads-bytes g.Input.Units.CodeUnitKind.encoding are text g.Input.Units.CodeUnitKind.by_encoding c.requires.bytes (g.met.Input.InputIndexer.characters input) (g.met.Input.InputIndexer.in_utf8 input) in
+    let are = g.Input.Units.CodeUnitEncoding.ARE_BYTES in
+    let reads = reads-bytes g.Input.Units.CodeUnitEncoding.encoding are text g.Input.Units.CodeUnitEncoding.by_encoding c.requires.bytes (g.met.Input.InputIndexer.characters input) (g.met.Input.InputIndexer.in_utf8 input) in
     let offset = g.Input.Position.PositionType.offset in
     sequence-read text (g.met.Input.InputIndexer.is_text input) reads are c.requires.bytes c.args.bytes.now (offset c.args.at) c.match_bytes.result (offset c.match_bytes.new.pos) c.requires.at c.match_bytes.ensures

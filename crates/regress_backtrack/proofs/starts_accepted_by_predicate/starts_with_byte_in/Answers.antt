@@ -10,12 +10,12 @@ pub returns-in-Some : goal.returns-in-Some
 returns-in-Some g c =
     let input = g.met.Input.InputIndexer in
     c.contains.ensures ∙ ap (is_member (g.Set.ByteSet.members c.args.set.now)) (sym c.in-Some.is)
-    ∙ begins-here g.Input.Units.CodeUnitKind.encoding g.Input.Units.CodeUnitKind.by_encoding c.requires.bytes (input.characters c.args.input.now) (input.in_utf8 c.args.input.now)
+    ∙ begins-here g.Input.Units.CodeUnitEncoding.encoding g.Input.Units.CodeUnitEncoding.by_encoding c.requires.bytes (input.characters c.args.input.now) (input.in_utf8 c.args.input.now)
     (input.is_text c.args.input.now) _ _ c.requires.at _ c.peek_byte_right.ensures
 
 pub returns-in-None : goal.returns-in-None
 returns-in-None g c =
     let input = g.met.Input.InputIndexer in
     ap (is_member (g.Set.ByteSet.members c.args.set.now)) (sym c.in-None.is)
-    ∙ begins-here g.Input.Units.CodeUnitKind.encoding g.Input.Units.CodeUnitKind.by_encoding c.requires.bytes (input.characters c.args.input.now) (input.in_utf8 c.args.input.now)
+    ∙ begins-here g.Input.Units.CodeUnitEncoding.encoding g.Input.Units.CodeUnitEncoding.by_encoding c.requires.bytes (input.characters c.args.input.now) (input.in_utf8 c.args.input.now)
     (input.is_text c.args.input.now) _ _ c.requires.at _ c.peek_byte_right.ensures

@@ -1,7 +1,7 @@
 use Rattle.std.proofs.Common.{◌≡◌, ◌≤◌, [], Some}
 use Rattle.regex_pattern_front.specs.AstToSpecTree.{tree_of}
 use Rattle.regress_program.specs.CompilationOfTreesAsFunction.{compiled}
-use Rattle.regress_bounded.specs.SearchStateEntries.{AttemptStartAndResult, Stands, IsStanding, front_of}
+use Rattle.regress_bounded.specs.SearchStateAsMemoSearchEntries.{AttemptStartMemoBudgetAndResult, Stands, IsStanding, front_of}
 use Rattle.regress_bounded.proofs.executor.run.Given as goal
 
 abbrev pub invariant-search : goal.invariant-search
@@ -11,7 +11,7 @@ invariant-search g l =
     let offset = g.Input.Position.PositionType.offset in
     record {
       stands : IsStanding offset program text (front_of offset l.next) l.stack.items l.course;
-      from : (b : AttemptStartAndResult) → Stands offset program text b (front_of offset (Some l.fn.start)) [] l.fn.course → Stands offset program text b (front_of offset l.next) l.stack.items l.course;
+      from : (b : AttemptStartMemoBudgetAndResult) → Stands offset program text b (front_of offset (Some l.fn.start)) [] l.fn.course → Stands offset program text b (front_of offset l.next) l.stack.items l.course;
       memo_analysis : l.course.memo.memo_analysis ≡ l.fn.course.memo.memo_analysis;
       left : l.course.left ≤ l.fn.course.left;
     }

@@ -1,7 +1,7 @@
 use Rattle.std.proofs.Common.{◌+◌, arith}
 use Rattle.regex_meaning.proofs.TextLemmas.{IsBoundary-place}
 use Rattle.regress_scan.proofs.Reach.{some-of}
-use Rattle.regress_scan.specs.InsnMatchers.{char_test_of}
+use Rattle.regress_scan.specs.OffsetsAfterMatchedInsns.{char_test_of_insn}
 use Rattle.regress_bounded.proofs.Passed.{past-none, past-more, past-all, past-boundary}
 use Rattle.regress_bounded.proofs.unbounded_char_loops.read_minimum_chars.Goals as goal
 
@@ -23,7 +23,7 @@ characters-preserved g c =
     let text = g.Input.InputIndexer.text c.args.searched.now.input in
     let is = g.met.Input.InputIndexer.is_text c.args.searched.now.input in
     let offset = g.Input.Position.PositionType.offset in
-    let t = some-of (char_test_of c.args.searched.now.program.now c.args.run.body) c.requires.test in
+    let t = some-of (char_test_of_insn c.args.searched.now.program.now c.args.run.body) c.requires.test in
     let p = IsBoundary-place text (offset c.args.pos.now) is c.requires.at in
     record {
       boundary =

@@ -1,12 +1,12 @@
 use Rattle.std.proofs.Common.{◌-◌}
-use Rattle.regress_scan.specs.InsnMatchers.{char_test_of}
+use Rattle.regress_scan.specs.OffsetsAfterMatchedInsns.{char_test_of_insn}
 use Rattle.regress_bounded.proofs.Passed.{HasPassed}
 use Rattle.regress_bounded.proofs.unbounded_char_loops.read_minimum_chars.Given as goal
 
 abbrev pub invariant-characters : goal.invariant-characters
 invariant-characters g l =
     let offset = g.Input.Position.PositionType.offset in
-    HasPassed offset (g.Input.InputIndexer.text l.searched.input) (char_test_of l.searched.program.now l.run.body) l.run.least (offset l.fn.pos) l.count l.pos
+    HasPassed offset (g.Input.InputIndexer.text l.searched.input) (char_test_of_insn l.searched.program.now l.run.body) l.run.least (offset l.fn.pos) l.count l.pos
 
 abbrev pub decreases-characters : goal.decreases-characters
 decreases-characters g l = l.run.least - l.count

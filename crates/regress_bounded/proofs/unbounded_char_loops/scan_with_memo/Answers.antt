@@ -1,11 +1,11 @@
 use Rattle.std.proofs.Common.{◌∷◌, ◌++◌, [], sym, ap, ◌∙◌, subst, arith}
 use Rattle.std.specs.Prelude.{IfSome}
 use Rattle.regress_input.proofs.Places.{boundary_inside}
-use Rattle.regress_memo_analysis.specs.CheckedAnalysis.{MemoKeyHasBit}
-use Rattle.regress_memo.specs.MemoContents.{as_key}
+use Rattle.regress_memo_analysis.specs.CheckedAnalysis.{IsRecordableMemoKey}
+use Rattle.regress_memo.specs.MemoContents.{memo_key_as_spec}
 use Rattle.regress_scan.proofs.Reach.{some-of}
-use Rattle.regress_scan.specs.InsnMatchers.{char_test_of}
-use Rattle.regress_bounded.specs.declared.pending_stack.StackEntry.TheVariants.{Thread as AsThread}
+use Rattle.regress_scan.specs.OffsetsAfterMatchedInsns.{char_test_of_insn}
+use Rattle.regress_bounded.specs.declared.stack_of_pending_threads_and_records.StackEntry.TheVariants.{Thread as AsThread}
 use Rattle.regress_bounded.proofs.Furthest.{further-by, key-some, place-kept, furthest-none, furthest-known, furthest-all, furthest-more}
 use Rattle.regress_bounded.proofs.unbounded_char_loops.scan_with_memo.Goals as goal
 
@@ -22,7 +22,7 @@ pub unreachable-requires : goal.unreachable-requires
 unreachable-requires g c =
     let is = g.met.Input.InputIndexer.is_text c.args.searched.now.input in
     let offset = g.Input.Position.PositionType.offset in
-    let t = some-of (char_test_of c.args.searched.now.program.now c.args.run.body) c.requires.test in
+    let t = some-of (char_test_of_insn c.args.searched.now.program.now c.args.run.body) c.requires.test in
     key-some c.args.state.now c.requires.run c.requires.right t.0 t.1 is (offset c.places.at) c.places.invariant.boundary
     c.key_at.result c.in_default.is c.key_at.ensures.key
 
@@ -33,7 +33,7 @@ fails-requires g c =
     let offset = g.Input.Position.PositionType.offset in
     let m = c.args.course.now.memo in
     let inside = boundary_inside text is (offset c.places.at) c.places.invariant.boundary in
-    subst (λ found. IfSome found (λ k. MemoKeyHasBit m.memo_analysis m.places (as_key k))) c.in-Some.is
+    subst (λ found. IfSome found (λ k. IsRecordableMemoKey m.memo_analysis m.places (memo_key_as_spec k))) c.in-Some.is
     (c.key_at.ensures.bit (place-kept c.args.state.now c.requires.run c.requires.right (offset c.places.at) inside))
 
 pub returns-then-fails : goal.returns-then-fails

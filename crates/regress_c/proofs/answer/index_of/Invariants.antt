@@ -1,5 +1,5 @@
 use Rattle.std.proofs.Common.{◌≡◌, drop, map, string_bytes, bytes_eq, slice_get}
-use Rattle.regex_meaning.specs.GroupsByNumberAndName.{ids_where}
+use Rattle.regex_meaning.specs.MatchGroupsByNumberAndName.{ids_where}
 use Rattle.regress_c.specs.GroupNumbers.{first_id_named}
 use Rattle.regress_c.proofs.answer.index_of.Given as goal
 

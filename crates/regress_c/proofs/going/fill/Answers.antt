@@ -8,7 +8,7 @@ matches-init g c = (begun c.requires.starts, omega arith, refl, refl, refl, refl
 
 pub matches-preserved : goal.matches-preserved
 matches-preserved g c =
-    let e = g.E.AnchoredSearch in
+    let e = g.E.SingleAttemptExecutor in
     let was = c.matches.invariant in
     let step = goes-same (e.tree c.args.search.now) (e.tree c.matches.search) (e.text c.args.search.now) (e.text c.matches.search)
     (e.budget c.matches.search) c.matches.filled.next (Ok (Some c.in-Ok-Some.step)) (e.budget c.next_from.new.search) was.2 was.3
@@ -25,7 +25,7 @@ matches-preserved g c =
 
 pub returns-in-Ok-None-clause-fills : goal.returns-in-Ok-None-clause-fills
 returns-in-Ok-None-clause-fills g c =
-    let e = g.E.AnchoredSearch in
+    let e = g.E.SingleAttemptExecutor in
     let was = c.matches.invariant in
     let over = goes-same (e.tree c.args.search.now) (e.tree c.matches.search) (e.text c.args.search.now) (e.text c.matches.search)
     (e.budget c.matches.search) c.matches.filled.next (Ok None) (e.budget c.next_from.new.search) was.2 was.3
@@ -33,11 +33,11 @@ returns-in-Ok-None-clause-fills g c =
     let past : units (e.text c.args.search.now) < c.past_end.result =
     subst (λ t. units t < c.past_end.result) (c.in-Ok-None.ensures.same_text ∙ was.3) c.past_end.ensures.past in
     fills-over c.matches.spans _ c.matches.filled.next c.matches.at (e.budget c.matches.search) (e.budget c.next_from.new.search)
-    (g.met.E.AnchoredSearch.is_text c.args.search.now) past was.0 refl over
+    (g.met.E.SingleAttemptExecutor.is_text c.args.search.now) past was.0 refl over
 
 pub returns-in-Err-clause-fills : goal.returns-in-Err-clause-fills
 returns-in-Err-clause-fills g c =
-    let e = g.E.AnchoredSearch in
+    let e = g.E.SingleAttemptExecutor in
     let was = c.matches.invariant in
     let refused = goes-same (e.tree c.args.search.now) (e.tree c.matches.search) (e.text c.args.search.now) (e.text c.matches.search)
     (e.budget c.matches.search) c.matches.filled.next (Err c.in-Err.error) (e.budget c.next_from.new.search) was.2 was.3 c.in-Err.ensures.goes in
@@ -48,4 +48,4 @@ returns-clause-fills g c =
     let was = c.matches.invariant in
     let same = c.matches.auto.spans in
     let room = c.matches-test.false in
-    fills-full c.matches.spans c.matches.filled c.matches.at c.args.ranges (g.E.AnchoredSearch.budget c.matches.search) was.0 was.4 (omega arith) c.requires.ranges
+    fills-full c.matches.spans c.matches.filled c.matches.at c.args.ranges (g.E.SingleAttemptExecutor.budget c.matches.search) was.0 was.4 (omega arith) c.requires.ranges

@@ -1,7 +1,7 @@
 use Rattle.std.proofs.Common.{Option, ap, sym, subst, option_map, refl, ◌∙◌}
 use Rattle.regex_meaning.specs.CodeUnitOffsets.{IsBoundary}
 use Rattle.regress_exec.specs.declared.exec.Match.{Match}
-use Rattle.regress_exec.specs.MatchAnswers.{answer_of}
+use Rattle.regress_exec.specs.MatchesAsSpecAnswers.{answer_of}
 use Rattle.regress_exec.specs.RemainingAnswers.{remaining_answers_from}
 use Rattle.regress_exec.proofs.Coming.{call-some, call-none, call-refused, next-boundary, not-ended}
 use Rattle.regress_exec.proofs.exec.advance_matches.Goals as goal

@@ -1,5 +1,5 @@
 use Rattle.std.proofs.Common.{◌∙◌, ap}
-use Rattle.regex_meaning.specs.GroupsByNumberAndName.{group_names_by_id}
+use Rattle.regex_meaning.specs.MatchGroupsByNumberAndName.{group_names_by_id}
 use Rattle.regex_meaning.specs.Tree.{Tree}
 use Rattle.regress_exec.proofs.FirstMatch.{same-answer, names-compiled}
 use Rattle.regex_pattern_front.specs.AstToSpecTree.{tree_of}

@@ -1,6 +1,6 @@
 use Rattle.std.proofs.Common.{◌≡◌, inl, inr, sym, ◌∙◌, ap, None, option_map}
 use Rattle.regex_meaning.specs.CodeUnitOffsets.{read}
-use Rattle.regress_input.specs.ReadsFromOffset.{direction_of_forward_flag, same_fold}
+use Rattle.regress_input.specs.CharAndByteReadsFromOffset.{direction_of_forward_flag, same_fold}
 use Rattle.regress_input.proofs.Places.{pair}
 use Rattle.regress_input.proofs.Compare.{starts, stopped, none_at, none_there, differs, goes_on, nearer}
 use Rattle.regress_input.proofs.Lists.{unequal, equal}

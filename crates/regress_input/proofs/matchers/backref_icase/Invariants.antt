@@ -1,5 +1,5 @@
 use Rattle.std.proofs.Common.{◌+◌, ◌-◌}
-use Rattle.regress_input.specs.ReadsFromOffset.{direction_of_forward_flag, same_fold, characters_between, past_spelled_if_next}
+use Rattle.regress_input.specs.CharAndByteReadsFromOffset.{direction_of_forward_flag, same_fold, characters_between, past_spelled_if_next}
 use Rattle.regress_input.proofs.Compare.{Comparing}
 use Rattle.regress_input.proofs.matchers.backref_icase.Given as goal
 

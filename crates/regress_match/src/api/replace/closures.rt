@@ -2,8 +2,9 @@
 
 ghost use Rattle.std.specs.Prelude.{◌≡◌, ◌++◌, IfErr, IfOk, false, string_bytes, take};
 ghost use Rattle.std.specs.Result.{IsOkAnd};
-ghost use Rattle.regress_match.specs.{ClosureReplacements.{IsClosureErrorOrOutOfMemory}, ReplacementClosures.{ClosureCanBeCalled, CanRefuseWith, IsReplacedBy}, ProgramTreesAndAnswers.{utf8_answers}};
-ghost use Rattle.regress_match.specs.ExpansionsAndMatchRanges.{MatchesAreOrderedFrom};
+ghost use Rattle.regress_match.specs.ClosureReplacementForAnyResultType.{IsClosureErrorOrOutOfMemory};
+ghost use Rattle.regress_match.specs.{ReplacementClosuresReturningStrings.{ClosureCanBeCalled, CanRefuseWith, IsReplacedBy}, ProgramTreesAndAnswers.{utf8_answers}};
+ghost use Rattle.regress_match.specs.ExpansionsAndMatchRanges.{MatchesFitTextInOrderFrom};
 
 use crate::api::replace::{append_rest, append_unmatched_text_up_to_match};
 use crate::api::{Match, Regex, ReplaceError};
@@ -70,7 +71,7 @@ fn write_first<P: MatchProducer + Drop, E, F: FnOnce(&Match) -> Result<String, E
     text: &str,
     with: F,
 ) -> Result<String, ReplaceError<E>>
-    requires stand { MatchesAreOrderedFrom text.now 0 matches.answers }
+    requires stand { MatchesFitTextInOrderFrom text.now 0 matches.answers }
     requires can { ClosureCanBeCalled (F.pre with) (take 1 matches.answers) }
     ensures made { IfOk result (λ s.
         IsReplacedBy (F.post with) text.now (take 1 matches.answers) (string_bytes s)) }
@@ -94,7 +95,7 @@ fn replace_each_match<P: MatchProducer + Drop, E, F: Fn(&Match) -> Result<String
     text: &str,
     with: F,
 ) -> Result<String, ReplaceError<E>>
-    requires stand { MatchesAreOrderedFrom text.now 0 matches.answers }
+    requires stand { MatchesFitTextInOrderFrom text.now 0 matches.answers }
     requires can { ClosureCanBeCalled (F.pre with) matches.answers }
     ensures made { IfOk result (λ s.
         IsReplacedBy (F.post with) text.now matches.answers (string_bytes s)) }

@@ -1,9 +1,12 @@
 //! Parsing of replacements, and their expansion for a match.
 
 ghost use Rattle.std.specs.Prelude.{◌≡◌, ◌++◌, ◌<◌, IfNone, IfOk, IfSome, Some, length, option_map, slice_get, string_bytes};
-ghost use Rattle.regex_meaning.specs.{GroupsByNumberAndName.{Answer}, Replace.{parse_after_dollar, expansion, group_part, parse_digits_of_group_number, single_replacement_part_and_rest, text_of, text_of_parts}};
-ghost use Rattle.regress_exec.specs.MatchAnswers.{answer_of, range_of};
-ghost use Rattle.regress_match.specs.{ReplacementParts.{parsed_part_and_rest, spec_parts_of_dollar_substitution}, ExpansionsAndMatchRanges.{MatchFitsText, IsCharBoundaryRange}};
+ghost use Rattle.regex_meaning.specs.MatchGroupsByNumberAndName.{Answer};
+ghost use Rattle.regex_meaning.specs.Replace.{parse_after_dollar, expansion, group_part, parse_digits_of_group_number, parsed_part_from_single_replacement_part, text_of};
+ghost use Rattle.regex_meaning.specs.Replace.{text_of_parts};
+ghost use Rattle.regress_exec.specs.MatchesAsSpecAnswers.{answer_of, range_as_pair};
+ghost use Rattle.regress_match.specs.ReplacementPartsAsSpecParts.{parsed_part_and_rest, spec_parts_of_dollar_substitution};
+ghost use Rattle.regress_match.specs.ExpansionsAndMatchRanges.{MatchFitsText, IsCharBoundaryRange};
 
 use crate::api::Match;
 use regex_pattern_front::types::MAX_CAPTURE_GROUPS;
@@ -71,7 +74,8 @@ fn read_name(braced_name: &str) -> (DollarSubstitution<'_>, &str)
 
 // Reads digits until the number exceeds the largest group number. Returns the number and the rest.
 fn read_number(digits: &str) -> (usize, &str)
-    ensures { single_replacement_part_and_rest (group_part result.0) result.1.now ≡ parse_digits_of_group_number 0 digits.now }
+    ensures { parsed_part_from_single_replacement_part (group_part result.0) result.1.now ≡ parse_digits_of_group_number
+        0 digits.now }
 {
     let mut number = 0;
     let mut left = digits;
@@ -86,8 +90,9 @@ fn read_number(digits: &str) -> (usize, &str)
 // is to be read.
 fn next_digit(number: usize, digits: &str) -> Option<(usize, &str)>
     ensures ends { IfNone result (parse_digits_of_group_number number digits.now
-        ≡ single_replacement_part_and_rest (group_part number) digits.now) }
-    ensures goes_on { IfSome result (λ next. parse_digits_of_group_number number digits.now ≡ parse_digits_of_group_number next.0 next.1.now) }
+        ≡ parsed_part_from_single_replacement_part (group_part number) digits.now) }
+    ensures goes_on { IfSome result (λ next. parse_digits_of_group_number number digits.now ≡
+        parse_digits_of_group_number next.0 next.1.now) }
     ensures shorter { IfSome result (λ next. length next.1.now < length digits.now) }
 {
     match digits.as_bytes().first() {
@@ -107,7 +112,8 @@ fn write_part(
 ) -> Result<(), AllocError>
     requires { MatchFitsText text.now (answer_of found.now) }
     ensures { IfOk result (λ _. string_bytes out.new
-        ≡ string_bytes out.old ++ text_of_parts text.now (answer_of found.now) (spec_parts_of_dollar_substitution part.entry)) }
+        ≡ string_bytes out.old ++ text_of_parts text.now (answer_of found.now) (spec_parts_of_dollar_substitution
+        part.entry)) }
 {
     match part {
         DollarSubstitution::Dollar(behind) => {
@@ -125,9 +131,9 @@ fn append_text_of_range(
     text: &str,
     range: Option<Range<usize>>,
 ) -> Result<(), AllocError>
-    requires { IfSome (option_map range_of range) (IsCharBoundaryRange text.now) }
+    requires { IfSome (option_map range_as_pair range) (IsCharBoundaryRange text.now) }
     ensures { IfOk result (λ _. (m : Answer) → string_bytes out.new
-        ≡ string_bytes out.old ++ text_of text.now m (option_map range_of range)) }
+        ≡ string_bytes out.old ++ text_of text.now m (option_map range_as_pair range)) }
 {
     match range {
         Some(range) => out.push_str(&text[range.start..range.end]),

@@ -1,10 +1,10 @@
 use Rattle.std.proofs.Common.{ℕ, ap, sym, subst, ◌∙◌, ◌++◌, ◌∷◌}
 use Rattle.regex_pattern_front.specs.AstToSpecTree.{tree_of}
-use Rattle.regress_input.specs.ReadsFromOffset.{direction_of_forward_flag}
+use Rattle.regress_input.specs.CharAndByteReadsFromOffset.{direction_of_forward_flag}
 use Rattle.regress_program.specs.CompilationOfTreesAsFunction.{compiled}
-use Rattle.regress_machine.specs.Machine.{running, first_runs_others_wait, after_lookaround}
+use Rattle.regress_machine.specs.Machine.{running, first_running_and_others_waiting, after_lookaround}
 use Rattle.regress_pikevm.specs.States.{state_of, next_threads, running_thread, waiting_threads, preferred_last}
-use Rattle.regress_exec.specs.Attempts.{steps_for_attempt, search_from}
+use Rattle.regress_exec.specs.AttemptResultsAndStartsToTry.{steps_for_attempt, search_from}
 use Rattle.regress_machine.specs.InsnEffects.{end_of_search}
 use Rattle.regress_machine.proofs.Remains.{Remains, steps_of, remains-begin}
 use Rattle.regress_pikevm.proofs.Remains.{TakenUp, less-by, turn-can, turn-inside, turn-dead, turn-go, turn-fork, turn-scans, taken-up}
@@ -73,13 +73,13 @@ search-smaller-in-Fork g n c = (turn-fork (taken g n (goal.at.search-smaller-in-
 pub search-preserved-in-CharLoopExits : goal.search-preserved-in-CharLoopExits
 search-preserved-in-CharLoopExits g n c =
     let offset = g.Input.Position.PositionType.offset in
-    (turn-scans (taken g n (goal.at.search-preserved-in-CharLoopExits g n c).In-Some) c.in-CharLoopExits.field-0 (first_runs_others_wait (preferred_last offset c.in-CharLoopExits.states.items)) c.in_ok-execute_in_direction.ensures (ap (next_threads offset) (sym c.in-CharLoopExits.is))
+    (turn-scans (taken g n (goal.at.search-preserved-in-CharLoopExits g n c).In-Some) c.in-CharLoopExits.field-0 (first_running_and_others_waiting (preferred_last offset c.in-CharLoopExits.states.items)) c.in_ok-execute_in_direction.ensures (ap (next_threads offset) (sym c.in-CharLoopExits.is))
     c.in_ok-next-in-CharLoopExits.ensures).remains
 
 pub search-smaller-in-CharLoopExits : goal.search-smaller-in-CharLoopExits
 search-smaller-in-CharLoopExits g n c =
     let offset = g.Input.Position.PositionType.offset in
-    (turn-scans (taken g n (goal.at.search-smaller-in-CharLoopExits g n c).In-Some) c.in-CharLoopExits.field-0 (first_runs_others_wait (preferred_last offset c.in-CharLoopExits.states.items)) c.in_ok-execute_in_direction.ensures (ap (next_threads offset) (sym c.in-CharLoopExits.is))
+    (turn-scans (taken g n (goal.at.search-smaller-in-CharLoopExits g n c).In-Some) c.in-CharLoopExits.field-0 (first_running_and_others_waiting (preferred_last offset c.in-CharLoopExits.states.items)) c.in_ok-execute_in_direction.ensures (ap (next_threads offset) (sym c.in-CharLoopExits.is))
     c.in_ok-next-in-CharLoopExits.ensures).fewer
 
 pub run-requires : goal.run-requires

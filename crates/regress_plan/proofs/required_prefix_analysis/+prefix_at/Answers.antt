@@ -1,6 +1,6 @@
 use Rattle.std.proofs.Common.{ℕ, Option, subst, arith}
 use Rattle.regress_plan.specs.declared.required_prefix_analysis.OpPrefixContribution.TheVariants as ahead
-use Rattle.regress_plan.specs.RequiredPrefixAnalysis.{allows_only_key, allows_keys_of_set, PrefixFollowsFromSuccessorPrefixes}
+use Rattle.regress_plan.specs.RequiredPrefixAnalysis.{allows_only_key, units_allowed_by_first_set, PrefixFollowsFromSuccessorPrefixes}
 use Rattle.regress_plan.proofs.PrefixLemmas.{path-start, path-at, path-last, path-units, path-either}
 use Rattle.regress_plan.proofs.required_prefix_analysis.+prefix_at.Goals as goal
 
@@ -36,7 +36,7 @@ returns-in-UnionOf t c = λ wide program ops.
 
 pub returns-in_default : goal.returns-in_default
 returns-in_default t c = λ wide program ops.
-    path-last wide program c.args.from c.path.ip c.in-Units.count (allows_keys_of_set c.in-Units.set) c.in-Units.to c.path.prefix c.add_units.new.self (c.path.invariant.1 wide program ops)
+    path-last wide program c.args.from c.path.ip c.in-Units.count (units_allowed_by_first_set c.in-Units.set) c.in-Units.to c.path.prefix c.add_units.new.self (c.path.invariant.1 wide program ops)
     c.if-prefix-lt-MOST.true (c.in-Units.ensures wide program ops) c.add_units.ensures
 
 pub path-preserved : goal.path-preserved
@@ -44,7 +44,7 @@ path-preserved t c = (
   omega (arith, c.path.invariant.0),
   λ wide program ops.
       let P : Option ℕ → Type 0 = λ to. PrefixFollowsFromSuccessorPrefixes wide program c.path.ip (ahead.Units c.in-Units.set c.in-Units.count to) in
-      path-units wide program c.args.from c.path.ip c.in-Units.count c.in-Some.next (allows_keys_of_set c.in-Units.set) c.path.prefix c.add_units.new.self (c.path.invariant.1 wide program ops)
+      path-units wide program c.args.from c.path.ip c.in-Units.count c.in-Some.next (units_allowed_by_first_set c.in-Units.set) c.path.prefix c.add_units.new.self (c.path.invariant.1 wide program ops)
       c.if-prefix-lt-MOST.true (subst P c.in-Some.is (c.in-Units.ensures wide program ops)) c.add_units.ensures,
 )
 

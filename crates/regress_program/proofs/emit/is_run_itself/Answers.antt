@@ -6,4 +6,4 @@ pub returns-then-re-clause-itself : goal.returns-then-re-clause-itself
 returns-then-re-clause-itself c = λ h. to_run-plain (tree_of c.args.re.now) c.if-re.true
 
 pub returns-clause-itself : goal.returns-clause-itself
-returns-clause-itself c = λ h. to_run-same (tree_of c.args.re.now) (c.has_no_one_char_loop.ensures h)
+returns-clause-itself c = λ h. to_run-same (tree_of c.args.re.now) (c.has_no_loop_left_to_optimize.ensures h)

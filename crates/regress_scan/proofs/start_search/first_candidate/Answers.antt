@@ -1,5 +1,5 @@
 use Rattle.std.proofs.Common.{Some, sym, ◌∙◌}
-use Rattle.regress_plan.specs.TableKeysOfUnits.{has_16_bit_units}
+use Rattle.regress_plan.specs.TableKeysOfUnits.{is_16_bit_encoding}
 use Rattle.regress_plan.specs.declared.plan.CandidateStarts.TheVariants.{Anywhere, InSet, FewUnits, Behind, Prefix}
 use Rattle.regress_scan.proofs.Allowing.{try-as, few-known, prefix-known, try-anywhere}
 use Rattle.regress_scan.proofs.Starting.{low-leads}
@@ -18,7 +18,7 @@ pub next_of_few_units-requires-clause-leads : goal.next_of_few_units-requires-cl
 next_of_few_units-requires-clause-leads g c =
     let w = g.W.SearchContext.searching c.args.planned.now in
     let few = few-known w (FewUnits c.in-FewUnits.units c.in-FewUnits.len) (sym c.candidate_start_filter_of_plan.ensures ∙ c.in-FewUnits.is) c.lemma_plan_fits_program.ensures.few in
-    low-leads c.in-FewUnits.units c.in-FewUnits.len (has_16_bit_units w.encoding) few.1
+    low-leads c.in-FewUnits.units c.in-FewUnits.len (is_16_bit_encoding w.encoding) few.1
 
 pub returns-in-FewUnits : goal.returns-in-FewUnits
 returns-in-FewUnits g c = try-as (g.W.SearchContext.searching c.args.planned.now) (FewUnits c.in-FewUnits.units c.in-FewUnits.len) (sym c.candidate_start_filter_of_plan.ensures ∙ c.in-FewUnits.is) c.args.from c.next_of_few_units.result c.next_of_few_units.ensures

@@ -1,7 +1,7 @@
 use Rattle.std.proofs.Common.{◌∙◌, slice_index_or, arith}
 use Rattle.std.proofs.lemmas.Bool.{and_from}
 use Rattle.std.proofs.lemmas.Option.{slice_get-get_or}
-use Rattle.regress_plan.specs.declared.prefilters.MaskedUnitProbe.{MaskedUnitProbe}
+use Rattle.regress_plan.specs.declared.required_prefix_prefilters.MaskedUnitProbe.{MaskedUnitProbe}
 use Rattle.regress_scan.proofs.ProbeLemmas.{probe-passes}
 use Rattle.regress_scan.proofs.start_search_by_bit_probes.all_pass.Goals as goal
 

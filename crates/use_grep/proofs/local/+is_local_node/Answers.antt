@@ -1,6 +1,6 @@
-use Rattle.std.proofs.Common.{◌≡◌, ◌<◌, ◌∙◌, ap, arith, rules, sym}
+use Rattle.std.proofs.Common.{◌≡◌, ◌<◌, ◌∙◌, ap, rules, sym}
 use Rattle.regex_pattern_front.specs.AstToSpecTree.{node_of}
-use Rattle.regress_program.specs.LeavesListsAndCharLoops.{cat_of}
+use Rattle.regress_program.specs.LeafNodesAndOptimizableLoops.{cat_of}
 use Rattle.regress_program.proofs.NodeLemmas.{node_of-Cat}
 use Rattle.regress_program.proofs.Weights.{inner_node_count, weight-child}
 use Rattle.use_grep.specs.Local.{is_local}

@@ -8,5 +8,5 @@ invariant-loop-item l = record {
   can : (goal.iterator-loop-item).can_next l.item-iterator;
   finite : (goal.iterator-loop-item).is_finite l.item-iterator;
   reached : IsReached l.line false l.from l.item-iterator;
-  made : string_bytes l.made ++ colored_from l.line l.from l.item-iterator.answers ≡ colored l.re l.line;
+  made : string_bytes l.made ++ colored_from l.line l.paint.start.now l.paint.end.now l.from l.item-iterator.answers ≡ colored l.re l.line l.paint.start.now l.paint.end.now;
 }

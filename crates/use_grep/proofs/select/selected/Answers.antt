@@ -1,4 +1,4 @@
-use Rattle.std.proofs.Common.{◌≡◌, ◌<◌, ◌∙◌, ap, arith, length, map, sym}
+use Rattle.std.proofs.Common.{◌<◌, ◌∙◌, ap, arith, length, map, sym}
 use Rattle.use_grep.specs.Selecting.{is_selected, shown}
 use Rattle.use_grep.proofs.Lines.{one-kept, one-left}
 use Rattle.use_grep.proofs.select.selected.Goals as goal

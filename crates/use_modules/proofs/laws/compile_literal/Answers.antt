@@ -4,7 +4,7 @@ use Rattle.std.specs.Prelude.{chars}
 use Rattle.regex_meaning.specs.FlagLettersAndEscaping.{flags_from_letters}
 use Rattle.regex_grammar.specs.Grammar.{Parses}
 use Rattle.regex_grammar.specs.Laws.{literal_tree}
-use Rattle.regress_match.specs.ProgramTreesAndAnswers.{IsCompiledWith, unit_tree}
+use Rattle.regress_match.specs.ProgramTreesAndAnswers.{IsCompiledWith, tree_for_16_bit_units}
 use Rattle.regress_match.proofs.FlagLemmas.{IfOk-map}
 use Rattle.use_modules.proofs.laws.compile_literal.Goals as goal
 
@@ -14,6 +14,6 @@ returns c =
     let text = c.args.text.now in
     let pattern = c.as_str.result.now in
     IfOk-map c.new.result (IsCompiledWith flags (chars pattern)) _
-    (λ re is. c.one_tree.ensures flags (chars pattern) (unit_tree re) (literal_tree flags (chars text)) is.parsed
+    (λ re is. c.one_tree.ensures flags (chars pattern) (tree_for_16_bit_units re) (literal_tree flags (chars text)) is.parsed
     (subst (λ p. Parses flags (chars p) (literal_tree flags (chars text))) (sym (c.as_str.ensures.value ∙ c.in_ok-pattern.ensures))
     (c.escaped_bytes_are_read.ensures flags text (is_utf8-from_IsUtf8 text c.utf8.text)))) c.new.ensures.compiled

@@ -1,11 +1,11 @@
 use Rattle.std.proofs.Common.{ℕ, List, [], ◌∷◌}
 use Rattle.std.specs.Prelude.{IfSome, slice_get}
-use Rattle.regex_meaning.specs.GroupsByNumberAndName.{Answer}
+use Rattle.regex_meaning.specs.MatchGroupsByNumberAndName.{Answer}
 use Rattle.regress_match.specs.ProgramTreesAndAnswers.{utf8_answers}
-use Rattle.regress_match.specs.ExpansionsAndMatchRanges.{MatchFitsText, MatchesAreOrderedFrom}
+use Rattle.regress_match.specs.ExpansionsAndMatchRanges.{MatchFitsText, MatchesFitTextInOrderFrom}
 use Rattle.use_modules.proofs.laws.first_match_is_a_slice.Goals as goal
 
-first : (text : List ℕ) (ms : List Answer) → MatchesAreOrderedFrom text 0 ms → IfSome (slice_get ms 0) (MatchFitsText text)
+first : (text : List ℕ) (ms : List Answer) → MatchesFitTextInOrderFrom text 0 ms → IfSome (slice_get ms 0) (MatchFitsText text)
 first text [] stand = tt
 first text (m ∷ ms) stand = stand.1
 

@@ -3,4 +3,4 @@ use Rattle.use_modules.proofs.laws.no_item_follows_match_at_text_end.Goals as go
 
 pub returns : goal.returns
 returns c = λ before behind later m item first at_end next.
-    absurd (cc (c.last_match_ends_the_list.ensures before behind later m (Some item) first at_end next))
+    absurd (cc (c.match_at_text_end_is_last.ensures before behind later m (Some item) first at_end next))

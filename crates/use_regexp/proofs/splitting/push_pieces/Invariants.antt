@@ -1,9 +1,9 @@
 use Rattle.std.proofs.Common.{◌≡◌, ◌++◌, map, take}
 use Rattle.std.specs.Prelude.{option_map}
-use Rattle.regress_exec.specs.MatchAnswers.{range_of}
+use Rattle.regress_exec.specs.MatchesAsSpecAnswers.{range_as_pair}
 use Rattle.use_regexp.proofs.splitting.push_pieces.Given as goal
 
 abbrev pub invariant-loop-group : goal.invariant-loop-group
 invariant-loop-group l =
-    map (option_map range_of) l.pieces.items
-    ≡ map (option_map range_of) l.initial.pieces.items ++ map (option_map range_of) (take l.group-index l.found.captures.items)
+    map (option_map range_as_pair) l.pieces.items
+    ≡ map (option_map range_as_pair) l.initial.pieces.items ++ map (option_map range_as_pair) (take l.group-index l.found.captures.items)

@@ -1,7 +1,7 @@
 use Rattle.std.proofs.Common.{arith}
 use Rattle.regex_pattern_front.specs.AstToSpecTree.{node_of}
-use Rattle.regex_pattern_front.specs.SubtreeListInvariants.{IsSoundSubtree}
-use Rattle.regex_pattern_front.specs.GroupIdsWhileParsing.{nodes_at}
+use Rattle.regex_pattern_front.specs.SubtreeListInvariants.{IsSoundSubtreeWithGroupIds}
+use Rattle.regex_pattern_front.specs.ParserGroupIdInvariant.{nodes_at}
 use Rattle.regex_pattern_front.proofs.PartLemmas.{parts-push, empty-list}
 use Rattle.regex_pattern_front.proofs.LevelLemmas.{IsLast, open-pop}
 use Rattle.std.proofs.Common.{◌≡◌, []}
@@ -18,9 +18,9 @@ returns-clause-reading c =
     let references = c.args.self.now.leaves.references in
     let last : IsLast references 0 r.inner c.pop.new.self.items o =
     open-pop references 0 r.inner c.pop.new.self.items o (rw c.in-Some.ensures.items at r.around) in
-    let contents : IsSoundSubtree r.inner groups references (node_of c.in_ok-contents.contents) =
+    let contents : IsSoundSubtreeWithGroupIds r.inner groups references (node_of c.in_ok-contents.contents) =
     (rw c.replace.ensures.value at c.in_ok-contents.ensures.parts) r.inner groups references r.level in
-    let node : IsSoundSubtree o.start groups references (node_of c.in_ok-node.node) = c.in_ok-node.ensures.part references (rw last.within contents) in
+    let node : IsSoundSubtreeWithGroupIds o.start groups references (node_of c.in_ok-node.node) = c.in_ok-node.ensures.part references (rw last.within contents) in
     rw c.in_ok-node-2.ensures.references
     (record {
       inner = last.middle;

@@ -1,5 +1,5 @@
 use Rattle.std.proofs.Common.{◌+◌}
-use Rattle.regex_pattern_front.specs.GroupIdsWhileParsing.{captures_opened_by_group_kind}
+use Rattle.regex_pattern_front.specs.ParserGroupIdInvariant.{captures_opened_by_group_kind}
 use Rattle.regex_pattern_front.proofs.PartLemmas.{parts-none}
 use Rattle.regex_pattern_front.proofs.LevelLemmas.{open-push}
 use Rattle.std.proofs.Common.{[], arith}
@@ -54,7 +54,7 @@ returns-clause-text c = λ pattern h. record {
         (record { outer = c.args.self.now.level; opening = c.in_ok-opening.opening; name = c.in_ok-name.name; start = c.args.self.now.groups; left = c.count_code_points_from_last_read.result }),
     c.replace.ensures.after,
     c.new-inner.ensures.level,
-    c.reverses_terms.ensures,
+    c.are_inner_terms_reversed.ensures,
     c.are_terms_reversed.ensures,
   )
       (entered h.stands c.read_group_kind.new.reader.rest.now c.in_ok-opening.opening c.in_ok-opening.ensures.text

@@ -1,9 +1,9 @@
 use Rattle.std.proofs.Common.{◌≤◌}
 use Rattle.regex_pattern_front.specs.AstToSpecTree.{node_of}
-use Rattle.regex_pattern_front.specs.GroupIdsWhileParsing.{nodes_at}
+use Rattle.regex_pattern_front.specs.ParserGroupIdInvariant.{nodes_at}
 use Rattle.regex_pattern_front.proofs.PartLemmas.{part-leaf, parts-push}
 use Rattle.regex_pattern_front.proofs.LevelLemmas.{open-more}
-use Rattle.regex_grammar.specs.ParserInvariants.{group_names_of}
+use Rattle.regex_grammar.specs.ParserInvariants.{group_names_found_by_scan}
 use Rattle.regex_grammar.proofs.Standing.{no-term}
 use Rattle.regex_pattern_front.proofs.ParsedLemmas.{err-reads, not-ended, term-refused, term-repeated}
 use Rattle.regex_pattern_front.proofs.parse.Parser.term.Goals as goal
@@ -28,14 +28,14 @@ pub returns-in_err-node-clause-text : goal.returns-in_err-node-clause-text
 returns-in_err-node-clause-text c = λ apart.
     err-reads _ c.args.self.now _ c.from_residual.result _ c.from_residual.ensures.1 (λ x h. h)
     (λ r pattern h. no-term h.stands (not-ended _ _ _ apart)
-    (λ few. c.in_err-node.ensures.text apart (group_names_of pattern) (h.numbers few, few) r _ _))
+    (λ few. c.in_err-node.ensures.text apart (group_names_found_by_scan pattern) (h.numbers few, few) r _ _))
 
 pub returns-in_err-node-2-clause-text : goal.returns-in_err-node-2-clause-text
 returns-in_err-node-2-clause-text c = λ apart.
     err-reads _ c.args.self.now _ c.from_residual-in_err-node-2.result _ c.from_residual-in_err-node-2.ensures.1 (λ x h. h)
     (λ r pattern h. term-refused h.stands c.read_term_without_group.new.self.references c.read_term_without_group.new.self.reader.rest.now _
     (c.in_ok-node.ensures.passed apart) c.in_ok-node.ensures.references (not-ended _ _ _ apart) c.in_ok-node.field-0.is_atom
-    (λ few. c.in_ok-node.ensures.text apart (group_names_of pattern) (h.numbers few, few))
+    (λ few. c.in_ok-node.ensures.text apart (group_names_found_by_scan pattern) (h.numbers few, few))
     _ _ _ _ r c.in_err-node-2.ensures.text)
 
 pub returns-clause-text : goal.returns-clause-text
@@ -45,6 +45,6 @@ returns-clause-text c = λ apart pattern h. record {
   stands = rw (c.in_ok-node-2.ensures.same.0, c.in_ok-node.ensures.same.0, c.in_ok-node-2.ensures.references, c.in_ok-push.ensures.level)
       (term-repeated h.stands c.read_term_without_group.new.self.references c.read_term_without_group.new.self.reader.rest.now _
       (c.in_ok-node.ensures.passed apart) c.in_ok-node.ensures.references (not-ended _ _ _ apart) c.in_ok-node.field-0.is_atom
-      (λ few. c.in_ok-node.ensures.text apart (group_names_of pattern) (h.numbers few, few))
+      (λ few. c.in_ok-node.ensures.text apart (group_names_found_by_scan pattern) (h.numbers few, few))
       c.in_ok-node-2.node _ c.in_ok-node-2.ensures.text);
 }

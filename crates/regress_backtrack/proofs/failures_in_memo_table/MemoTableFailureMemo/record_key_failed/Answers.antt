@@ -2,7 +2,7 @@ use Rattle.std.proofs.Common.{◌≡◌, true, subst, sym}
 use Rattle.std.specs.Prelude.{◌⊎◌, IsTrue}
 use Rattle.regress_memo_laws.specs.MemoSearch.{Key}
 use Rattle.regress_memo.specs.MemoContents.{has_failure}
-use Rattle.regress_memo_analysis.specs.CheckedAnalysis.{MemoKeyHasBit}
+use Rattle.regress_memo_analysis.specs.CheckedAnalysis.{IsRecordableMemoKey}
 use Rattle.regress_backtrack.proofs.MemoKeys.{noted-itself, noted-kept, noted-more}
 use Rattle.regress_backtrack.proofs.failures_in_memo_table.MemoTableFailureMemo.record_key_failed.Goals as goal
 
@@ -22,5 +22,5 @@ returns-then-has-clause-kept c = λ j known. noted-kept c.args.self.now _ c.reco
 pub returns-else-has-clause-recorded : goal.returns-else-has-clause-recorded
 returns-else-has-clause-recorded c = λ has.
     let m = c.args.self.now in
-    let there : IsTrue c.has.result = c.has.ensures.1 (subst (λ (k : Key). MemoKeyHasBit m.memo_analysis m.places k) (sym c.memo_key_of-key.ensures) has) in
+    let there : IsTrue c.has.result = c.has.ensures.1 (subst (λ (k : Key). IsRecordableMemoKey m.memo_analysis m.places k) (sym c.memo_key_of-key.ensures) has) in
     absurd (cc (there, c.if-has.false))

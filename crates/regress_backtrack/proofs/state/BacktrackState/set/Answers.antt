@@ -1,6 +1,6 @@
 use Rattle.std.proofs.Common.{◌<◌, length, subst, sym, take, arith}
-use Rattle.regress_backtrack.specs.State.{StateModel, undo_entry_of, last_mark_log}
-use Rattle.regress_backtrack.specs.UndoLogging.{IsLoggedUnlessAlreadySinceChoicePoint}
+use Rattle.regress_backtrack.specs.State.{StateModel, undo_entry_logged_for_slot, last_mark_log}
+use Rattle.regress_backtrack.specs.UndoLoggingOncePerChoicePoint.{IsLoggedUnlessAlreadySinceChoicePoint}
 use Rattle.regress_backtrack.proofs.Fresh.{length-seen, set-there, set-seen}
 use Rattle.regress_backtrack.proofs.state.BacktrackState.set.Goals.{After-self-1}
 use Rattle.regress_backtrack.proofs.state.BacktrackState.set.Goals as goal
@@ -10,13 +10,13 @@ inside c =
     let seen = subst (λ (h : StateModel). c.args.slot < length h.slots) (sym c.self.view_is) c.requires.slot in
     omega (arith, seen, length-seen c.self.inside.begun c.self.inside.slots.items)
 
-noted : (c : After-self-1) → IsLoggedUnlessAlreadySinceChoicePoint (undo_entry_of c.self.inside.slots.items c.args.slot) (last_mark_log (take c.self.inside.marked c.self.inside.marks.items))
+noted : (c : After-self-1) → IsLoggedUnlessAlreadySinceChoicePoint (undo_entry_logged_for_slot c.self.inside.slots.items c.args.slot) (last_mark_log (take c.self.inside.marked c.self.inside.marks.items))
     c.self.inside.log_len c.self.inside.log.items c.log_change.new.log_len c.log_change.new.log.items c.in_ok-noted.noted
 noted c =
     let m = c.self.inside in
-    subst (λ marks. IsLoggedUnlessAlreadySinceChoicePoint (undo_entry_of m.slots.items c.args.slot) (last_mark_log (take m.marked marks)) m.log_len m.log.items c.log_change.new.log_len c.log_change.new.log.items c.in_ok-noted.noted)
+    subst (λ marks. IsLoggedUnlessAlreadySinceChoicePoint (undo_entry_logged_for_slot m.slots.items c.args.slot) (last_mark_log (take m.marked marks)) m.log_len m.log.items c.log_change.new.log_len c.log_change.new.log.items c.in_ok-noted.noted)
     c.deref.ensures.value
-    (subst (λ slots. IsLoggedUnlessAlreadySinceChoicePoint (undo_entry_of slots c.args.slot) (last_mark_log (take m.marked c.deref.result.now)) m.log_len m.log.items c.log_change.new.log_len c.log_change.new.log.items c.in_ok-noted.noted)
+    (subst (λ slots. IsLoggedUnlessAlreadySinceChoicePoint (undo_entry_logged_for_slot slots c.args.slot) (last_mark_log (take m.marked c.deref.result.now)) m.log_len m.log.items c.log_change.new.log_len c.log_change.new.log.items c.in_ok-noted.noted)
     c.deref-2.ensures.value c.in_ok-noted.ensures.noted)
 
 pub invariant_of-self-2 : goal.invariant_of-self-2

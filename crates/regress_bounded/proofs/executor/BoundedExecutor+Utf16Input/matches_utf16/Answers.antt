@@ -1,11 +1,11 @@
 use Rattle.std.proofs.Common.{◌∙◌, ap, nat_le, not, subst, sym}
 use Rattle.regex_meaning.specs.CodeUnitOffsets.{units}
-use Rattle.regress_bounded.specs.ProgramWorkBounds.{CanStartAt}
+use Rattle.regress_bounded.specs.ProgramWorkBoundForAllMatches.{IsBoundaryOrPastEnd}
 use Rattle.regress_bounded.proofs.MatchLemmas.{begun-Yields}
 use Rattle.regress_bounded.proofs.executor.BoundedExecutor+Utf16Input.matches_utf16.Goals as goal
 
 pub new-requires : goal.new-requires
-new-requires c = subst (λ t. CanStartAt t c.args.start) (sym c.in_ok-executor.ensures.start.of_text) c.requires.start
+new-requires c = subst (λ t. IsBoundaryOrPastEnd t c.args.start) (sym c.in_ok-executor.ensures.start.of_text) c.requires.start
 
 pub returns-clause-yields : goal.returns-clause-yields
 returns-clause-yields c = let is = c.new.ensures in begun-Yields c.in_ok-executor.ensures.start (is.answers, is.limited, is.text_end, is.left, is.enough)

@@ -1,6 +1,6 @@
 use Rattle.std.proofs.Common.{◌≡◌, drop, map, string_bytes, bytes_eq}
-use Rattle.regex_meaning.specs.GroupsByNumberAndName.{first_range, ids_named, ids_where}
-use Rattle.regress_exec.specs.MatchAnswers.{answer_of}
+use Rattle.regex_meaning.specs.MatchGroupsByNumberAndName.{first_range, ids_named, ids_where}
+use Rattle.regress_exec.specs.MatchesAsSpecAnswers.{answer_of}
 use Rattle.regress_exec.proofs.exec.Match.first_named.Given as goal
 
 -- the range is the first among the groups from here on

@@ -4,4 +4,4 @@ use Rattle.regress_exec.proofs.exec.group_iterators.is_new.Goals as goal
 
 pub returns-then-not-is_empty : goal.returns-then-not-is_empty
 returns-then-not-is_empty c =
-    ap not c.is_among.ensures ∙ new-not_among string_bytes c.args.name.now c.args.before.now (sym c.if-not-is_empty.ensures)
+    ap not c.is_among_names.ensures ∙ new-not_among string_bytes c.args.name.now c.args.before.now (sym c.if-not-is_empty.ensures)

@@ -1,12 +1,12 @@
 use Rattle.std.proofs.Common.{◌≡◌, ◌≤◌, option_map, true}
-use Rattle.regress_exec.specs.WorkLimits.{IsOrderedAttempt, is_work_enough}
+use Rattle.regress_exec.specs.AttemptsAndMatchesWithinWork.{IsOrderedAttempt, is_work_enough}
 use Rattle.regress_exec.proofs.Skips.{untried}
 use Rattle.regress_exec.proofs.Walking.{Walk}
 use Rattle.regress_exec.proofs.search_loop.AnyMatchProducer.next_match.Given as goal
 
 abbrev pub invariant-places : goal.invariant-places
 invariant-places g l =
-    let a = g.A.AnchoredSearch in
+    let a = g.A.SingleAttemptExecutor in
     let offset = g.A.Input.Position.PositionType.offset in
     record {
       walk : Walk (a.tree l.initial.self) (a.text l.initial.self) (offset l.fn.pos) (a.budget l.initial.self) (a.budget l.self) (option_map offset l.next);
@@ -18,4 +18,4 @@ invariant-places g l =
     }
 
 abbrev pub decreases-places : goal.decreases-places
-decreases-places g l = untried (g.A.AnchoredSearch.text l.initial.self) (option_map g.A.Input.Position.PositionType.offset l.next)
+decreases-places g l = untried (g.A.SingleAttemptExecutor.text l.initial.self) (option_map g.A.Input.Position.PositionType.offset l.next)

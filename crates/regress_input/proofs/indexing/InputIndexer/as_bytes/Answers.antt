@@ -4,5 +4,5 @@ use Rattle.regress_input.proofs.indexing.InputIndexer.as_bytes.Goals as goal
 
 pub returns : goal.returns
 returns g c =
-    c.as_bytes.ensures ∙ bytes-are g.Self.Units.Unit.CodeUnit.number g.Self.Units.CodeUnitKind.encoding _ _ g.met.Self.Units.CodeUnitKind.by_unit g.Self.Units.CodeUnitKind.by_encoding
+    c.as_bytes.ensures ∙ bytes-are g.Self.Units.Unit.CodeUnit.number g.Self.Units.CodeUnitEncoding.encoding _ _ g.met.Self.Units.CodeUnitEncoding.by_unit g.Self.Units.CodeUnitEncoding.by_encoding
     (g.Self.InputIndexer.text c.args.self.now) _ c.code_units.ensures.units

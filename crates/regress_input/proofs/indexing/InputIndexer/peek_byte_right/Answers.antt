@@ -4,5 +4,5 @@ use Rattle.regress_input.proofs.indexing.InputIndexer.peek_byte_right.Goals as g
 
 pub byte_right-requires : goal.byte_right-requires
 byte_right-requires g c =
-    let all = inside_bytes g.Self.Units.CodeUnitKind.ARE_BYTES _ (g.met.Self.InputIndexer.is_text c.args.self.now) (g.met.Self.InputIndexer.in_utf8 c.args.self.now) c.in-Some.all.now c.in-Some.ensures in
+    let all = inside_bytes g.Self.Units.CodeUnitEncoding.ARE_BYTES _ (g.met.Self.InputIndexer.is_text c.args.self.now) (g.met.Self.InputIndexer.in_utf8 c.args.self.now) c.in-Some.all.now c.in-Some.ensures in
     omega (arith, all, c.requires.inside, c.to_offset.ensures)

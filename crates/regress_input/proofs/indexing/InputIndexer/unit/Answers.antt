@@ -15,5 +15,5 @@ bounds-code_units-to_offset g c =
 pub returns : goal.returns
 returns g c =
     let count = count-is g.Self.Units.Unit.CodeUnit.number _ _ (g.met.Self.InputIndexer.spelled c.args.self.now) _ c.code_units.ensures.units in
-    unit-is g.Self.Units.Unit.CodeUnit.number g.Self.Units.CodeUnitKind.encoding (g.Self.InputIndexer.text c.args.self.now) _ c.code_units.ensures.units _ _ c.to_offset.ensures (omega (arith, count, c.requires, c.to_offset.ensures))
+    unit-is g.Self.Units.Unit.CodeUnit.number g.Self.Units.CodeUnitEncoding.encoding (g.Self.InputIndexer.text c.args.self.now) _ c.code_units.ensures.units _ _ c.to_offset.ensures (omega (arith, count, c.requires, c.to_offset.ensures))
     _ c.index-code_units-to_offset.is _ c.to_u32.ensures

@@ -1,5 +1,5 @@
 use Rattle.std.proofs.Common.{◌≡◌, Bool, true, sym, ◌∙◌, ap, arith}
-use Rattle.regress_input.specs.ReadsFromOffset.{direction_of_forward_flag, past_bytes_if_next, bytes_of, read_if_units_are_bytes}
+use Rattle.regress_input.specs.CharAndByteReadsFromOffset.{direction_of_forward_flag, past_bytes_if_next, bytes_of, read_if_units_are_bytes}
 use Rattle.regress_input.proofs.Places.{boundary_inside}
 use Rattle.regress_input.proofs.ByteTests.{literal_accepts}
 use Rattle.regress_input.proofs.scm.MatchByteSeqSingleCharMatcher.matches.Goals as goal
@@ -16,7 +16,7 @@ returns-then-ARE_BYTES g c =
     let d = direction_of_forward_flag g.Dir.Direction.FORWARD in
     let at = g.Input.Position.PositionType.offset c.args.pos.now in
     let one = c.requires.can.1 in
-    let are : g.Input.Units.CodeUnitKind.ARE_BYTES ≡ true = sym c.ARE_BYTES.ensures ∙ c.if-ARE_BYTES.true in
+    let are : g.Input.Units.CodeUnitEncoding.ARE_BYTES ≡ true = sym c.ARE_BYTES.ensures ∙ c.if-ARE_BYTES.true in
     c.match_bytes.ensures
     ∙ ap (λ (b : Bool). read_if_units_are_bytes b (past_bytes_if_next (bytes_of text) literal d at)) are
     ∙ literal_accepts text (laws.is_text input) (laws.in_utf8 input are) literal one.0 one.1 one.2 d at c.requires.at

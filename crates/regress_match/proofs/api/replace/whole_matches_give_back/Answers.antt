@@ -3,13 +3,13 @@ use Rattle.regex_meaning.specs.Text.{utf8_text}
 use Rattle.regex_meaning.proofs.Ordered.{answers-StandInOrder}
 use Rattle.regex_meaning.proofs.TextLemmas.{utf8_text-IsText}
 use Rattle.regex_meaning.proofs.TextOut.{replaced-whole}
-use Rattle.regress_match.specs.ProgramTreesAndAnswers.{byte_tree, utf8_answers}
+use Rattle.regress_match.specs.ProgramTreesAndAnswers.{tree_for_byte_units, utf8_answers}
 use Rattle.regress_match.proofs.Replacing.{first-stands}
 use Rattle.regress_match.proofs.api.replace.whole_matches_give_back.Goals as goal
 
 pub returns : goal.returns
 returns c re text =
-    let tree = byte_tree re in
+    let tree = tree_for_byte_units re in
     let unicode = tree.flags.unicode in
     let answers = utf8_answers re text 0 in
     let stand = answers-StandInOrder tree.root (utf8_text text unicode) (utf8_text-IsText text unicode) 0 in

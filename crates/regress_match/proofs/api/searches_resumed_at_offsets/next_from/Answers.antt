@@ -1,6 +1,6 @@
 use Rattle.std.proofs.Common.{◌≡◌, ◌<◌, ◌-◌, ◌^◌, Option, Some, None, Ok, subst, option_map}
 use Rattle.regex_meaning.specs.CodeUnitOffsets.{units}
-use Rattle.regress_exec.specs.MatchAnswers.{answer_of}
+use Rattle.regress_exec.specs.MatchesAsSpecAnswers.{answer_of}
 use Rattle.regress_exec.specs.declared.exec.Match.{Match}
 use Rattle.regress_match.specs.Resuming.{ResumesFrom, FindsNext}
 use Rattle.regress_match.proofs.ResumingLemmas.{none-over, past-over, place-is, place-none, refused-from, steps-to}
@@ -10,43 +10,43 @@ pub returns-in_default-clause-goes : goal.returns-in_default-clause-goes
 returns-in_default-clause-goes g c =
     let search = c.args.search.now in
     let offset = g.E.Input.Position.PositionType.offset in
-    past-over (g.E.AnchoredSearch.tree search) (g.E.AnchoredSearch.text search) (g.met.E.AnchoredSearch.is_text search) (g.E.AnchoredSearch.budget search) c.args.start
-    (place-none offset c.initial_position.result (units (g.E.AnchoredSearch.text search)) c.args.start c.in_default.is c.initial_position.ensures)
+    past-over (g.E.SingleAttemptExecutor.tree search) (g.E.SingleAttemptExecutor.text search) (g.met.E.SingleAttemptExecutor.is_text search) (g.E.SingleAttemptExecutor.budget search) c.args.start
+    (place-none offset c.initial_position.result (units (g.E.SingleAttemptExecutor.text search)) c.args.start c.in_default.is c.initial_position.ensures)
 
 pub returns-in_err-found-clause-goes : goal.returns-in_err-found-clause-goes
 returns-in_err-found-clause-goes g c =
     let search = c.args.search.now in
     let offset = g.E.Input.Position.PositionType.offset in
-    let tree = g.E.AnchoredSearch.tree search in
-    let text = g.E.AnchoredSearch.text search in
+    let tree = g.E.SingleAttemptExecutor.tree search in
+    let text = g.E.SingleAttemptExecutor.text search in
     let here = place-is offset c.initial_position.result c.in-Some.pos (units text) c.args.start c.in-Some.is c.initial_position.ensures in
-    subst (λ s. ResumesFrom tree text (g.E.AnchoredSearch.budget search) s c.from_residual.result (g.E.AnchoredSearch.budget c.next_match.new.self)) here
-    (refused-from tree text (g.met.E.AnchoredSearch.is_text search) (Option Match) (g.E.AnchoredSearch.budget search) (offset c.in-Some.pos) c.in_err-found.field-0.0
-    (g.E.AnchoredSearch.budget c.next_match.new.self) c.from_residual.result c.from_residual.ensures.1 c.in_err-found.ensures.steps)
+    subst (λ s. ResumesFrom tree text (g.E.SingleAttemptExecutor.budget search) s c.from_residual.result (g.E.SingleAttemptExecutor.budget c.next_match.new.self)) here
+    (refused-from tree text (g.met.E.SingleAttemptExecutor.is_text search) (Option Match) (g.E.SingleAttemptExecutor.budget search) (offset c.in-Some.pos) c.in_err-found.field-0.0
+    (g.E.SingleAttemptExecutor.budget c.next_match.new.self) c.from_residual.result c.from_residual.ensures.1 c.in_err-found.ensures.steps)
 
 pub returns-in_default-2-clause-goes : goal.returns-in_default-2-clause-goes
 returns-in_default-2-clause-goes g c =
     let search = c.args.search.now in
     let offset = g.E.Input.Position.PositionType.offset in
-    let tree = g.E.AnchoredSearch.tree search in
-    let text = g.E.AnchoredSearch.text search in
+    let tree = g.E.SingleAttemptExecutor.tree search in
+    let text = g.E.SingleAttemptExecutor.text search in
     let here = place-is offset c.initial_position.result c.in-Some.pos (units text) c.args.start c.in-Some.is c.initial_position.ensures in
-    subst (λ s. ResumesFrom tree text (g.E.AnchoredSearch.budget search) s (Ok None) (g.E.AnchoredSearch.budget c.next_match.new.self)) here
-    (none-over tree text (g.met.E.AnchoredSearch.is_text search) (g.E.AnchoredSearch.budget search) (offset c.in-Some.pos) c.in_ok-found.field-0
-    (g.E.AnchoredSearch.budget c.next_match.new.self) (rw c.in_default-2.is at c.in_ok-found.ensures.found.0) c.in_ok-found.ensures.steps)
+    subst (λ s. ResumesFrom tree text (g.E.SingleAttemptExecutor.budget search) s (Ok None) (g.E.SingleAttemptExecutor.budget c.next_match.new.self)) here
+    (none-over tree text (g.met.E.SingleAttemptExecutor.is_text search) (g.E.SingleAttemptExecutor.budget search) (offset c.in-Some.pos) c.in_ok-found.field-0
+    (g.E.SingleAttemptExecutor.budget c.next_match.new.self) (rw c.in_default-2.is at c.in_ok-found.ensures.found.0) c.in_ok-found.ensures.steps)
 
 pub returns-clause-goes : goal.returns-clause-goes
 returns-clause-goes g c =
     let search = c.args.search.now in
     let offset = g.E.Input.Position.PositionType.offset in
-    let tree = g.E.AnchoredSearch.tree search in
-    let text = g.E.AnchoredSearch.text search in
+    let tree = g.E.SingleAttemptExecutor.tree search in
+    let text = g.E.SingleAttemptExecutor.text search in
     let found = c.in-Some-2.found in
-    let after = g.E.AnchoredSearch.budget c.next_match.new.self in
+    let after = g.E.SingleAttemptExecutor.budget c.next_match.new.self in
     let next = option_map offset c.next_match.new.next_start in
     let here = place-is offset c.initial_position.result c.in-Some.pos (units text) c.args.start c.in-Some.is c.initial_position.ensures in
-    subst (λ s. FindsNext tree text (g.E.AnchoredSearch.budget search) s (answer_of found) c.offset_of_position-next.result after) here
-    (steps-to tree text (g.met.E.AnchoredSearch.is_text search)
+    subst (λ s. FindsNext tree text (g.E.SingleAttemptExecutor.budget search) s (answer_of found) c.offset_of_position-next.result after) here
+    (steps-to tree text (g.met.E.SingleAttemptExecutor.is_text search)
     (subst (λ t. units t < 2 ^ 64 - 1) c.in_ok-found.ensures.same.1 c.offset_of_position-next.ensures.fits)
-    (g.E.AnchoredSearch.budget search) (offset c.in-Some.pos) found c.in_ok-found.field-0 next after c.offset_of_position-next.result c.offset_of_position-next.ensures.offset
+    (g.E.SingleAttemptExecutor.budget search) (offset c.in-Some.pos) found c.in_ok-found.field-0 next after c.offset_of_position-next.result c.offset_of_position-next.ensures.offset
     (rw c.in-Some-2.is at c.in_ok-found.ensures.found.0) (rw c.in-Some-2.is at c.in_ok-found.ensures.found.1) c.in_ok-found.ensures.steps)

@@ -2,8 +2,8 @@ use Rattle.std.proofs.Common.{◌≡◌, ◌<◌, Some, subst, ap, ◌∙◌, ar
 use Rattle.std.specs.Arc.{arc_value}
 use Rattle.std.proofs.lemmas.Bool.{not-false}
 use Rattle.regress_memo_laws.specs.LoopDataKeyCodes.{code_of}
-use Rattle.regress_memo_analysis.specs.AnalysisContents.{insn_analysis_of, key_code_questions_of}
-use Rattle.regress_memo_analysis.specs.CheckedAnalysis.{MemoKeyHasBit}
+use Rattle.regress_memo_analysis.specs.AnalysisAsLivenessAndPotentials.{insn_analysis_of, key_code_questions_of}
+use Rattle.regress_memo_analysis.specs.CheckedAnalysis.{IsRecordableMemoKey}
 use Rattle.regress_memo.specs.MemoContractView.{MemoView}
 use Rattle.regress_memo.specs.MemoContents.{memo_key_at as key_of_state}
 use Rattle.regress_memo.proofs.MemoLemmas.{one-code, key-is, code-bit, told-bit}
@@ -25,7 +25,7 @@ returns-then-line-eq1-clause-bit g c =
     let is = c.insn_analysis_at-line.ensures ∙ ap (λ t. insn_analysis_of t c.args.ip) c.deref.ensures in
     let one : x.codes ≡ 1 = c.if-line-eq1.true in
     let few : 0 < x.codes = omega (arith, one) in
-    subst (λ (m : MemoView). c.args.at < m.places → MemoKeyHasBit m.memo_analysis m.places (record { ip = c.args.ip; at = c.args.at; code = 0 })) c.self.view_is
+    subst (λ (m : MemoView). c.args.at < m.places → IsRecordableMemoKey m.memo_analysis m.places (record { ip = c.args.ip; at = c.args.at; code = 0 })) c.self.view_is
     (code-bit t c.args.ip x is (not-false x.records c.if-not-line.false) c.self.inside.places c.args.at 0 few)
 
 pub returns-else-line-eq1-clause-bit : goal.returns-else-line-eq1-clause-bit
@@ -34,7 +34,7 @@ returns-else-line-eq1-clause-bit g c =
     let x = c.insn_analysis_at-line.result in
     let is = c.insn_analysis_at-line.ensures ∙ ap (λ t. insn_analysis_of t c.args.ip) c.deref.ensures in
     let code = c.code_at-code.result in
-    subst (λ (m : MemoView). c.args.at < m.places → MemoKeyHasBit m.memo_analysis m.places (record { ip = c.args.ip; at = c.args.at; code = code })) c.self.view_is
+    subst (λ (m : MemoView). c.args.at < m.places → IsRecordableMemoKey m.memo_analysis m.places (record { ip = c.args.ip; at = c.args.at; code = code })) c.self.view_is
     (told-bit t c.args.ip x is (not-false x.records c.if-not-line.false) c.self.invariant.coded c.self.inside.places c.args.at code
     (g.R.IterationStatesOfAllLoops.rounds c.args.rounds.now)
     (λ s at loops. c.code_at-code.ensures s at loops ∙ ap (λ t. code_of (key_code_questions_of t c.args.ip) s) c.deref-else-line-eq1.ensures))

@@ -1,20 +1,20 @@
 use Rattle.std.proofs.Common.{◌≡◌, true, sym, subst, ap, ◌∙◌}
 use Rattle.std.specs.Arc.{arc_value}
-use Rattle.regress_memo_analysis.specs.AnalysisContents.{bit_of}
-use Rattle.regress_memo_analysis.specs.CheckedAnalysis.{MemoKeyHasBit}
+use Rattle.regress_memo_analysis.specs.AnalysisAsLivenessAndPotentials.{memo_bit_index_of_key}
+use Rattle.regress_memo_analysis.specs.CheckedAnalysis.{IsRecordableMemoKey}
 use Rattle.regress_memo.specs.MemoContractView.{MemoView}
-use Rattle.regress_memo.specs.MemoContents.{as_key, RecordsSuccess}
+use Rattle.regress_memo.specs.MemoContents.{memo_key_as_spec, RecordsSuccess}
 use Rattle.regress_memo.proofs.MemoLemmas.{known_by, notes-end}
 use Rattle.regress_memo.proofs.memo.MemoTable.record_success.Goals as goal
 
 pub returns : goal.returns
 returns c =
-    let k = as_key c.args.key in
-    let has = subst (λ (m : MemoView). MemoKeyHasBit m.memo_analysis m.places k) (sym c.self.view_is) c.requires.key in
+    let k = memo_key_as_spec c.args.key in
+    let has = subst (λ (m : MemoView). IsRecordableMemoKey m.memo_analysis m.places k) (sym c.self.view_is) c.requires.key in
     let wanted = subst (λ (m : MemoView). m.records_successes ≡ true) (sym c.self.view_is) c.requires.wanted in
     let m = c.self.inside in
     let old = known_by (arc_value m.memo_analysis) m.places m.records_successes m.failures.words.items m.ends.words.items in
     let new = c.set.new.self.words.items in
-    let bit = c.bit_of-bit.ensures.bit ∙ ap (λ t. bit_of t m.places k.ip k.at k.code) c.deref.ensures in
+    let bit = c.memo_bit_index_of_key-bit.ensures.bit ∙ ap (λ t. memo_bit_index_of_key t m.places k.ip k.at k.code) c.deref.ensures in
     subst (λ (m : MemoView). RecordsSuccess k m (record old { ends = new })) c.self.view_is
-    (notes-end old c.self.invariant.coded k has c.bit_of-bit.result bit new wanted c.set.ensures.set)
+    (notes-end old c.self.invariant.coded k has c.memo_bit_index_of_key-bit.result bit new wanted c.set.ensures.set)

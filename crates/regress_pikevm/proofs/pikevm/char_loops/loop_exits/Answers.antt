@@ -1,9 +1,9 @@
 use Rattle.std.proofs.Common.{sym, subst, arith, map, Some, ◌+◌}
 use Rattle.regex_meaning.proofs.TextLemmas.{IsBoundary-place}
 use Rattle.regex_pattern_front.specs.AstToSpecTree.{tree_of}
-use Rattle.regress_input.specs.ReadsFromOffset.{direction_of_forward_flag}
+use Rattle.regress_input.specs.CharAndByteReadsFromOffset.{direction_of_forward_flag}
 use Rattle.regress_program.specs.CompilationOfTreesAsFunction.{compiled}
-use Rattle.regress_program.specs.InsnMeanings.{spec_insn_of}
+use Rattle.regress_program.specs.InsnsAndStartPredicatesAsSpec.{insn_as_spec_insn}
 use Rattle.regress_machine.specs.Machine.{test_of}
 use Rattle.regress_pikevm.specs.States.{state_of}
 use Rattle.regress_scan.proofs.Reach.{IsReaching, reach-none, reach-most, reach-end, reach-more, reaching-boundary, some-of}
@@ -45,7 +45,7 @@ characters-preserved g c =
     let offset = g.Input.Position.PositionType.offset in
     let d = direction_of_forward_flag g.Dir.Direction.FORWARD in
     let s = state_of offset c.args.state.now in
-    let t = some-of (test_of (compiled (tree_of c.args.searched.now.program.now)) (Some (spec_insn_of c.args.body))) c.requires.test in
+    let t = some-of (test_of (compiled (tree_of c.args.searched.now.program.now)) (Some (insn_as_spec_insn c.args.body))) c.requires.test in
     let p = IsBoundary-place text (offset c.args.state.now.pos) is c.requires.boundary in
     record {
       boundary =

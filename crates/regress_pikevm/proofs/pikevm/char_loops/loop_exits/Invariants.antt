@@ -1,9 +1,9 @@
 use Rattle.std.proofs.Common.{◌≡◌, ℕ, ◌-◌, ◌≤◌, Bool, Some, map}
 use Rattle.regex_meaning.specs.CodeUnitOffsets.{IsBoundary, place_at}
 use Rattle.regex_pattern_front.specs.AstToSpecTree.{tree_of}
-use Rattle.regress_input.specs.ReadsFromOffset.{direction_of_forward_flag}
+use Rattle.regress_input.specs.CharAndByteReadsFromOffset.{direction_of_forward_flag}
 use Rattle.regress_program.specs.CompilationOfTreesAsFunction.{compiled}
-use Rattle.regress_program.specs.InsnMeanings.{spec_insn_of}
+use Rattle.regress_program.specs.InsnsAndStartPredicatesAsSpec.{insn_as_spec_insn}
 use Rattle.regress_machine.specs.Machine.{test_of}
 use Rattle.regress_pikevm.specs.States.{state_of}
 use Rattle.regress_scan.proofs.Reach.{IsReaching}
@@ -17,7 +17,7 @@ invariant-characters g l =
       boundary : IsBoundary text (offset l.at);
       fits : l.count ≤ l.run.max_iters;
       reaching :
-          (test : ℕ → Bool) (p : ℕ) → test_of (compiled (tree_of l.searched.program.now)) (Some (spec_insn_of l.body)) ≡ Some test → place_at text (offset l.state.pos) ≡ Some p
+          (test : ℕ → Bool) (p : ℕ) → test_of (compiled (tree_of l.searched.program.now)) (Some (insn_as_spec_insn l.body)) ≡ Some test → place_at text (offset l.state.pos) ≡ Some p
           → IsReaching text test (direction_of_forward_flag g.Dir.Direction.FORWARD) l.run.min_iters l.run.max_iters p (state_of offset l.state) l.count (offset l.at) (map (λ s. state_of offset s) l.states.items);
     }
 

@@ -1,4 +1,4 @@
-use Rattle.regress_input.specs.ReadsFromOffset.{direction_of_forward_flag}
+use Rattle.regress_input.specs.CharAndByteReadsFromOffset.{direction_of_forward_flag}
 use Rattle.regress_pikevm.proofs.Turns.{closes}
 use Rattle.regress_pikevm.proofs.pikevm.single_insn_execution.close_group.Goals as goal
 

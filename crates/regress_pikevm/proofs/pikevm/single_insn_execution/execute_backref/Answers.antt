@@ -1,4 +1,4 @@
-use Rattle.regress_input.specs.ReadsFromOffset.{direction_of_forward_flag}
+use Rattle.regress_input.specs.CharAndByteReadsFromOffset.{direction_of_forward_flag}
 use Rattle.regress_machine.specs.Machine.{read_group}
 use Rattle.regress_pikevm.specs.States.{range_of, state_of}
 use Rattle.regress_pikevm.proofs.Turns.{by-index}

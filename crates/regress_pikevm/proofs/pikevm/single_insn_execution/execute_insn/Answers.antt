@@ -1,9 +1,9 @@
 use Rattle.std.proofs.Common.{◌≡◌, ◌<◌, ◌^◌, sym, subst, rules, length}
 use Rattle.std.specs.Prelude.{IfOk}
 use Rattle.regex_pattern_front.specs.AstToSpecTree.{tree_of}
-use Rattle.regress_input.specs.ReadsFromOffset.{direction_of_forward_flag}
+use Rattle.regress_input.specs.CharAndByteReadsFromOffset.{direction_of_forward_flag}
 use Rattle.regress_program.specs.CompilationOfTreesAsFunction.{compiled}
-use Rattle.regress_program.specs.InsnMeanings.{spec_insn_of}
+use Rattle.regress_program.specs.InsnsAndStartPredicatesAsSpec.{insn_as_spec_insn}
 use Rattle.regress_machine.specs.Machine.{act_on}
 use Rattle.regress_pikevm.specs.States.{state_of, next_threads}
 use Rattle.regress_machine.specs.InsnEffects.{IsNotStuck}
@@ -23,7 +23,7 @@ perform-requires-clause-can g c =
 pub perform-requires-clause-bytes : goal.perform-requires-clause-bytes
 perform-requires-clause-bytes g c = λ literal.
     let s = state_of g.Input.Position.PositionType.offset c.args.state in
-    c.args.searched.now.bytes (literal-reads (tree_of c.args.searched.now.program.now) s.ip (spec_insn_of c.index-insns-state.result)
+    c.args.searched.now.bytes (literal-reads (tree_of c.args.searched.now.program.now) s.ip (insn_as_spec_insn c.index-insns-state.result)
     (insn-here c.args.searched.now.program.now c.args.insns.now c.requires.code (g.Input.InputIndexer.text c.args.searched.now.input) (direction_of_forward_flag g.Dir.Direction.FORWARD) s c.requires.can c.index-insns-state.result c.index-insns-state.is) literal)
 
 pub perform-requires-clause-within : goal.perform-requires-clause-within

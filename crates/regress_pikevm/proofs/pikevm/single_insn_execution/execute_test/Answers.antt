@@ -1,40 +1,40 @@
 use Rattle.std.proofs.Common.{◌≡◌, ◌∙◌, ◌+◌, ap, sym, Bool, true, false, Some}
 use Rattle.regex_pattern_front.specs.AstToSpecTree.{tree_of}
-use Rattle.regress_input.specs.ReadsFromOffset.{end_if_matched, direction_of_forward_flag}
+use Rattle.regress_input.specs.CharAndByteReadsFromOffset.{end_if_matched, direction_of_forward_flag}
 use Rattle.regress_program.specs.CompilationOfTreesAsFunction.{compiled}
-use Rattle.regress_program.specs.InsnMeanings.{spec_insn_of}
+use Rattle.regress_program.specs.InsnsAndStartPredicatesAsSpec.{insn_as_spec_insn}
 use Rattle.regress_machine.specs.Machine as machine
 use Rattle.regress_machine.specs.Machine.{go_if}
 use Rattle.regress_pikevm.specs.States.{state_of}
 use Rattle.regress_pikevm.specs.InsnEffects.{effect_of_insn}
 use Rattle.regress_scan.proofs.Passing.{turn-leads, turn-passes}
 use Rattle.regress_pikevm.proofs.pikevm.single_insn_execution.execute_test.Given.{Over}
-use Rattle.regress_pikevm.proofs.pikevm.single_insn_execution.execute_test.Goals.{After-insn_matches}
+use Rattle.regress_pikevm.proofs.pikevm.single_insn_execution.execute_test.Goals.{After-read_or_assertion_insn_matches}
 use Rattle.regress_pikevm.proofs.pikevm.single_insn_execution.execute_test.Goals as goal
 
-pub insn_matches-requires-clause-can : goal.insn_matches-requires-clause-can
-insn_matches-requires-clause-can g c =
+pub read_or_assertion_insn_matches-requires-clause-can : goal.read_or_assertion_insn_matches-requires-clause-can
+read_or_assertion_insn_matches-requires-clause-can g c =
     let searched = c.args.searched.now in
     let text = g.Input.InputIndexer.text searched.input in
     turn-leads (compiled (tree_of searched.program.now)) text (g.met.Input.InputIndexer.is_text searched.input) (direction_of_forward_flag g.Dir.Direction.FORWARD)
-    (spec_insn_of c.args.insn) (state_of g.Input.Position.PositionType.offset c.args.state) c.requires.can c.requires.reader
+    (insn_as_spec_insn c.args.insn) (state_of g.Input.Position.PositionType.offset c.args.state) c.requires.can c.requires.reader
 
 -- where it goes, by whether the instruction passes
-passed : (g : Over) (c : After-insn_matches g) (b : Bool) → c.insn_matches.result ≡ b
+passed : (g : Over) (c : After-read_or_assertion_insn_matches g) (b : Bool) → c.read_or_assertion_insn_matches.result ≡ b
     → (let s : machine.State = state_of g.Input.Position.PositionType.offset c.args.state in
-    go_if b (record s { ip = s.ip + 1; pos = g.Input.Position.PositionType.offset c.insn_matches.new.pos })
+    go_if b (record s { ip = s.ip + 1; pos = g.Input.Position.PositionType.offset c.read_or_assertion_insn_matches.new.pos })
     ≡ effect_of_insn g.Input.Position.PositionType.offset c.args.searched.now.program.now (g.Input.InputIndexer.text c.args.searched.now.input)
     g.Dir.Direction.FORWARD c.args.insn c.args.state)
 passed g c b is =
     let searched = c.args.searched.now in
     let offset = g.Input.Position.PositionType.offset in
-    let to = offset c.insn_matches.new.pos in
+    let to = offset c.read_or_assertion_insn_matches.new.pos in
     turn-passes (compiled (tree_of searched.program.now)) (g.Input.InputIndexer.text searched.input) (g.met.Input.InputIndexer.is_text searched.input)
-    (direction_of_forward_flag g.Dir.Direction.FORWARD) (spec_insn_of c.args.insn) (state_of offset c.args.state) b to c.requires.can c.requires.reader
-    (λ literal. (c.requires.bytes literal).reads) c.requires.inside (ap (λ b. Some (end_if_matched b to)) (sym is) ∙ c.insn_matches.ensures)
+    (direction_of_forward_flag g.Dir.Direction.FORWARD) (insn_as_spec_insn c.args.insn) (state_of offset c.args.state) b to c.requires.can c.requires.reader
+    (λ literal. (c.requires.bytes literal).reads) c.requires.inside (ap (λ b. Some (end_if_matched b to)) (sym is) ∙ c.read_or_assertion_insn_matches.ensures)
 
-pub returns-then-insn_matches : goal.returns-then-insn_matches
-returns-then-insn_matches g c = passed g (goal.at.returns-then-insn_matches g c).After-insn_matches true c.if-insn_matches.true
+pub returns-then-read_or_assertion_insn_matches : goal.returns-then-read_or_assertion_insn_matches
+returns-then-read_or_assertion_insn_matches g c = passed g (goal.at.returns-then-read_or_assertion_insn_matches g c).After-read_or_assertion_insn_matches true c.if-read_or_assertion_insn_matches.true
 
-pub returns-else-insn_matches : goal.returns-else-insn_matches
-returns-else-insn_matches g c = passed g (goal.at.returns-else-insn_matches g c).After-insn_matches false c.if-insn_matches.false
+pub returns-else-read_or_assertion_insn_matches : goal.returns-else-read_or_assertion_insn_matches
+returns-else-read_or_assertion_insn_matches g c = passed g (goal.at.returns-else-read_or_assertion_insn_matches g c).After-read_or_assertion_insn_matches false c.if-read_or_assertion_insn_matches.false

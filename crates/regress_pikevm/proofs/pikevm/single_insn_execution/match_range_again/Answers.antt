@@ -1,5 +1,5 @@
 use Rattle.std.proofs.Common.{◌≡◌, ◌+◌, Bool, ap, sym, subst, ◌∙◌, true, false}
-use Rattle.regress_input.specs.ReadsFromOffset.{end_if_matched, direction_of_forward_flag}
+use Rattle.regress_input.specs.CharAndByteReadsFromOffset.{end_if_matched, direction_of_forward_flag}
 use Rattle.regress_machine.specs.Machine as machine
 use Rattle.regress_machine.specs.Machine.{go_if, read_group}
 use Rattle.regress_pikevm.specs.States.{range_of, state_of}

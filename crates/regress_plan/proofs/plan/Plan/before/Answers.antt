@@ -6,7 +6,7 @@ use Rattle.regress_plan.specs.declared.lookbehind_filter.PrecedingCharFilter.{Pr
 use Rattle.regress_plan.specs.declared.ops.Op.{Op}
 use Rattle.regress_plan.specs.declared.ops.Op.TheVariants.{LineStart}
 use Rattle.regress_plan.specs.LookbehindFilter.{IsLookbehindFilter}
-use Rattle.regress_plan.specs.PrecedingCharFilterFromOps.{FilterHasKeysOfSet}
+use Rattle.regress_plan.specs.PrecedingCharFilterFromOps.{FilterIncludesAllKeysOfSet}
 use Rattle.regress_plan.specs.TableKeysOfUnits.{is_16_bit_width}
 use Rattle.regress_plan.specs.RequiredPrefixAnalysis.{AreOpsOfProgram}
 use Rattle.regress_plan.proofs.BeforeLemmas.{all-some, line-of-op}
@@ -22,6 +22,6 @@ returns-in-Some-LineStart c =
     ∙ slice_get-get_or c.deref.result.now 0 c.in-Some-LineStart.field-0.now c.in-Some-LineStart.ensures.lookup.3.0
     ∙ ap Some (sym c.in-Some-LineStart.ensures.lookup.1 ∙ c.in-Some-LineStart.field-0-is) in
     let Q : PrecedingCharFilter → Type 0 = λ before. (program : Program) → AreOpsOfProgram wide program plan → IsLookbehindFilter wide program before in
-    all-some c.of.result (FilterHasKeysOfSet wide c.line_end_first_set.result true) Q
+    all-some c.of.result (FilterIncludesAllKeysOfSet wide c.line_end_first_set.result true) Q
     (λ before has program ops. line-of-op wide plan c.line_end_first_set.result before program ops multiline there c.if-multiline.true c.line_end_first_set.ensures has)
     c.of.ensures

@@ -2,7 +2,7 @@ use Rattle.std.proofs.Common.{◌≡◌, map, take, take_all, ◌∙◌, ap, ari
 use Rattle.std.specs.Prelude.{nat_lt, ◌&&◌}
 use Rattle.regex_meaning.specs.Outcomes.{in_intervals}
 use Rattle.regex_meaning.specs.StartPredicate.{bytes_that_pass}
-use Rattle.regex_pattern_front.specs.ByteSetMembers.{ascii_bitmap_bytes}
+use Rattle.regex_pattern_front.specs.ByteSetMembers.{member_bytes_of_ascii_bitmap}
 use Rattle.regex_pattern_front.specs.Intervals.{interval_of}
 use Rattle.regress_program.proofs.AsciiLemmas.{ascii_none, ascii_more}
 use Rattle.std.proofs.lemmas.List.{length-map}
@@ -13,7 +13,7 @@ loop-interval-init c = c.default-bitmap.ensures ∙ ascii_none
 
 pub loop-interval-preserved : goal.loop-interval-preserved
 loop-interval-preserved c =
-    ascii_more interval_of c.args.intervals.now c.loop-interval.interval-index _ (ascii_bitmap_bytes c.loop-interval.bitmap) _ (omega arith)
+    ascii_more interval_of c.args.intervals.now c.loop-interval.interval-index _ (member_bytes_of_ascii_bitmap c.loop-interval.bitmap) _ (omega arith)
     c.loop-interval.invariant c.add_ascii_members.ensures
 
 pub returns : goal.returns

@@ -9,4 +9,4 @@ pub returns-then-not-contents : goal.returns-then-not-contents
 returns-then-not-contents c =
     let sets = ap (list_all (λ i. nat_lt i.1 128 || nat_lt i.1 i.0)) c.intervals.ensures in
     let seen = list_all-map (λ i. nat_lt i.1 128 || nat_lt i.1 i.0) interval_of c.intervals.result.now in
-    rw c.if-not-contents.true (c.are_ascii.ensures ∙ sym seen ∙ sets)
+    rw c.if-not-contents.true (c.intervals_are_ascii.ensures ∙ sym seen ∙ sets)

@@ -1,7 +1,7 @@
 use Rattle.std.proofs.Common.{◌≡◌, drop}
 use Rattle.std.specs.Prelude.{nat_le}
 use Rattle.std.specs.List.{list_all}
-use Rattle.regress_program.specs.EmitterModel.{strings_as_code_points}
+use Rattle.regress_program.specs.EmitterStateAndAppendedCode.{strings_as_code_points}
 use Rattle.regress_program.proofs.emit.well_formedness_check.are_code_points.Given as goal
 
 abbrev pub invariant-loop-string : goal.invariant-loop-string

@@ -1,7 +1,7 @@
 use Rattle.std.proofs.Common.{◌≡◌, ◌∙◌, ap, sym, arith}
 use Rattle.regex_meaning.specs.WellFormedTrees.{ends_in_goal}
 use Rattle.regex_pattern_front.specs.AstToSpecTree.{node_of}
-use Rattle.regress_program.specs.LeavesListsAndCharLoops.{cat_of}
+use Rattle.regress_program.specs.LeafNodesAndOptimizableLoops.{cat_of}
 use Rattle.regress_program.proofs.LeafLemmas.{ends-other}
 use Rattle.regress_program.proofs.NodeLemmas.{node_of-Cat, ends_in_goal-none, ends_in_goal-last}
 use Rattle.regress_program.proofs.Weights.{inner_node_count, weight-member}

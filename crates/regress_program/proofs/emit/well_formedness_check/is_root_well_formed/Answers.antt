@@ -2,7 +2,7 @@ use Rattle.std.proofs.Common.{◌≡◌, ◌≤◌, true, false, length, ◌∙�
 use Rattle.regex_meaning.specs.Tree.{group_ids}
 use Rattle.regex_meaning.proofs.WellFormedLemmas.{clauses}
 use Rattle.regex_pattern_front.specs.AstToSpecTree.{node_of}
-use Rattle.regress_program.specs.GroupIds.{id_end, ids_are_distinct_and_node_ranges_exact}
+use Rattle.regress_program.specs.GroupIdsInWellFormednessCheck.{id_end, group_ids_distinct_and_ranges_exact}
 use Rattle.regress_program.proofs.IdLemmas.{sound_is_well_formed, well_formed_is_sound, well_formed_is_found, well_formed_has_room, few_ids}
 use Rattle.regress_program.proofs.IdLemmas.{false_is_true}
 use Rattle.regress_program.proofs.emit.well_formedness_check.is_root_well_formed.Goals as goal

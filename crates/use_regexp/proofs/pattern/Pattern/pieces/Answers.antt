@@ -1,7 +1,7 @@
 use Rattle.std.proofs.Common.{◌≡◌, ◌≤◌, ◌⊎◌, ◌∙◌, ap, map, sym, subst, length}
 use Rattle.std.proofs.lemmas.List.{take-map}
 use Rattle.std.specs.Prelude.{IfNone, None, option_map}
-use Rattle.regress_exec.specs.MatchAnswers.{range_of}
+use Rattle.regress_exec.specs.MatchesAsSpecAnswers.{range_as_pair}
 use Rattle.use_regexp.specs.Split.{separator}
 use Rattle.use_regexp.proofs.SplitLemmas.{cut-more, cut-none, cut-smaller, enough, split-end}
 use Rattle.use_regexp.proofs.pattern.Pattern.pieces.Goals as goal
@@ -10,7 +10,7 @@ pub wanted_separator-requires : goal.wanted_separator-requires
 wanted_separator-requires c = c.cuts.invariant.inside
 
 pub cuts-init : goal.cuts-init
-cuts-init c = cut-none c.args.self.now c.args.text.now c.args.limit _ (ap (map (option_map range_of)) c.new-pieces.ensures.items)
+cuts-init c = cut-none c.args.self.now c.args.text.now c.args.limit _ (ap (map (option_map range_as_pair)) c.new-pieces.ensures.items)
 
 pub cuts-preserved : goal.cuts-preserved
 cuts-preserved c =
@@ -32,7 +32,7 @@ returns-clause-pieces c =
     let p = c.args.self.now in
     let us = c.args.text.now in
     let from = c.cuts.from in
-    let f = option_map range_of in
+    let f = option_map range_as_pair in
     let items = c.cuts.pieces.items in
     let all = c.push_piece.new.pieces.items in
     let ends = subst (λ o. IfNone o ((separator p us from ≡ None) ⊎ (c.args.limit ≤ length c.as_slice.result.now))) c.in_default.is c.in_ok-found.ensures.ends in

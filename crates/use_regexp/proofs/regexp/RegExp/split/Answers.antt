@@ -1,6 +1,6 @@
 use Rattle.std.proofs.Common.{◌∙◌, map, sym}
 use Rattle.std.specs.Prelude.{option_map}
-use Rattle.regress_exec.specs.MatchAnswers.{range_of}
+use Rattle.regress_exec.specs.MatchesAsSpecAnswers.{range_as_pair}
 use Rattle.regress_match.proofs.FlagLemmas.{IfOk-map}
 use Rattle.use_regexp.proofs.SplitLemmas.{split-empty, split-some}
 use Rattle.use_regexp.proofs.regexp.RegExp.split.Goals as goal
@@ -8,9 +8,9 @@ use Rattle.use_regexp.proofs.regexp.RegExp.split.Goals as goal
 pub returns-then-is_empty-clause-split : goal.returns-then-is_empty-clause-split
 returns-then-is_empty-clause-split c =
     IfOk-map c.pieces_of_none.result _ _
-    (λ v e. split-empty c.args.self.now.pattern c.args.text.now c.args.limit (map (option_map range_of) v.items) (sym c.is_empty.ensures ∙ c.if-is_empty.true) e) c.pieces_of_none.ensures.pieces
+    (λ v e. split-empty c.args.self.now.pattern c.args.text.now c.args.limit (map (option_map range_as_pair) v.items) (sym c.is_empty.ensures ∙ c.if-is_empty.true) e) c.pieces_of_none.ensures.pieces
 
 pub returns-clause-split : goal.returns-clause-split
 returns-clause-split c =
     IfOk-map c.pieces.result _ _
-    (λ v h. split-some c.args.self.now.pattern c.args.text.now c.args.limit (map (option_map range_of) v.items) (sym c.is_empty.ensures ∙ c.if-is_empty.false) h) c.pieces.ensures.pieces
+    (λ v h. split-some c.args.self.now.pattern c.args.text.now c.args.limit (map (option_map range_as_pair) v.items) (sym c.is_empty.ensures ∙ c.if-is_empty.false) h) c.pieces.ensures.pieces

@@ -1,19 +1,19 @@
 use Rattle.std.proofs.Common.{◌∙◌, ap, nat_le, not, refl, subst, sym}
-use Rattle.regress_match.specs.ProgramTreesAndAnswers.{byte_tree}
-use Rattle.regress_match.specs.ExpansionsAndMatchRanges.{MatchesAreOrderedFrom}
+use Rattle.regress_match.specs.ProgramTreesAndAnswers.{tree_for_byte_units}
+use Rattle.regress_match.specs.ExpansionsAndMatchRanges.{MatchesFitTextInOrderFrom}
 use Rattle.regress_match.proofs.CallerLemmas.{matches-stand}
 use Rattle.regress_match.proofs.FlagLemmas.{IfOk-map}
 use Rattle.regress_match.proofs.Starts.{utf8_start, utf8_units}
 use Rattle.regress_match.proofs.api.regex.Regex.find_from.Goals as goal
 
 pub search_with_executor_from-requires : goal.search_with_executor_from-requires
-search_with_executor_from-requires c = λ lifetimes. ((refl, tt), (tt, utf8_start _ c.args.text.now (byte_tree c.args.self.now).flags.unicode refl c.utf8.text c.args.start c.requires))
+search_with_executor_from-requires c = λ lifetimes. ((refl, tt), (tt, utf8_start _ c.args.text.now (tree_for_byte_units c.args.self.now).flags.unicode refl c.utf8.text c.args.start c.requires))
 
 pub returns-clause-ended : goal.returns-clause-ended
 returns-clause-ended c =
-    IfOk-map c.search_with_executor_from.result _ _ (λ it e. e ∙ ap (λ n. not (nat_le c.args.start n)) (utf8_units _ c.args.text.now (byte_tree c.args.self.now).flags.unicode refl c.utf8.text)) c.search_with_executor_from.ensures.ended
+    IfOk-map c.search_with_executor_from.result _ _ (λ it e. e ∙ ap (λ n. not (nat_le c.args.start n)) (utf8_units _ c.args.text.now (tree_for_byte_units c.args.self.now).flags.unicode refl c.utf8.text)) c.search_with_executor_from.ensures.ended
 
 pub returns-clause-stand : goal.returns-clause-stand
 returns-clause-stand c =
     IfOk-map c.search_with_executor_from.result _ _
-    (λ it y. subst (MatchesAreOrderedFrom c.args.text.now c.args.start) (sym y.answers) (matches-stand c.args.self.now c.args.text.now c.args.start c.utf8.text)) c.search_with_executor_from.ensures.answers
+    (λ it y. subst (MatchesFitTextInOrderFrom c.args.text.now c.args.start) (sym y.answers) (matches-stand c.args.self.now c.args.text.now c.args.start c.utf8.text)) c.search_with_executor_from.ensures.answers

@@ -1,6 +1,6 @@
 use Rattle.std.proofs.Common.{◌≡◌, ◌∙◌, ap, nat_le, not, rules, subst, sym}
 use Rattle.regress_match.specs.ProgramTreesAndAnswers.{utf8_answers_within_steps}
-use Rattle.regress_match.specs.ExpansionsAndMatchRanges.{MatchesAreOrderedFrom}
+use Rattle.regress_match.specs.ExpansionsAndMatchRanges.{MatchesFitTextInOrderFrom}
 use Rattle.regress_match.proofs.CallerLemmas.{matches-stand, within-stand}
 use Rattle.regress_match.proofs.Starts.{utf8_start, utf8_units}
 use Rattle.regress_match.proofs.api.regex.Regex.find_from_limited.Goals as goal
@@ -17,4 +17,4 @@ pub returns-clause-stand : goal.returns-clause-stand
 returns-clause-stand c =
     let text = c.args.text.now in
     let yields : c.new-matches.result.answers ≡ utf8_answers_within_steps c.args.steps c.args.self.now text c.args.start = search rules in
-    subst (MatchesAreOrderedFrom text c.args.start) (sym yields) (within-stand text c.args.start c.args.steps _ _ (matches-stand c.args.self.now text c.args.start c.utf8.text))
+    subst (MatchesFitTextInOrderFrom text c.args.start) (sym yields) (within-stand text c.args.start c.args.steps _ _ (matches-stand c.args.self.now text c.args.start c.utf8.text))

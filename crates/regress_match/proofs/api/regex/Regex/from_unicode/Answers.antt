@@ -6,7 +6,7 @@ use Rattle.regex_pattern_front.specs.OptimizedTrees.{has_no_char_loops}
 use Rattle.regex_pattern_front.specs.AstToSpecTree.{tree_of, spec_flags_of}
 use Rattle.regress_program.specs.CompilationOfTreesAsFunction.{compiled}
 use Rattle.regress_program.specs.OptimizedTreeUnlessNoOpt.{optimized_tree_unless_no_opt}
-use Rattle.regress_program.specs.CompileRefusals.{IsUnitCompileErrorCause, IsCompileErrorCause}
+use Rattle.regress_program.specs.CompileRefusals.{Is16BitUnitCompileErrorCause, IsCompileErrorCause}
 use Rattle.regex_pattern_front.specs.ParseErrors.{IsParseErrorOf}
 use Rattle.regex_grammar.specs.Grammar.{Parses}
 use Rattle.regress_match.specs.CompileErrors.{error_of_emit, error_of_parse}
@@ -41,6 +41,6 @@ returns-in_err-cr-clause-refused c =
     let refused = c.in_err-cr.ensures.refused in
     err-refused c.from_residual-in_err-cr.result (error_of_emit e) _ _ (λ x h. h) c.from_residual-in_err-cr.ensures.1
     (emit-refuses _ _ tree (subst (λ f. Parses f c.args.pattern.now tree) c.for_front.ensures parsed.tree) e
-    (λ is. subst (λ x. IsUnitCompileErrorCause x tree) is refused parsed.well_formed)
-    (λ is. reads-not tree.root parsed.characters (subst (λ x. IsUnitCompileErrorCause x tree) is refused).1)
+    (λ is. subst (λ x. Is16BitUnitCompileErrorCause x tree) is refused parsed.well_formed)
+    (λ is. reads-not tree.root parsed.characters (subst (λ x. Is16BitUnitCompileErrorCause x tree) is refused).1)
     (subst (λ b. IsCompileErrorCause b e tree) parsed.characters refused))

@@ -1,7 +1,7 @@
 use Rattle.regex_meaning.specs.Text.{ascii_text}
 use Rattle.regress_match.proofs.FlagLemmas.{IfOk-map}
 use Rattle.regex_meaning.proofs.TextLemmas.{ascii_text-IsText}
-use Rattle.regress_match.specs.ProgramTreesAndAnswers.{as_ascii, byte_tree}
+use Rattle.regress_match.specs.ProgramTreesAndAnswers.{bytes_as_ascii_text, tree_for_byte_units}
 use Rattle.regress_match.proofs.CallerLemmas.{ascii-stand}
 use Rattle.regress_match.proofs.FoundLemmas.{at-fits_text, at-found}
 use Rattle.regress_match.proofs.Starts.{ascii_start}
@@ -14,4 +14,4 @@ pub returns-clause-found : goal.returns-clause-found
 returns-clause-found c = IfOk-map c.match_at.result _ _ (λ m. at-found (ascii_text c.args.text.now) _ _ _ _ c.args.at _ c.in_ok-executor.ensures.tree c.in_ok-executor.ensures.text c.byte_program.ensures) c.match_at.ensures.found
 
 pub returns-clause-fits : goal.returns-clause-fits
-returns-clause-fits c = IfOk-map c.match_at.result _ _ (λ m e. at-fits_text (byte_tree c.args.self.now).root (as_ascii c.args.self.now c.args.text.now) (ascii_text-IsText c.args.text.now (byte_tree c.args.self.now).flags.unicode) c.args.text.now c.args.at m (ascii-stand c.args.self.now c.args.text.now c.args.at c.utf8.text c.requires) e) (returns-clause-found c)
+returns-clause-fits c = IfOk-map c.match_at.result _ _ (λ m e. at-fits_text (tree_for_byte_units c.args.self.now).root (bytes_as_ascii_text c.args.self.now c.args.text.now) (ascii_text-IsText c.args.text.now (tree_for_byte_units c.args.self.now).flags.unicode) c.args.text.now c.args.at m (ascii-stand c.args.self.now c.args.text.now c.args.at c.utf8.text c.requires) e) (returns-clause-found c)

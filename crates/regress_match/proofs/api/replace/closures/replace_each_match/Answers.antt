@@ -1,8 +1,8 @@
 use Rattle.std.proofs.Common.{◌≡◌, ap, refl, string_bytes}
-use Rattle.regress_exec.specs.MatchAnswers.{answer_of}
+use Rattle.regress_exec.specs.MatchesAsSpecAnswers.{answer_of}
 use Rattle.regress_exec.specs.RemainingAnswers.{RemainingView}
 use Rattle.regress_match.proofs.Answering.{IsBegun, begins, ends, goes-answered, refuses-answered}
-use Rattle.regress_match.specs.ReplacementClosures.{ClosureCanBeCalled}
+use Rattle.regress_match.specs.ReplacementClosuresReturningStrings.{ClosureCanBeCalled}
 use Rattle.regress_match.proofs.CallerLemmas.{IsReached, reached-none, takes-next}
 use Rattle.regress_match.proofs.Replacing.{callable-all, callable-next, callable-rest}
 use Rattle.regress_match.proofs.api.replace.closures.replace_each_match.Given as given

@@ -1,9 +1,9 @@
 use Rattle.std.proofs.Common.{◌∙◌, ap, nat_le, not, refl, subst, sym}
 use Rattle.regex_meaning.specs.Text.{ascii_text}
 use Rattle.regex_pattern_front.specs.AstToSpecTree.{tree_of}
-use Rattle.regress_bounded.specs.ProgramWorkBounds.{IsBoundOf}
-use Rattle.regress_match.specs.ProgramTreesAndAnswers.{byte_tree}
-use Rattle.regress_match.specs.ExpansionsAndMatchRanges.{MatchesAreOrderedFrom}
+use Rattle.regress_bounded.specs.ProgramWorkBoundForAllMatches.{TreeHasWorkBound}
+use Rattle.regress_match.specs.ProgramTreesAndAnswers.{tree_for_byte_units}
+use Rattle.regress_match.specs.ExpansionsAndMatchRanges.{MatchesFitTextInOrderFrom}
 use Rattle.regress_match.proofs.CallerLemmas.{ascii-stand}
 use Rattle.regress_match.proofs.Starts.{ascii_start, ascii_units}
 use Rattle.regress_match.proofs.WorkLemmas.{bound-Yields, higher-left}
@@ -11,17 +11,17 @@ use Rattle.regress_match.proofs.api.work_budget_searches.BoundedRegex.find_from_
 
 pub matches_ascii-requires : goal.matches_ascii-requires
 matches_ascii-requires c = record {
-  bound = subst (λ t. IsBoundOf (tree_of t) c.self.inside.bytes) (sym c.byte_program-program.ensures) c.self.invariant.bound_for_bytes;
+  bound = subst (λ t. TreeHasWorkBound (tree_of t) c.self.inside.bytes) (sym c.byte_program-program.ensures) c.self.invariant.bound_for_bytes;
   ascii = c.requires;
   start = ascii_start _ c.args.text.now (tree_of c.byte_program-program.result.now).flags.unicode refl c.args.start;
 }
 
 pub returns-clause-yields : goal.returns-clause-yields
-returns-clause-yields c = bound-Yields byte_tree c.self.inside.re.now (ascii_text c.args.text.now) (higher-left _ _) c.self.view_is (ap tree_of c.byte_program-program.ensures) c.in_ok-matches.ensures.yields
+returns-clause-yields c = bound-Yields tree_for_byte_units c.self.inside.re.now (ascii_text c.args.text.now) (higher-left _ _) c.self.view_is (ap tree_of c.byte_program-program.ensures) c.in_ok-matches.ensures.yields
 
 pub returns-clause-stand : goal.returns-clause-stand
 returns-clause-stand c =
-    subst (MatchesAreOrderedFrom c.args.text.now c.args.start) (sym (returns-clause-yields c).answers) (ascii-stand c.args.self.now.re c.args.text.now c.args.start c.utf8.text c.requires)
+    subst (MatchesFitTextInOrderFrom c.args.text.now c.args.start) (sym (returns-clause-yields c).answers) (ascii-stand c.args.self.now.re c.args.text.now c.args.start c.utf8.text c.requires)
 
 pub returns-clause-ended : goal.returns-clause-ended
 returns-clause-ended c = c.in_ok-matches.ensures.ended ∙ ap (λ n. not (nat_le c.args.start n)) (ascii_units _ c.args.text.now (tree_of c.byte_program-program.result.now).flags.unicode refl)

@@ -1,8 +1,8 @@
 use Rattle.std.proofs.Common.{◌∙◌, ap₂, subst}
-use Rattle.regress_match.specs.WorkBounds.{BoundedView, IsWorkBoundOfBothPrograms, higher}
+use Rattle.regress_match.specs.WorkBounds.{BoundedView, IsHigherOfProgramWorkBounds, higher}
 use Rattle.regress_match.proofs.api.work_budget_searches.BoundedRegex.work_per_unit.Goals as goal
 
 pub returns-clause-enough : goal.returns-clause-enough
 returns-clause-enough c =
-    subst (λ (b : BoundedView). IsWorkBoundOfBothPrograms b.re c.higher.result) c.self.view_is
+    subst (λ (b : BoundedView). IsHigherOfProgramWorkBounds b.re c.higher.result) c.self.view_is
     (c.self.inside.bytes, c.self.inside.units, c.self.invariant, c.higher.ensures ∙ ap₂ higher c.per_unit.ensures c.per_unit-2.ensures)

@@ -2,10 +2,10 @@ use Rattle.std.proofs.Common.{◌≡◌, ◌+◌, ◌*◌, ◌∙◌, ap, [], sy
 use Rattle.std.proofs.lemmas.Result.{IfOk-weaker}
 use Rattle.regex_meaning.specs.Tree.{capture_group}
 use Rattle.regex_pattern_front.specs.AstToSpecTree.{node_of}
-use Rattle.regress_program.specs.LeavesListsAndCharLoops.{cat_of}
+use Rattle.regress_program.specs.LeafNodesAndOptimizableLoops.{cat_of}
 use Rattle.regress_program.specs.CompilationOfTreesAsFunction.{code_of, loop_count, brackets_of}
 use Rattle.regress_program.specs.InnerNodeCountMeasure.{inner_node_count}
-use Rattle.regress_program.specs.EmitterModel.{HasIndexRoom, node_with_char_loops_if_enabled, emitter_state, with_code}
+use Rattle.regress_program.specs.EmitterStateAndAppendedCode.{HasIndexRoomForNode, node_with_char_loops_if_enabled, emitter_state, with_code}
 use Rattle.regress_program.specs.PendingEmission.{node_measure}
 use Rattle.regress_program.proofs.EmitLemmas.{room-unnamed}
 use Rattle.regress_program.proofs.LeafLemmas.{leaf-left}
@@ -19,7 +19,7 @@ unfolding node_of node_with_char_loops_if_enabled
 begin_group-requires-clause-room c =
     let is = ap node_of c.in-CaptureGroup.is in
     let inside = node_of c.in-CaptureGroup.contents.value in
-    let room : HasIndexRoom (emitter_state c.args.self.now) (capture_group c.in-CaptureGroup.id [] (node_with_char_loops_if_enabled c.args.mode.narrow inside)) = room-unnamed _ _ _ _ (rw is at c.requires.room) in
+    let room : HasIndexRoomForNode (emitter_state c.args.self.now) (capture_group c.in-CaptureGroup.id [] (node_with_char_loops_if_enabled c.args.mode.narrow inside)) = room-unnamed _ _ _ _ (rw is at c.requires.room) in
     rw c.deref-in-CaptureGroup.ensures room
 
 pub begin_node_list-requires-clause-sets : goal.begin_node_list-requires-clause-sets

@@ -3,10 +3,10 @@ use Rattle.std.specs.Prelude.{nat_lt}
 use Rattle.std.proofs.lemmas.Bool.{and_from}
 use Rattle.regex_meaning.specs.Tree.{alt, every_node_passes}
 use Rattle.regex_meaning.specs.CompilationRelation.{Alt}
-use Rattle.regex_meaning.specs.WellFormedTrees.{sets_and_strings_fit_instructions}
+use Rattle.regex_meaning.specs.WellFormedTrees.{set_sizes_and_characters_fit_instructions}
 use Rattle.regex_pattern_front.specs.AstToSpecTree.{node_of}
 use Rattle.regress_program.specs.InnerNodeCountMeasure.{inner_node_count}
-use Rattle.regress_program.specs.EmitterModel.{node_with_char_loops_if_enabled, emitter_state, with_code}
+use Rattle.regress_program.specs.EmitterStateAndAppendedCode.{node_with_char_loops_if_enabled, emitter_state, with_code}
 use Rattle.regress_program.specs.PendingEmission.{node_measure, pending_measure, is_emittable, with_pending}
 use Rattle.regress_program.proofs.RemainingLemmas.{begun-two, grows-put, place-put, put-alternatives}
 use Rattle.regress_program.proofs.emit.emitter.Emitter.begin_alternatives.Goals as goal
@@ -25,5 +25,5 @@ returns c =
     c.in_ok-push.ensures.items c.in_ok-push-2.ensures.items
     (put-alternatives m.unicode m.behind a b branch s t c.in_ok-append_insn.ensures c.next-branch.ensures)
     (grows-put (Alt 0) s t c.in_ok-append_insn.ensures)
-    (and_from (nat_lt branch (length t.insns)) (every_node_passes sets_and_strings_fit_instructions (node_of c.args.others.now)) place c.requires.others)
+    (and_from (nat_lt branch (length t.insns)) (every_node_passes set_sizes_and_characters_fit_instructions (node_of c.args.others.now)) place c.requires.others)
     c.requires.first (omega arith)

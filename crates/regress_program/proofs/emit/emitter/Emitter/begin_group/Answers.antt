@@ -3,7 +3,7 @@ use Rattle.regex_meaning.specs.Tree.{capture_group}
 use Rattle.regex_meaning.specs.CompilationRelation.{BeginCaptureGroup, EndCaptureGroup}
 use Rattle.regex_pattern_front.specs.AstToSpecTree.{node_of}
 use Rattle.regress_program.specs.InnerNodeCountMeasure.{inner_node_count}
-use Rattle.regress_program.specs.EmitterModel.{node_with_char_loops_if_enabled, emitter_state, with_code, with_insn_appended}
+use Rattle.regress_program.specs.EmitterStateAndAppendedCode.{node_with_char_loops_if_enabled, emitter_state, with_code, with_insn_appended}
 use Rattle.regress_program.specs.PendingEmission.{node_measure, pending_measure, is_emittable, with_pending}
 use Rattle.regress_program.proofs.EmitLemmas.{with_code-capture_group}
 use Rattle.regress_program.proofs.RemainingLemmas.{begun-two, grows-put}

@@ -1,9 +1,9 @@
 use Rattle.std.proofs.Common.{arith}
 use Rattle.regex_meaning.specs.Tree.{lookaround}
 use Rattle.regex_pattern_front.specs.AstToSpecTree.{node_of}
-use Rattle.regress_program.specs.InsnMeanings.{spec_insn_of}
+use Rattle.regress_program.specs.InsnsAndStartPredicatesAsSpec.{insn_as_spec_insn}
 use Rattle.regress_program.specs.InnerNodeCountMeasure.{inner_node_count}
-use Rattle.regress_program.specs.EmitterModel.{lookaround_as_spec, node_with_char_loops_if_enabled, emitter_state, with_code}
+use Rattle.regress_program.specs.EmitterStateAndAppendedCode.{lookaround_as_spec, node_with_char_loops_if_enabled, emitter_state, with_code}
 use Rattle.regress_program.specs.PendingEmission.{node_measure, pending_measure, is_emittable, with_pending}
 use Rattle.regress_program.proofs.RemainingLemmas.{begun-two, grows-put, place-put, put-lookaround}
 use Rattle.regress_program.proofs.emit.emitter.Emitter.begin_lookaround.Goals as goal
@@ -15,7 +15,7 @@ returns c =
     let d = c.args.mode.behind in
     let l = lookaround_as_spec c.args.look in
     let n = node_with_char_loops_if_enabled c.args.mode.narrow (node_of c.args.contents.now) in
-    let x = spec_insn_of c.insn.result in
+    let x = insn_as_spec_insn c.insn.result in
     let head = c.next-head.result in
     let s = emitter_state c.args.self.now in
     let t = emitter_state c.append_insn.new.self in

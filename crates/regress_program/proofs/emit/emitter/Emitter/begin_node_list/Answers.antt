@@ -1,8 +1,8 @@
 use Rattle.std.proofs.Common.{◌≡◌, ◌+◌, ◌*◌, ◌∙◌, ◌∷◌, true, false, arith}
 use Rattle.regex_pattern_front.specs.AstToSpecTree.{node_of}
-use Rattle.regress_program.specs.LeavesListsAndCharLoops.{cat_of, is_leaf}
+use Rattle.regress_program.specs.LeafNodesAndOptimizableLoops.{cat_of, is_leaf}
 use Rattle.regress_program.specs.InnerNodeCountMeasure.{inner_node_count}
-use Rattle.regress_program.specs.EmitterModel.{node_with_char_loops_if_enabled, emitter_state, with_code}
+use Rattle.regress_program.specs.EmitterStateAndAppendedCode.{node_with_char_loops_if_enabled, emitter_state, with_code}
 use Rattle.regress_program.specs.PendingEmission.{pending_measure, is_emittable, with_pending}
 use Rattle.regress_program.proofs.RemainingLemmas.{begun-whole, begun-two, grows-code, grows-then, put-row, row-code, row-ended, row-less, row-light}
 use Rattle.regress_program.proofs.RemainingLemmas.{row-room-first, row-room-rest, row-sets}

@@ -1,9 +1,9 @@
 use Rattle.std.proofs.Common.{◌≡◌, ◌≤◌, length, IsTrue}
 use Rattle.regex_meaning.specs.Tree.{every_node_passes}
-use Rattle.regex_meaning.specs.WellFormedTrees.{sets_and_strings_fit_instructions}
-use Rattle.regress_program.specs.LeavesListsAndCharLoops.{cat_of}
+use Rattle.regex_meaning.specs.WellFormedTrees.{set_sizes_and_characters_fit_instructions}
+use Rattle.regress_program.specs.LeafNodesAndOptimizableLoops.{cat_of}
 use Rattle.regress_program.specs.InnerNodeCountMeasure.{inner_node_count}
-use Rattle.regress_program.specs.EmitterModel.{HasIndexRoom, node_with_char_loops_if_enabled, emitter_state, with_code}
+use Rattle.regress_program.specs.EmitterStateAndAppendedCode.{HasIndexRoomForNode, node_with_char_loops_if_enabled, emitter_state, with_code}
 use Rattle.regress_program.proofs.RemainingLemmas.{Grows}
 use Rattle.regress_program.proofs.emit.emitter.Emitter.begin_node_list.Given as goal
 
@@ -15,8 +15,8 @@ invariant-loop-first l =
     record {
       rest : l.rest.items ≡ l.fn.rest.items;
       grows : Grows (emitter_state l.fn.self) (emitter_state l.self);
-      sets : IsTrue (every_node_passes sets_and_strings_fit_instructions (cat_of l.left));
-      room : HasIndexRoom (emitter_state l.self) row;
+      sets : IsTrue (every_node_passes set_sizes_and_characters_fit_instructions (cat_of l.left));
+      room : HasIndexRoomForNode (emitter_state l.self) row;
       light : inner_node_count row ≤ inner_node_count whole;
       code : with_code m.unicode m.behind row (emitter_state l.self) ≡ with_code m.unicode m.behind whole (emitter_state l.fn.self);
     }

@@ -1,9 +1,9 @@
 use Rattle.std.proofs.Common.{◌∙◌, ap, refl, true, length}
 use Rattle.std.proofs.lemmas.Bool.{and_from}
 use Rattle.regex_meaning.specs.Tree.{every_node_passes}
-use Rattle.regex_meaning.specs.WellFormedTrees.{sets_and_strings_fit_instructions}
+use Rattle.regex_meaning.specs.WellFormedTrees.{set_sizes_and_characters_fit_instructions}
 use Rattle.regex_pattern_front.specs.AstToSpecTree.{node_of}
-use Rattle.regress_program.specs.EmitterModel.{node_with_char_loops_if_enabled, emitter_state, with_code}
+use Rattle.regress_program.specs.EmitterStateAndAppendedCode.{node_with_char_loops_if_enabled, emitter_state, with_code}
 use Rattle.regress_program.specs.PendingEmission.{are_emittable, is_emittable, with_all_pending, with_pending}
 use Rattle.regress_program.proofs.RemainingLemmas.{fits-of, next-can, next-code, next-less, next-ready}
 use Rattle.regress_program.proofs.emit.emitter.Emitter.emit.Goals as goal
@@ -15,7 +15,7 @@ loop-next-init c =
     let items = rw c.in_ok-rest.ensures.items at c.in_ok-push.ensures.items in
     record {
       code = ap (λ x. with_all_pending x s) items;
-      ready = ap (are_emittable (length s.insns)) items ∙ and_from (every_node_passes sets_and_strings_fit_instructions (node_of c.args.node.now)) true c.requires.sets refl;
+      ready = ap (are_emittable (length s.insns)) items ∙ and_from (every_node_passes set_sizes_and_characters_fit_instructions (node_of c.args.node.now)) true c.requires.sets refl;
     }
 
 pub emit_pending-requires : goal.emit_pending-requires

@@ -1,8 +1,8 @@
 use Rattle.std.proofs.Common.{◌≡◌, false, ◌∙◌, sym, length}
 use Rattle.std.proofs.lemmas.List.{length-map}
-use Rattle.regex_meaning.specs.CompilationRelation.{is_ascii_set}
+use Rattle.regex_meaning.specs.CompilationRelation.{is_uninverted_ascii_class}
 use Rattle.regex_pattern_front.specs.AstToSpecTree.{class_as_spec}
-use Rattle.regress_program.specs.EmitterModel.{emitter_state}
+use Rattle.regress_program.specs.EmitterStateAndAppendedCode.{emitter_state}
 use Rattle.regress_program.proofs.EmitLemmas.{with_code-ascii, with_code-bracket}
 use Rattle.regress_program.proofs.emit.emitter.Emitter.emit_bracket.Goals as goal
 
@@ -13,7 +13,7 @@ returns-in_ok-append_insn-in-Some c =
 
 pub returns-in_ok-add_bracket-in-None : goal.returns-in_ok-add_bracket-in-None
 returns-in_ok-add_bracket-in-None c =
-    let wide : is_ascii_set (class_as_spec c.args.contents.now) ≡ false = sym c.in-None.ensures.found in
+    let wide : is_uninverted_ascii_class (class_as_spec c.args.contents.now) ≡ false = sym c.in-None.ensures.found in
     let index : c.len-index.result ≡ length (emitter_state c.args.self.now).brackets =
     c.len-index.ensures ∙ c.args.self.now.brackets.ok.0 ∙ sym (length-map c.args.self.now.brackets.items class_as_spec) in
     with_code-bracket c.args.mode.unicode c.args.mode.behind (class_as_spec c.args.contents.now)

@@ -1,6 +1,6 @@
 use Rattle.std.proofs.Common.{◌≡◌, map, drop}
 use Rattle.regex_meaning.specs.CompilationRelation.{ByteSeq, ordered, chunks}
-use Rattle.regress_program.specs.EmitterModel.{emitter_state, with_insns_appended}
+use Rattle.regress_program.specs.EmitterStateAndAppendedCode.{emitter_state, with_insns_appended}
 use Rattle.regress_program.proofs.emit.emitter.Emitter.emit_bytes.Given as goal
 
 abbrev pub invariant-loop-at : goal.invariant-loop-at

@@ -1,6 +1,6 @@
 use Rattle.std.proofs.Common.{◌≡◌}
 use Rattle.regress_program.specs.CompilationOfTreesAsFunction.{group_reset_insns}
-use Rattle.regress_program.specs.EmitterModel.{emitter_state, with_insns_appended}
+use Rattle.regress_program.specs.EmitterStateAndAppendedCode.{emitter_state, with_insns_appended}
 use Rattle.regress_program.proofs.emit.emitter.Emitter.emit_group_resets.Given as goal
 
 abbrev pub invariant-loop-id : goal.invariant-loop-id

@@ -1,7 +1,7 @@
 use Rattle.std.proofs.Common.{◌≡◌, map, drop}
 use Rattle.regex_meaning.specs.Text.{expand_code_point}
 use Rattle.regex_meaning.specs.CompilationRelation.{case_variants_insn, ordered}
-use Rattle.regress_program.specs.EmitterModel.{emitter_state, with_insns_appended}
+use Rattle.regress_program.specs.EmitterStateAndAppendedCode.{emitter_state, with_insns_appended}
 use Rattle.regress_program.proofs.emit.emitter.Emitter.emit_string.Given as goal
 
 abbrev pub invariant-loop-at : goal.invariant-loop-at

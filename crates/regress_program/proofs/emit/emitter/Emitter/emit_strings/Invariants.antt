@@ -1,6 +1,6 @@
 use Rattle.std.proofs.Common.{◌≡◌, ◌+◌, drop, length}
 use Rattle.regress_program.specs.CompilationOfTreesAsFunction.{strings_code, strings_size}
-use Rattle.regress_program.specs.EmitterModel.{emitter_state, with_insns_appended, strings_as_code_points}
+use Rattle.regress_program.specs.EmitterStateAndAppendedCode.{emitter_state, with_insns_appended, strings_as_code_points}
 use Rattle.regress_program.proofs.emit.emitter.Emitter.emit_strings.Given as goal
 
 abbrev pub invariant-loop-at : goal.invariant-loop-at

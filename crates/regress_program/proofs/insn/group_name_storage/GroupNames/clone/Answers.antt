@@ -1,5 +1,5 @@
 use Rattle.std.proofs.Common.{ap, ◌∙◌, sym}
-use Rattle.regress_program.specs.StoredNames.{stored_names}
+use Rattle.regress_program.specs.GroupNamesOwnedOrShared.{stored_names}
 use Rattle.regress_program.proofs.insn.group_name_storage.GroupNames.clone.Goals as goal
 
 pub returns-in_ok-copy_names-in-Own : goal.returns-in_ok-copy_names-in-Own

@@ -1,5 +1,0 @@
-use Rattle.regex_meaning.proofs.Ordered.{answers-resume}
-use Rattle.regex_meaning.proofs.resumed_search_yields_rest.Goals as goal
-
-pub returns : goal.returns
-returns c = λ root text is start before m after. answers-resume root text is before m after start

@@ -1,0 +1,11 @@
+use Rattle.std.proofs.Common.{◌≡◌, ◌∙◌, sym, ap, string_bytes, false}
+use Rattle.std.specs.Prelude.{is_some}
+use Rattle.std.specs.BTreeMap.{get_by_text}
+use Rattle.regex_pattern_front.proofs.ScanLemmas.{number-inserted}
+use Rattle.regex_pattern_front.proofs.group_openings_and_names.GroupAndNameScanState.number.Goals as goal
+
+pub returns-clause-numbers : goal.returns-clause-numbers
+returns-clause-numbers c =
+    let none : is_some (get_by_text c.args.self.now.numbers (string_bytes c.args.name)) ≡ false =
+    ap (λ x. is_some (get_by_text c.args.self.now.numbers x)) (sym c.as_str.ensures.value) ∙ sym c.contains_key.ensures ∙ c.if-contains_key.false in
+    number-inserted c.args.self.now.numbers c.insert.new.self (string_bytes c.args.name) c.args.self.now.groups none c.in_ok-insert.ensures.updates

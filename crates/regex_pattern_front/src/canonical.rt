@@ -1,0 +1,73 @@
+//! `Canonicalize` over all of Unicode.
+
+ghost use Rattle.std.specs.Prelude.{◌≡◌, ◌==◌, ◌≤◌, false, [], ◌∷◌};
+ghost use Rattle.regex_meaning.specs.Canonical.{canonicalize, uppercase_or_itself};
+
+use crate::folding_and_first_bytes::fold_code_point;
+use ucd_case::simple_fold;
+
+/// Returns the code point that is compared in place of `c` when case is ignored (ECMA-262, 21.2.2.8.2
+/// `Canonicalize`, over all of Unicode). With `unicode` it is the simple case folding. Without it, it is the
+/// uppercase form, or `c` if that form is not one code unit, or is in ASCII while `c` is not. For a surrogate
+/// or a number past U+10FFFF it is `c`.
+#[inline]
+pub fn canonicalize(c: u32, unicode: bool) -> u32
+    ensures { result ≡ canonicalize unicode c }
+{
+    if c < 0x80 {
+        fold_code_point(c, unicode)
+    } else {
+        canonicalize_nonascii(c, unicode)
+    }
+}
+
+#[inline(never)]
+fn canonicalize_nonascii(c: u32, unicode: bool) -> u32
+    requires { 0x80 ≤ c }
+    ensures { result ≡ canonicalize unicode c }
+{
+    match char::from_u32(c) {
+        None => c,
+        Some(character) if unicode => u32::from(simple_fold(character)),
+        Some(character) => uppercase(character),
+    }
+}
+
+// Steps 3.c to 3.h of `Canonicalize`, for a character beyond ASCII.
+fn uppercase(character: char) -> u32
+    requires { 0x80 ≤ character }
+    ensures { result ≡ canonicalize false character }
+{
+    let c = u32::from(character);
+    if 0xFFFF < c {
+        return c;
+    }
+    let mut forms = character.to_uppercase();
+    let Some(form) = forms.next() else {
+        return c;
+    };
+    match forms.next() {
+        Some(_) => c,
+        None => unit_beyond_ascii_or(c, u32::from(form)),
+    }
+}
+
+// Returns the uppercase form if it is one code unit beyond ASCII, else the code point itself.
+fn unit_beyond_ascii_or(c: u32, form: u32) -> u32
+    requires { 0x80 ≤ c }
+    ensures { result ≡ uppercase_or_itself c (form ∷ []) }
+{
+    if form < 0x80 || 0xFFFF < form {
+        c
+    } else {
+        form
+    }
+}
+
+/// Checks whether two code points have the same `canonicalize`.
+#[inline]
+pub fn are_alike(c: u32, d: u32, unicode: bool) -> bool
+    ensures { result ≡ (canonicalize unicode c == canonicalize unicode d) }
+{
+    c == d || canonicalize(c, unicode) == canonicalize(d, unicode)
+}

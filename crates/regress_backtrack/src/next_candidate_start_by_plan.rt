@@ -1,0 +1,25 @@
+//! The next candidate start of a search.
+
+ghost use Rattle.regex_meaning.specs.CodeUnitOffsets.{IsBoundary};
+ghost use Rattle.regress_exec.specs.AttemptResultsAndStartsToTry.{NextStartSkipsNoMatch};
+ghost use Rattle.regress_machine.specs.SearchFindsFirstOutcomeAtPlace.{TreeProgramCanSearchText};
+ghost use Rattle.regress_scan.specs.{TreePlanAndText.{program_of}, StartSearch.{IsFirstCandidate}};
+
+use regress_scan::search_context::SearchContext;
+use regress_scan::start_search::first_candidate;
+
+/// Returns the first candidate start at or after an offset, by the plan; `None` if no match begins
+/// from there on.
+#[inline(always)]
+pub(crate) fn first_candidate_start_from<W: SearchContext>(
+    planned: &W,
+    from: usize,
+) -> Option<usize>
+    requires at { IsBoundary (W.searching planned.now).text from }
+    requires can { let w = W.searching planned.now in TreeProgramCanSearchText (program_of w) w.tree w.text }
+    ensures first { IsFirstCandidate (W.searching planned.now) from result }
+    ensures next { let w = W.searching planned.now in NextStartSkipsNoMatch w.tree w.text from result }
+{
+    planned.lemma_plan_fits_program();
+    first_candidate(planned, from)
+}

@@ -1,0 +1,77 @@
+-- Costs of a search that remembers from its first attempt on: char loops without a maximum, and all
+-- attempts of an iteration.
+use Rattle.std.specs.Prelude.{◌≡◌, ◌≤◌, ℕ, zero, suc, ◌+◌, Bool, List, [], ◌∷◌, Some, slice_get}
+use Rattle.regex_meaning.specs.Text.{Text, Direction, rightwards, moved}
+use Rattle.regex_meaning.specs.CompilationRelation.{Program, Loop1CharBody}
+use Rattle.regress_machine.specs.Machine.{State, Thread, waiting, test_of}
+use Rattle.regress_simulation.specs.CharLoopExitStatesByPreference.{behind}
+use Rattle.regress_memo_laws.specs.AmortizedStepCosts.{potential_by}
+use Rattle.regress_memo_laws.specs.MemoPlanChecksAndGuarantees.{plan_taken}
+use Rattle.regress_memo_laws.specs.UnboundedCharLoopsAsMemoSteps.{key_behind}
+use Rattle.regress_memo_laws.specs.CharLoopExitThreadLists.{greedy_loop_threads}
+use Rattle.regress_memo_laws.specs.AttemptsAndWorkOverSuccessiveMatches.{Attempted}
+use Rattle.regress_memo_laws.specs.MemoSearch.{Key, Entry, tried, noted, tries, IsMemory}
+use Rattle.regress_memo_analysis.specs.declared.analysis_result.MemoAnalysis.{MemoAnalysis}
+use Rattle.regress_memo_analysis.specs.WorkBound.{first_row}
+use Rattle.regress_memo_analysis.specs.AnalysisChecks.{unlimited}
+use Rattle.regress_memo_analysis.specs.AnalysisAsLivenessAndPotentials.{analysis_as_liveness, key_code_questions_of, recorded, potentials_of, key_cost_of, insn_direction}
+use Rattle.regress_memo.specs.Laws.{analysis_keys, ListsExactlyKnownKeys}
+use Rattle.regress_memo.specs.AmortizedMemoSearchSteps.{HasCome}
+
+-- ---- Char loops
+
+-- A state at a char loop without a maximum, whose body tests characters with `test`.
+pub record IsEndless (program : Program) (s : State) (test : ℕ → Bool) (least : ℕ) (greedy : Bool) : Type 0 where
+  pub run : slice_get program.insns s.ip ≡ Some (Loop1CharBody least unlimited greedy)
+  pub body : test_of program (slice_get program.insns (s.ip + 1)) ≡ Some test
+
+module _ (program : Program) (text : Text) (t : MemoAnalysis) (d : Direction) (test : ℕ → Bool) (place : ℕ) (s : State) where
+  -- The key of what the loop leaves from `n` characters after a place on.
+  abbrev pub key_on : (n : ℕ) → Key
+  key_on n =
+      key_behind program text (analysis_as_liveness t) (key_code_questions_of t) (insn_direction t) (recorded t) (plan_taken program)
+      d test s place n
+
+  -- The threads that a greedy loop leaves from there.
+  abbrev pub row_on : (n : ℕ) → List Thread
+  row_on n = greedy_loop_threads text test d 0 (moved text d n place) s
+
+  -- The exits after `least` to `least + count - 1` characters, the furthest first, each above the
+  -- record of the loop from it on.
+  abbrev pub row_of_places : (least count : ℕ) → List Entry
+  row_of_places least zero = []
+  row_of_places least (suc count) =
+      tried (waiting (behind text d place s (least + count)))
+      ∷ noted (key_on (least + count)) (row_on (least + count))
+      ∷ row_of_places least count
+
+-- ---- Attempts
+
+module _ (program : Program) (text : Text) (t : MemoAnalysis) where
+  -- Attempts of an iteration, each of which began no earlier than the previous one ended. The next
+  -- one begins at `ahead` or after it. They did `done` units of work and left these keys in the
+  -- memory.
+  pub record HasWalked (ahead done : ℕ) (memory : List Key) : Type 0 where
+    pub from : ℕ
+    pub looks : ℕ
+    pub starts : List ℕ
+    pub attempted : Attempted program text (analysis_as_liveness t) (analysis_keys program text t) (λ k. key_cost_of t k.ip)
+        (potential_by program (potentials_of t) (key_cost_of t) (recorded t)) (first_row program)
+        from ahead looks done memory starts
+    pub order : from ≤ ahead
+    pub is : IsMemory program text (analysis_as_liveness t) (analysis_keys program text t) memory
+
+  -- Such attempts, whose remembered keys are the known ones.
+  pub record IsWalked (known : Key → Bool) (ahead done : ℕ) : Type 0 where
+    pub memory : List Key
+    pub has : HasWalked ahead done memory
+    pub holds : ListsExactlyKnownKeys known memory
+
+  -- An attempt at an offset after these attempts, which reached the entries `row` in `work` units
+  -- of work.
+  pub record IsTrying (known : Key → Bool) (at done work : ℕ) (row : List Entry) : Type 0 where
+    pub memory : List Key
+    pub now : List Key
+    pub has : HasWalked at done memory
+    pub comes : HasCome program text t rightwards memory (tries (first_row program at)) work now row
+    pub holds : ListsExactlyKnownKeys known now

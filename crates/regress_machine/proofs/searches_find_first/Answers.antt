@@ -1,5 +1,0 @@
-use Rattle.regress_machine.proofs.Whole.{searches-find}
-use Rattle.regress_machine.proofs.searches_find_first.Goals as goal
-
-pub returns : goal.returns
-returns c = searches-find

@@ -1,0 +1,75 @@
+-- A search with a memo table, step by step: each thread has a key where its instruction records,
+-- and the work is covered.
+use Rattle.std.specs.Prelude.{◌≡◌, ◌≤◌, ◌<◌, ◌^◌, ℕ, ◌+◌, List, ◌∷◌, ◌++◌, [], Some, None}
+use Rattle.regex_meaning.specs.Laws.{Each}
+use Rattle.regex_meaning.specs.Text.{Text, Direction, rightwards}
+use Rattle.regex_meaning.specs.CodeUnitOffsets.{HasRisingPlaceOffsets, units}
+use Rattle.regex_meaning.specs.CompilationRelation.{Program}
+use Rattle.regress_machine.specs.Machine.{State, Thread, running, waiting, goes, act}
+use Rattle.regress_memo_laws.specs.Liveness.{Agree, outermost, ReadsAsBytes}
+use Rattle.regress_memo_laws.specs.LoopDataKeyCodes.{HasSlotsOfProgram}
+use Rattle.regress_memo_laws.specs.DistinctLists.{IsNew}
+use Rattle.regress_memo_laws.specs.PreservedSlotCounts.{state_of_thread}
+use Rattle.regress_memo_laws.specs.AmortizedStepCosts.{potential_by}
+use Rattle.regress_memo_laws.specs.MemoSearch.{Key, Entry, tried, noted, tries, threads_in, ReachesBySteps}
+use Rattle.regress_memo_analysis.specs.declared.analysis_result.MemoAnalysis.{MemoAnalysis}
+use Rattle.regress_memo_analysis.specs.UnreachedCharLoopBodies.{IsNotLoopBody}
+use Rattle.regress_memo_analysis.specs.WorkBound.{IsWorkBounded, first_row}
+use Rattle.regress_memo_analysis.specs.AnalysisAsLivenessAndPotentials.{analysis_as_liveness, recorded, potentials_of, key_cost_of, insn_direction}
+use Rattle.regress_memo_analysis.specs.CheckedAnalysis.{IsAnalysisOf}
+use Rattle.regress_memo.specs.Laws.{analysis_keys, KeyFails}
+use Rattle.regress_memo.specs.MemoContents.{memo_key_at}
+
+module _ (program : Program) (text : Text) (t : MemoAnalysis) (d : Direction) where
+  -- A sound state of the program at an instruction that is searched in direction `d` and is not the
+  -- body of a char loop.
+  pub record IsKeyed (s : State) : Type 0 where
+    pub of : HasSlotsOfProgram program s
+    pub sound : Agree (analysis_as_liveness t) (units text) outermost d s s
+    pub way : insn_direction t s.ip ≡ d
+    pub no_body : IsNotLoopBody program s.ip
+
+  -- All threads are in such states, so each has a key where its instruction records.
+  abbrev pub AreKeyed : List Thread → Type 0
+  AreKeyed ts = Each (λ u. IsKeyed (state_of_thread u)) ts
+
+  -- From a memory and a list of entries, a search reached other ones in `work` units of work. Each
+  -- unit is covered by the initial potential or by the cost of the keys that were opened.
+  pub record HasCome (memory : List Key) (first : List Entry) (work : ℕ) (now : List Key) (row : List Entry) : Type 0 where
+    pub comes : ReachesBySteps program text (analysis_as_liveness t) (analysis_keys program text t) d (λ k. key_cost_of t k.ip)
+        (potential_by program (potentials_of t) (key_cost_of t) (recorded t)) memory first work now row
+    pub keyed : AreKeyed (threads_in row)
+
+  module _ (memory : List Key) (first : List Entry) (work : ℕ) (now : List Key) (rest : List Entry) where
+    -- One more unit of work.
+    pub record ComesOn : Type 0 where
+      -- A thread executes a step and leaves no record, because it has no key.
+      pub turned : (s : State) (ts : List Thread) → act program text d s ≡ goes ts → memo_key_at t s ≡ None
+          → HasCome memory first work now (tried (running s) ∷ rest)
+          → HasCome memory first (work + 1) now (tries ts ++ rest)
+      -- A thread executes a step and leaves a record, because it has a key that is new.
+      pub recorded : (s : State) (ts : List Thread) (k : Key) → act program text d s ≡ goes ts → memo_key_at t s ≡ Some k
+          → IsNew k now → HasCome memory first work now (tried (running s) ∷ rest)
+          → HasCome memory first (work + 1) now (tries ts ++ noted k (running s ∷ []) ∷ rest)
+      -- A thread whose key is known to fail is dropped.
+      pub known : (s : State) (k : Key) → memo_key_at t s ≡ Some k → KeyFails program text t k
+          → HasCome memory first work now (tried (running s) ∷ rest) → HasCome memory first (work + 1) now rest
+      -- A pending thread is resumed.
+      pub taken_up : (s : State) → HasCome memory first work now (tried (waiting s) ∷ rest)
+          → HasCome memory first (work + 1) now (tried (running s) ∷ rest)
+      -- A record is reached, and its key becomes known.
+      pub reached : (k : Key) (ts : List Thread) → HasCome memory first work now (noted k ts ∷ rest)
+          → HasCome memory first (work + 1) (k ∷ now) rest
+
+-- ---- Laws
+
+-- Each attempt begins with the initial thread, and each unit of work is covered.
+pub record WorkIsCoveredByKeyCosts : Type 0 where
+  pub begins : (program : Program) (t : MemoAnalysis) → IsAnalysisOf program t
+      → (text : Text) → HasRisingPlaceOffsets text → ReadsAsBytes program text → units text < 2 ^ 63
+      → (at : ℕ) → at ≤ units text → (memory : List Key)
+      → HasCome program text t rightwards memory (tries (first_row program at)) 0 memory (tries (first_row program at))
+  pub comes_on : (program : Program) (t : MemoAnalysis) → IsAnalysisOf program t → IsWorkBounded t program
+      → (text : Text) → HasRisingPlaceOffsets text → ReadsAsBytes program text → units text < 2 ^ 63
+      → (d : Direction) (memory : List Key) (first : List Entry) (work : ℕ) (now : List Key) (rest : List Entry)
+      → ComesOn program text t d memory first work now rest

@@ -1,0 +1,28 @@
+-- Re-exports of the laws of this crate. Declares nothing.
+pub use Rattle.regress_memo_laws.specs.Liveness.{LiveDataDecideSearchResult, LiveDataDecideThreadListResult, LiveDataDecideFailure}
+pub use Rattle.regress_memo_laws.specs.MemoKeys.{MemoKeysDecideFailure, NoStateRecursWhilePending, PositionsDecideFailure, RecordedFailuresAreRight}
+pub use Rattle.regress_memo_laws.specs.LivenessExamples.{LivenessExamplesAreRight}
+pub use Rattle.regress_memo_laws.specs.MemoSearch.{DistinctKeysCostAtMostList, PendingFailureRecordsStayRight, RightwardSearchesNeverMoveLeft, StepsKeepInvariant}
+pub use Rattle.regress_memo_laws.specs.MemoSearch.{WorkIsBounded}
+pub use Rattle.regress_memo_laws.specs.AllMatchesWork.{AllMatchesWorkIsLinear, AllMatchesWorkIsBounded}
+pub use Rattle.regress_memo_laws.specs.ThreadPotentials.{OffsetsAndCodesAreKeys, RecordedLoopExitsCoveredByKeys, ThreadsLeftFitInsnPotentials, StepsAreMemoSteps}
+pub use Rattle.regress_memo_laws.specs.ThreadPotentials.{RightwardInsnsNeverMoveLeft}
+pub use Rattle.regress_memo_laws.specs.LookaroundsWithSharedMemo.{KnownResultsDecideLookarounds, LookaroundsLearnKeys, SoundStatesLeaveSoundThreads}
+pub use Rattle.regress_memo_laws.specs.LookaroundsWithSharedMemo.{FoundEndMakesRecordsBelowSucceed}
+pub use Rattle.regress_memo_laws.specs.GroupPreservingInsns.{GroupPreservingInsnsKeepGroupsToEnd}
+pub use Rattle.regress_memo_laws.specs.CharLoopExitThreadLists.{LazyCharLoopThreadsUnfold, GreedyThreadsSplitAtLaterPlace, CharLoopInsnYieldsExitThreads}
+pub use Rattle.regress_memo_laws.specs.LoopDataKeyCodes.{KeyCodesDistinguishLiveLoopData}
+pub use Rattle.regress_memo_laws.specs.UnboundedCharLoopMemoKeys.{CharLoopsHaveKeys}
+pub use Rattle.regress_memo_laws.specs.AttemptsAndWorkOverSuccessiveMatches.{AttemptsAndTheirTotalWorkAreBounded}
+pub use Rattle.regress_memo_laws.specs.EquivalenceAfterSkippingSucceedingLookarounds.{ThreadsStayEquivalent}
+pub use Rattle.regress_memo_laws.specs.UnboundedCharLoopsAsMemoSteps.{UnboundedCharLoopsAreMemoSteps}
+pub use Rattle.regress_memo_laws.specs.MemoPlanChecksAndGuarantees.{CheckedMemoPlansAreSound, ZeroOrOneStepBelowRecord}
+pub use Rattle.regress_memo_laws.specs.AmortizedStepCosts.{StepCostsAreCovered}
+pub use Rattle.regress_memo_laws.specs.FusedStepCosts.{FusedCostsAreCovered}
+pub use Rattle.regress_memo_laws.specs.ThreadListSuccessFromPartSuccess.{ThreadListsSucceedIfPartDoes, KeyFailsWhenRecordReached}
+pub use Rattle.regress_memo_laws.specs.StepSoundness.{StepsAreSound}
+pub use Rattle.regress_memo_laws.specs.MemoSearchSoundness.{SearchesStaySound}
+pub use Rattle.regress_memo_laws.specs.TotalCostsOfRecordingInsns.{RecordingInsnsLeaveLinearPotential}
+pub use Rattle.regress_memo_laws.specs.DelayedMemoizationWorkBudget.{WorkBudgetsSuffice}
+pub use Rattle.regress_memo_laws.specs.PreservedSlotCounts.{StatesKeepSlots}
+pub use Rattle.regress_memo_laws.specs.CappedCharLoopsAndLookarounds.{BoundedLoopOrFailureCostsCovered, CharLoopScansAreMemoSteps, LookaroundCostsAreCovered}

@@ -1,6 +1,0 @@
-use Rattle.regex_pattern_front.specs.AstToSpecTree.{node_of}
-use Rattle.regress_program.proofs.IdLemmas.{unseen_stand}
-use Rattle.regress_program.proofs.emit.group_id_and_range_checks.span_of_valid_group_ids.Goals as goal
-
-pub returns-in-Some-clause-stand : goal.returns-in-Some-clause-stand
-returns-in-Some-clause-stand c = unseen_stand (node_of c.args.root.now) _ c.in-Some.ensures.stand

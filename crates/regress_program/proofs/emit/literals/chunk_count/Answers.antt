@@ -1,6 +1,0 @@
-use Rattle.std.proofs.Common.{sym, ◌∙◌}
-use Rattle.regress_program.proofs.TextLemmas.{length-chunks}
-use Rattle.regress_program.proofs.emit.literals.chunk_count.Goals as goal
-
-pub returns : goal.returns
-returns c = c.div_ceil.ensures ∙ sym (length-chunks c.args.bytes.now)

@@ -1,0 +1,11 @@
+use Rattle.std.proofs.Common.{ap, sym}
+use Rattle.std.specs.Prelude.{is_some}
+use Rattle.regress_program.specs.TryFoldOverTreeNodes.{step_of_test}
+use Rattle.regress_program.proofs.LeafLemmas.{names-other}
+use Rattle.regress_program.proofs.emit.storing_group_names_by_id.NamedGroupDetectorPreorderNodeVisitor.visit_node_or_stop_walk.Goals as goal
+
+pub returns-in_default-clause-goes_on : goal.returns-in_default-clause-goes_on
+returns-in_default-clause-goes_on c = ap (λ b. is_some (step_of_test b c.args.self.now)) (sym (names-other c.args.node.now c.in_default.not-CaptureGroup))
+
+pub returns-in_default-clause-step : goal.returns-in_default-clause-step
+returns-in_default-clause-step c went = ap (λ b. step_of_test b c.args.self.now) (names-other c.args.node.now c.in_default.not-CaptureGroup)

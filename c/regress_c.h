@@ -243,8 +243,9 @@ regress_c_reply regress_c_match_at_ucs2(regress_c_pattern *pattern, const uint16
 
 /*
  * Sets `per_unit` to the work bound of the pattern, and returns DONE: on a text of n bytes, `per_unit` * (n + 1) work
- * is enough for all matches together. Returns EMPTY or MEMORY, or NO_BOUND if no bound is known, as with a lookaround
- * or a backreference (docs/LINEAR.md), and then `per_unit` is unchanged.
+ * is enough for all matches together. (That it is enough for the calls below is tested.) Returns EMPTY or MEMORY, or
+ * NO_BOUND if no bound is known, as with a lookaround or a backreference (docs/LINEAR.md), and then `per_unit` is
+ * unchanged.
  *
  * A unit of work is one step of a thread, one way back to a waiting thread, one character that a loop over characters
  * examines, or one record of a failure.

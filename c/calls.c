@@ -106,6 +106,33 @@ static void bounds(void)
     regress_c_free(&pattern);
 }
 
+/* A pattern that no language has, one that the profile lacks, and one that means another thing in it. */
+static void syntaxes(void)
+{
+    static const char *const texts[] = {"(", "\\101|(?=a)*b", "[^\xE9]"};
+    static const uint16_t units[] = {'\\', '1', '0', '1'};
+    regress_c_bounds all = REGRESS_C_NO_BOUNDS;
+    regress_c_bounds three = {3, 0};
+    regress_c_span spans[ROOM];
+    regress_c_pattern pattern = REGRESS_C_PATTERN_INIT;
+    for (size_t i = 0; i < 3; i++) {
+        for (uint32_t syntax = REGRESS_C_PROFILE; syntax <= REGRESS_C_ES2018 + 1; syntax++) {
+            printf("%s by %" PRIu32 "\n", texts[i], syntax);
+            print_code("compiles", regress_c_compile_utf8_with_syntax(&pattern, bytes(texts[i]), strlen(texts[i]), bytes("i"), 1, syntax, &all));
+            regress_c_reply reply = regress_c_find_utf8(&pattern, bytes("\xC3\x89" "Ab"), 4, 0, spans, ROOM);
+            print_reply("finds", reply);
+            print_spans(spans, reply.count);
+            regress_c_free(&pattern);
+        }
+    }
+    print_code("too long", regress_c_compile_utf8_with_syntax(&pattern, bytes(texts[1]), 4, NULL, 0, REGRESS_C_ES2018, &three));
+    print_code("in UTF-16", regress_c_compile_utf16_with_syntax(&pattern, units, 4, NULL, 0, REGRESS_C_ES2018, &all));
+    print_code("once more", regress_c_compile_utf16_with_syntax(&pattern, units, 4, NULL, 0, REGRESS_C_ES2018, &all));
+    regress_c_free(&pattern);
+    print_code("by the profile", regress_c_compile_utf16_with_syntax(&pattern, units, 4, NULL, 0, REGRESS_C_PROFILE, &all));
+    regress_c_free(&pattern);
+}
+
 static void many_groups(void)
 {
     static uint8_t text[2 * 65536];
@@ -135,6 +162,16 @@ static void diagnoses(void)
     printf(" at %zu\n", at);
     print_reply("a pattern", regress_c_diagnose_utf8(bytes("a"), 1, bytes("u"), 1, &at, cause, sizeof cause));
     print_reply("unknown", regress_c_diagnose_utf8(bytes("a"), 1, bytes("x"), 1, &at, NULL, 0));
+    reply = regress_c_diagnose_utf8_with_syntax(bytes("a\\p{x}"), 6, bytes("u"), 1, REGRESS_C_ES2018, &at, cause, sizeof cause);
+    print_text("no property", reply, cause);
+    printf(" at %zu\n", at);
+    reply = regress_c_diagnose_utf16_with_syntax(units, 5, NULL, 0, REGRESS_C_ES2018, &at, cause, sizeof cause);
+    print_text("in UTF-16", reply, cause);
+    printf(" at %zu\n", at);
+    print_reply("octal", regress_c_diagnose_utf8_with_syntax(bytes("\\1"), 2, NULL, 0, REGRESS_C_ES2018, &at, cause, sizeof cause));
+    print_reply("unknown syntax", regress_c_diagnose_utf8_with_syntax(bytes("("), 1, NULL, 0, 2, &at, cause, sizeof cause));
+    print_reply("unknown syntax", regress_c_diagnose_utf16_with_syntax(units, 5, NULL, 0, 2, &at, cause, sizeof cause));
+    printf(" at %zu\n", at);
 }
 
 static void names(void)
@@ -408,6 +445,7 @@ int main(void)
     printf("version %" PRIu32 ", header %d\n", regress_c_version(), REGRESS_C_VERSION);
     patterns();
     bounds();
+    syntaxes();
     many_groups();
     diagnoses();
     names();

@@ -374,8 +374,10 @@ static uint32_t compile(regress_c_pattern *pattern, text source, const char *fla
     const uint8_t *letters = (const uint8_t *)flags;
     uint8_t cause[40];
     size_t at = SIZE_MAX;
-    uint32_t code = regress_c_compile_utf8(pattern, source.bytes, source.len, letters, strlen(flags));
-    regress_c_reply told = regress_c_diagnose_utf8(source.bytes, source.len, letters, strlen(flags), &at, cause, sizeof cause);
+    uint32_t syntax = below(2) ? REGRESS_C_ES2018 : REGRESS_C_PROFILE;
+    regress_c_bounds all = REGRESS_C_NO_BOUNDS;
+    uint32_t code = regress_c_compile_utf8_with_syntax(pattern, source.bytes, source.len, letters, strlen(flags), syntax, &all);
+    regress_c_reply told = regress_c_diagnose_utf8_with_syntax(source.bytes, source.len, letters, strlen(flags), syntax, &at, cause, sizeof cause);
     check(told.code == code || (code == REGRESS_C_TOO_MANY_LOOPS && told.code == REGRESS_C_DONE), "a diagnosis");
     check(code != REGRESS_C_SYNTAX || at <= source.len, "where something is wrong");
     check((pattern->held != NULL) == (code == REGRESS_C_DONE), "what is held");

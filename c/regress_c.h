@@ -2,8 +2,9 @@
  * Regular expressions with the syntax and meaning of ECMAScript 2018, for C and C++.
  *
  * What this header says of arguments, results and written memory is proved of the library (crates/regress_c), unless a
- * line says that it is tested or measured. That the library reads each pattern as ECMAScript does is tested, and
- * docs/PROFILE.md lists the differences. As with any C function, the caller guarantees the rest:
+ * line says that it is tested or measured. That the library reads each pattern as ECMAScript does is tested. A pattern
+ * is one of a profile of ECMAScript unless a call takes an enum regress_c_syntax; docs/PROFILE.md lists what differs.
+ * As with any C function, the caller guarantees the rest:
  *
  * - A pointer is not NULL and points to as many values as its length says; a text may be read-only. No two parameters
  *   of a call overlap, and nothing that is passed changes during the call. With length 0 a pointer may have any value,
@@ -94,7 +95,20 @@ enum regress_c_code {
     /* No bound of the work of the pattern's searches is known. */
     REGRESS_C_NO_BOUND = 19,
     /* The work limit is reached. */
-    REGRESS_C_WORK_LIMIT = 20
+    REGRESS_C_WORK_LIMIT = 20,
+    /* A syntax is none of enum regress_c_syntax. */
+    REGRESS_C_UNKNOWN_SYNTAX = 21
+};
+
+/* The language of a pattern. */
+enum regress_c_syntax {
+    /* The profile of docs/PROFILE.md, which the functions without a syntax read. */
+    REGRESS_C_PROFILE = 0,
+    /*
+     * The whole language of ECMAScript 2018, with annex B. With the flag i, letters beyond ASCII fold too. The flag v is
+     * ignored.
+     */
+    REGRESS_C_ES2018 = 1
 };
 
 /* A handle that holds a compiled pattern, or nothing. */
@@ -130,6 +144,9 @@ typedef struct regress_c_bounds {
     size_t nesting;
 } regress_c_bounds;
 
+/* The bounds that every pattern is within. */
+#define REGRESS_C_NO_BOUNDS { SIZE_MAX, SIZE_MAX }
+
 /*
  * Compiles `text`, a pattern in UTF-8, with the flags whose letters are `flags`, in any order: i, m, s, u, v.
  *
@@ -152,6 +169,17 @@ uint32_t regress_c_compile_utf16_within(regress_c_pattern *pattern, const uint16
                                         const uint8_t *flags, size_t flags_len, const regress_c_bounds *bounds);
 
 /*
+ * Like regress_c_compile_utf8_within and regress_c_compile_utf16_within, for a pattern of the language `syntax`, an enum
+ * regress_c_syntax. Returns UNKNOWN_SYNTAX if it is another number, and then the handle is unchanged.
+ */
+uint32_t regress_c_compile_utf8_with_syntax(regress_c_pattern *pattern, const uint8_t *text, size_t text_len,
+                                            const uint8_t *flags, size_t flags_len, uint32_t syntax,
+                                            const regress_c_bounds *bounds);
+uint32_t regress_c_compile_utf16_with_syntax(regress_c_pattern *pattern, const uint16_t *text, size_t text_len,
+                                             const uint8_t *flags, size_t flags_len, uint32_t syntax,
+                                             const regress_c_bounds *bounds);
+
+/*
  * Says what is wrong with a pattern. For a syntax error or too many groups, returns SYNTAX, sets `at` to the offset in
  * units of the pattern at which the error begins, and writes the cause in words to `cause`: `count` bytes of UTF-8
  * without a terminating 0. If the buffer is too short, returns SHORT_BUFFER and sets `at` all the same.
@@ -163,6 +191,14 @@ regress_c_reply regress_c_diagnose_utf8(const uint8_t *text, size_t text_len, co
                                         size_t *at, uint8_t *cause, size_t cause_len);
 regress_c_reply regress_c_diagnose_utf16(const uint16_t *text, size_t text_len, const uint8_t *flags, size_t flags_len,
                                          size_t *at, uint8_t *cause, size_t cause_len);
+
+/* The same for a pattern of the language `syntax`. Returns UNKNOWN_SYNTAX if it is none of enum regress_c_syntax. */
+regress_c_reply regress_c_diagnose_utf8_with_syntax(const uint8_t *text, size_t text_len, const uint8_t *flags,
+                                                    size_t flags_len, uint32_t syntax, size_t *at, uint8_t *cause,
+                                                    size_t cause_len);
+regress_c_reply regress_c_diagnose_utf16_with_syntax(const uint16_t *text, size_t text_len, const uint8_t *flags,
+                                                     size_t flags_len, uint32_t syntax, size_t *at, uint8_t *cause,
+                                                     size_t cause_len);
 
 /*
  * Copies the pattern into `into` without compiling it again. Returns DONE, or EMPTY, FULL or MEMORY, and then `into` is
@@ -401,6 +437,7 @@ static inline const char *regress_c_message(uint32_t code)
     case REGRESS_C_NOT_COUNTED: return "steps are counted in UTF-8 only";
     case REGRESS_C_NO_BOUND: return "no work bound is known";
     case REGRESS_C_WORK_LIMIT: return "the work limit is reached";
+    case REGRESS_C_UNKNOWN_SYNTAX: return "unknown syntax";
     default: return "unknown code";
     }
 }

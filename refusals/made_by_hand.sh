@@ -23,7 +23,7 @@ crates/regress_backtrack/src/interpreter.rt
 crates/regress_bounded/src/executor.rt
 crates/regress_exec/src/exec/work_matches.rt
 crates/regress_backtrack/src/step_and_work_budgets.rt
-crates/regex_pattern_front/src/parse.rt
+crates/regex_parser/src/parse.rt
 crates/regress_c/src/refusal.rt'
 
 # The errors, and where one stands as a value.

@@ -58,9 +58,9 @@ def line(flags, pattern, trees):
     return f"{flags}:{pattern}" + (f" → {show(trees[0])}" if trees else "")
 
 
-def write_table(file, lines):
+def write_table(file, lines, name="PATTERNS"):
     with open(file, "w", encoding="utf-8") as out:
-        out.write('//! The table of patterns.\n\n// Rows.\npub(crate) const PATTERNS: &str = r"' + "\n".join(lines) + '\n";\n')
+        out.write(f'//! The table of patterns.\n\n// Rows.\npub(crate) const {name}: &str = r"' + "\n".join(lines) + '\n";\n')
 
 
 def main():

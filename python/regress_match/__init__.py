@@ -20,9 +20,9 @@ from ._patterns import Match, Pattern, RegexFlag
 __version__ = "0.2.0"
 
 __all__ = [
-    "DOTALL", "I", "IGNORECASE", "M", "MULTILINE", "Match", "NOFLAG", "Pattern", "PatternError", "RegexFlag", "S",
-    "StepLimitError", "U", "UNICODE", "UNICODESETS", "V", "compile", "error", "escape", "findall", "finditer",
-    "fullmatch", "library_version", "match", "purge", "search", "split", "sub", "subn",
+    "DOTALL", "I", "IGNORECASE", "M", "MULTILINE", "Match", "NOFLAG", "PROFILE", "Pattern", "PatternError",
+    "RegexFlag", "S", "StepLimitError", "U", "UNICODE", "UNICODESETS", "V", "compile", "error", "escape", "findall",
+    "finditer", "fullmatch", "library_version", "match", "purge", "search", "split", "sub", "subn",
 ]  # fmt: skip
 
 PatternError = error
@@ -37,6 +37,7 @@ M = MULTILINE = RegexFlag.MULTILINE
 S = DOTALL = RegexFlag.DOTALL
 U = UNICODE = RegexFlag.UNICODE
 V = UNICODESETS = RegexFlag.UNICODESETS
+PROFILE = RegexFlag.PROFILE
 
 _kept = functools.lru_cache(maxsize=512, typed=True)(Pattern)
 

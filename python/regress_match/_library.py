@@ -19,6 +19,10 @@ MEMORY = 7
 STEP_LIMIT = 8
 SYNTAX = 9
 
+# The languages of patterns.
+PROFILE = 0
+ES2018 = 1
+
 # Both ends of the range of a group that did not match.
 UNMATCHED = c_size_t(-1).value
 
@@ -30,6 +34,14 @@ NAME = "libregress_c.so"
 
 class RawPattern(Structure):
     _fields_ = [("held", c_void_p)]
+
+
+class RawBounds(Structure):
+    _fields_ = [("length", c_size_t), ("nesting", c_size_t)]
+
+
+# The bounds that every pattern is within.
+_NO_BOUNDS = RawBounds(UNMATCHED, UNMATCHED)
 
 
 class RawReply(Structure):
@@ -63,17 +75,17 @@ _TEXT = [c_char_p, c_size_t]
 _ROOM = [POINTER(c_size_t), c_size_t]
 _FIND = (RawReply, [_PATTERN, *_TEXT, c_size_t, *_ROOM])
 _OPEN = (c_uint32, [_SEARCH, *_TEXT, c_size_t])
-_COMPILE = (c_uint32, [_PATTERN, *_TEXT, *_TEXT])
-_DIAGNOSE = (RawReply, [*_TEXT, *_TEXT, POINTER(c_size_t), c_char_p, c_size_t])
+_COMPILE = (c_uint32, [_PATTERN, *_TEXT, *_TEXT, c_uint32, POINTER(RawBounds)])
+_DIAGNOSE = (RawReply, [*_TEXT, *_TEXT, c_uint32, POINTER(c_size_t), c_char_p, c_size_t])
 
 # The result and the parameters of each function. A text of 16-bit units is passed as bytes. The contents of a `bytes`
 # object begin at a multiple of 8, so they are aligned.
 _CALLS = {
     "version": (c_uint32, []),
-    "compile_utf8": _COMPILE,
-    "compile_utf16": _COMPILE,
-    "diagnose_utf8": _DIAGNOSE,
-    "diagnose_utf16": _DIAGNOSE,
+    "compile_utf8_with_syntax": _COMPILE,
+    "compile_utf16_with_syntax": _COMPILE,
+    "diagnose_utf8_with_syntax": _DIAGNOSE,
+    "diagnose_utf16_with_syntax": _DIAGNOSE,
     "free": (None, [_PATTERN]),
     "range_count": (RawReply, [_PATTERN]),
     "group_name": (RawReply, [_PATTERN, c_size_t, c_char_p, c_size_t]),
@@ -161,9 +173,9 @@ class Handle:
         self._lock = threading.RLock()
         self.range_count = 0
 
-    def compile(self, call, text, units, flags):
+    def compile(self, call, text, units, flags, syntax):
         """Compiles a pattern into this handle, which is empty. Returns the code."""
-        code = call(self._raw, text, units, flags, len(flags))
+        code = call(self._raw, text, units, flags, len(flags), syntax, _NO_BOUNDS)
         if code == DONE:
             self.range_count = library.regress_c_range_count(self._raw).count
         return code

@@ -15,7 +15,7 @@ _MOST_AT_ONCE = 32
 
 
 class RegexFlag(enum.IntFlag):
-    """Flags of a pattern. Their numbers are those of `re`, except V, which `re` does not have."""
+    """Flags of a pattern. Their numbers are those of `re`, except V and PROFILE, which `re` does not have."""
 
     NOFLAG = 0
     I = IGNORECASE = 2
@@ -23,27 +23,33 @@ class RegexFlag(enum.IntFlag):
     S = DOTALL = 16
     U = UNICODE = 32
     V = UNICODESETS = 512
+    PROFILE = 1024
 
 
 _LETTERS = {RegexFlag.I: b"i", RegexFlag.M: b"m", RegexFlag.S: b"s", RegexFlag.U: b"u", RegexFlag.V: b"v"}
 
 
 def _letters(flags):
-    """Returns the letters of flags."""
-    unknown = int(flags) & ~int(sum(_LETTERS))
+    """Returns the letters of flags. PROFILE has none."""
+    unknown = int(flags) & ~int(sum(_LETTERS)) & ~int(RegexFlag.PROFILE)
     if unknown:
         raise ValueError(f"unknown flags {unknown}")
     return b"".join(letter for flag, letter in _LETTERS.items() if flags & flag)
+
+
+def _syntax(flags):
+    """Returns the number of the language of a pattern with these flags."""
+    return lib.PROFILE if flags & RegexFlag.PROFILE else lib.ES2018
 
 
 def _compiled(pattern, flags):
     """Compiles a pattern and returns its handle."""
     if not isinstance(pattern, (str, bytes)):
         raise TypeError(f"a pattern is str or bytes, not {type(pattern).__name__}")
-    source, letters, handle = text_of(pattern), _letters(flags), lib.Handle()
-    code = handle.compile(source.compile, source.data, source.units, letters)
+    source, letters, syntax, handle = text_of(pattern), _letters(flags), _syntax(flags), lib.Handle()
+    code = handle.compile(source.compile, source.data, source.units, letters, syntax)
     if code == lib.SYNTAX:
-        raise _diagnosis(pattern, source, letters)
+        raise _diagnosis(pattern, source, letters, syntax)
     if code == lib.MEMORY:
         raise MemoryError(lib.message(code))
     if code != lib.DONE:
@@ -51,12 +57,12 @@ def _compiled(pattern, flags):
     return handle
 
 
-def _diagnosis(pattern, source, letters):
+def _diagnosis(pattern, source, letters, syntax):
     """Returns the exception for a pattern with a syntax error."""
     at = c_size_t()
 
     def write(room, length):
-        return source.diagnose(source.data, source.units, letters, len(letters), at, room, length)
+        return source.diagnose(source.data, source.units, letters, len(letters), syntax, at, room, length)
 
     reason = lib.written(128, write, lib.SYNTAX).decode()
     return error(reason, pattern, source.index(at.value))
@@ -216,7 +222,7 @@ class Pattern:
 
 def _shown(flags):
     """Returns flags as they are written in code."""
-    return "|".join(f"regress_match.{flag.name}" for flag in _LETTERS if flags & flag)
+    return "|".join(f"regress_match.{flag.name}" for flag in [*_LETTERS, RegexFlag.PROFILE] if flags & flag)
 
 
 def _part(string, start, end):

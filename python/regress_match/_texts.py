@@ -32,16 +32,16 @@ class _Utf8(_Text):
     find = library.regress_c_find_utf8
     match_at = library.regress_c_match_at_utf8
     open = library.regress_c_search_utf8
-    compile = library.regress_c_compile_utf8
-    diagnose = library.regress_c_diagnose_utf8
+    compile = library.regress_c_compile_utf8_with_syntax
+    diagnose = library.regress_c_diagnose_utf8_with_syntax
 
 
 class _Utf16(_Text):
     find = library.regress_c_find_utf16
     match_at = library.regress_c_match_at_utf16
     open = library.regress_c_search_utf16
-    compile = library.regress_c_compile_utf16
-    diagnose = library.regress_c_diagnose_utf16
+    compile = library.regress_c_compile_utf16_with_syntax
+    diagnose = library.regress_c_diagnose_utf16_with_syntax
 
 
 class Ascii(_Utf8):

@@ -16,11 +16,11 @@ import unittest
 from unittest import mock
 
 import regress_match
-from regress_match import I, M, S, U, V
+from regress_match import PROFILE, I, M, S, U, V
 from regress_match._library import MEMORY, Handle, RawReply
 
 HERE = pathlib.Path(__file__).resolve().parent
-JUDGED = HERE.parent.parent / "crates" / "regress_trials" / "data" / "v8.jsonl"
+JUDGED = HERE.parent.parent / "crates" / "regress_trials" / "data"
 LETTERS = {"i": I, "m": M, "s": S, "u": U, "v": V}
 
 
@@ -54,10 +54,17 @@ def load_tests(loader, tests, pattern):
 
 class Judged(unittest.TestCase):
     def test_cases_that_v8_judged_in_bytes(self):
+        self.assertEqual(self.agreeing("v8.jsonl", PROFILE), 1469)
+
+    def test_cases_of_the_whole_language_that_v8_judged_in_bytes(self):
+        self.assertEqual(self.agreeing("es2018.jsonl", 0), 840)
+
+    def agreeing(self, file, syntax):
+        """Compares the cases of a file, and returns their number."""
         count = 0
-        for row in rows(JUDGED):
+        for row in rows(JUDGED / file):
             count += 1
-            pattern, flags, text = row["pattern"], flags_of(row["flags"]), row["text"]
+            pattern, flags, text = row["pattern"], flags_of(row["flags"]) | syntax, row["text"]
             with self.subTest(**row):
                 if row["status"] == 2:
                     self.assertRaises(regress_match.error, regress_match.compile, pattern, flags)
@@ -69,7 +76,7 @@ class Judged(unittest.TestCase):
                 self.assertEqual(spans(regress_match.finditer(pattern, text, flags)), wanted)
                 first = regress_match.search(pattern, text, flags)
                 self.assertEqual(spans([first] if first else []), wanted[:1])
-        self.assertEqual(count, 1469)
+        return count
 
     def test_cases_that_v8_judged_in_units_of_16_bits(self):
         for row in rows(HERE / "v8.jsonl"):
@@ -186,8 +193,10 @@ class Differences(unittest.TestCase):
 
     def test_syntax(self):
         self.assertEqual(regress_match.search("(?<year>\\d+)", "in 18")["year"], "18")
-        for pattern in ["(?P<year>a)", "(?i)a", "(?i:a)", "(?#x)a", "(?>a)", r"\A", r"\Z"]:
+        for pattern in ["(?P<year>a)", "(?i)a", "(?i:a)", "(?#x)a", "(?>a)"]:
             self.assertRaises(regress_match.error, regress_match.compile, pattern)
+        self.assertEqual(regress_match.search(r"\A\Z", "AZ").span(), (0, 2))
+        self.assertRaises(regress_match.error, regress_match.compile, r"\A", U)
         self.assertEqual(regress_match.search(r"\s", "a\u2003").span(), (1, 2))
         self.assertEqual(regress_match.search("[^]+", "a\nb").group(), "a\nb")
         self.assertIsNone(regress_match.search("[]", "a"))
@@ -196,6 +205,21 @@ class Differences(unittest.TestCase):
         self.assertEqual(regress_match.search("(?<=(?:a+))b", "aab").span(), (2, 3))
         self.assertEqual(regress_match.search(r"(b)?\1a", "a").span(), (0, 1))
         self.assertEqual(regress_match.findall("(?:(a)|b)*", "ab"), ["", ""])
+
+    def test_the_whole_language_is_the_default(self):
+        for pattern in [r"\101|(?=a)*b", r"(?<\u0061>b)", "\\cA", b"\\8"]:
+            regress_match.compile(pattern)
+            self.assertRaises(regress_match.error, regress_match.compile, pattern, PROFILE)
+        self.assertEqual(regress_match.findall(r"\p{Lu}", "aÉB", U), ["É", "B"])
+        for flags, wanted in [(I, (0, 1)), (I | PROFILE, None)]:
+            found = regress_match.search("é", "É", flags)
+            self.assertEqual(found and found.span(), wanted)
+        self.assertEqual(regress_match.compile("a", PROFILE).fullmatch("a").span(), (0, 1))
+        shown = repr(regress_match.compile("a", I | PROFILE))
+        self.assertEqual(shown, "regress_match.compile('a', regress_match.I|regress_match.PROFILE)")
+        with self.assertRaises(regress_match.error) as raised:
+            regress_match.compile("a\\p{x}", U)
+        self.assertEqual(raised.exception.pos, 1)
 
     def test_empty_matches(self):
         self.assertEqual(regress_match.findall("|a", "a"), ["", ""])
@@ -263,7 +287,8 @@ class Characters(unittest.TestCase):
         self.assertEqual(regress_match.findall(rb"[\x80-\xff]+", b"a\xc3\xa9b"), [b"\xc3\xa9"])
         self.assertEqual(regress_match.search(b"\xe9+", b"\xe9\xe9").group(), b"\xe9\xe9")
         self.assertEqual(regress_match.search(rb"(?<n>\w)", b"-a")["n"], b"a")
-        self.assertIsNone(regress_match.search(b"\xe9", b"\xc9", I))
+        self.assertEqual(regress_match.search(b"\xe9", b"\xc9", I).span(), (0, 1))
+        self.assertIsNone(regress_match.search(b"\xe9", b"\xc9", I | PROFILE))
         self.assertEqual(regress_match.fullmatch(b"a|ab", b"ab").span(), (0, 2))
         self.assertEqual(regress_match.split(b"(,)", b"a,b"), [b"a", b",", b"b"])
         self.assertEqual(regress_match.sub(b"(b)", rb"<\1>", b"abc"), b"a<b>c")

@@ -5,7 +5,7 @@ use std::fmt;
 /// Flags that say how a pattern is read and matched.
 #[derive(Clone, Copy, Debug, Default, PartialEq, Eq, Hash)]
 pub struct Flags {
-    /// ASCII letters match regardless of case (`i`).
+    /// Letters match regardless of case (`i`): by upper case, or with `u` by simple case folding.
     pub icase: bool,
     /// `^` and `$` also match at line terminators (`m`).
     pub multiline: bool,
@@ -15,7 +15,7 @@ pub struct Flags {
     pub no_opt: bool,
     /// The pattern is read as a sequence of code points, by the stricter grammar (`u`).
     pub unicode: bool,
-    /// Set operations and nested classes, which `v` adds to classes, are refused (`v`).
+    /// Set operations and nested classes, which `v` adds to classes, are refused (`v`). `Syntax::EcmaScript2018` ignores it.
     pub unicode_sets: bool,
 }
 

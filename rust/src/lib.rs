@@ -12,6 +12,9 @@
 //! assert_eq!(re.find_iter(text).count(), 2);
 //! ```
 //!
+//! A pattern is one of the whole language, with annex B; [`Regex::with_syntax`] also compiles patterns of the profile of
+//! `docs/PROFILE.md`.
+//!
 //! The C library that it calls (`crates/regress_c`) is proved. This crate is plain Rust over that library and is not proved.
 #![deny(missing_docs, unsafe_op_in_unsafe_fn)]
 
@@ -28,7 +31,7 @@ pub use crate::bounded::{BoundedRegex, MatchesInWork};
 pub use crate::error::{Cause, Error, SearchError};
 pub use crate::flags::Flags;
 pub use crate::found::{Groups, Match, NamedGroups};
-pub use crate::regex::{escape, Bounds, Regex};
+pub use crate::regex::{escape, Bounds, Regex, Syntax};
 pub use crate::search::{AsciiMatches, Matches, TryMatches};
 
 /// A range of a text, in units of its encoding.

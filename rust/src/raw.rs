@@ -24,6 +24,21 @@ pub mod code {
     pub const WORK_LIMIT: u32 = 20;
 }
 
+/// The languages of patterns.
+pub mod syntax {
+    pub const PROFILE: u32 = 0;
+    pub const ES2018: u32 = 1;
+}
+
+/// How a pattern is read.
+#[derive(Clone, Copy, Debug)]
+pub struct Reading<'f> {
+    /// The letters of its flags.
+    pub flags: &'f str,
+    /// One of the numbers of `syntax`.
+    pub syntax: u32,
+}
+
 /// Both ends of the range of a group that did not match.
 pub const UNMATCHED: usize = usize::MAX;
 
@@ -68,36 +83,40 @@ struct RawSearch {
 
 extern "C" {
     fn regress_c_version() -> u32;
-    fn regress_c_compile_utf8_within(
+    fn regress_c_compile_utf8_with_syntax(
         pattern: *mut RawPattern,
         text: *const u8,
         text_len: usize,
         flags: *const u8,
         flags_len: usize,
+        syntax: u32,
         bounds: *const RawBounds,
     ) -> u32;
-    fn regress_c_compile_utf16_within(
+    fn regress_c_compile_utf16_with_syntax(
         pattern: *mut RawPattern,
         text: *const u16,
         text_len: usize,
         flags: *const u8,
         flags_len: usize,
+        syntax: u32,
         bounds: *const RawBounds,
     ) -> u32;
-    fn regress_c_diagnose_utf8(
+    fn regress_c_diagnose_utf8_with_syntax(
         text: *const u8,
         text_len: usize,
         flags: *const u8,
         flags_len: usize,
+        syntax: u32,
         at: *mut usize,
         cause: *mut u8,
         cause_len: usize,
     ) -> Reply;
-    fn regress_c_diagnose_utf16(
+    fn regress_c_diagnose_utf16_with_syntax(
         text: *const u16,
         text_len: usize,
         flags: *const u8,
         flags_len: usize,
+        syntax: u32,
         at: *mut usize,
         cause: *mut u8,
         cause_len: usize,
@@ -240,32 +259,38 @@ impl Handle {
         }
     }
 
-    pub fn from_utf8(text: &str, flags: &str, bounds: RawBounds) -> Result<Handle, u32> {
+    pub fn from_utf8(text: &str, reading: &Reading<'_>, bounds: RawBounds) -> Result<Handle, u32> {
         let mut handle = Handle::empty();
         // SAFETY: the handle is empty and exclusive, and the slices are valid.
         let code = unsafe {
-            regress_c_compile_utf8_within(
+            regress_c_compile_utf8_with_syntax(
                 &mut handle.raw,
                 text.as_ptr(),
                 text.len(),
-                flags.as_ptr(),
-                flags.len(),
+                reading.flags.as_ptr(),
+                reading.flags.len(),
+                reading.syntax,
                 &bounds,
             )
         };
         done(code, handle)
     }
 
-    pub fn from_utf16(text: &[u16], flags: &str, bounds: RawBounds) -> Result<Handle, u32> {
+    pub fn from_utf16(
+        text: &[u16],
+        reading: &Reading<'_>,
+        bounds: RawBounds,
+    ) -> Result<Handle, u32> {
         let mut handle = Handle::empty();
         // SAFETY: the handle is empty and exclusive, and the slices are valid.
         let code = unsafe {
-            regress_c_compile_utf16_within(
+            regress_c_compile_utf16_with_syntax(
                 &mut handle.raw,
                 text.as_ptr(),
                 text.len(),
-                flags.as_ptr(),
-                flags.len(),
+                reading.flags.as_ptr(),
+                reading.flags.len(),
+                reading.syntax,
                 &bounds,
             )
         };
@@ -365,14 +390,20 @@ fn done<T>(code: u32, value: T) -> Result<T, u32> {
 }
 
 /// Writes what is wrong with a pattern in UTF-8.
-pub fn diagnose_utf8(text: &str, flags: &str, at: &mut usize, cause: &mut [u8]) -> Reply {
+pub fn diagnose_utf8(
+    text: &str,
+    reading: &Reading<'_>,
+    at: &mut usize,
+    cause: &mut [u8],
+) -> Reply {
     // SAFETY: `at` and `cause` are exclusive, and the slices are valid.
     unsafe {
-        regress_c_diagnose_utf8(
+        regress_c_diagnose_utf8_with_syntax(
             text.as_ptr(),
             text.len(),
-            flags.as_ptr(),
-            flags.len(),
+            reading.flags.as_ptr(),
+            reading.flags.len(),
+            reading.syntax,
             at,
             cause.as_mut_ptr(),
             cause.len(),
@@ -381,14 +412,20 @@ pub fn diagnose_utf8(text: &str, flags: &str, at: &mut usize, cause: &mut [u8]) 
 }
 
 /// Writes what is wrong with a pattern in UTF-16.
-pub fn diagnose_utf16(text: &[u16], flags: &str, at: &mut usize, cause: &mut [u8]) -> Reply {
+pub fn diagnose_utf16(
+    text: &[u16],
+    reading: &Reading<'_>,
+    at: &mut usize,
+    cause: &mut [u8],
+) -> Reply {
     // SAFETY: `at` and `cause` are exclusive, and the slices are valid.
     unsafe {
-        regress_c_diagnose_utf16(
+        regress_c_diagnose_utf16_with_syntax(
             text.as_ptr(),
             text.len(),
-            flags.as_ptr(),
-            flags.len(),
+            reading.flags.as_ptr(),
+            reading.flags.len(),
+            reading.syntax,
             at,
             cause.as_mut_ptr(),
             cause.len(),

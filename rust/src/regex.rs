@@ -4,12 +4,32 @@ use crate::bounded::BoundedRegex;
 use crate::error::{Cause, Error, Place, SearchError};
 use crate::flags::Flags;
 use crate::found::{Match, Names};
-use crate::raw::{self, code, Handle, RawBounds, Reply, Span, Text};
+use crate::raw::{self, code, Handle, RawBounds, Reading, Reply, Span, Text};
 use crate::search::{match_of, out_of_memory, splits_character};
 use crate::search::{AsciiMatches, Matches, TryMatches};
 use std::fmt;
 use std::str::FromStr;
 use std::sync::{Arc, Mutex, MutexGuard, PoisonError, TryLockError};
+
+/// The language of a pattern.
+#[derive(Clone, Copy, Debug, Default, PartialEq, Eq, Hash)]
+pub enum Syntax {
+    /// The profile of ECMAScript 2018 that `docs/PROFILE.md` describes. With `i`, only ASCII letters fold.
+    Profile,
+    /// The whole language of ECMAScript 2018, with annex B. With `i`, letters beyond ASCII fold too.
+    #[default]
+    EcmaScript2018,
+}
+
+impl Syntax {
+    fn reading(self, flags: &str) -> Reading<'_> {
+        let syntax = match self {
+            Syntax::Profile => raw::syntax::PROFILE,
+            Syntax::EcmaScript2018 => raw::syntax::ES2018,
+        };
+        Reading { flags, syntax }
+    }
+}
 
 /// The maximum size of a pattern.
 #[derive(Clone, Copy, Debug, PartialEq, Eq)]
@@ -88,13 +108,37 @@ impl Regex {
         flags: F,
         bounds: Bounds,
     ) -> Result<Regex, Error> {
+        Regex::with_syntax(pattern, flags, Syntax::default(), bounds)
+    }
+
+    /// Compiles a pattern of a language if it is within bounds. The other functions compile patterns of
+    /// [`Syntax::EcmaScript2018`].
+    ///
+    /// ```
+    /// use regress_match::{Bounds, Regex, Syntax};
+    ///
+    /// let pattern = r"\101";
+    /// assert!(Regex::new(pattern).unwrap().find("A").is_some());
+    /// assert!(Regex::with_syntax(pattern, "", Syntax::Profile, Bounds::NONE).is_err());
+    /// ```
+    ///
+    /// # Errors
+    ///
+    /// Those of `with_bounds`.
+    pub fn with_syntax<F: Into<Flags>>(
+        pattern: &str,
+        flags: F,
+        syntax: Syntax,
+        bounds: Bounds,
+    ) -> Result<Regex, Error> {
         let flags = flags.into();
         let letters = flags.to_string();
-        match Handle::from_utf8(pattern, &letters, bounds.raw()) {
+        let reading = syntax.reading(&letters);
+        match Handle::from_utf8(pattern, &reading, bounds.raw()) {
             Ok(handle) => Ok(Regex::of(handle, Arc::from(pattern), flags)),
             Err(code) => Err(refusal(
                 code,
-                |at, cause| raw::diagnose_utf8(pattern, &letters, at, cause),
+                |at, cause| raw::diagnose_utf8(pattern, &reading, at, cause),
                 |at| Place {
                     position: at,
                     characters: pattern
@@ -116,17 +160,35 @@ impl Regex {
         I: Iterator<Item = u32>,
         F: Into<Flags>,
     {
+        Regex::from_unicode_with_syntax(pattern, flags, Syntax::default())
+    }
+
+    /// Compiles a pattern of a language that is given by its code points, like `from_unicode`.
+    ///
+    /// # Errors
+    ///
+    /// Those of `new`.
+    pub fn from_unicode_with_syntax<I, F>(
+        pattern: I,
+        flags: F,
+        syntax: Syntax,
+    ) -> Result<Regex, Error>
+    where
+        I: Iterator<Item = u32>,
+        F: Into<Flags>,
+    {
         let flags = flags.into();
         let letters = flags.to_string();
+        let reading = syntax.reading(&letters);
         let (units, lengths) = units_of(pattern)?;
-        match Handle::from_utf16(&units, &letters, Bounds::NONE.raw()) {
+        match Handle::from_utf16(&units, &reading, Bounds::NONE.raw()) {
             Ok(handle) => {
                 let text = String::from_utf16_lossy(&units);
                 Ok(Regex::of(handle, Arc::from(text.as_str()), flags))
             }
             Err(code) => Err(refusal(
                 code,
-                |at, cause| raw::diagnose_utf16(&units, &letters, at, cause),
+                |at, cause| raw::diagnose_utf16(&units, &reading, at, cause),
                 |at| place_in_units(&units, &lengths, at),
             )),
         }

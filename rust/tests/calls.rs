@@ -2,7 +2,7 @@
 
 use regress_match::{
     escape, library_version, AsciiMatches, Bounds, Cause, Error, Flags, Match, Matches, Regex,
-    SearchError,
+    SearchError, Syntax,
 };
 use std::error;
 use std::fmt::Debug;
@@ -27,6 +27,27 @@ fn matches_come_in_turn() {
     assert!(Regex::new("z").unwrap().find("b").is_none());
     let mut once = re.find_iter("");
     assert!(once.next().is_some() && once.next().is_none() && once.next().is_none());
+}
+
+#[test]
+fn patterns_are_of_the_whole_language_by_default() {
+    for pattern in [r"\101|(?=a)*b", r"(?<\u0061>b)|\cA", "[^\u{E9}]\\8"] {
+        assert!(Regex::new(pattern).is_ok(), "{pattern}");
+        assert!(pattern.parse::<Regex>().is_ok());
+        assert!(Regex::with_syntax(pattern, "", Syntax::Profile, Bounds::NONE).is_err());
+    }
+    assert_eq!(Regex::new(r"\101").unwrap().find("A").unwrap().range(), 0..1);
+    assert_eq!(ranges(Regex::with_flags(r"\p{Lu}", "u").unwrap().find_iter("aÉB")), [1..3, 3..4]);
+    let folded = Regex::with_flags("é", "i").unwrap();
+    let plain = Regex::with_syntax("é", "i", Syntax::Profile, Bounds::NONE).unwrap();
+    assert_eq!((folded.find("É").is_some(), plain.find("É").is_some()), (true, false));
+    let octal = || r"\101".chars().map(u32::from);
+    assert!(Regex::from_unicode(octal(), "").unwrap().find("A").is_some());
+    assert!(Regex::from_unicode_with_syntax(octal(), "", Syntax::Profile).is_err());
+    let short = Bounds { length: 3, nesting: 0 };
+    let error = Regex::with_syntax("a\\p{x}", "u", Syntax::default(), short).unwrap_err();
+    assert_eq!(error.cause(), Cause::TooLong);
+    assert_eq!(Regex::with_flags("a\\p{x}", "u").unwrap_err().position(), Some(1));
 }
 
 #[test]

@@ -1,14 +1,11 @@
 //! The cases that another engine judged (`crates/regress_trials/data`): all matches with their groups, in UTF-8, in UTF-16, and with
 //! ample steps.
 
-use regress_match::{Match, Regex};
+use regress_match::{Bounds, Match, Regex, Syntax};
 use std::fmt::Write;
 use std::fs;
 
-const CASES: &str = concat!(
-    env!("CARGO_MANIFEST_DIR"),
-    "/../crates/regress_trials/data/v8.jsonl"
-);
+const CASES: &str = concat!(env!("CARGO_MANIFEST_DIR"), "/../crates/regress_trials/data/");
 
 /// The text of a field, or its number.
 fn field(line: &str, name: &str) -> String {
@@ -71,13 +68,23 @@ fn offsets(text: &str) -> Vec<usize> {
 }
 
 #[test]
-fn judged_cases_agree() {
-    let cases = fs::read_to_string(CASES).expect("the cases are there");
+fn judged_cases_of_the_profile_agree() {
+    assert_eq!(count_agreeing("v8.jsonl", Syntax::Profile), 1469);
+}
+
+#[test]
+fn judged_cases_of_the_whole_language_agree() {
+    assert_eq!(count_agreeing("es2018.jsonl", Syntax::default()), 840);
+}
+
+// Compares the cases of a file, and returns their number.
+fn count_agreeing(file: &str, syntax: Syntax) -> usize {
+    let cases = fs::read_to_string(format!("{CASES}{file}")).expect("the cases are there");
     let mut count = 0;
     for line in cases.lines() {
         let [pattern, flags, text, stdout] =
             ["pattern", "flags", "text", "stdout"].map(|name| field(line, name));
-        let re = Regex::with_flags(&pattern, flags.as_str());
+        let re = Regex::with_syntax(&pattern, flags.as_str(), syntax, Bounds::NONE);
         assert_eq!(re.is_err(), field(line, "status") == "2", "{line}");
         if let Ok(re) = re {
             assert_eq!(lines(re.find_iter(&text), |at| at), stdout, "{line}");
@@ -95,5 +102,5 @@ fn judged_cases_agree() {
         }
         count += 1;
     }
-    assert_eq!(count, 1469);
+    count
 }

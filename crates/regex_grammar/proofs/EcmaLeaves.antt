@@ -76,24 +76,19 @@ octal_begins (three_digits {d = d} e x y z) = (d, _, e, low d x)
     low : (d : ℕ) → is_zero_to_three d ≡ true → is_octal_digit d ≡ true
     low d x = grind arith
 
+-- where no digit is, no octal digit is
+no-octal-digit : {there rest : RemainingCodePoints} {d : ℕ} → next_code_point_passes is_ascii_digit there ≡ false → there ≡ d ∷ rest → is_octal_digit d ≡ true → ⊥
+no-octal-digit {d = d} k e y = true≢false (sym (decimal d y) ∙ sym (ap (next_code_point_passes is_ascii_digit) e) ∙ k)
+  where
+    decimal : (d : ℕ) → is_octal_digit d ≡ true → is_ascii_digit d ≡ true
+    decimal d y = grind arith
+
 -- `\0` is the same by both alternatives
 null_octal : {here a b : RemainingCodePoints} {m : ℕ} → here ≡ 48 ∷ a → next_code_point_passes is_ascii_digit a ≡ false → LegacyOctalEscape here b m → Same a b 0 m
 null_octal e k (one_digit f x l) = (behind e f, ap digit_value (firsts e f))
-null_octal e k (two_digits f x y l) = absurd (no_digit k (behind e f) y)
-  where
-    no_digit : {there rest : RemainingCodePoints} {d : ℕ} → next_code_point_passes is_ascii_digit there ≡ false → there ≡ d ∷ rest → is_octal_digit d ≡ true → ⊥
-    no_digit {d = d} k e y = true≢false (sym (decimal d y) ∙ sym (ap (next_code_point_passes is_ascii_digit) e) ∙ k)
-      where
-        decimal : (d : ℕ) → is_octal_digit d ≡ true → is_ascii_digit d ≡ true
-        decimal d y = grind arith
+null_octal e k (two_digits f x y l) = absurd (no-octal-digit k (behind e f) y)
 null_octal e k (two_high_digits f x y) = absurd (true≢false (sym x ∙ sym (ap is_four_to_seven (firsts e f))))
-null_octal e k (three_digits f x y z) = absurd (no_digit k (behind e f) y)
-  where
-    no_digit : {there rest : RemainingCodePoints} {d : ℕ} → next_code_point_passes is_ascii_digit there ≡ false → there ≡ d ∷ rest → is_octal_digit d ≡ true → ⊥
-    no_digit {d = d} k e y = true≢false (sym (decimal d y) ∙ sym (ap (next_code_point_passes is_ascii_digit) e) ∙ k)
-      where
-        decimal : (d : ℕ) → is_octal_digit d ≡ true → is_ascii_digit d ≡ true
-        decimal d y = grind arith
+null_octal e k (three_digits f x y z) = absurd (no-octal-digit k (behind e f) y)
 
 -- ---- Characters
 

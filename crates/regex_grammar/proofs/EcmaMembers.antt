@@ -36,7 +36,7 @@ use Rattle.regex_grammar.proofs.EcmaLeaves.{one_character, proper-kind, one_prop
 class_letters : (flags : Flags) (c : ℕ) → is_some (class_escape_set flags c) ≡ true → c ∈ "dDwWsS" ≡ true
 class_letters flags c e = grind arith
 
-class_letter : (test : ℕ → Bool) (flags : Flags) (c : ℕ) {s : InvertibleSet} → list_all test (codes "dDwWsS") ≡ true → class_escape_set flags c ≡ Some s → test c ≡ true
+pub class_letter : (test : ℕ → Bool) (flags : Flags) (c : ℕ) {s : InvertibleSet} → list_all test (codes "dDwWsS") ≡ true → class_escape_set flags c ≡ Some s → test c ≡ true
 class_letter test flags c e f = inside test (codes "dDwWsS") c e (class_letters flags c (ap is_some f))
 
 abbrev pub property_letter : Bool → ℕ
@@ -58,10 +58,10 @@ property-test : (test : ℕ → Bool) (invert : Bool) → list_all test (80 ∷ 
 property-test test true e = (and_parts (test 80) _ e).0
 property-test test false e = (and_parts (test 112) _ (and_parts (test 80) _ e).1).0
 
-property-from : {here there a : RemainingCodePoints} {p : Property} → here ≡ there → PropertyExpression there a p → PropertyExpression here a p
+pub property-from : {here there a : RemainingCodePoints} {p : Property} → here ≡ there → PropertyExpression there a p → PropertyExpression here a p
 property-from {a = a} {p = p} e d = subst (λ x. PropertyExpression x a p) (sym e) d
 
-one_class_escape : {flags : Flags} {here a b : RemainingCodePoints} {s t : ℕ → Bool} → CharacterClassEscape flags here a s → CharacterClassEscape flags here b t → Same a b s t
+pub one_class_escape : {flags : Flags} {here a b : RemainingCodePoints} {s t : ℕ → Bool} → CharacterClassEscape flags here a s → CharacterClassEscape flags here b t → Same a b s t
 one_class_escape {flags} (by_letter e f) (by_letter e' f') = (behind e e', ap is_in_invertible_set (Some_inj (sym f ∙ ap (class_escape_set flags) (firsts e e') ∙ f')))
 one_class_escape {flags} (by_letter {letter = l} e f) (by_property i u e' p) =
     absurd (apart (λ c. not (c ∈ "Pp")) (class_letter (λ c. not (c ∈ "Pp")) flags l refl f) (ap not (property-test (λ c. c ∈ "Pp") i refl)) (firsts e (property-here i e')))
@@ -74,7 +74,7 @@ one_class_escape (by_property i u e p) (by_property j v e' q) =
     (s.0, ap₂ (λ z k. is_in_invertible_set (has_property z, k)) s.1 (same-letter i j (firsts x y)))
 
 -- a class escape begins with none of these
-no-class : {flags : Flags} {here there rest : RemainingCodePoints} {s : ℕ → Bool} (c : ℕ) → c ∈ "dDwWsSpP" ≡ false → here ≡ c ∷ rest → CharacterClassEscape flags here there s → ⊥
+pub no-class : {flags : Flags} {here there rest : RemainingCodePoints} {s : ℕ → Bool} (c : ℕ) → c ∈ "dDwWsSpP" ≡ false → here ≡ c ∷ rest → CharacterClassEscape flags here there s → ⊥
 no-class {flags} c f e (by_letter {letter = l} e' g) = apart (λ d. d ∈ "dDwWsSpP") (class_letter (λ d. d ∈ "dDwWsSpP") flags l refl g) f (firsts e' e)
 no-class c f e (by_property i u e' p) = apart (λ d. d ∈ "dDwWsSpP") (property-test (λ d. d ∈ "dDwWsSpP") i refl) f (firsts (property-here i e') e)
 
@@ -91,7 +91,7 @@ one_simple (class_control_letter v f l) (backspace e) = absurd (unlike _ _ refl 
 one_simple (dash u e) (class_control_letter v f l) = absurd (unlike _ _ refl (firsts e f))
 one_simple (class_control_letter v f l) (dash u e) = absurd (unlike _ _ refl (firsts e f))
 
-simple-or-class : {flags : Flags} {here a b : RemainingCodePoints} {c : ℕ} {s : ℕ → Bool} → SimpleClassEscape flags here a c → CharacterClassEscape flags here b s → ⊥
+pub simple-or-class : {flags : Flags} {here a b : RemainingCodePoints} {c : ℕ} {s : ℕ → Bool} → SimpleClassEscape flags here a c → CharacterClassEscape flags here b s → ⊥
 simple-or-class (backspace e) d = no-class 98 refl e d
 simple-or-class (dash u e) d = no-class 45 refl e d
 simple-or-class (class_control_letter u e k) d = no-class 99 refl e d
@@ -112,7 +112,7 @@ escape-from {flags} {named} {a = a} {m = m} e d = subst (λ x. ClassEscape flags
 
 -- ---- Members
 
-one_class_atom : {flags : Flags} {named : Bool} {here a b : RemainingCodePoints} {m n : ClassMember} → ClassAtom flags named here a m → ClassAtom flags named here b n → Same a b m n
+pub one_class_atom : {flags : Flags} {named : Bool} {here a b : RemainingCodePoints} {m n : ClassMember} → ClassAtom flags named here a m → ClassAtom flags named here b n → Same a b m n
 one_class_atom (verbatim e f) (verbatim e' f') = (behind e e', ap character (firsts e e'))
 one_class_atom (escaped e d) (escaped e' d') = one_escape d (escape-from (behind e e') d')
 one_class_atom (backslash_in_class u e f k) (backslash_in_class u' e' f' k') = (behind e e', refl)
@@ -123,24 +123,24 @@ one_class_atom (backslash_in_class u e' g k) (verbatim e f) = absurd (apart (λ 
 one_class_atom (escaped e d) (backslash_in_class u e' g k) = absurd (k (_, _, escape-from (behind e' e) d))
 one_class_atom (backslash_in_class u e' g k) (escaped e d) = absurd (k (_, _, escape-from (behind e' e) d))
 
-atom_starts : {flags : Flags} {named : Bool} {here there : RemainingCodePoints} {m : ClassMember} → ClassAtom flags named here there m → (c : ℕ) × (rest : RemainingCodePoints) × (here ≡ c ∷ rest) × (c ≢ 93)
+pub atom_starts : {flags : Flags} {named : Bool} {here there : RemainingCodePoints} {m : ClassMember} → ClassAtom flags named here there m → (c : ℕ) × (rest : RemainingCodePoints) × (here ≡ c ∷ rest) × (c ≢ 93)
 atom_starts (verbatim {c = c} {there = there} e f) = (c, there, e, (λ g. apart (λ d. d ∈ "\\]") refl f (sym g)))
 atom_starts (escaped {a = a} e d) = (92, a, e, unlike 92 93 refl)
 atom_starts (backslash_in_class {a = a} u e f k) = (92, a, e, unlike 92 93 refl)
 
-is_range : {flags : Flags} {named : Bool} {here b there : RemainingCodePoints} {m : ClassMember} → here ≡ 45 ∷ b → ClassAtom flags named b there m → IsRangeDash here
+pub is_range : {flags : Flags} {named : Bool} {here b there : RemainingCodePoints} {m : ClassMember} → here ≡ 45 ∷ b → ClassAtom flags named b there m → IsRangeDash here
 is_range e d = let h = atom_starts d in (h.0, h.1, e ∙ ap (λ x. 45 ∷ x) h.2, h.3)
 
-atom_from : {flags : Flags} {named : Bool} {here there a : RemainingCodePoints} {m : ClassMember} → here ≡ there → ClassAtom flags named there a m → ClassAtom flags named here a m
+pub atom_from : {flags : Flags} {named : Bool} {here there a : RemainingCodePoints} {m : ClassMember} → here ≡ there → ClassAtom flags named there a m → ClassAtom flags named here a m
 atom_from {flags} {named} {a = a} {m = m} e d = subst (λ x. ClassAtom flags named x a m) (sym e) d
 
 range_from : {a b : RemainingCodePoints} → a ≡ b → IsRangeDash b → IsRangeDash a
 range_from e k = subst IsRangeDash (sym e) k
 
-character_inj : {c d : ℕ} → character c ≡ character d → c ≡ d
+pub character_inj : {c d : ℕ} → character c ≡ character d → c ≡ d
 character_inj {c} {d} e = ap (λ m. elim m [ character x ↦ x | range x y ↦ c | class x ↦ c ]) e
 
-one_member : {flags : Flags} {named : Bool} {here a b : RemainingCodePoints} {ms ns : List ClassMember} → ClassMembers flags named here a ms → ClassMembers flags named here b ns → Same a b ms ns
+pub one_member : {flags : Flags} {named : Bool} {here a b : RemainingCodePoints} {ms ns : List ClassMember} → ClassMembers flags named here a ms → ClassMembers flags named here b ns → Same a b ms ns
 one_member (alone a k) (alone b l) = let h = one_class_atom a b in (h.0, ap (λ x. x ∷ []) h.1)
 one_member (alone a k) (from_to b e d le) = let h = one_class_atom a b in absurd (k (range_from h.0 (is_range e d)))
 one_member (alone a k) (no_range u b e d f) = let h = one_class_atom a b in absurd (k (range_from h.0 (is_range e d)))
@@ -163,7 +163,7 @@ one_member (no_range u a' e' d' f') (from_to a e d le) =
     let k = one_class_atom d (atom_from (behind e (h.0 ∙ e')) d') in
     absurd (true≢false (ap₂ are_characters h.1 k.1 ∙ f'))
 
-member_starts : {flags : Flags} {named : Bool} {here there rest : RemainingCodePoints} {ms : List ClassMember} → ClassMembers flags named here there ms → here ≡ 93 ∷ rest → ⊥
+pub member_starts : {flags : Flags} {named : Bool} {here there rest : RemainingCodePoints} {ms : List ClassMember} → ClassMembers flags named here there ms → here ≡ 93 ∷ rest → ⊥
 member_starts (alone a k) e = let h = atom_starts a in h.3 (firsts h.2 e)
 member_starts (from_to a f d le) e = let h = atom_starts a in h.3 (firsts h.2 e)
 member_starts (no_range u a f d g) e = let h = atom_starts a in h.3 (firsts h.2 e)
@@ -203,11 +203,11 @@ character-from : {g : GrammarParameters} {here there a : RemainingCodePoints} {c
 character-from {g} {a = a} {c = c} e d = subst (λ x. CharacterEscape g x a c) (sym e) d
 
 -- what a letter behind a backslash begins, by a number
-abbrev kind : ℕ → ℕ
+abbrev pub kind : ℕ → ℕ
 kind c = if is_digit c 10 then 48 else if c ∈ "dDwWsS" then 1 else if c ∈ "pP" then 112 else c
 
 -- with names, `\k` is no character
-no-k : (w : PatternContext) {here there rest : RemainingCodePoints} {c : ℕ} → has_named_groups w ≡ true → here ≡ 107 ∷ rest → CharacterEscape (grammar_parameters_of w) here there c → ⊥
+pub no-k : (w : PatternContext) {here there rest : RemainingCodePoints} {c : ℕ} → has_named_groups w ≡ true → here ≡ 107 ∷ rest → CharacterEscape (grammar_parameters_of w) here there c → ⊥
 no-k w named e (non_identity_escape p) = true≢false (sym (proper-kind p (ap (λ x. escape_kind (first x)) e)) ∙ ap (λ x. first x ∈ "tnvfr") e)
 no-k w named e (identity_escape {c = c} f i k) = true≢false (sym (ap (is_identity_escape (grammar_parameters_of w)) (firsts e f) ∙ i) ∙ by w.flags.unicode (has_named_groups w) named)
   where
@@ -224,16 +224,16 @@ module _ {w : PatternContext} {here : RemainingCodePoints} where
   tag (character_escape d k l s) = 0
   tag (named_reference h e d f) = 107
 
-number-kind : {w : PatternContext} {here there : RemainingCodePoints} {n : ℕ} → GroupNumber w here there n → kind (first here) ≡ 48
+pub number-kind : {w : PatternContext} {here there : RemainingCodePoints} {n : ℕ} → GroupNumber w here there n → kind (first here) ≡ 48
 number-kind {here = here} (group_number f d l) = ap (λ x. if x then 48 else if first here ∈ "dDwWsS" then 1 else if first here ∈ "pP" then 112 else first here) (digit_begins d)
 
-letter-kind : (flags : Flags) (c : ℕ) {s : InvertibleSet} → class_escape_set flags c ≡ Some s → kind c ≡ 1
+pub letter-kind : (flags : Flags) (c : ℕ) {s : InvertibleSet} → class_escape_set flags c ≡ Some s → kind c ≡ 1
 letter-kind flags c f = eqb (kind c) (class_letter (λ d. nat_eq (kind d) 1) flags c refl f)
   where
     eqb : (n : ℕ) → nat_eq n 1 ≡ true → n ≡ 1
     eqb n e = eqb-true n 1 e
 
-property-kind : (i : Bool) → kind (property_letter i) ≡ 112
+pub property-kind : (i : Bool) → kind (property_letter i) ≡ 112
 property-kind true = refl
 property-kind false = refl
 
@@ -246,7 +246,7 @@ names_on {a = a} {n = n} e d = subst (λ x. GroupName x a n) (sym e) d
 number-from : {w : PatternContext} {here a b : RemainingCodePoints} {n m : ℕ} → GroupNumber w here a n → GroupNumber w here b m → Same a b n m
 number-from (group_number f d l) (group_number f' d' l') = digits_on refl d d'
 
-apart-kinds : (here : RemainingCodePoints) {n m : ℕ} → kind (first here) ≡ n → kind (first here) ≡ m → nat_eq n m ≡ false → ⊥
+pub apart-kinds : (here : RemainingCodePoints) {n m : ℕ} → kind (first here) ≡ n → kind (first here) ≡ m → nat_eq n m ≡ false → ⊥
 apart-kinds here {n} {m} e f g = unlike n m g (sym e ∙ f)
 
 one_atom_escape : (w : PatternContext) (here a b : RemainingCodePoints) (n m : Node) → AtomEscape w here a n → AtomEscape w here b m → Same a b n m
@@ -295,7 +295,7 @@ c-first (c ∷ cs) e = by (nat_eq 99 c) refl
     by false f = absurd (true≢false (sym e ∙ rw f refl))
 
 -- `\c` where no CharacterEscape is has no AtomEscape
-no-escape : (w : PatternContext) {here there : RemainingCodePoints} {n : Node} → begins_with_characters "c" here ≡ true → ((a : RemainingCodePoints) (c : ℕ) → CharacterEscape (grammar_parameters_of w) here a c → ⊥) → AtomEscape w here there n → ⊥
+pub no-escape : (w : PatternContext) {here there : RemainingCodePoints} {n : Node} → begins_with_characters "c" here ≡ true → ((a : RemainingCodePoints) (c : ℕ) → CharacterEscape (grammar_parameters_of w) here a c → ⊥) → AtomEscape w here there n → ⊥
 no-escape w {here} is none (decimal_escape g) = apart-kinds here (number-kind g) (ap kind (c-first here is)) refl
 no-escape w {here} is none (character_class_escape {letter = l} e f s) = apart-kinds here (ap (λ x. kind (first x)) e ∙ letter-kind w.flags l f) (ap kind (c-first here is)) refl
 no-escape w {here} is none (property_escape i u e p s) = apart-kinds here (ap (λ x. kind (first x)) (property-here i e) ∙ property-kind i) (ap kind (c-first here is)) refl
@@ -308,14 +308,14 @@ abbrev special : RemainingCodePoints
 special = codes "^$\\.*+?()[]{}|"
 
 -- what the first character of an atom begins, by a number
-abbrev atom_kind : ℕ → ℕ
+abbrev pub atom_kind : ℕ → ℕ
 atom_kind c = if contains special c then (if c ∈ "{}]" then 1 else c) else 0
 
-abbrev is_extended : ℕ → Bool
+abbrev pub is_extended : ℕ → Bool
 is_extended c = nat_eq (atom_kind c) 1
 
 module _ {w : PatternContext} {here : RemainingCodePoints} where
-  abbrev atom_tag : {there : RemainingCodePoints} {n : Node} → SimpleAtom w here there n → ℕ
+  abbrev pub atom_tag : {there : RemainingCodePoints} {n : Node} → SimpleAtom w here there n → ℕ
   atom_tag (pattern_character e f s) = 0
   atom_tag (extended_pattern_character e f k l) = 1
   atom_tag (any_character e) = 46
@@ -323,7 +323,7 @@ module _ {w : PatternContext} {here : RemainingCodePoints} where
   atom_tag (backslash u e f k) = 92
   atom_tag (character_class e d) = 91
 
-  atom-tagged : {there : RemainingCodePoints} {n : Node} (x : SimpleAtom w here there n) → (c : ℕ) × (rest : RemainingCodePoints) × (here ≡ c ∷ rest) × (atom_kind c ≡ atom_tag x)
+  pub atom-tagged : {there : RemainingCodePoints} {n : Node} (x : SimpleAtom w here there n) → (c : ℕ) × (rest : RemainingCodePoints) × (here ≡ c ∷ rest) × (atom_kind c ≡ atom_tag x)
   atom-tagged (pattern_character {c = c} e f s) = (c, _, e, ap (λ x. if x then (if c ∈ "{}]" then 1 else c) else 0) f)
   atom-tagged (extended_pattern_character {c = c} e f k l) = (c, _, e, eqb-true (atom_kind c) 1 (inside is_extended (codes "{}]") c refl f))
   atom-tagged (any_character e) = (_, _, e, refl)

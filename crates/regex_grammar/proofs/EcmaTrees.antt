@@ -3,7 +3,7 @@ use Rattle.std.proofs.Common.{◌≡◌, ℕ, Bool, true, false, List, [], lengt
 use Rattle.std.specs.Prelude.{if◌then◌else◌, nat_lt, ◌==◌}
 use Rattle.std.specs.List.{list_all}
 use Rattle.std.proofs.lemmas.Bool.{le-leb}
-use Rattle.regex_meaning.specs.Tree.{Node, Flags, char, char_set, match_any, match_any_except_line_terminator}
+use Rattle.regex_meaning.specs.Tree.{Node, Flags, char, char_set, match_any, match_any_except_line_terminator, by_canonical_case}
 use Rattle.regex_meaning.specs.Canonical.{AreCaseVariants}
 use Rattle.regex_meaning.proofs.CaseVariants.{few-case-variants}
 use Rattle.regex_grammar.specs.ReadingStatesAndDigits.{RemainingCodePoints, PatternContext}
@@ -35,12 +35,12 @@ leaf-spelled greatest flags c members s =
     (record { goals = refl; ids = refl; sound = refl })
 
 escape-is : (w : PatternContext) {here there : RemainingCodePoints} {n : Node} → AtomEscape w here there n → IsWellFormedGrouplessSubtree (groups_in w) n
-escape-is w (decimal_escape {n = n} (group_number f d l)) = leaf-reference (groups_in w) n w.flags.icase (number-positive f d) l
+escape-is w (decimal_escape {n = n} (group_number f d l)) = leaf-reference (groups_in w) n (by_canonical_case w.flags.icase w.flags.unicode) (number-positive f d) l
 escape-is w (character_class_escape e f s) = record { goals = refl; ids = refl; sound = refl }
 escape-is w (property_escape i u e p s) = record { goals = refl; ids = refl; sound = refl }
 escape-is w (character_escape {c = c} {members = members} d k l s) = leaf-spelled (groups_in w) w.flags c members s
 escape-is w (named_reference {name = name} {n = n} h e d f) =
-    let b = number_of-bounds name w.groups n f in leaf-reference (groups_in w) n w.flags.icase b.0 b.1
+    let b = number_of-bounds name w.groups n f in leaf-reference (groups_in w) n (by_canonical_case w.flags.icase w.flags.unicode) b.0 b.1
 
 leaf-is : (w : PatternContext) {here there : RemainingCodePoints} {n : Node} → SimpleAtom w here there n → IsWellFormedGrouplessSubtree (groups_in w) n
 leaf-is w (pattern_character {c = c} {members = members} e f s) = leaf-spelled (groups_in w) w.flags c members s

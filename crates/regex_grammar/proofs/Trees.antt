@@ -5,6 +5,7 @@ use Rattle.std.specs.Prelude.{if◌then◌else◌, nat_le, nat_lt, nat_eq, ◌==
 use Rattle.std.proofs.lemmas.Bool.{le-leb}
 use Rattle.std.proofs.lemmas.List.{reverse-append}
 use Rattle.regex_meaning.specs.Tree.{Node, Flags, Quantifier, group_ids, every_node_passes, goal, char, char_set, cat, end_of_cat, back_ref, match_any}
+use Rattle.regex_meaning.specs.Tree.{Sameness, by_case}
 use Rattle.regex_meaning.specs.Tree.{match_any_except_line_terminator, capture_group, lookaround}
 use Rattle.regex_meaning.specs.Text.{expand_code_point, fold_code_point, code_points_with_fold, to_ascii_uppercase, to_ascii_lowercase}
 use Rattle.regex_meaning.specs.WellFormedTrees.{is_min_at_most_max, number_of_goal_nodes}
@@ -65,8 +66,8 @@ module _ (greatest : ℕ) where
       (record { goals = refl; ids = refl; sound = le-leb (length members) 4 (few_members c flags.icase flags.unicode) })
       (record { goals = refl; ids = refl; sound = refl })
 
-  pub leaf-reference : (id : ℕ) (icase : Bool) → 0 < id → id ≤ greatest → IsWellFormedGrouplessSubtree greatest (back_ref id icase)
-  leaf-reference id icase h k = record {
+  pub leaf-reference : (id : ℕ) (sameness : Sameness) → 0 < id → id ≤ greatest → IsWellFormedGrouplessSubtree greatest (back_ref id sameness)
+  leaf-reference id sameness h k = record {
     goals = refl;
     ids = refl;
     sound = sound (nat_le 1 id) (nat_le id greatest) (le-leb 1 id (omega arith)) (le-leb id greatest k);
@@ -85,9 +86,9 @@ leaf-is w (pattern_character {c = c} e f) = leaf-character (groups_in w) w.flags
 leaf-is w (extended_character {c = c} e f k l) = leaf-character (groups_in w) w.flags c
 leaf-is w (any_character e) =
     leaf-if (groups_in w) w.flags.dot_all match_any match_any_except_line_terminator (record { goals = refl; ids = refl; sound = refl }) (record { goals = refl; ids = refl; sound = refl })
-leaf-is w (decimal_escape {n = n} e f d l) = leaf-reference (groups_in w) n w.flags.icase (number-positive f d) l
+leaf-is w (decimal_escape {n = n} e f d l) = leaf-reference (groups_in w) n (by_case w.flags.icase) (number-positive f d) l
 leaf-is w (named_reference {name = name} {n = n} e d f) =
-    let h = number_of-bounds name w.groups n f in leaf-reference (groups_in w) n w.flags.icase h.0 h.1
+    let h = number_of-bounds name w.groups n f in leaf-reference (groups_in w) n (by_case w.flags.icase) h.0 h.1
 leaf-is w (character_escape {c = c} e d) = leaf-character (groups_in w) w.flags c
 leaf-is w (character_class_escape e f s) = record { goals = refl; ids = refl; sound = refl }
 leaf-is w (character_class e d) = record { goals = refl; ids = refl; sound = refl }

@@ -4,6 +4,7 @@
 use Rattle.std.specs.Prelude.{◌≡◌, ℕ, ◌≤◌, Bool, true, false, not, ◌&&◌, ◌||◌, List, [], ◌∷◌, ◌++◌, nat_lt, length, codes, Some, IsTrue, if◌then◌else◌}
 use Rattle.std.specs.List.{list_any}
 use Rattle.regex_meaning.specs.Tree.{Node, Tree, Flags, BracketContents, Intervals, char, char_set, bracket, match_any, match_any_except_line_terminator, back_ref}
+use Rattle.regex_meaning.specs.Tree.{by_canonical_case}
 use Rattle.regex_meaning.specs.Canonical.{AreCaseVariants}
 use Rattle.regex_grammar.specs.ReadingStatesAndDigits.{RemainingCodePoints, PatternContext, ◌∈◌, begins_with_characters, Digits, group_number_of}
 use Rattle.regex_grammar.specs.EscapesNamesQuantifiers.{BeginsQuantifier}
@@ -27,7 +28,7 @@ node_of_case_variants c members = if nat_lt 1 (length members) then char_set mem
 
 -- the node of a backreference
 abbrev pub reference_node : PatternContext → (group : ℕ) → Node
-reference_node w n = back_ref n w.flags.icase
+reference_node w n = back_ref n (by_canonical_case w.flags.icase w.flags.unicode)
 
 -- DecimalEscape, after the backslash, if it is the number of a group: any other is an early error
 -- with `u`, and no DecimalEscape without it (B.1.4)

@@ -7,7 +7,7 @@
 use Rattle.std.specs.Prelude.{◌≡◌, ℕ, ◌≤◌, Bool, true, false, ◌&&◌, List, [], ◌∷◌, ◌++◌, AllPairs, nat_lt, length, codes, Some, if◌then◌else◌, IsTrue}
 use Rattle.regex_meaning.specs.Tree.{Node, Tree, Flags, Quantifier, Lookaround, BracketContents, Intervals, goal, char, char_set, cat, end_of_cat, alt, bracket}
 use Rattle.regex_meaning.specs.Tree.{match_any, match_any_except_line_terminator, anchor, start_of_line, end_of_line, word_boundary, capture_group}
-use Rattle.regex_meaning.specs.Tree.{back_ref, lookaround, loop}
+use Rattle.regex_meaning.specs.Tree.{by_case, back_ref, lookaround, loop}
 use Rattle.regex_meaning.specs.Text.{expand_code_point}
 use Rattle.regex_grammar.specs.ReadingStatesAndDigits.{RemainingCodePoints, ParseState, PatternContext, groups_at, ◌▸◌, state_with_text_left, with_opened_group, ◌∈◌}
 use Rattle.regex_grammar.specs.ReadingStatesAndDigits.{begins_with_characters, Digits, group_number_of, arm}
@@ -39,11 +39,11 @@ pub data SimpleAtom (w : PatternContext) (here : RemainingCodePoints) : (there :
   -- AtomEscape, DecimalEscape: there must be a group of this number (early error)
   decimal_escape : {a there : RemainingCodePoints} {n : ℕ}
       → here ≡ codes "\\" ++ a → begins_with_characters "0" a ≡ false → Digits 10 a there n → n ≤ length w.groups
-      → SimpleAtom w here there (back_ref n w.flags.icase)
+      → SimpleAtom w here there (back_ref n (by_case w.flags.icase))
   -- AtomEscape, `k GroupName`: there must be a group of this name (early error)
   named_reference : {a there name : RemainingCodePoints} {n : ℕ}
       → here ≡ codes "\\k<" ++ a → GroupName a there name → group_number_of name w.groups ≡ Some n
-      → SimpleAtom w here there (back_ref n w.flags.icase)
+      → SimpleAtom w here there (back_ref n (by_case w.flags.icase))
   -- AtomEscape, CharacterEscape
   character_escape : {a there : RemainingCodePoints} {c : ℕ}
       → here ≡ codes "\\" ++ a → CharacterEscape w.flags.unicode a there c

@@ -1,4 +1,5 @@
 -- No outcome goes back.
+use Rattle.regex_meaning.specs.Tree.{Sameness}
 use Rattle.std.proofs.Common.{◌≡◌, ℕ, zero, suc, ◌+◌, ◌-◌, ◌<◌, ◌≤◌, Bool, true, false, List, [], ◌∷◌, length, Option, Some, None, arith, leb→le, T}
 use Rattle.std.proofs.Common.{filter, flat_map}
 use Rattle.std.specs.Prelude.{if◌then◌else◌, ◌&&◌, nat_le, nat_lt, slice_get}
@@ -55,10 +56,10 @@ module _ (text : Text) where
   spelled-onward same cs d place groups =
       Each-when (λ (o : Outcome). IsOnward text d place o.end) _ _ (λ h. moved-onward d (length cs) place (leb→le _ _ (passed-left _ _ h)))
 
-  pub same_as_group-onward : (icase : Bool) (range : Option (ℕ × ℕ)) (d : Direction) (place : ℕ) (groups : Groups)
-      → AllOnward d place (backref_outcomes text icase range d place groups)
-  same_as_group-onward icase None d place groups = here-onward d place groups
-  same_as_group-onward icase (Some range) d place groups = spelled-onward _ _ d place groups
+  pub same_as_group-onward : (sameness : Sameness) (range : Option (ℕ × ℕ)) (d : Direction) (place : ℕ) (groups : Groups)
+      → AllOnward d place (backref_outcomes text sameness range d place groups)
+  same_as_group-onward sameness None d place groups = here-onward d place groups
+  same_as_group-onward sameness (Some range) d place groups = spelled-onward _ _ d place groups
 
   strings-onward : (icase : Bool) (strings : List (List ℕ)) (d : Direction) (place : ℕ) (groups : Groups)
       → AllOnward d place (flat_map (λ s. spelled text (is_case_variant text icase) s d place groups) strings)
@@ -124,7 +125,7 @@ module _ (text : Text) where
       Each-append _ _ _ (outcomes-onward left d place groups) (outcomes-onward right d place groups)
   outcomes-onward (capture_group id name contents) d place groups =
       Each-image _ _ (captured id place) (λ o h. h) _ (outcomes-onward contents d place (cleared id 1 groups))
-  outcomes-onward (back_ref group icase) d place groups = same_as_group-onward icase _ d place groups
+  outcomes-onward (back_ref group sameness) d place groups = same_as_group-onward sameness _ d place groups
   outcomes-onward (anchor type multiline) d place groups = here_if-onward _ d place groups
   outcomes-onward (word_boundary invert unicode_icase) d place groups = here_if-onward _ d place groups
   outcomes-onward (lookaround l contents) d place groups = looked-onward l.negate _ d place groups

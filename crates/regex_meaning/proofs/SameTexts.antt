@@ -1,4 +1,5 @@
 -- Texts of the same characters have the same outcomes, where their folds agree on these.
+use Rattle.regex_meaning.specs.Tree.{Sameness, exact, folded, alike as by_unicode}
 use Rattle.std.proofs.Common.{◌≡◌, ℕ, zero, suc, ◌+◌, ◌-◌, Bool, ◌&&◌, ◌||◌, List, [], ◌∷◌, length, map, drop, Option, Some, None, refl, ap, ◌∙◌}
 use Rattle.std.proofs.Common.{flat_map, option_and_then}
 use Rattle.std.specs.Prelude.{◌==◌, slice_range}
@@ -7,7 +8,7 @@ use lib.Pointwise.{pointwise}
 use Rattle.regex_meaning.specs.Tree.{Quantifier, Node, empty, goal, byte_sequence, cat, end_of_cat, alt, string_set, anchor, start_of_line}
 use Rattle.regex_meaning.specs.Tree.{end_of_line, word_boundary, capture_group, back_ref, lookaround, loop, loop_1_char_body}
 use Rattle.regex_meaning.specs.Text.{Text, Direction, rightwards, leftwards}
-use Rattle.regex_meaning.specs.Outcomes.{Groups, Outcome, Repetition, repetition, repeat, outcomes, captured, cleared, one_character, spelled}
+use Rattle.regex_meaning.specs.Outcomes.{is_same, Groups, Outcome, Repetition, repetition, repeat, outcomes, captured, cleared, one_character, spelled}
 use Rattle.regex_meaning.specs.Outcomes.{backref_outcomes, group_range, lookaround_outcomes, direction_of}
 use Rattle.regex_meaning.specs.FirstAndAllMatches.{Found, no_groups, first_match, first_match_among, place_behind, matches_from, match_list}
 use Rattle.regex_meaning.proofs.Each.{Each, Each-take, Each-drop}
@@ -50,12 +51,16 @@ module _ (characters : List ℕ) (unicode : Bool) (s_offsets t_offsets : List �
   spelled-self e cs rightwards place groups = refl
   spelled-self e cs leftwards place groups = refl
 
-  same_as_group-same : (icase : Bool) (range : Option (ℕ × ℕ)) (d : Direction) (place : ℕ) (groups : Groups)
-      → backref_outcomes s icase range d place groups ≡ backref_outcomes t icase range d place groups
-  same_as_group-same icase None d place groups = refl
-  same_as_group-same icase (Some range) d place groups =
-      spelled-same (λ c d. c == d || (icase && s_fold c == s_fold d)) (λ c d. c == d || (icase && t_fold c == t_fold d))
-      (λ c d p q. ap (λ (b : Bool). c == d || (icase && b)) (alike c d p q))
+  same-is : (same : Sameness) (c d : ℕ) → P c → P d → is_same s same c d ≡ is_same t same c d
+  same-is exact c d p q = refl
+  same-is folded c d p q = ap (λ (b : Bool). c == d || b) (alike c d p q)
+  same-is (by_unicode unicode) c d p q = refl
+
+  same_as_group-same : (sameness : Sameness) (range : Option (ℕ × ℕ)) (d : Direction) (place : ℕ) (groups : Groups)
+      → backref_outcomes s sameness range d place groups ≡ backref_outcomes t sameness range d place groups
+  same_as_group-same sameness None d place groups = refl
+  same_as_group-same sameness (Some range) d place groups =
+      spelled-same (is_same s sameness) (is_same t sameness) (same-is sameness)
       (slice_range characters range.0 range.1) (Each-range range.0 range.1) d place groups
 
   repeat-same : (r : Repetition Outcome) (d : Direction) (k place : ℕ) (groups : Groups) → repeat s r d k place groups ≡ repeat t r d k place groups
@@ -82,7 +87,7 @@ module _ (characters : List ℕ) (unicode : Bool) (s_offsets t_offsets : List �
       rw (outcomes-same left d place groups, outcomes-same right d place groups) refl
   outcomes-same (capture_group id name contents) d place groups =
       ap (map (captured id place)) (outcomes-same contents d place (cleared id 1 groups))
-  outcomes-same (back_ref group icase) d place groups = same_as_group-same icase (group_range groups (group - 1)) d place groups
+  outcomes-same (back_ref group sameness) d place groups = same_as_group-same sameness (group_range groups (group - 1)) d place groups
   outcomes-same (anchor start_of_line multiline) d place groups = refl
   outcomes-same (anchor end_of_line multiline) d place groups = refl
   outcomes-same (word_boundary invert unicode_icase) d place groups = refl

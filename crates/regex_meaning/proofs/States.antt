@@ -1,4 +1,5 @@
 -- What outcomes keep of places and of groups.
+use Rattle.regex_meaning.specs.Tree.{Sameness}
 use Rattle.std.proofs.Common.{ℕ, zero, suc, ◌+◌, ◌-◌, Bool, true, false, List, [], ◌∷◌, map, min, max, Option, Some, None, filter, flat_map}
 use Rattle.std.specs.Prelude.{if◌then◌else◌, nat_lt, nat_le, slice_set}
 use Rattle.regex_meaning.specs.Tree.{Node, empty, goal, char, char_set, byte_set, byte_sequence, cat, end_of_cat, alt, bracket, string_set}
@@ -64,10 +65,10 @@ module _ (text : Text) (P : ℕ → Type 0) (G : Groups → Type 0) (kept : AreK
   strings-states icase (s ∷ strings) d place groups p g =
       Each-append _ _ _ (spelled-states (is_case_variant text icase) s d place groups p g) (strings-states icase strings d place groups p g)
 
-  same_as_group-states : (icase : Bool) (range : Option (ℕ × ℕ)) (d : Direction) (place : ℕ) (groups : Groups) → P place → G groups
-      → AreStates (backref_outcomes text icase range d place groups)
-  same_as_group-states icase None d place groups p g = here-state place groups p g
-  same_as_group-states icase (Some range) d place groups p g = spelled-states _ _ d place groups p g
+  same_as_group-states : (sameness : Sameness) (range : Option (ℕ × ℕ)) (d : Direction) (place : ℕ) (groups : Groups) → P place → G groups
+      → AreStates (backref_outcomes text sameness range d place groups)
+  same_as_group-states sameness None d place groups p g = here-state place groups p g
+  same_as_group-states sameness (Some range) d place groups p g = spelled-states _ _ d place groups p g
 
   looked-states : (negate : Bool) (os : List Outcome) (place : ℕ) (groups : Groups) → P place → G groups → AreStates os
       → AreStates (lookaround_outcomes negate os place groups)
@@ -127,7 +128,7 @@ module _ (text : Text) (P : ℕ → Type 0) (G : Groups → Type 0) (kept : AreK
   outcomes-states (capture_group id name contents) d place groups p g =
       captured-states id place (outcomes text contents d place (cleared id 1 groups)) p
       (outcomes-states contents d place (cleared id 1 groups) p (all-cleared id 1 groups g))
-  outcomes-states (back_ref group icase) d place groups p g = same_as_group-states icase _ d place groups p g
+  outcomes-states (back_ref group sameness) d place groups p g = same_as_group-states sameness _ d place groups p g
   outcomes-states (anchor type multiline) d place groups p g = here_if-states _ place groups p g
   outcomes-states (word_boundary invert unicode_icase) d place groups p g = here_if-states _ place groups p g
   outcomes-states (lookaround l contents) d place groups p g =

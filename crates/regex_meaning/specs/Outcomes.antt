@@ -9,6 +9,8 @@ use Rattle.regex_meaning.specs.NumberListHelpers.{contains}
 use Rattle.regex_meaning.specs.Tree.{Intervals, AnchorType, start_of_line, end_of_line, Quantifier, Lookaround, Node, empty, goal, char, char_set}
 use Rattle.regex_meaning.specs.Tree.{byte_set, byte_sequence, cat, end_of_cat, alt, bracket, string_set, match_any, match_any_except_line_terminator}
 use Rattle.regex_meaning.specs.Tree.{anchor, word_boundary, capture_group, back_ref, lookaround, loop, loop_1_char_body}
+use Rattle.regex_meaning.specs.Tree.{Sameness, exact, folded, alike}
+use Rattle.regex_meaning.specs.Canonical.{canonicalize}
 use Rattle.regex_meaning.specs.Text.{Text, Direction, rightwards, leftwards, is_line_terminator, is_word_char, expand_code_point, character_before}
 use Rattle.regex_meaning.specs.Text.{character_after, next_character, characters_ahead, moved, next_characters}
 use Rattle.std.specs.Int.{is_in_range}
@@ -145,12 +147,18 @@ module _ (text : Text) where
   abbrev pub is_case_variant : (icase : Bool) → (c d : ℕ) → Bool
   is_case_variant icase c d = contains (expand_code_point c icase text.unicode) d
 
+  -- whether a backreference takes the two characters for the same
+  abbrev pub is_same : Sameness → (c d : ℕ) → Bool
+  is_same exact c d = c == d
+  is_same folded c d = c == d || text.fold c == text.fold d
+  is_same (alike unicode) c d = canonicalize unicode c == canonicalize unicode d
+
   -- the outcomes of a backreference: the group's characters again, or the empty text if the group
   -- is none
-  abbrev pub backref_outcomes : (icase : Bool) → Option (ℕ × ℕ) → Direction → ℕ → Groups → List Outcome
-  backref_outcomes icase None direction place groups = record { end = place; groups = groups } ∷ []
-  backref_outcomes icase (Some range) direction place groups =
-      spelled (λ c d. c == d || (icase && text.fold c == text.fold d)) (slice_range text.characters range.0 range.1) direction place groups
+  abbrev pub backref_outcomes : Sameness → Option (ℕ × ℕ) → Direction → ℕ → Groups → List Outcome
+  backref_outcomes same None direction place groups = record { end = place; groups = groups } ∷ []
+  backref_outcomes same (Some range) direction place groups =
+      spelled (is_same same) (slice_range text.characters range.0 range.1) direction place groups
 
   -- whether the anchor holds at the place
   abbrev pub anchor_holds : AnchorType → (multiline : Bool) → ℕ → Bool
@@ -200,8 +208,8 @@ module _ (text : Text) where
   outcomes (capture_group id name contents) direction place groups =
       map (captured id place) (outcomes contents direction place (cleared id 1 groups))
   -- 21.2.2.9 and 21.2.2.9.1; the tree numbers groups from 1
-  outcomes (back_ref group icase) direction place groups =
-      backref_outcomes icase (group_range groups (group - 1)) direction place groups
+  outcomes (back_ref group same) direction place groups =
+      backref_outcomes same (group_range groups (group - 1)) direction place groups
   -- 21.2.2.6
   outcomes (anchor type multiline) direction place groups = empty_match_if (anchor_holds type multiline place) place groups
   outcomes (word_boundary invert unicode_icase) direction place groups =

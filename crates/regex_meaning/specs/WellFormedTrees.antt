@@ -53,7 +53,7 @@ names_the_groups_inside _ = true
 
 -- a backreference is to one of n groups, which count from 1
 abbrev pub refers_to_a_group : (n : ℕ) → Node → Bool
-refers_to_a_group n (back_ref group icase) = nat_le 1 group && nat_le group n
+refers_to_a_group n (back_ref group same) = nat_le 1 group && nat_le group n
 refers_to_a_group n _ = true
 
 -- the minimum is at most the maximum, if there is a maximum

@@ -1,6 +1,6 @@
 -- The first worked rows over ASCII text.
 use Rattle.std.specs.Prelude.{◌≡◌, [], ◌∷◌, Some, None, refl, true, false, codes}
-use Rattle.regex_meaning.specs.Tree.{goal, char, char_set, cat, end_of_cat, alt, capture_group, back_ref, lookaround, loop_1_char_body}
+use Rattle.regex_meaning.specs.Tree.{goal, char, char_set, cat, end_of_cat, alt, capture_group, back_ref, exact, folded, lookaround, loop_1_char_body}
 use Rattle.regex_meaning.specs.Text.{ascii_text}
 use Rattle.regex_meaning_rows.specs.Computing.{found, matches, times, look}
 
@@ -40,11 +40,11 @@ unfolding matches
 past_the_end = refl
 
 -- `(a|\1b)c`
-open_group : matches (cat (cat (capture_group 0 [] (alt (cat (char 97) end_of_cat) (cat (back_ref 1 false) (cat (char 98) end_of_cat)))) (cat (char 99) end_of_cat)) (cat goal end_of_cat)) (ascii_text (codes "abc") false) 0 ≡ (found 1 3 (Some (1, 2) ∷ []) ∷ [])
+open_group : matches (cat (cat (capture_group 0 [] (alt (cat (char 97) end_of_cat) (cat (back_ref 1 exact) (cat (char 98) end_of_cat)))) (cat (char 99) end_of_cat)) (cat goal end_of_cat)) (ascii_text (codes "abc") false) 0 ≡ (found 1 3 (Some (1, 2) ∷ []) ∷ [])
 unfolding matches
 open_group = refl
 
 -- `(k)\1` of flags `iu`: a backreference by fold
-same_fold : matches (cat (cat (capture_group 0 [] (cat (char_set (75 ∷ 107 ∷ 8490 ∷ [])) end_of_cat)) (cat (back_ref 1 true) end_of_cat)) (cat goal end_of_cat)) (ascii_text (codes "kK") true) 0 ≡ (found 0 2 (Some (0, 1) ∷ []) ∷ [])
+same_fold : matches (cat (cat (capture_group 0 [] (cat (char_set (75 ∷ 107 ∷ 8490 ∷ [])) end_of_cat)) (cat (back_ref 1 folded) end_of_cat)) (cat goal end_of_cat)) (ascii_text (codes "kK") true) 0 ≡ (found 0 2 (Some (0, 1) ∷ []) ∷ [])
 unfolding matches
 same_fold = refl

@@ -2,7 +2,7 @@
 -- turned into bytes. The trees are those of the patterns, optimised.
 use Rattle.std.specs.Prelude.{◌≡◌, [], ◌∷◌, Some, None, refl, true, false}
 use Rattle.regex_meaning.specs.Tree.{goal, char, char_set, cat, end_of_cat, alt, bracket, match_any_except_line_terminator, anchor, start_of_line}
-use Rattle.regex_meaning.specs.Tree.{end_of_line, word_boundary, capture_group, back_ref, lookaround, loop, loop_1_char_body}
+use Rattle.regex_meaning.specs.Tree.{end_of_line, word_boundary, capture_group, back_ref, exact, folded, lookaround, loop, loop_1_char_body}
 use Rattle.regex_meaning.specs.Text.{utf8_text}
 use Rattle.regex_meaning_rows.specs.Computing.{found, matches, times, in_brackets, look}
 
@@ -227,7 +227,7 @@ unfolding matches
 judged_1_44 = refl
 
 -- `\1|a+?(?:b())?` of flags `i` on `aaaa`
-judged_1_45 : matches (cat (alt (cat (back_ref 1 true) end_of_cat) (cat (loop_1_char_body (times 1 None false) (char_set (65 ∷ 97 ∷ []))) (cat (loop (times 0 (Some 1) true) 0 1 (cat (char_set (66 ∷ 98 ∷ [])) (cat (capture_group 0 [] end_of_cat) end_of_cat))) end_of_cat))) (cat goal end_of_cat)) (utf8_text (97 ∷ 97 ∷ 97 ∷ 97 ∷ []) false) 0 ≡ (found 0 0 (None ∷ []) ∷ found 1 1 (None ∷ []) ∷ found 2 2 (None ∷ []) ∷ found 3 3 (None ∷ []) ∷ found 4 4 (None ∷ []) ∷ [])
+judged_1_45 : matches (cat (alt (cat (back_ref 1 folded) end_of_cat) (cat (loop_1_char_body (times 1 None false) (char_set (65 ∷ 97 ∷ []))) (cat (loop (times 0 (Some 1) true) 0 1 (cat (char_set (66 ∷ 98 ∷ [])) (cat (capture_group 0 [] end_of_cat) end_of_cat))) end_of_cat))) (cat goal end_of_cat)) (utf8_text (97 ∷ 97 ∷ 97 ∷ 97 ∷ []) false) 0 ≡ (found 0 0 (None ∷ []) ∷ found 1 1 (None ∷ []) ∷ found 2 2 (None ∷ []) ∷ found 3 3 (None ∷ []) ∷ found 4 4 (None ∷ []) ∷ [])
 unfolding matches
 judged_1_45 = refl
 
@@ -237,7 +237,7 @@ unfolding matches
 judged_1_46 = refl
 
 -- `(?:\1\1(?:(\1))*)*?` on `aaab`
-judged_1_47 : matches (cat (cat (loop (times 0 None false) 0 1 (cat (back_ref 1 false) (cat (back_ref 1 false) (cat (loop (times 0 None true) 0 1 (cat (capture_group 0 [] (cat (back_ref 1 false) end_of_cat)) end_of_cat)) end_of_cat)))) end_of_cat) (cat goal end_of_cat)) (utf8_text (97 ∷ 97 ∷ 97 ∷ 98 ∷ []) false) 0 ≡ (found 0 0 (None ∷ []) ∷ found 1 1 (None ∷ []) ∷ found 2 2 (None ∷ []) ∷ found 3 3 (None ∷ []) ∷ found 4 4 (None ∷ []) ∷ [])
+judged_1_47 : matches (cat (cat (loop (times 0 None false) 0 1 (cat (back_ref 1 exact) (cat (back_ref 1 exact) (cat (loop (times 0 None true) 0 1 (cat (capture_group 0 [] (cat (back_ref 1 exact) end_of_cat)) end_of_cat)) end_of_cat)))) end_of_cat) (cat goal end_of_cat)) (utf8_text (97 ∷ 97 ∷ 97 ∷ 98 ∷ []) false) 0 ≡ (found 0 0 (None ∷ []) ∷ found 1 1 (None ∷ []) ∷ found 2 2 (None ∷ []) ∷ found 3 3 (None ∷ []) ∷ found 4 4 (None ∷ []) ∷ [])
 unfolding matches
 judged_1_47 = refl
 
@@ -257,7 +257,7 @@ unfolding matches
 judged_1_50 = refl
 
 -- `((?:\1|(?:a|b)))` on `cabba`
-judged_1_51 : matches (cat (cat (capture_group 0 [] (cat (alt (cat (back_ref 1 false) end_of_cat) (cat (alt (cat (char 97) end_of_cat) (cat (char 98) end_of_cat)) end_of_cat)) end_of_cat)) end_of_cat) (cat goal end_of_cat)) (utf8_text (99 ∷ 97 ∷ 98 ∷ 98 ∷ 97 ∷ []) false) 0 ≡ (found 0 0 (Some (0, 0) ∷ []) ∷ found 1 1 (Some (1, 1) ∷ []) ∷ found 2 2 (Some (2, 2) ∷ []) ∷ found 3 3 (Some (3, 3) ∷ []) ∷ found 4 4 (Some (4, 4) ∷ []) ∷ found 5 5 (Some (5, 5) ∷ []) ∷ [])
+judged_1_51 : matches (cat (cat (capture_group 0 [] (cat (alt (cat (back_ref 1 exact) end_of_cat) (cat (alt (cat (char 97) end_of_cat) (cat (char 98) end_of_cat)) end_of_cat)) end_of_cat)) end_of_cat) (cat goal end_of_cat)) (utf8_text (99 ∷ 97 ∷ 98 ∷ 98 ∷ 97 ∷ []) false) 0 ≡ (found 0 0 (Some (0, 0) ∷ []) ∷ found 1 1 (Some (1, 1) ∷ []) ∷ found 2 2 (Some (2, 2) ∷ []) ∷ found 3 3 (Some (3, 3) ∷ []) ∷ found 4 4 (Some (4, 4) ∷ []) ∷ found 5 5 (Some (5, 5) ∷ []) ∷ [])
 unfolding matches
 judged_1_51 = refl
 
@@ -432,7 +432,7 @@ unfolding matches
 judged_1_85 = refl
 
 -- `^(((?:a){3})(?:\2)+?)` on `aabbc`
-judged_1_86 : matches (cat (cat (anchor start_of_line false) (cat (capture_group 0 [] (cat (capture_group 1 [] (cat (loop (times 3 (Some 3) true) 2 2 (cat (char 97) end_of_cat)) end_of_cat)) (cat (loop (times 1 None false) 2 2 (cat (back_ref 2 false) end_of_cat)) end_of_cat))) end_of_cat)) (cat goal end_of_cat)) (utf8_text (97 ∷ 97 ∷ 98 ∷ 98 ∷ 99 ∷ []) false) 0 ≡ []
+judged_1_86 : matches (cat (cat (anchor start_of_line false) (cat (capture_group 0 [] (cat (capture_group 1 [] (cat (loop (times 3 (Some 3) true) 2 2 (cat (char 97) end_of_cat)) end_of_cat)) (cat (loop (times 1 None false) 2 2 (cat (back_ref 2 exact) end_of_cat)) end_of_cat))) end_of_cat)) (cat goal end_of_cat)) (utf8_text (97 ∷ 97 ∷ 98 ∷ 98 ∷ 99 ∷ []) false) 0 ≡ []
 unfolding matches
 judged_1_86 = refl
 
@@ -452,12 +452,12 @@ unfolding matches
 judged_1_89 = refl
 
 -- `(\1aaa)b` on `bbabbaa`
-judged_1_90 : matches (cat (cat (capture_group 0 [] (cat (back_ref 1 false) (cat (char 97) (cat (char 97) (cat (char 97) end_of_cat))))) (cat (char 98) end_of_cat)) (cat goal end_of_cat)) (utf8_text (98 ∷ 98 ∷ 97 ∷ 98 ∷ 98 ∷ 97 ∷ 97 ∷ []) false) 0 ≡ []
+judged_1_90 : matches (cat (cat (capture_group 0 [] (cat (back_ref 1 exact) (cat (char 97) (cat (char 97) (cat (char 97) end_of_cat))))) (cat (char 98) end_of_cat)) (cat goal end_of_cat)) (utf8_text (98 ∷ 98 ∷ 97 ∷ 98 ∷ 98 ∷ 97 ∷ 97 ∷ []) false) 0 ≡ []
 unfolding matches
 judged_1_90 = refl
 
 -- `(?:a|(?:(b))??)(?:(?:(?<=b)|(?:\1|a))|(?:a){3}a\1)` on `cab`
-judged_1_91 : matches (cat (cat (alt (cat (char 97) end_of_cat) (cat (loop (times 0 (Some 1) false) 0 1 (cat (capture_group 0 [] (cat (char 98) end_of_cat)) end_of_cat)) end_of_cat)) (cat (alt (cat (alt (cat (lookaround (look false true 1 1) (cat (char 98) end_of_cat)) end_of_cat) (cat (alt (cat (back_ref 1 false) end_of_cat) (cat (char 97) end_of_cat)) end_of_cat)) end_of_cat) (cat (loop (times 3 (Some 3) true) 1 1 (cat (char 97) end_of_cat)) (cat (char 97) (cat (back_ref 1 false) end_of_cat)))) end_of_cat)) (cat goal end_of_cat)) (utf8_text (99 ∷ 97 ∷ 98 ∷ []) false) 0 ≡ (found 0 0 (None ∷ []) ∷ found 1 2 (None ∷ []) ∷ found 2 2 (None ∷ []) ∷ found 3 3 (None ∷ []) ∷ [])
+judged_1_91 : matches (cat (cat (alt (cat (char 97) end_of_cat) (cat (loop (times 0 (Some 1) false) 0 1 (cat (capture_group 0 [] (cat (char 98) end_of_cat)) end_of_cat)) end_of_cat)) (cat (alt (cat (alt (cat (lookaround (look false true 1 1) (cat (char 98) end_of_cat)) end_of_cat) (cat (alt (cat (back_ref 1 exact) end_of_cat) (cat (char 97) end_of_cat)) end_of_cat)) end_of_cat) (cat (loop (times 3 (Some 3) true) 1 1 (cat (char 97) end_of_cat)) (cat (char 97) (cat (back_ref 1 exact) end_of_cat)))) end_of_cat)) (cat goal end_of_cat)) (utf8_text (99 ∷ 97 ∷ 98 ∷ []) false) 0 ≡ (found 0 0 (None ∷ []) ∷ found 1 2 (None ∷ []) ∷ found 2 2 (None ∷ []) ∷ found 3 3 (None ∷ []) ∷ [])
 unfolding matches
 judged_1_91 = refl
 

@@ -2,7 +2,7 @@
 -- turned into bytes. The trees are those of the patterns, optimised.
 use Rattle.std.specs.Prelude.{◌≡◌, [], ◌∷◌, Some, None, refl, true, false}
 use Rattle.regex_meaning.specs.Tree.{goal, char, char_set, cat, end_of_cat, alt, bracket, match_any, match_any_except_line_terminator, anchor}
-use Rattle.regex_meaning.specs.Tree.{start_of_line, end_of_line, word_boundary, capture_group, back_ref, lookaround, loop, loop_1_char_body}
+use Rattle.regex_meaning.specs.Tree.{start_of_line, end_of_line, word_boundary, capture_group, back_ref, exact, folded, lookaround, loop, loop_1_char_body}
 use Rattle.regex_meaning.specs.Text.{utf8_text}
 use Rattle.regex_meaning_rows.specs.Computing.{found, matches, times, in_brackets, look}
 
@@ -27,7 +27,7 @@ unfolding matches
 judged_2_04 = refl
 
 -- `(a*b|\1(?=\1))(?!a)` of flags `u` on `acb`
-judged_2_05 : matches (cat (cat (capture_group 0 [] (alt (cat (loop_1_char_body (times 0 None true) (char 97)) (cat (char 98) end_of_cat)) (cat (back_ref 1 false) (cat (lookaround (look false false 1 1) (cat (back_ref 1 false) end_of_cat)) end_of_cat)))) (cat (lookaround (look true false 1 1) (cat (char 97) end_of_cat)) end_of_cat)) (cat goal end_of_cat)) (utf8_text (97 ∷ 99 ∷ 98 ∷ []) true) 0 ≡ (found 1 1 (Some (1, 1) ∷ []) ∷ found 2 3 (Some (2, 3) ∷ []) ∷ found 3 3 (Some (3, 3) ∷ []) ∷ [])
+judged_2_05 : matches (cat (cat (capture_group 0 [] (alt (cat (loop_1_char_body (times 0 None true) (char 97)) (cat (char 98) end_of_cat)) (cat (back_ref 1 exact) (cat (lookaround (look false false 1 1) (cat (back_ref 1 exact) end_of_cat)) end_of_cat)))) (cat (lookaround (look true false 1 1) (cat (char 97) end_of_cat)) end_of_cat)) (cat goal end_of_cat)) (utf8_text (97 ∷ 99 ∷ 98 ∷ []) true) 0 ≡ (found 1 1 (Some (1, 1) ∷ []) ∷ found 2 3 (Some (2, 3) ∷ []) ∷ found 3 3 (Some (3, 3) ∷ []) ∷ [])
 unfolding matches
 judged_2_05 = refl
 
@@ -37,7 +37,7 @@ unfolding matches
 judged_2_06 = refl
 
 -- `(.|(?!\1a)\1){2,3}?b` of flags `i` on `ababc`
-judged_2_07 : matches (cat (cat (loop (times 2 (Some 3) false) 0 1 (capture_group 0 [] (alt (cat match_any_except_line_terminator end_of_cat) (cat (lookaround (look true false 1 1) (cat (back_ref 1 true) (cat (char_set (65 ∷ 97 ∷ [])) end_of_cat))) (cat (back_ref 1 true) end_of_cat))))) (cat (char_set (66 ∷ 98 ∷ [])) end_of_cat)) (cat goal end_of_cat)) (utf8_text (97 ∷ 98 ∷ 97 ∷ 98 ∷ 99 ∷ []) false) 0 ≡ (found 0 4 (Some (2, 3) ∷ []) ∷ [])
+judged_2_07 : matches (cat (cat (loop (times 2 (Some 3) false) 0 1 (capture_group 0 [] (alt (cat match_any_except_line_terminator end_of_cat) (cat (lookaround (look true false 1 1) (cat (back_ref 1 folded) (cat (char_set (65 ∷ 97 ∷ [])) end_of_cat))) (cat (back_ref 1 folded) end_of_cat))))) (cat (char_set (66 ∷ 98 ∷ [])) end_of_cat)) (cat goal end_of_cat)) (utf8_text (97 ∷ 98 ∷ 97 ∷ 98 ∷ 99 ∷ []) false) 0 ≡ (found 0 4 (Some (2, 3) ∷ []) ∷ [])
 unfolding matches
 judged_2_07 = refl
 
@@ -47,12 +47,12 @@ unfolding matches
 judged_2_08 = refl
 
 -- `b?((?:\1|b)a|\1.)+c` on `caa`
-judged_2_09 : matches (cat (cat (loop_1_char_body (times 0 (Some 1) true) (char 98)) (cat (loop (times 1 None true) 0 1 (capture_group 0 [] (alt (cat (alt (cat (back_ref 1 false) end_of_cat) (cat (char 98) end_of_cat)) (cat (char 97) end_of_cat)) (cat (back_ref 1 false) (cat match_any_except_line_terminator end_of_cat))))) (cat (char 99) end_of_cat))) (cat goal end_of_cat)) (utf8_text (99 ∷ 97 ∷ 97 ∷ []) false) 0 ≡ []
+judged_2_09 : matches (cat (cat (loop_1_char_body (times 0 (Some 1) true) (char 98)) (cat (loop (times 1 None true) 0 1 (capture_group 0 [] (alt (cat (alt (cat (back_ref 1 exact) end_of_cat) (cat (char 98) end_of_cat)) (cat (char 97) end_of_cat)) (cat (back_ref 1 exact) (cat match_any_except_line_terminator end_of_cat))))) (cat (char 99) end_of_cat))) (cat goal end_of_cat)) (utf8_text (99 ∷ 97 ∷ 97 ∷ []) false) 0 ≡ []
 unfolding matches
 judged_2_09 = refl
 
 -- `(\1|a*).b` of flags `m` on `a`
-judged_2_10 : matches (cat (cat (capture_group 0 [] (alt (cat (back_ref 1 false) end_of_cat) (cat (loop_1_char_body (times 0 None true) (char 97)) end_of_cat))) (cat match_any_except_line_terminator (cat (char 98) end_of_cat))) (cat goal end_of_cat)) (utf8_text (97 ∷ []) false) 0 ≡ []
+judged_2_10 : matches (cat (cat (capture_group 0 [] (alt (cat (back_ref 1 exact) end_of_cat) (cat (loop_1_char_body (times 0 None true) (char 97)) end_of_cat))) (cat match_any_except_line_terminator (cat (char 98) end_of_cat))) (cat goal end_of_cat)) (utf8_text (97 ∷ []) false) 0 ≡ []
 unfolding matches
 judged_2_10 = refl
 
@@ -62,7 +62,7 @@ unfolding matches
 judged_2_11 = refl
 
 -- `((?:\1|b)a|a)a` of flags `m` on `ab`
-judged_2_12 : matches (cat (cat (capture_group 0 [] (alt (cat (alt (cat (back_ref 1 false) end_of_cat) (cat (char 98) end_of_cat)) (cat (char 97) end_of_cat)) (cat (char 97) end_of_cat))) (cat (char 97) end_of_cat)) (cat goal end_of_cat)) (utf8_text (97 ∷ 98 ∷ []) false) 0 ≡ []
+judged_2_12 : matches (cat (cat (capture_group 0 [] (alt (cat (alt (cat (back_ref 1 exact) end_of_cat) (cat (char 98) end_of_cat)) (cat (char 97) end_of_cat)) (cat (char 97) end_of_cat))) (cat (char 97) end_of_cat)) (cat goal end_of_cat)) (utf8_text (97 ∷ 98 ∷ []) false) 0 ≡ []
 unfolding matches
 judged_2_12 = refl
 
@@ -72,12 +72,12 @@ unfolding matches
 judged_2_13 = refl
 
 -- `((?=\1)(?!\1a)|(?!\1a)|b){3}a` of flags `u` on `c`
-judged_2_14 : matches (cat (cat (loop (times 3 (Some 3) true) 0 1 (capture_group 0 [] (alt (cat (lookaround (look false false 1 1) (cat (back_ref 1 false) end_of_cat)) (cat (lookaround (look true false 1 1) (cat (back_ref 1 false) (cat (char 97) end_of_cat))) end_of_cat)) (alt (cat (lookaround (look true false 1 1) (cat (back_ref 1 false) (cat (char 97) end_of_cat))) end_of_cat) (cat (char 98) end_of_cat))))) (cat (char 97) end_of_cat)) (cat goal end_of_cat)) (utf8_text (99 ∷ []) true) 0 ≡ []
+judged_2_14 : matches (cat (cat (loop (times 3 (Some 3) true) 0 1 (capture_group 0 [] (alt (cat (lookaround (look false false 1 1) (cat (back_ref 1 exact) end_of_cat)) (cat (lookaround (look true false 1 1) (cat (back_ref 1 exact) (cat (char 97) end_of_cat))) end_of_cat)) (alt (cat (lookaround (look true false 1 1) (cat (back_ref 1 exact) (cat (char 97) end_of_cat))) end_of_cat) (cat (char 98) end_of_cat))))) (cat (char 97) end_of_cat)) (cat goal end_of_cat)) (utf8_text (99 ∷ []) true) 0 ≡ []
 unfolding matches
 judged_2_14 = refl
 
 -- `((?!\1a)\1|a*(?:\1|b)|a)+` on `ccbaab`
-judged_2_15 : matches (cat (cat (loop (times 1 None true) 0 1 (capture_group 0 [] (alt (cat (lookaround (look true false 1 1) (cat (back_ref 1 false) (cat (char 97) end_of_cat))) (cat (back_ref 1 false) end_of_cat)) (alt (cat (loop_1_char_body (times 0 None true) (char 97)) (cat (alt (cat (back_ref 1 false) end_of_cat) (cat (char 98) end_of_cat)) end_of_cat)) (cat (char 97) end_of_cat))))) end_of_cat) (cat goal end_of_cat)) (utf8_text (99 ∷ 99 ∷ 98 ∷ 97 ∷ 97 ∷ 98 ∷ []) false) 0 ≡ (found 0 0 (Some (0, 0) ∷ []) ∷ found 1 1 (Some (1, 1) ∷ []) ∷ found 2 6 (Some (5, 6) ∷ []) ∷ found 6 6 (Some (6, 6) ∷ []) ∷ [])
+judged_2_15 : matches (cat (cat (loop (times 1 None true) 0 1 (capture_group 0 [] (alt (cat (lookaround (look true false 1 1) (cat (back_ref 1 exact) (cat (char 97) end_of_cat))) (cat (back_ref 1 exact) end_of_cat)) (alt (cat (loop_1_char_body (times 0 None true) (char 97)) (cat (alt (cat (back_ref 1 exact) end_of_cat) (cat (char 98) end_of_cat)) end_of_cat)) (cat (char 97) end_of_cat))))) end_of_cat) (cat goal end_of_cat)) (utf8_text (99 ∷ 99 ∷ 98 ∷ 97 ∷ 97 ∷ 98 ∷ []) false) 0 ≡ (found 0 0 (Some (0, 0) ∷ []) ∷ found 1 1 (Some (1, 1) ∷ []) ∷ found 2 6 (Some (5, 6) ∷ []) ∷ found 6 6 (Some (6, 6) ∷ []) ∷ [])
 unfolding matches
 judged_2_15 = refl
 
@@ -87,7 +87,7 @@ unfolding matches
 judged_2_16 = refl
 
 -- `(a|(?!\1a)a?|a?)` of flags `u` on `baaacabc`
-judged_2_17 : matches (cat (cat (capture_group 0 [] (alt (cat (char 97) end_of_cat) (alt (cat (lookaround (look true false 1 1) (cat (back_ref 1 false) (cat (char 97) end_of_cat))) (cat (loop_1_char_body (times 0 (Some 1) true) (char 97)) end_of_cat)) (cat (loop_1_char_body (times 0 (Some 1) true) (char 97)) end_of_cat)))) end_of_cat) (cat goal end_of_cat)) (utf8_text (98 ∷ 97 ∷ 97 ∷ 97 ∷ 99 ∷ 97 ∷ 98 ∷ 99 ∷ []) true) 0 ≡ (found 0 0 (Some (0, 0) ∷ []) ∷ found 1 2 (Some (1, 2) ∷ []) ∷ found 2 3 (Some (2, 3) ∷ []) ∷ found 3 4 (Some (3, 4) ∷ []) ∷ found 4 4 (Some (4, 4) ∷ []) ∷ found 5 6 (Some (5, 6) ∷ []) ∷ found 6 6 (Some (6, 6) ∷ []) ∷ found 7 7 (Some (7, 7) ∷ []) ∷ found 8 8 (Some (8, 8) ∷ []) ∷ [])
+judged_2_17 : matches (cat (cat (capture_group 0 [] (alt (cat (char 97) end_of_cat) (alt (cat (lookaround (look true false 1 1) (cat (back_ref 1 exact) (cat (char 97) end_of_cat))) (cat (loop_1_char_body (times 0 (Some 1) true) (char 97)) end_of_cat)) (cat (loop_1_char_body (times 0 (Some 1) true) (char 97)) end_of_cat)))) end_of_cat) (cat goal end_of_cat)) (utf8_text (98 ∷ 97 ∷ 97 ∷ 97 ∷ 99 ∷ 97 ∷ 98 ∷ 99 ∷ []) true) 0 ≡ (found 0 0 (Some (0, 0) ∷ []) ∷ found 1 2 (Some (1, 2) ∷ []) ∷ found 2 3 (Some (2, 3) ∷ []) ∷ found 3 4 (Some (3, 4) ∷ []) ∷ found 4 4 (Some (4, 4) ∷ []) ∷ found 5 6 (Some (5, 6) ∷ []) ∷ found 6 6 (Some (6, 6) ∷ []) ∷ found 7 7 (Some (7, 7) ∷ []) ∷ found 8 8 (Some (8, 8) ∷ []) ∷ [])
 unfolding matches
 judged_2_17 = refl
 
@@ -112,7 +112,7 @@ unfolding matches
 judged_2_21 = refl
 
 -- `(?<=((?=\1)|a?\1|(?=\1)(?=\1)){1,2})c` of flags `u` on `bbaa`
-judged_2_22 : matches (cat (cat (lookaround (look false true 0 1) (cat (loop (times 1 (Some 2) true) 0 1 (capture_group 0 [] (alt (cat (lookaround (look false false 1 1) (cat (back_ref 1 false) end_of_cat)) end_of_cat) (alt (cat (back_ref 1 false) (cat (loop_1_char_body (times 0 (Some 1) true) (char 97)) end_of_cat)) (cat (lookaround (look false false 1 1) (cat (back_ref 1 false) end_of_cat)) (cat (lookaround (look false false 1 1) (cat (back_ref 1 false) end_of_cat)) end_of_cat)))))) end_of_cat)) (cat (char 99) end_of_cat)) (cat goal end_of_cat)) (utf8_text (98 ∷ 98 ∷ 97 ∷ 97 ∷ []) true) 0 ≡ []
+judged_2_22 : matches (cat (cat (lookaround (look false true 0 1) (cat (loop (times 1 (Some 2) true) 0 1 (capture_group 0 [] (alt (cat (lookaround (look false false 1 1) (cat (back_ref 1 exact) end_of_cat)) end_of_cat) (alt (cat (back_ref 1 exact) (cat (loop_1_char_body (times 0 (Some 1) true) (char 97)) end_of_cat)) (cat (lookaround (look false false 1 1) (cat (back_ref 1 exact) end_of_cat)) (cat (lookaround (look false false 1 1) (cat (back_ref 1 exact) end_of_cat)) end_of_cat)))))) end_of_cat)) (cat (char 99) end_of_cat)) (cat goal end_of_cat)) (utf8_text (98 ∷ 98 ∷ 97 ∷ 97 ∷ []) true) 0 ≡ []
 unfolding matches
 judged_2_22 = refl
 
@@ -147,12 +147,12 @@ unfolding matches
 judged_2_28 = refl
 
 -- `(?<=(a*a*|\1\1|b\1)*)a` of flags `u` on `aaaabbc`
-judged_2_29 : matches (cat (cat (lookaround (look false true 0 1) (cat (loop (times 0 None true) 0 1 (capture_group 0 [] (alt (cat (loop_1_char_body (times 0 None true) (char 97)) (cat (loop_1_char_body (times 0 None true) (char 97)) end_of_cat)) (alt (cat (back_ref 1 false) (cat (back_ref 1 false) end_of_cat)) (cat (back_ref 1 false) (cat (char 98) end_of_cat)))))) end_of_cat)) (cat (char 97) end_of_cat)) (cat goal end_of_cat)) (utf8_text (97 ∷ 97 ∷ 97 ∷ 97 ∷ 98 ∷ 98 ∷ 99 ∷ []) true) 0 ≡ (found 0 1 (None ∷ []) ∷ found 1 2 (Some (0, 1) ∷ []) ∷ found 2 3 (Some (0, 2) ∷ []) ∷ found 3 4 (Some (0, 3) ∷ []) ∷ [])
+judged_2_29 : matches (cat (cat (lookaround (look false true 0 1) (cat (loop (times 0 None true) 0 1 (capture_group 0 [] (alt (cat (loop_1_char_body (times 0 None true) (char 97)) (cat (loop_1_char_body (times 0 None true) (char 97)) end_of_cat)) (alt (cat (back_ref 1 exact) (cat (back_ref 1 exact) end_of_cat)) (cat (back_ref 1 exact) (cat (char 98) end_of_cat)))))) end_of_cat)) (cat (char 97) end_of_cat)) (cat goal end_of_cat)) (utf8_text (97 ∷ 97 ∷ 97 ∷ 97 ∷ 98 ∷ 98 ∷ 99 ∷ []) true) 0 ≡ (found 0 1 (None ∷ []) ∷ found 1 2 (Some (0, 1) ∷ []) ∷ found 2 3 (Some (0, 2) ∷ []) ∷ found 3 4 (Some (0, 3) ∷ []) ∷ [])
 unfolding matches
 judged_2_29 = refl
 
 -- `.*?(a|\1).b` of flags `m` on `a`
-judged_2_30 : matches (cat (cat (loop_1_char_body (times 0 None false) match_any_except_line_terminator) (cat (capture_group 0 [] (alt (cat (char 97) end_of_cat) (cat (back_ref 1 false) end_of_cat))) (cat match_any_except_line_terminator (cat (char 98) end_of_cat)))) (cat goal end_of_cat)) (utf8_text (97 ∷ []) false) 0 ≡ []
+judged_2_30 : matches (cat (cat (loop_1_char_body (times 0 None false) match_any_except_line_terminator) (cat (capture_group 0 [] (alt (cat (char 97) end_of_cat) (cat (back_ref 1 exact) end_of_cat))) (cat match_any_except_line_terminator (cat (char 98) end_of_cat)))) (cat goal end_of_cat)) (utf8_text (97 ∷ []) false) 0 ≡ []
 unfolding matches
 judged_2_30 = refl
 
@@ -167,12 +167,12 @@ unfolding matches
 judged_2_32 = refl
 
 -- `((?=\1)|a*){2}b` on `cbababa`
-judged_2_33 : matches (cat (cat (loop (times 2 (Some 2) true) 0 1 (capture_group 0 [] (alt (cat (lookaround (look false false 1 1) (cat (back_ref 1 false) end_of_cat)) end_of_cat) (cat (loop_1_char_body (times 0 None true) (char 97)) end_of_cat)))) (cat (char 98) end_of_cat)) (cat goal end_of_cat)) (utf8_text (99 ∷ 98 ∷ 97 ∷ 98 ∷ 97 ∷ 98 ∷ 97 ∷ []) false) 0 ≡ (found 1 2 (Some (1, 1) ∷ []) ∷ found 2 4 (Some (2, 3) ∷ []) ∷ found 4 6 (Some (4, 5) ∷ []) ∷ [])
+judged_2_33 : matches (cat (cat (loop (times 2 (Some 2) true) 0 1 (capture_group 0 [] (alt (cat (lookaround (look false false 1 1) (cat (back_ref 1 exact) end_of_cat)) end_of_cat) (cat (loop_1_char_body (times 0 None true) (char 97)) end_of_cat)))) (cat (char 98) end_of_cat)) (cat goal end_of_cat)) (utf8_text (99 ∷ 98 ∷ 97 ∷ 98 ∷ 97 ∷ 98 ∷ 97 ∷ []) false) 0 ≡ (found 1 2 (Some (1, 1) ∷ []) ∷ found 2 4 (Some (2, 3) ∷ []) ∷ found 4 6 (Some (4, 5) ∷ []) ∷ [])
 unfolding matches
 judged_2_33 = refl
 
 -- `(aa|aa*|\1a){2}` of flags `u` on `cbaabab`
-judged_2_34 : matches (cat (cat (loop (times 2 (Some 2) true) 0 1 (capture_group 0 [] (alt (cat (char 97) (cat (char 97) end_of_cat)) (alt (cat (char 97) (cat (loop_1_char_body (times 0 None true) (char 97)) end_of_cat)) (cat (back_ref 1 false) (cat (char 97) end_of_cat)))))) end_of_cat) (cat goal end_of_cat)) (utf8_text (99 ∷ 98 ∷ 97 ∷ 97 ∷ 98 ∷ 97 ∷ 98 ∷ []) true) 0 ≡ (found 2 4 (Some (3, 4) ∷ []) ∷ [])
+judged_2_34 : matches (cat (cat (loop (times 2 (Some 2) true) 0 1 (capture_group 0 [] (alt (cat (char 97) (cat (char 97) end_of_cat)) (alt (cat (char 97) (cat (loop_1_char_body (times 0 None true) (char 97)) end_of_cat)) (cat (back_ref 1 exact) (cat (char 97) end_of_cat)))))) end_of_cat) (cat goal end_of_cat)) (utf8_text (99 ∷ 98 ∷ 97 ∷ 97 ∷ 98 ∷ 97 ∷ 98 ∷ []) true) 0 ≡ (found 2 4 (Some (3, 4) ∷ []) ∷ [])
 unfolding matches
 judged_2_34 = refl
 
@@ -202,7 +202,7 @@ unfolding matches
 judged_2_39 = refl
 
 -- `([a-\u{E9}])\1{2,3}\b` of flags `u` on `\u{E9}s`
-judged_2_40 : matches (cat (cat (capture_group 0 [] (cat (bracket (in_brackets false ((97, 233) ∷ []))) end_of_cat)) (cat (loop (times 2 (Some 3) true) 1 1 (back_ref 1 false)) (cat (word_boundary false false) end_of_cat))) (cat goal end_of_cat)) (utf8_text (195 ∷ 169 ∷ 115 ∷ []) true) 0 ≡ []
+judged_2_40 : matches (cat (cat (capture_group 0 [] (cat (bracket (in_brackets false ((97, 233) ∷ []))) end_of_cat)) (cat (loop (times 2 (Some 3) true) 1 1 (back_ref 1 exact)) (cat (word_boundary false false) end_of_cat))) (cat goal end_of_cat)) (utf8_text (195 ∷ 169 ∷ 115 ∷ []) true) 0 ≡ []
 unfolding matches
 judged_2_40 = refl
 
@@ -272,7 +272,7 @@ unfolding matches
 judged_2_53 = refl
 
 -- `(a)\1{1,1}ab` of flags `u` on `aaaaaabb`
-judged_2_54 : matches (cat (cat (capture_group 0 [] (cat (char 97) end_of_cat)) (cat (loop (times 1 (Some 1) true) 1 1 (back_ref 1 false)) (cat (char 97) (cat (char 98) end_of_cat)))) (cat goal end_of_cat)) (utf8_text (97 ∷ 97 ∷ 97 ∷ 97 ∷ 97 ∷ 97 ∷ 98 ∷ 98 ∷ []) true) 0 ≡ (found 3 7 (Some (3, 4) ∷ []) ∷ [])
+judged_2_54 : matches (cat (cat (capture_group 0 [] (cat (char 97) end_of_cat)) (cat (loop (times 1 (Some 1) true) 1 1 (back_ref 1 exact)) (cat (char 97) (cat (char 98) end_of_cat)))) (cat goal end_of_cat)) (utf8_text (97 ∷ 97 ∷ 97 ∷ 97 ∷ 97 ∷ 97 ∷ 98 ∷ 98 ∷ []) true) 0 ≡ (found 3 7 (Some (3, 4) ∷ []) ∷ [])
 unfolding matches
 judged_2_54 = refl
 
@@ -362,7 +362,7 @@ unfolding matches
 judged_2_71 = refl
 
 -- `(\1)K` on `cbccccaca`
-judged_2_72 : matches (cat (cat (capture_group 0 [] (cat (back_ref 1 false) end_of_cat)) (cat (char 75) end_of_cat)) (cat goal end_of_cat)) (utf8_text (99 ∷ 98 ∷ 99 ∷ 99 ∷ 99 ∷ 99 ∷ 97 ∷ 99 ∷ 97 ∷ []) false) 0 ≡ []
+judged_2_72 : matches (cat (cat (capture_group 0 [] (cat (back_ref 1 exact) end_of_cat)) (cat (char 75) end_of_cat)) (cat goal end_of_cat)) (utf8_text (99 ∷ 98 ∷ 99 ∷ 99 ∷ 99 ∷ 99 ∷ 97 ∷ 99 ∷ 97 ∷ []) false) 0 ≡ []
 unfolding matches
 judged_2_72 = refl
 
@@ -372,12 +372,12 @@ unfolding matches
 judged_2_73 = refl
 
 -- `(?<n0>a*?.\w?\k<n0>){2,4}` of flags `u` on `aaakaaaaacakaa`
-judged_2_74 : matches (cat (cat (loop (times 2 (Some 4) true) 0 1 (capture_group 0 (110 ∷ 48 ∷ []) (cat (loop_1_char_body (times 0 None false) (char 97)) (cat match_any_except_line_terminator (cat (loop_1_char_body (times 0 (Some 1) true) (bracket (in_brackets false ((48, 57) ∷ (65, 90) ∷ (95, 95) ∷ (97, 122) ∷ [])))) (cat (back_ref 1 false) end_of_cat)))))) end_of_cat) (cat goal end_of_cat)) (utf8_text (97 ∷ 97 ∷ 97 ∷ 107 ∷ 97 ∷ 97 ∷ 97 ∷ 97 ∷ 97 ∷ 99 ∷ 97 ∷ 107 ∷ 97 ∷ 97 ∷ []) true) 0 ≡ (found 0 8 (Some (6, 8) ∷ []) ∷ found 8 14 (Some (12, 14) ∷ []) ∷ [])
+judged_2_74 : matches (cat (cat (loop (times 2 (Some 4) true) 0 1 (capture_group 0 (110 ∷ 48 ∷ []) (cat (loop_1_char_body (times 0 None false) (char 97)) (cat match_any_except_line_terminator (cat (loop_1_char_body (times 0 (Some 1) true) (bracket (in_brackets false ((48, 57) ∷ (65, 90) ∷ (95, 95) ∷ (97, 122) ∷ [])))) (cat (back_ref 1 exact) end_of_cat)))))) end_of_cat) (cat goal end_of_cat)) (utf8_text (97 ∷ 97 ∷ 97 ∷ 107 ∷ 97 ∷ 97 ∷ 97 ∷ 97 ∷ 97 ∷ 99 ∷ 97 ∷ 107 ∷ 97 ∷ 97 ∷ []) true) 0 ≡ (found 0 8 (Some (6, 8) ∷ []) ∷ found 8 14 (Some (12, 14) ∷ []) ∷ [])
 unfolding matches
 judged_2_74 = refl
 
 -- `(b|\1(?<!\d |a)).*?0` on `bB 0`
-judged_2_75 : matches (cat (cat (capture_group 0 [] (alt (cat (char 98) end_of_cat) (cat (back_ref 1 false) (cat (lookaround (look true true 1 1) (alt (cat (char 32) (cat (bracket (in_brackets false ((48, 57) ∷ []))) end_of_cat)) (cat (char 97) end_of_cat))) end_of_cat)))) (cat (loop_1_char_body (times 0 None false) match_any_except_line_terminator) (cat (char 48) end_of_cat))) (cat goal end_of_cat)) (utf8_text (98 ∷ 66 ∷ 32 ∷ 48 ∷ []) false) 0 ≡ (found 0 4 (Some (0, 1) ∷ []) ∷ [])
+judged_2_75 : matches (cat (cat (capture_group 0 [] (alt (cat (char 98) end_of_cat) (cat (back_ref 1 exact) (cat (lookaround (look true true 1 1) (alt (cat (char 32) (cat (bracket (in_brackets false ((48, 57) ∷ []))) end_of_cat)) (cat (char 97) end_of_cat))) end_of_cat)))) (cat (loop_1_char_body (times 0 None false) match_any_except_line_terminator) (cat (char 48) end_of_cat))) (cat goal end_of_cat)) (utf8_text (98 ∷ 66 ∷ 32 ∷ 48 ∷ []) false) 0 ≡ (found 0 4 (Some (0, 1) ∷ []) ∷ [])
 unfolding matches
 judged_2_75 = refl
 
@@ -427,17 +427,17 @@ unfolding matches
 judged_2_84 = refl
 
 -- `[^\u007A-\u{17F}]??\S{3}[^]|(?:(?<![\D!-k,]+?_)|\D{1,2}(b)(?:(?:\1)|b)+)*(?:)??` of flags `ms` on `\u{3000}KcccaK`
-judged_2_85 : matches (cat (alt (cat (loop_1_char_body (times 0 (Some 1) false) (bracket (in_brackets true ((122, 383) ∷ [])))) (cat (loop_1_char_body (times 3 (Some 3) true) (bracket (in_brackets false ((0, 8) ∷ (14, 31) ∷ (33, 159) ∷ (161, 5759) ∷ (5761, 8191) ∷ (8203, 8231) ∷ (8234, 8238) ∷ (8240, 8286) ∷ (8288, 12287) ∷ (12289, 65278) ∷ (65280, 1114111) ∷ [])))) (cat (bracket (in_brackets true [])) end_of_cat))) (cat (loop (times 0 None true) 0 1 (alt (cat (lookaround (look true true 0 0) (cat (char 95) (cat (loop_1_char_body (times 1 None false) (bracket (in_brackets false ((0, 1114111) ∷ [])))) end_of_cat))) end_of_cat) (cat (loop_1_char_body (times 1 (Some 2) true) (bracket (in_brackets false ((0, 47) ∷ (58, 1114111) ∷ [])))) (cat (capture_group 0 [] (cat (char 98) end_of_cat)) (cat (loop (times 1 None true) 1 1 (alt (cat (cat (back_ref 1 false) end_of_cat) end_of_cat) (cat (char 98) end_of_cat))) end_of_cat))))) (cat (loop (times 0 (Some 1) false) 1 1 end_of_cat) end_of_cat))) (cat goal end_of_cat)) (utf8_text (227 ∷ 128 ∷ 128 ∷ 75 ∷ 99 ∷ 99 ∷ 99 ∷ 97 ∷ 75 ∷ []) false) 0 ≡ (found 0 7 (None ∷ []) ∷ found 7 7 (None ∷ []) ∷ found 8 8 (None ∷ []) ∷ found 9 9 (None ∷ []) ∷ [])
+judged_2_85 : matches (cat (alt (cat (loop_1_char_body (times 0 (Some 1) false) (bracket (in_brackets true ((122, 383) ∷ [])))) (cat (loop_1_char_body (times 3 (Some 3) true) (bracket (in_brackets false ((0, 8) ∷ (14, 31) ∷ (33, 159) ∷ (161, 5759) ∷ (5761, 8191) ∷ (8203, 8231) ∷ (8234, 8238) ∷ (8240, 8286) ∷ (8288, 12287) ∷ (12289, 65278) ∷ (65280, 1114111) ∷ [])))) (cat (bracket (in_brackets true [])) end_of_cat))) (cat (loop (times 0 None true) 0 1 (alt (cat (lookaround (look true true 0 0) (cat (char 95) (cat (loop_1_char_body (times 1 None false) (bracket (in_brackets false ((0, 1114111) ∷ [])))) end_of_cat))) end_of_cat) (cat (loop_1_char_body (times 1 (Some 2) true) (bracket (in_brackets false ((0, 47) ∷ (58, 1114111) ∷ [])))) (cat (capture_group 0 [] (cat (char 98) end_of_cat)) (cat (loop (times 1 None true) 1 1 (alt (cat (cat (back_ref 1 exact) end_of_cat) end_of_cat) (cat (char 98) end_of_cat))) end_of_cat))))) (cat (loop (times 0 (Some 1) false) 1 1 end_of_cat) end_of_cat))) (cat goal end_of_cat)) (utf8_text (227 ∷ 128 ∷ 128 ∷ 75 ∷ 99 ∷ 99 ∷ 99 ∷ 97 ∷ 75 ∷ []) false) 0 ≡ (found 0 7 (None ∷ []) ∷ found 7 7 (None ∷ []) ∷ found 8 8 (None ∷ []) ∷ found 9 9 (None ∷ []) ∷ [])
 unfolding matches
 judged_2_85 = refl
 
 -- `(\w\b[^!\s!\u005a-\u{1F600}]){0,1}"?|(?:$.*(?:\1)\u002F){1,3}?` of flags `mu` on `cccab`
-judged_2_86 : matches (cat (alt (cat (loop (times 0 (Some 1) true) 0 1 (capture_group 0 [] (cat (bracket (in_brackets false ((48, 57) ∷ (65, 90) ∷ (95, 95) ∷ (97, 122) ∷ []))) (cat (word_boundary false false) (cat (bracket (in_brackets true ((9, 13) ∷ (32, 33) ∷ (90, 128512) ∷ []))) end_of_cat))))) (cat (loop_1_char_body (times 0 (Some 1) true) (char 34)) end_of_cat)) (cat (loop (times 1 (Some 3) false) 1 1 (cat (anchor end_of_line true) (cat (loop_1_char_body (times 0 None true) match_any_except_line_terminator) (cat (cat (back_ref 1 false) end_of_cat) (cat (char 47) end_of_cat))))) end_of_cat)) (cat goal end_of_cat)) (utf8_text (99 ∷ 99 ∷ 99 ∷ 97 ∷ 98 ∷ []) true) 0 ≡ (found 0 0 (None ∷ []) ∷ found 1 1 (None ∷ []) ∷ found 2 2 (None ∷ []) ∷ found 3 3 (None ∷ []) ∷ found 4 4 (None ∷ []) ∷ found 5 5 (None ∷ []) ∷ [])
+judged_2_86 : matches (cat (alt (cat (loop (times 0 (Some 1) true) 0 1 (capture_group 0 [] (cat (bracket (in_brackets false ((48, 57) ∷ (65, 90) ∷ (95, 95) ∷ (97, 122) ∷ []))) (cat (word_boundary false false) (cat (bracket (in_brackets true ((9, 13) ∷ (32, 33) ∷ (90, 128512) ∷ []))) end_of_cat))))) (cat (loop_1_char_body (times 0 (Some 1) true) (char 34)) end_of_cat)) (cat (loop (times 1 (Some 3) false) 1 1 (cat (anchor end_of_line true) (cat (loop_1_char_body (times 0 None true) match_any_except_line_terminator) (cat (cat (back_ref 1 exact) end_of_cat) (cat (char 47) end_of_cat))))) end_of_cat)) (cat goal end_of_cat)) (utf8_text (99 ∷ 99 ∷ 99 ∷ 97 ∷ 98 ∷ []) true) 0 ≡ (found 0 0 (None ∷ []) ∷ found 1 1 (None ∷ []) ∷ found 2 2 (None ∷ []) ∷ found 3 3 (None ∷ []) ∷ found 4 4 (None ∷ []) ∷ found 5 5 (None ∷ []) ∷ [])
 unfolding matches
 judged_2_86 = refl
 
 -- `((?:\1){0,}?[^*-])*` of flags `su` on `acaa`
-judged_2_87 : matches (cat (cat (loop (times 0 None true) 0 1 (capture_group 0 [] (cat (loop (times 0 None false) 1 1 (cat (back_ref 1 false) end_of_cat)) (cat (bracket (in_brackets true ((42, 42) ∷ (45, 45) ∷ []))) end_of_cat)))) end_of_cat) (cat goal end_of_cat)) (utf8_text (97 ∷ 99 ∷ 97 ∷ 97 ∷ []) true) 0 ≡ (found 0 4 (Some (3, 4) ∷ []) ∷ found 4 4 (None ∷ []) ∷ [])
+judged_2_87 : matches (cat (cat (loop (times 0 None true) 0 1 (capture_group 0 [] (cat (loop (times 0 None false) 1 1 (cat (back_ref 1 exact) end_of_cat)) (cat (bracket (in_brackets true ((42, 42) ∷ (45, 45) ∷ []))) end_of_cat)))) end_of_cat) (cat goal end_of_cat)) (utf8_text (97 ∷ 99 ∷ 97 ∷ 97 ∷ []) true) 0 ≡ (found 0 4 (Some (3, 4) ∷ []) ∷ found 4 4 (None ∷ []) ∷ [])
 unfolding matches
 judged_2_87 = refl
 
@@ -452,7 +452,7 @@ unfolding matches
 judged_2_89 = refl
 
 -- `(?<n0>a[|\u{2028}]{1,3}\u{212A}.|^\k<n0>?|s+?b{2,4}).` of flags `s` on `a||\u{212A}bs`
-judged_2_90 : matches (cat (cat (capture_group 0 (110 ∷ 48 ∷ []) (alt (cat (char 97) (cat (loop_1_char_body (times 1 (Some 3) true) (bracket (in_brackets false ((124, 124) ∷ (8232, 8232) ∷ [])))) (cat (char 8490) (cat match_any end_of_cat)))) (alt (cat (anchor start_of_line false) (cat (loop (times 0 (Some 1) true) 1 1 (back_ref 1 false)) end_of_cat)) (cat (loop_1_char_body (times 1 None false) (char 115)) (cat (loop_1_char_body (times 2 (Some 4) true) (char 98)) end_of_cat))))) (cat match_any end_of_cat)) (cat goal end_of_cat)) (utf8_text (97 ∷ 124 ∷ 124 ∷ 226 ∷ 132 ∷ 170 ∷ 98 ∷ 115 ∷ []) false) 0 ≡ (found 0 8 (Some (0, 7) ∷ []) ∷ [])
+judged_2_90 : matches (cat (cat (capture_group 0 (110 ∷ 48 ∷ []) (alt (cat (char 97) (cat (loop_1_char_body (times 1 (Some 3) true) (bracket (in_brackets false ((124, 124) ∷ (8232, 8232) ∷ [])))) (cat (char 8490) (cat match_any end_of_cat)))) (alt (cat (anchor start_of_line false) (cat (loop (times 0 (Some 1) true) 1 1 (back_ref 1 exact)) end_of_cat)) (cat (loop_1_char_body (times 1 None false) (char 115)) (cat (loop_1_char_body (times 2 (Some 4) true) (char 98)) end_of_cat))))) (cat match_any end_of_cat)) (cat goal end_of_cat)) (utf8_text (97 ∷ 124 ∷ 124 ∷ 226 ∷ 132 ∷ 170 ∷ 98 ∷ 115 ∷ []) false) 0 ≡ (found 0 8 (Some (0, 7) ∷ []) ∷ [])
 unfolding matches
 judged_2_90 = refl
 
@@ -462,7 +462,7 @@ unfolding matches
 judged_2_91 = refl
 
 -- `c|^(?<n0>\1\w)|\w` of flags `mis` on `c`
-judged_2_92 : matches (cat (alt (cat (char_set (67 ∷ 99 ∷ [])) end_of_cat) (alt (cat (anchor start_of_line true) (cat (capture_group 0 (110 ∷ 48 ∷ []) (cat (back_ref 1 true) (cat (bracket (in_brackets false ((48, 57) ∷ (65, 90) ∷ (95, 95) ∷ (97, 122) ∷ []))) end_of_cat))) end_of_cat)) (cat (bracket (in_brackets false ((48, 57) ∷ (65, 90) ∷ (95, 95) ∷ (97, 122) ∷ []))) end_of_cat))) (cat goal end_of_cat)) (utf8_text (99 ∷ []) false) 0 ≡ (found 0 1 (None ∷ []) ∷ [])
+judged_2_92 : matches (cat (alt (cat (char_set (67 ∷ 99 ∷ [])) end_of_cat) (alt (cat (anchor start_of_line true) (cat (capture_group 0 (110 ∷ 48 ∷ []) (cat (back_ref 1 folded) (cat (bracket (in_brackets false ((48, 57) ∷ (65, 90) ∷ (95, 95) ∷ (97, 122) ∷ []))) end_of_cat))) end_of_cat)) (cat (bracket (in_brackets false ((48, 57) ∷ (65, 90) ∷ (95, 95) ∷ (97, 122) ∷ []))) end_of_cat))) (cat goal end_of_cat)) (utf8_text (99 ∷ []) false) 0 ≡ (found 0 1 (None ∷ []) ∷ [])
 unfolding matches
 judged_2_92 = refl
 
@@ -472,7 +472,7 @@ unfolding matches
 judged_2_93 = refl
 
 -- `a.{2,4}|(?=b[^1c-\u{20AC}]+^)(?<n0>(?:\B(b+\w{0}?^|\k<n0>*\u{A0}B)){2,}$)` of flags `iu` on `\u{A0}BbB`
-judged_2_94 : matches (cat (alt (cat (char_set (65 ∷ 97 ∷ [])) (cat (loop_1_char_body (times 2 (Some 4) true) match_any_except_line_terminator) end_of_cat)) (cat (lookaround (look false false 0 0) (cat (char_set (66 ∷ 98 ∷ [])) (cat (loop_1_char_body (times 1 None true) (bracket (in_brackets true ((49, 49) ∷ (67, 90) ∷ (99, 8364) ∷ (8490, 8490) ∷ [])))) (cat (anchor start_of_line false) end_of_cat)))) (cat (capture_group 0 (110 ∷ 48 ∷ []) (cat (loop (times 2 None true) 1 2 (cat (word_boundary true true) (cat (capture_group 1 [] (alt (cat (loop_1_char_body (times 1 None true) (char_set (66 ∷ 98 ∷ []))) (cat (loop_1_char_body (times 0 (Some 0) false) (bracket (in_brackets false ((48, 57) ∷ (65, 90) ∷ (95, 95) ∷ (97, 122) ∷ (383, 383) ∷ (8490, 8490) ∷ [])))) (cat (anchor start_of_line false) end_of_cat))) (cat (loop (times 0 None true) 2 2 (back_ref 1 true)) (cat (char 160) (cat (char_set (66 ∷ 98 ∷ [])) end_of_cat))))) end_of_cat))) (cat (anchor end_of_line false) end_of_cat))) end_of_cat))) (cat goal end_of_cat)) (utf8_text (194 ∷ 160 ∷ 66 ∷ 98 ∷ 66 ∷ []) true) 0 ≡ []
+judged_2_94 : matches (cat (alt (cat (char_set (65 ∷ 97 ∷ [])) (cat (loop_1_char_body (times 2 (Some 4) true) match_any_except_line_terminator) end_of_cat)) (cat (lookaround (look false false 0 0) (cat (char_set (66 ∷ 98 ∷ [])) (cat (loop_1_char_body (times 1 None true) (bracket (in_brackets true ((49, 49) ∷ (67, 90) ∷ (99, 8364) ∷ (8490, 8490) ∷ [])))) (cat (anchor start_of_line false) end_of_cat)))) (cat (capture_group 0 (110 ∷ 48 ∷ []) (cat (loop (times 2 None true) 1 2 (cat (word_boundary true true) (cat (capture_group 1 [] (alt (cat (loop_1_char_body (times 1 None true) (char_set (66 ∷ 98 ∷ []))) (cat (loop_1_char_body (times 0 (Some 0) false) (bracket (in_brackets false ((48, 57) ∷ (65, 90) ∷ (95, 95) ∷ (97, 122) ∷ (383, 383) ∷ (8490, 8490) ∷ [])))) (cat (anchor start_of_line false) end_of_cat))) (cat (loop (times 0 None true) 2 2 (back_ref 1 folded)) (cat (char 160) (cat (char_set (66 ∷ 98 ∷ [])) end_of_cat))))) end_of_cat))) (cat (anchor end_of_line false) end_of_cat))) end_of_cat))) (cat goal end_of_cat)) (utf8_text (194 ∷ 160 ∷ 66 ∷ 98 ∷ 66 ∷ []) true) 0 ≡ []
 unfolding matches
 judged_2_94 = refl
 
@@ -487,7 +487,7 @@ unfolding matches
 judged_2_96 = refl
 
 -- `(?<=\x61??|(?:\3))(\2{2,}c^)|(){1,2}[s-\u{17F}\x61](b||a){3}\u{17F}` of flags `s` on `abbccbba`
-judged_2_97 : matches (cat (alt (cat (lookaround (look false true 0 0) (alt (cat (loop_1_char_body (times 0 (Some 1) false) (char 97)) end_of_cat) (cat (cat (back_ref 3 false) end_of_cat) end_of_cat))) (cat (capture_group 0 [] (cat (loop (times 2 None true) 1 1 (back_ref 2 false)) (cat (char 99) (cat (anchor start_of_line false) end_of_cat)))) end_of_cat)) (cat (loop (times 1 (Some 2) true) 1 2 (capture_group 1 [] end_of_cat)) (cat (bracket (in_brackets false ((97, 97) ∷ (115, 383) ∷ []))) (cat (loop (times 3 (Some 3) true) 2 3 (capture_group 2 [] (alt (cat (char 98) end_of_cat) (alt end_of_cat (cat (char 97) end_of_cat))))) (cat (char 383) end_of_cat))))) (cat goal end_of_cat)) (utf8_text (97 ∷ 98 ∷ 98 ∷ 99 ∷ 99 ∷ 98 ∷ 98 ∷ 97 ∷ []) false) 0 ≡ []
+judged_2_97 : matches (cat (alt (cat (lookaround (look false true 0 0) (alt (cat (loop_1_char_body (times 0 (Some 1) false) (char 97)) end_of_cat) (cat (cat (back_ref 3 exact) end_of_cat) end_of_cat))) (cat (capture_group 0 [] (cat (loop (times 2 None true) 1 1 (back_ref 2 exact)) (cat (char 99) (cat (anchor start_of_line false) end_of_cat)))) end_of_cat)) (cat (loop (times 1 (Some 2) true) 1 2 (capture_group 1 [] end_of_cat)) (cat (bracket (in_brackets false ((97, 97) ∷ (115, 383) ∷ []))) (cat (loop (times 3 (Some 3) true) 2 3 (capture_group 2 [] (alt (cat (char 98) end_of_cat) (alt end_of_cat (cat (char 97) end_of_cat))))) (cat (char 383) end_of_cat))))) (cat goal end_of_cat)) (utf8_text (97 ∷ 98 ∷ 98 ∷ 99 ∷ 99 ∷ 98 ∷ 98 ∷ 97 ∷ []) false) 0 ≡ []
 unfolding matches
 judged_2_97 = refl
 

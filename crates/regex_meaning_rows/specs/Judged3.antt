@@ -2,7 +2,7 @@
 -- turned into bytes. The trees are those of the patterns, optimised.
 use Rattle.std.specs.Prelude.{◌≡◌, [], ◌∷◌, Some, None, refl, true, false}
 use Rattle.regex_meaning.specs.Tree.{goal, char, char_set, cat, end_of_cat, alt, bracket, match_any, match_any_except_line_terminator, anchor}
-use Rattle.regex_meaning.specs.Tree.{start_of_line, end_of_line, word_boundary, capture_group, back_ref, lookaround, loop, loop_1_char_body}
+use Rattle.regex_meaning.specs.Tree.{start_of_line, end_of_line, word_boundary, capture_group, back_ref, exact, folded, lookaround, loop, loop_1_char_body}
 use Rattle.regex_meaning.specs.Text.{utf8_text}
 use Rattle.regex_meaning_rows.specs.Computing.{found, matches, times, in_brackets, look}
 
@@ -22,7 +22,7 @@ unfolding matches
 judged_3_03 = refl
 
 -- `(\2{1,1}(^[^a0\S\x61-z]){1,2}K)` of flags `mu` on `b cKc  cK`
-judged_3_04 : matches (cat (cat (capture_group 0 [] (cat (loop (times 1 (Some 1) true) 1 1 (back_ref 2 false)) (cat (loop (times 1 (Some 2) true) 1 2 (capture_group 1 [] (cat (anchor start_of_line true) (cat (bracket (in_brackets true ((0, 8) ∷ (14, 31) ∷ (33, 159) ∷ (161, 5759) ∷ (5761, 8191) ∷ (8203, 8231) ∷ (8234, 8238) ∷ (8240, 8286) ∷ (8288, 12287) ∷ (12289, 65278) ∷ (65280, 1114111) ∷ []))) end_of_cat)))) (cat (char 75) end_of_cat)))) end_of_cat) (cat goal end_of_cat)) (utf8_text (98 ∷ 32 ∷ 99 ∷ 75 ∷ 99 ∷ 32 ∷ 32 ∷ 99 ∷ 75 ∷ []) true) 0 ≡ []
+judged_3_04 : matches (cat (cat (capture_group 0 [] (cat (loop (times 1 (Some 1) true) 1 1 (back_ref 2 exact)) (cat (loop (times 1 (Some 2) true) 1 2 (capture_group 1 [] (cat (anchor start_of_line true) (cat (bracket (in_brackets true ((0, 8) ∷ (14, 31) ∷ (33, 159) ∷ (161, 5759) ∷ (5761, 8191) ∷ (8203, 8231) ∷ (8234, 8238) ∷ (8240, 8286) ∷ (8288, 12287) ∷ (12289, 65278) ∷ (65280, 1114111) ∷ []))) end_of_cat)))) (cat (char 75) end_of_cat)))) end_of_cat) (cat goal end_of_cat)) (utf8_text (98 ∷ 32 ∷ 99 ∷ 75 ∷ 99 ∷ 32 ∷ 32 ∷ 99 ∷ 75 ∷ []) true) 0 ≡ []
 unfolding matches
 judged_3_04 = refl
 
@@ -32,22 +32,22 @@ unfolding matches
 judged_3_05 = refl
 
 -- `((?:\1)+?)*?A{2,}` of flags `i` on `"s`
-judged_3_06 : matches (cat (cat (loop (times 0 None false) 0 1 (capture_group 0 [] (cat (loop (times 1 None false) 1 1 (cat (back_ref 1 true) end_of_cat)) end_of_cat))) (cat (loop_1_char_body (times 2 None true) (char_set (65 ∷ 97 ∷ []))) end_of_cat)) (cat goal end_of_cat)) (utf8_text (34 ∷ 115 ∷ []) false) 0 ≡ []
+judged_3_06 : matches (cat (cat (loop (times 0 None false) 0 1 (capture_group 0 [] (cat (loop (times 1 None false) 1 1 (cat (back_ref 1 folded) end_of_cat)) end_of_cat))) (cat (loop_1_char_body (times 2 None true) (char_set (65 ∷ 97 ∷ []))) end_of_cat)) (cat goal end_of_cat)) (utf8_text (34 ∷ 115 ∷ []) false) 0 ≡ []
 unfolding matches
 judged_3_06 = refl
 
 -- `(?<n0>(?:\u{20AC}){2,65536}(?:(\u{E9}?^.,|.?)b)*|\k<n0>\b)?` of flags `mi` on ``
-judged_3_07 : matches (cat (cat (loop (times 0 (Some 1) true) 0 2 (capture_group 0 (110 ∷ 48 ∷ []) (alt (cat (loop (times 2 (Some 65536) true) 1 1 (cat (char 8364) end_of_cat)) (cat (loop (times 0 None true) 1 2 (cat (capture_group 1 [] (alt (cat (loop_1_char_body (times 0 (Some 1) true) (char 233)) (cat (anchor start_of_line true) (cat match_any_except_line_terminator (cat (char 44) end_of_cat)))) (cat (loop_1_char_body (times 0 (Some 1) true) match_any_except_line_terminator) end_of_cat))) (cat (char_set (66 ∷ 98 ∷ [])) end_of_cat))) end_of_cat)) (cat (back_ref 1 true) (cat (word_boundary false false) end_of_cat))))) end_of_cat) (cat goal end_of_cat)) (utf8_text [] false) 0 ≡ (found 0 0 (None ∷ None ∷ []) ∷ [])
+judged_3_07 : matches (cat (cat (loop (times 0 (Some 1) true) 0 2 (capture_group 0 (110 ∷ 48 ∷ []) (alt (cat (loop (times 2 (Some 65536) true) 1 1 (cat (char 8364) end_of_cat)) (cat (loop (times 0 None true) 1 2 (cat (capture_group 1 [] (alt (cat (loop_1_char_body (times 0 (Some 1) true) (char 233)) (cat (anchor start_of_line true) (cat match_any_except_line_terminator (cat (char 44) end_of_cat)))) (cat (loop_1_char_body (times 0 (Some 1) true) match_any_except_line_terminator) end_of_cat))) (cat (char_set (66 ∷ 98 ∷ [])) end_of_cat))) end_of_cat)) (cat (back_ref 1 folded) (cat (word_boundary false false) end_of_cat))))) end_of_cat) (cat goal end_of_cat)) (utf8_text [] false) 0 ≡ (found 0 0 (None ∷ None ∷ []) ∷ [])
 unfolding matches
 judged_3_07 = refl
 
 -- `(\1[\u{D}])` of flags `is` on `\u{D}`
-judged_3_08 : matches (cat (cat (capture_group 0 [] (cat (back_ref 1 true) (cat (bracket (in_brackets false ((13, 13) ∷ []))) end_of_cat))) end_of_cat) (cat goal end_of_cat)) (utf8_text (13 ∷ []) false) 0 ≡ (found 0 1 (Some (0, 1) ∷ []) ∷ [])
+judged_3_08 : matches (cat (cat (capture_group 0 [] (cat (back_ref 1 folded) (cat (bracket (in_brackets false ((13, 13) ∷ []))) end_of_cat))) end_of_cat) (cat goal end_of_cat)) (utf8_text (13 ∷ []) false) 0 ≡ (found 0 1 (Some (0, 1) ∷ []) ∷ [])
 unfolding matches
 judged_3_08 = refl
 
 -- `(?:[]?(?:x\u{1F600}){1,2}|(?:\1)|$((?:\1)\u{2028})?\b)[^\w/]+?.` of flags `mu` on `_x\u{1F600}_K `
-judged_3_09 : matches (cat (cat (alt (cat (loop_1_char_body (times 0 (Some 1) true) (bracket (in_brackets false []))) (cat (loop (times 1 (Some 2) true) 0 0 (cat (char 120) (cat (char 128512) end_of_cat))) end_of_cat)) (alt (cat (cat (back_ref 1 false) end_of_cat) end_of_cat) (cat (anchor end_of_line true) (cat (loop (times 0 (Some 1) true) 0 1 (capture_group 0 [] (cat (cat (back_ref 1 false) end_of_cat) (cat (char 8232) end_of_cat)))) (cat (word_boundary false false) end_of_cat))))) (cat (loop_1_char_body (times 1 None false) (bracket (in_brackets true ((47, 57) ∷ (65, 90) ∷ (95, 95) ∷ (97, 122) ∷ [])))) (cat match_any_except_line_terminator end_of_cat))) (cat goal end_of_cat)) (utf8_text (95 ∷ 120 ∷ 240 ∷ 159 ∷ 152 ∷ 128 ∷ 95 ∷ 75 ∷ 32 ∷ []) true) 0 ≡ (found 2 7 (None ∷ []) ∷ [])
+judged_3_09 : matches (cat (cat (alt (cat (loop_1_char_body (times 0 (Some 1) true) (bracket (in_brackets false []))) (cat (loop (times 1 (Some 2) true) 0 0 (cat (char 120) (cat (char 128512) end_of_cat))) end_of_cat)) (alt (cat (cat (back_ref 1 exact) end_of_cat) end_of_cat) (cat (anchor end_of_line true) (cat (loop (times 0 (Some 1) true) 0 1 (capture_group 0 [] (cat (cat (back_ref 1 exact) end_of_cat) (cat (char 8232) end_of_cat)))) (cat (word_boundary false false) end_of_cat))))) (cat (loop_1_char_body (times 1 None false) (bracket (in_brackets true ((47, 57) ∷ (65, 90) ∷ (95, 95) ∷ (97, 122) ∷ [])))) (cat match_any_except_line_terminator end_of_cat))) (cat goal end_of_cat)) (utf8_text (95 ∷ 120 ∷ 240 ∷ 159 ∷ 152 ∷ 128 ∷ 95 ∷ 75 ∷ 32 ∷ []) true) 0 ≡ (found 2 7 (None ∷ []) ∷ [])
 unfolding matches
 judged_3_09 = refl
 
@@ -72,12 +72,12 @@ unfolding matches
 judged_3_13 = refl
 
 -- `\w$|(?=.($\ScA|((?:\1){1}?)|\1)|$\B[\u{2029}]+)(?:\2)+?` on `a`
-judged_3_14 : matches (cat (alt (cat (bracket (in_brackets false ((48, 57) ∷ (65, 90) ∷ (95, 95) ∷ (97, 122) ∷ []))) (cat (anchor end_of_line false) end_of_cat)) (cat (lookaround (look false false 0 2) (alt (cat match_any_except_line_terminator (cat (capture_group 0 [] (alt (cat (anchor end_of_line false) (cat (bracket (in_brackets false ((0, 8) ∷ (14, 31) ∷ (33, 159) ∷ (161, 5759) ∷ (5761, 8191) ∷ (8203, 8231) ∷ (8234, 8238) ∷ (8240, 8286) ∷ (8288, 12287) ∷ (12289, 65278) ∷ (65280, 1114111) ∷ []))) (cat (char 99) (cat (char 65) end_of_cat)))) (alt (cat (capture_group 1 [] (cat (loop (times 1 (Some 1) false) 2 2 (cat (back_ref 1 false) end_of_cat)) end_of_cat)) end_of_cat) (cat (back_ref 1 false) end_of_cat)))) end_of_cat)) (cat (anchor end_of_line false) (cat (word_boundary true false) (cat (loop_1_char_body (times 1 None true) (bracket (in_brackets false ((8233, 8233) ∷ [])))) end_of_cat))))) (cat (loop (times 1 None false) 2 2 (cat (back_ref 2 false) end_of_cat)) end_of_cat))) (cat goal end_of_cat)) (utf8_text (97 ∷ []) false) 0 ≡ (found 0 1 (None ∷ None ∷ []) ∷ [])
+judged_3_14 : matches (cat (alt (cat (bracket (in_brackets false ((48, 57) ∷ (65, 90) ∷ (95, 95) ∷ (97, 122) ∷ []))) (cat (anchor end_of_line false) end_of_cat)) (cat (lookaround (look false false 0 2) (alt (cat match_any_except_line_terminator (cat (capture_group 0 [] (alt (cat (anchor end_of_line false) (cat (bracket (in_brackets false ((0, 8) ∷ (14, 31) ∷ (33, 159) ∷ (161, 5759) ∷ (5761, 8191) ∷ (8203, 8231) ∷ (8234, 8238) ∷ (8240, 8286) ∷ (8288, 12287) ∷ (12289, 65278) ∷ (65280, 1114111) ∷ []))) (cat (char 99) (cat (char 65) end_of_cat)))) (alt (cat (capture_group 1 [] (cat (loop (times 1 (Some 1) false) 2 2 (cat (back_ref 1 exact) end_of_cat)) end_of_cat)) end_of_cat) (cat (back_ref 1 exact) end_of_cat)))) end_of_cat)) (cat (anchor end_of_line false) (cat (word_boundary true false) (cat (loop_1_char_body (times 1 None true) (bracket (in_brackets false ((8233, 8233) ∷ [])))) end_of_cat))))) (cat (loop (times 1 None false) 2 2 (cat (back_ref 2 exact) end_of_cat)) end_of_cat))) (cat goal end_of_cat)) (utf8_text (97 ∷ []) false) 0 ≡ (found 0 1 (None ∷ None ∷ []) ∷ [])
 unfolding matches
 judged_3_14 = refl
 
 -- `\u{D}(s*?)(?:\1)*` of flags `msu` on `\u{D}sss`
-judged_3_15 : matches (cat (cat (char 13) (cat (capture_group 0 [] (cat (loop_1_char_body (times 0 None false) (char 115)) end_of_cat)) (cat (loop (times 0 None true) 1 1 (cat (back_ref 1 false) end_of_cat)) end_of_cat))) (cat goal end_of_cat)) (utf8_text (13 ∷ 115 ∷ 115 ∷ 115 ∷ []) true) 0 ≡ (found 0 1 (Some (1, 1) ∷ []) ∷ [])
+judged_3_15 : matches (cat (cat (char 13) (cat (capture_group 0 [] (cat (loop_1_char_body (times 0 None false) (char 115)) end_of_cat)) (cat (loop (times 0 None true) 1 1 (cat (back_ref 1 exact) end_of_cat)) end_of_cat))) (cat goal end_of_cat)) (utf8_text (13 ∷ 115 ∷ 115 ∷ 115 ∷ []) true) 0 ≡ (found 0 1 (Some (1, 1) ∷ []) ∷ [])
 unfolding matches
 judged_3_15 = refl
 
@@ -92,7 +92,7 @@ unfolding matches
 judged_3_17 = refl
 
 -- `\1.{3}(?:.)([\w\u{20AC}-\u{212A}\S_-](?:)|\d*b??)` of flags `s` on `aabaacaac`
-judged_3_18 : matches (cat (cat (back_ref 1 false) (cat (loop_1_char_body (times 3 (Some 3) true) match_any) (cat (cat match_any end_of_cat) (cat (capture_group 0 [] (alt (cat (bracket (in_brackets false ((0, 8) ∷ (14, 31) ∷ (33, 159) ∷ (161, 5759) ∷ (5761, 8191) ∷ (8203, 8231) ∷ (8234, 8238) ∷ (8240, 8286) ∷ (8288, 12287) ∷ (12289, 65278) ∷ (65280, 1114111) ∷ []))) (cat end_of_cat end_of_cat)) (cat (loop_1_char_body (times 0 None true) (bracket (in_brackets false ((48, 57) ∷ [])))) (cat (loop_1_char_body (times 0 (Some 1) false) (char 98)) end_of_cat)))) end_of_cat)))) (cat goal end_of_cat)) (utf8_text (97 ∷ 97 ∷ 98 ∷ 97 ∷ 97 ∷ 99 ∷ 97 ∷ 97 ∷ 99 ∷ []) false) 0 ≡ (found 0 5 (Some (4, 5) ∷ []) ∷ found 5 9 (Some (9, 9) ∷ []) ∷ [])
+judged_3_18 : matches (cat (cat (back_ref 1 exact) (cat (loop_1_char_body (times 3 (Some 3) true) match_any) (cat (cat match_any end_of_cat) (cat (capture_group 0 [] (alt (cat (bracket (in_brackets false ((0, 8) ∷ (14, 31) ∷ (33, 159) ∷ (161, 5759) ∷ (5761, 8191) ∷ (8203, 8231) ∷ (8234, 8238) ∷ (8240, 8286) ∷ (8288, 12287) ∷ (12289, 65278) ∷ (65280, 1114111) ∷ []))) (cat end_of_cat end_of_cat)) (cat (loop_1_char_body (times 0 None true) (bracket (in_brackets false ((48, 57) ∷ [])))) (cat (loop_1_char_body (times 0 (Some 1) false) (char 98)) end_of_cat)))) end_of_cat)))) (cat goal end_of_cat)) (utf8_text (97 ∷ 97 ∷ 98 ∷ 97 ∷ 97 ∷ 99 ∷ 97 ∷ 97 ∷ 99 ∷ []) false) 0 ≡ (found 0 5 (Some (4, 5) ∷ []) ∷ found 5 9 (Some (9, 9) ∷ []) ∷ [])
 unfolding matches
 judged_3_18 = refl
 
@@ -107,7 +107,7 @@ unfolding matches
 judged_3_20 = refl
 
 -- `(?:[]*^|\1)\u3000$|.(^[^a\uFEFF])??` of flags `mi` on `ab`
-judged_3_21 : matches (cat (alt (cat (alt (cat (loop_1_char_body (times 0 None true) (bracket (in_brackets false []))) (cat (anchor start_of_line true) end_of_cat)) (cat (back_ref 1 true) end_of_cat)) (cat (char 12288) (cat (anchor end_of_line true) end_of_cat))) (cat match_any_except_line_terminator (cat (loop (times 0 (Some 1) false) 0 1 (capture_group 0 [] (cat (anchor start_of_line true) (cat (bracket (in_brackets true ((65, 65) ∷ (97, 97) ∷ (65279, 65279) ∷ []))) end_of_cat)))) end_of_cat))) (cat goal end_of_cat)) (utf8_text (97 ∷ 98 ∷ []) false) 0 ≡ (found 0 1 (None ∷ []) ∷ found 1 2 (None ∷ []) ∷ [])
+judged_3_21 : matches (cat (alt (cat (alt (cat (loop_1_char_body (times 0 None true) (bracket (in_brackets false []))) (cat (anchor start_of_line true) end_of_cat)) (cat (back_ref 1 folded) end_of_cat)) (cat (char 12288) (cat (anchor end_of_line true) end_of_cat))) (cat match_any_except_line_terminator (cat (loop (times 0 (Some 1) false) 0 1 (capture_group 0 [] (cat (anchor start_of_line true) (cat (bracket (in_brackets true ((65, 65) ∷ (97, 97) ∷ (65279, 65279) ∷ []))) end_of_cat)))) end_of_cat))) (cat goal end_of_cat)) (utf8_text (97 ∷ 98 ∷ []) false) 0 ≡ (found 0 1 (None ∷ []) ∷ found 1 2 (None ∷ []) ∷ [])
 unfolding matches
 judged_3_21 = refl
 
@@ -147,7 +147,7 @@ unfolding matches
 judged_3_28 = refl
 
 -- `(\u005f\d\w)S(?:(a+?\u{2029}\u{63}){0,2}?\x53??(\v\w*?(?=)|(?:\1)(?:.)\3){2,2})+` of flags `isu` on `b`
-judged_3_29 : matches (cat (cat (capture_group 0 [] (cat (char 95) (cat (bracket (in_brackets false ((48, 57) ∷ []))) (cat (bracket (in_brackets false ((48, 57) ∷ (65, 90) ∷ (95, 95) ∷ (97, 122) ∷ (383, 383) ∷ (8490, 8490) ∷ []))) end_of_cat)))) (cat (char_set (83 ∷ 115 ∷ 383 ∷ [])) (cat (loop (times 1 None true) 1 3 (cat (loop (times 0 (Some 2) false) 1 2 (capture_group 1 [] (cat (loop_1_char_body (times 1 None false) (char_set (65 ∷ 97 ∷ []))) (cat (char 8233) (cat (char_set (67 ∷ 99 ∷ [])) end_of_cat))))) (cat (loop_1_char_body (times 0 (Some 1) false) (char_set (83 ∷ 115 ∷ 383 ∷ []))) (cat (loop (times 2 (Some 2) true) 2 3 (capture_group 2 [] (alt (cat (char 11) (cat (loop_1_char_body (times 0 None false) (bracket (in_brackets false ((48, 57) ∷ (65, 90) ∷ (95, 95) ∷ (97, 122) ∷ (383, 383) ∷ (8490, 8490) ∷ [])))) (cat (lookaround (look false false 3 3) end_of_cat) end_of_cat))) (cat (cat (back_ref 1 true) end_of_cat) (cat (cat match_any end_of_cat) (cat (back_ref 3 true) end_of_cat)))))) end_of_cat)))) end_of_cat))) (cat goal end_of_cat)) (utf8_text (98 ∷ []) true) 0 ≡ []
+judged_3_29 : matches (cat (cat (capture_group 0 [] (cat (char 95) (cat (bracket (in_brackets false ((48, 57) ∷ []))) (cat (bracket (in_brackets false ((48, 57) ∷ (65, 90) ∷ (95, 95) ∷ (97, 122) ∷ (383, 383) ∷ (8490, 8490) ∷ []))) end_of_cat)))) (cat (char_set (83 ∷ 115 ∷ 383 ∷ [])) (cat (loop (times 1 None true) 1 3 (cat (loop (times 0 (Some 2) false) 1 2 (capture_group 1 [] (cat (loop_1_char_body (times 1 None false) (char_set (65 ∷ 97 ∷ []))) (cat (char 8233) (cat (char_set (67 ∷ 99 ∷ [])) end_of_cat))))) (cat (loop_1_char_body (times 0 (Some 1) false) (char_set (83 ∷ 115 ∷ 383 ∷ []))) (cat (loop (times 2 (Some 2) true) 2 3 (capture_group 2 [] (alt (cat (char 11) (cat (loop_1_char_body (times 0 None false) (bracket (in_brackets false ((48, 57) ∷ (65, 90) ∷ (95, 95) ∷ (97, 122) ∷ (383, 383) ∷ (8490, 8490) ∷ [])))) (cat (lookaround (look false false 3 3) end_of_cat) end_of_cat))) (cat (cat (back_ref 1 folded) end_of_cat) (cat (cat match_any end_of_cat) (cat (back_ref 3 folded) end_of_cat)))))) end_of_cat)))) end_of_cat))) (cat goal end_of_cat)) (utf8_text (98 ∷ []) true) 0 ≡ []
 unfolding matches
 judged_3_29 = refl
 
@@ -172,7 +172,7 @@ unfolding matches
 judged_3_33 = refl
 
 -- `(\d{1,2}((?<=\ra))|(?<n0>\B|c(?=B(?:\1)bS)\1(?<=.?))\1|\u{FEFF}(?<=,)S)\k<n0>*` on `\u{FEFF}S`
-judged_3_34 : matches (cat (cat (capture_group 0 [] (alt (cat (loop_1_char_body (times 1 (Some 2) true) (bracket (in_brackets false ((48, 57) ∷ [])))) (cat (capture_group 1 [] (cat (lookaround (look false true 2 2) (cat (char 97) (cat (char 13) end_of_cat))) end_of_cat)) end_of_cat)) (alt (cat (capture_group 2 (110 ∷ 48 ∷ []) (alt (cat (word_boundary true false) end_of_cat) (cat (char 99) (cat (lookaround (look false false 3 3) (cat (char 66) (cat (cat (back_ref 1 false) end_of_cat) (cat (char 98) (cat (char 83) end_of_cat))))) (cat (back_ref 1 false) (cat (lookaround (look false true 3 3) (cat (loop_1_char_body (times 0 (Some 1) true) match_any_except_line_terminator) end_of_cat)) end_of_cat)))))) (cat (back_ref 1 false) end_of_cat)) (cat (char 65279) (cat (lookaround (look false true 3 3) (cat (char 44) end_of_cat)) (cat (char 83) end_of_cat)))))) (cat (loop (times 0 None true) 3 3 (back_ref 3 false)) end_of_cat)) (cat goal end_of_cat)) (utf8_text (239 ∷ 187 ∷ 191 ∷ 83 ∷ []) false) 0 ≡ (found 0 0 (Some (0, 0) ∷ None ∷ Some (0, 0) ∷ []) ∷ [])
+judged_3_34 : matches (cat (cat (capture_group 0 [] (alt (cat (loop_1_char_body (times 1 (Some 2) true) (bracket (in_brackets false ((48, 57) ∷ [])))) (cat (capture_group 1 [] (cat (lookaround (look false true 2 2) (cat (char 97) (cat (char 13) end_of_cat))) end_of_cat)) end_of_cat)) (alt (cat (capture_group 2 (110 ∷ 48 ∷ []) (alt (cat (word_boundary true false) end_of_cat) (cat (char 99) (cat (lookaround (look false false 3 3) (cat (char 66) (cat (cat (back_ref 1 exact) end_of_cat) (cat (char 98) (cat (char 83) end_of_cat))))) (cat (back_ref 1 exact) (cat (lookaround (look false true 3 3) (cat (loop_1_char_body (times 0 (Some 1) true) match_any_except_line_terminator) end_of_cat)) end_of_cat)))))) (cat (back_ref 1 exact) end_of_cat)) (cat (char 65279) (cat (lookaround (look false true 3 3) (cat (char 44) end_of_cat)) (cat (char 83) end_of_cat)))))) (cat (loop (times 0 None true) 3 3 (back_ref 3 exact)) end_of_cat)) (cat goal end_of_cat)) (utf8_text (239 ∷ 187 ∷ 191 ∷ 83 ∷ []) false) 0 ≡ (found 0 0 (Some (0, 0) ∷ None ∷ Some (0, 0) ∷ []) ∷ [])
 unfolding matches
 judged_3_34 = refl
 
@@ -187,7 +187,7 @@ unfolding matches
 judged_3_36 = refl
 
 -- `"(?<n0>.\k<n0>?)(?<!\B$(?:\\u{20AC}?){1,}?)` of flags `m` on `"\u{D}`
-judged_3_37 : matches (cat (cat (char 34) (cat (capture_group 0 (110 ∷ 48 ∷ []) (cat match_any_except_line_terminator (cat (loop (times 0 (Some 1) true) 1 1 (back_ref 1 false)) end_of_cat))) (cat (lookaround (look true true 1 1) (cat (loop (times 1 None false) 1 1 (cat (loop_1_char_body (times 0 (Some 1) true) (char 8364)) end_of_cat)) (cat (anchor end_of_line true) (cat (word_boundary true false) end_of_cat)))) end_of_cat))) (cat goal end_of_cat)) (utf8_text (34 ∷ 13 ∷ []) false) 0 ≡ []
+judged_3_37 : matches (cat (cat (char 34) (cat (capture_group 0 (110 ∷ 48 ∷ []) (cat match_any_except_line_terminator (cat (loop (times 0 (Some 1) true) 1 1 (back_ref 1 exact)) end_of_cat))) (cat (lookaround (look true true 1 1) (cat (loop (times 1 None false) 1 1 (cat (loop_1_char_body (times 0 (Some 1) true) (char 8364)) end_of_cat)) (cat (anchor end_of_line true) (cat (word_boundary true false) end_of_cat)))) end_of_cat))) (cat goal end_of_cat)) (utf8_text (34 ∷ 13 ∷ []) false) 0 ≡ []
 unfolding matches
 judged_3_37 = refl
 
@@ -207,7 +207,7 @@ unfolding matches
 judged_3_40 = refl
 
 -- `(\s(?:\S?\u{FEFF}){0,1}\1{2,}?)(b|(?<n0>(?=.*)|\u{E9}+\k<n0>)\s{2,})|\r.|\1k` of flags `su` on ` a  `
-judged_3_41 : matches (cat (alt (cat (capture_group 0 [] (cat (bracket (in_brackets false ((9, 13) ∷ (32, 32) ∷ (160, 160) ∷ (5760, 5760) ∷ (8192, 8202) ∷ (8232, 8233) ∷ (8239, 8239) ∷ (8287, 8287) ∷ (12288, 12288) ∷ (65279, 65279) ∷ []))) (cat (loop (times 0 (Some 1) true) 1 1 (cat (loop_1_char_body (times 0 (Some 1) true) (bracket (in_brackets false ((0, 8) ∷ (14, 31) ∷ (33, 159) ∷ (161, 5759) ∷ (5761, 8191) ∷ (8203, 8231) ∷ (8234, 8238) ∷ (8240, 8286) ∷ (8288, 12287) ∷ (12289, 65278) ∷ (65280, 1114111) ∷ [])))) (cat (char 65279) end_of_cat))) (cat (loop (times 2 None false) 1 1 (back_ref 1 false)) end_of_cat)))) (cat (capture_group 1 [] (alt (cat (char 98) end_of_cat) (cat (capture_group 2 (110 ∷ 48 ∷ []) (alt (cat (lookaround (look false false 3 3) (cat (loop_1_char_body (times 0 None true) match_any) end_of_cat)) end_of_cat) (cat (loop_1_char_body (times 1 None true) (char 233)) (cat (back_ref 3 false) end_of_cat)))) (cat (loop_1_char_body (times 2 None true) (bracket (in_brackets false ((9, 13) ∷ (32, 32) ∷ (160, 160) ∷ (5760, 5760) ∷ (8192, 8202) ∷ (8232, 8233) ∷ (8239, 8239) ∷ (8287, 8287) ∷ (12288, 12288) ∷ (65279, 65279) ∷ [])))) end_of_cat)))) end_of_cat)) (alt (cat (char 13) (cat match_any end_of_cat)) (cat (back_ref 1 false) (cat (char 107) end_of_cat)))) (cat goal end_of_cat)) (utf8_text (32 ∷ 97 ∷ 32 ∷ 32 ∷ []) true) 0 ≡ []
+judged_3_41 : matches (cat (alt (cat (capture_group 0 [] (cat (bracket (in_brackets false ((9, 13) ∷ (32, 32) ∷ (160, 160) ∷ (5760, 5760) ∷ (8192, 8202) ∷ (8232, 8233) ∷ (8239, 8239) ∷ (8287, 8287) ∷ (12288, 12288) ∷ (65279, 65279) ∷ []))) (cat (loop (times 0 (Some 1) true) 1 1 (cat (loop_1_char_body (times 0 (Some 1) true) (bracket (in_brackets false ((0, 8) ∷ (14, 31) ∷ (33, 159) ∷ (161, 5759) ∷ (5761, 8191) ∷ (8203, 8231) ∷ (8234, 8238) ∷ (8240, 8286) ∷ (8288, 12287) ∷ (12289, 65278) ∷ (65280, 1114111) ∷ [])))) (cat (char 65279) end_of_cat))) (cat (loop (times 2 None false) 1 1 (back_ref 1 exact)) end_of_cat)))) (cat (capture_group 1 [] (alt (cat (char 98) end_of_cat) (cat (capture_group 2 (110 ∷ 48 ∷ []) (alt (cat (lookaround (look false false 3 3) (cat (loop_1_char_body (times 0 None true) match_any) end_of_cat)) end_of_cat) (cat (loop_1_char_body (times 1 None true) (char 233)) (cat (back_ref 3 exact) end_of_cat)))) (cat (loop_1_char_body (times 2 None true) (bracket (in_brackets false ((9, 13) ∷ (32, 32) ∷ (160, 160) ∷ (5760, 5760) ∷ (8192, 8202) ∷ (8232, 8233) ∷ (8239, 8239) ∷ (8287, 8287) ∷ (12288, 12288) ∷ (65279, 65279) ∷ [])))) end_of_cat)))) end_of_cat)) (alt (cat (char 13) (cat match_any end_of_cat)) (cat (back_ref 1 exact) (cat (char 107) end_of_cat)))) (cat goal end_of_cat)) (utf8_text (32 ∷ 97 ∷ 32 ∷ 32 ∷ []) true) 0 ≡ []
 unfolding matches
 judged_3_41 = refl
 
@@ -237,12 +237,12 @@ unfolding matches
 judged_3_46 = refl
 
 -- `([z-\xE9a\b])\1` on `Z`
-judged_3_47 : matches (cat (cat (capture_group 0 [] (cat (bracket (in_brackets false ((8, 8) ∷ (97, 97) ∷ (122, 233) ∷ []))) end_of_cat)) (cat (back_ref 1 false) end_of_cat)) (cat goal end_of_cat)) (utf8_text (90 ∷ []) false) 0 ≡ []
+judged_3_47 : matches (cat (cat (capture_group 0 [] (cat (bracket (in_brackets false ((8, 8) ∷ (97, 97) ∷ (122, 233) ∷ []))) end_of_cat)) (cat (back_ref 1 exact) end_of_cat)) (cat goal end_of_cat)) (utf8_text (90 ∷ []) false) 0 ≡ []
 unfolding matches
 judged_3_47 = refl
 
 -- `(?<=(.)\1)` of flags `iu` on `sz\u{1F600}_zak`
-judged_3_48 : matches (cat (cat (lookaround (look false true 0 1) (cat (back_ref 1 true) (cat (capture_group 0 [] (cat match_any_except_line_terminator end_of_cat)) end_of_cat))) end_of_cat) (cat goal end_of_cat)) (utf8_text (115 ∷ 122 ∷ 240 ∷ 159 ∷ 152 ∷ 128 ∷ 95 ∷ 122 ∷ 97 ∷ 107 ∷ []) true) 0 ≡ (found 1 1 (Some (0, 1) ∷ []) ∷ found 2 2 (Some (1, 2) ∷ []) ∷ found 6 6 (Some (2, 6) ∷ []) ∷ found 7 7 (Some (6, 7) ∷ []) ∷ found 8 8 (Some (7, 8) ∷ []) ∷ found 9 9 (Some (8, 9) ∷ []) ∷ found 10 10 (Some (9, 10) ∷ []) ∷ [])
+judged_3_48 : matches (cat (cat (lookaround (look false true 0 1) (cat (back_ref 1 folded) (cat (capture_group 0 [] (cat match_any_except_line_terminator end_of_cat)) end_of_cat))) end_of_cat) (cat goal end_of_cat)) (utf8_text (115 ∷ 122 ∷ 240 ∷ 159 ∷ 152 ∷ 128 ∷ 95 ∷ 122 ∷ 97 ∷ 107 ∷ []) true) 0 ≡ (found 1 1 (Some (0, 1) ∷ []) ∷ found 2 2 (Some (1, 2) ∷ []) ∷ found 6 6 (Some (2, 6) ∷ []) ∷ found 7 7 (Some (6, 7) ∷ []) ∷ found 8 8 (Some (7, 8) ∷ []) ∷ found 9 9 (Some (8, 9) ∷ []) ∷ found 10 10 (Some (9, 10) ∷ []) ∷ [])
 unfolding matches
 judged_3_48 = refl
 
@@ -252,7 +252,7 @@ unfolding matches
 judged_3_49 = refl
 
 -- `([_\s])\1` of flags `u` on `a00-\u{212A}Z`
-judged_3_50 : matches (cat (cat (capture_group 0 [] (cat (bracket (in_brackets false ((9, 13) ∷ (32, 32) ∷ (95, 95) ∷ (160, 160) ∷ (5760, 5760) ∷ (8192, 8202) ∷ (8232, 8233) ∷ (8239, 8239) ∷ (8287, 8287) ∷ (12288, 12288) ∷ (65279, 65279) ∷ []))) end_of_cat)) (cat (back_ref 1 false) end_of_cat)) (cat goal end_of_cat)) (utf8_text (97 ∷ 48 ∷ 48 ∷ 45 ∷ 226 ∷ 132 ∷ 170 ∷ 90 ∷ []) true) 0 ≡ []
+judged_3_50 : matches (cat (cat (capture_group 0 [] (cat (bracket (in_brackets false ((9, 13) ∷ (32, 32) ∷ (95, 95) ∷ (160, 160) ∷ (5760, 5760) ∷ (8192, 8202) ∷ (8232, 8233) ∷ (8239, 8239) ∷ (8287, 8287) ∷ (12288, 12288) ∷ (65279, 65279) ∷ []))) end_of_cat)) (cat (back_ref 1 exact) end_of_cat)) (cat goal end_of_cat)) (utf8_text (97 ∷ 48 ∷ 48 ∷ 45 ∷ 226 ∷ 132 ∷ 170 ∷ 90 ∷ []) true) 0 ≡ []
 unfolding matches
 judged_3_50 = refl
 
@@ -267,7 +267,7 @@ unfolding matches
 judged_3_52 = refl
 
 -- `(?<=(.)\1)` of flags `siu` on `_`
-judged_3_53 : matches (cat (cat (lookaround (look false true 0 1) (cat (back_ref 1 true) (cat (capture_group 0 [] (cat match_any end_of_cat)) end_of_cat))) end_of_cat) (cat goal end_of_cat)) (utf8_text (95 ∷ []) true) 0 ≡ (found 1 1 (Some (0, 1) ∷ []) ∷ [])
+judged_3_53 : matches (cat (cat (lookaround (look false true 0 1) (cat (back_ref 1 folded) (cat (capture_group 0 [] (cat match_any end_of_cat)) end_of_cat))) end_of_cat) (cat goal end_of_cat)) (utf8_text (95 ∷ []) true) 0 ≡ (found 1 1 (Some (0, 1) ∷ []) ∷ [])
 unfolding matches
 judged_3_53 = refl
 
@@ -297,7 +297,7 @@ unfolding matches
 judged_3_58 = refl
 
 -- `([^ \w\u0039-a])\1` on `a\u{E9}Ss_\u{E9}K`
-judged_3_59 : matches (cat (cat (capture_group 0 [] (cat (bracket (in_brackets true ((32, 32) ∷ (48, 122) ∷ []))) end_of_cat)) (cat (back_ref 1 false) end_of_cat)) (cat goal end_of_cat)) (utf8_text (97 ∷ 195 ∷ 169 ∷ 83 ∷ 115 ∷ 95 ∷ 195 ∷ 169 ∷ 75 ∷ []) false) 0 ≡ []
+judged_3_59 : matches (cat (cat (capture_group 0 [] (cat (bracket (in_brackets true ((32, 32) ∷ (48, 122) ∷ []))) end_of_cat)) (cat (back_ref 1 exact) end_of_cat)) (cat goal end_of_cat)) (utf8_text (97 ∷ 195 ∷ 169 ∷ 83 ∷ 115 ∷ 95 ∷ 195 ∷ 169 ∷ 75 ∷ []) false) 0 ≡ []
 unfolding matches
 judged_3_59 = refl
 
@@ -317,67 +317,67 @@ unfolding matches
 judged_3_62 = refl
 
 -- `(?<=([ks]+)\1)` of flags `i` on ``
-judged_3_63 : matches (cat (cat (lookaround (look false true 0 1) (cat (back_ref 1 true) (cat (capture_group 0 [] (cat (loop_1_char_body (times 1 None true) (bracket (in_brackets false ((75, 75) ∷ (83, 83) ∷ (107, 107) ∷ (115, 115) ∷ [])))) end_of_cat)) end_of_cat))) end_of_cat) (cat goal end_of_cat)) (utf8_text [] false) 0 ≡ []
+judged_3_63 : matches (cat (cat (lookaround (look false true 0 1) (cat (back_ref 1 folded) (cat (capture_group 0 [] (cat (loop_1_char_body (times 1 None true) (bracket (in_brackets false ((75, 75) ∷ (83, 83) ∷ (107, 107) ∷ (115, 115) ∷ [])))) end_of_cat)) end_of_cat))) end_of_cat) (cat goal end_of_cat)) (utf8_text [] false) 0 ≡ []
 unfolding matches
 judged_3_63 = refl
 
 -- `(?<=(\u{17F}s)\1)` of flags `i` on `xb\u{E9}b\u{E9}b\u{E9}x`
-judged_3_64 : matches (cat (cat (lookaround (look false true 0 1) (cat (back_ref 1 true) (cat (capture_group 0 [] (cat (char_set (83 ∷ 115 ∷ [])) (cat (char 383) end_of_cat))) end_of_cat))) end_of_cat) (cat goal end_of_cat)) (utf8_text (120 ∷ 98 ∷ 195 ∷ 169 ∷ 98 ∷ 195 ∷ 169 ∷ 98 ∷ 195 ∷ 169 ∷ 120 ∷ []) false) 0 ≡ []
+judged_3_64 : matches (cat (cat (lookaround (look false true 0 1) (cat (back_ref 1 folded) (cat (capture_group 0 [] (cat (char_set (83 ∷ 115 ∷ [])) (cat (char 383) end_of_cat))) end_of_cat))) end_of_cat) (cat goal end_of_cat)) (utf8_text (120 ∷ 98 ∷ 195 ∷ 169 ∷ 98 ∷ 195 ∷ 169 ∷ 98 ∷ 195 ∷ 169 ∷ 120 ∷ []) false) 0 ≡ []
 unfolding matches
 judged_3_64 = refl
 
 -- `(?<=(\u{1F600}b|s)\1)` of flags `iu` on `x\u{1F600}b\u{1F600}b\u{1F600}b\u{1F600}Bx`
-judged_3_65 : matches (cat (cat (lookaround (look false true 0 1) (cat (back_ref 1 true) (cat (capture_group 0 [] (alt (cat (char_set (66 ∷ 98 ∷ [])) (cat (char 128512) end_of_cat)) (cat (char_set (83 ∷ 115 ∷ 383 ∷ [])) end_of_cat))) end_of_cat))) end_of_cat) (cat goal end_of_cat)) (utf8_text (120 ∷ 240 ∷ 159 ∷ 152 ∷ 128 ∷ 98 ∷ 240 ∷ 159 ∷ 152 ∷ 128 ∷ 98 ∷ 240 ∷ 159 ∷ 152 ∷ 128 ∷ 98 ∷ 240 ∷ 159 ∷ 152 ∷ 128 ∷ 66 ∷ 120 ∷ []) true) 0 ≡ (found 6 6 (Some (1, 6) ∷ []) ∷ found 11 11 (Some (6, 11) ∷ []) ∷ found 16 16 (Some (11, 16) ∷ []) ∷ found 21 21 (Some (16, 21) ∷ []) ∷ [])
+judged_3_65 : matches (cat (cat (lookaround (look false true 0 1) (cat (back_ref 1 folded) (cat (capture_group 0 [] (alt (cat (char_set (66 ∷ 98 ∷ [])) (cat (char 128512) end_of_cat)) (cat (char_set (83 ∷ 115 ∷ 383 ∷ [])) end_of_cat))) end_of_cat))) end_of_cat) (cat goal end_of_cat)) (utf8_text (120 ∷ 240 ∷ 159 ∷ 152 ∷ 128 ∷ 98 ∷ 240 ∷ 159 ∷ 152 ∷ 128 ∷ 98 ∷ 240 ∷ 159 ∷ 152 ∷ 128 ∷ 98 ∷ 240 ∷ 159 ∷ 152 ∷ 128 ∷ 66 ∷ 120 ∷ []) true) 0 ≡ (found 6 6 (Some (1, 6) ∷ []) ∷ found 11 11 (Some (6, 11) ∷ []) ∷ found 16 16 (Some (11, 16) ∷ []) ∷ found 21 21 (Some (16, 21) ∷ []) ∷ [])
 unfolding matches
 judged_3_65 = refl
 
 -- `\1([ks]+)` on `\u{E9}\u{E9}\u{E9}\u{E9}`
-judged_3_66 : matches (cat (cat (back_ref 1 false) (cat (capture_group 0 [] (cat (loop_1_char_body (times 1 None true) (bracket (in_brackets false ((107, 107) ∷ (115, 115) ∷ [])))) end_of_cat)) end_of_cat)) (cat goal end_of_cat)) (utf8_text (195 ∷ 169 ∷ 195 ∷ 169 ∷ 195 ∷ 169 ∷ 195 ∷ 169 ∷ []) false) 0 ≡ []
+judged_3_66 : matches (cat (cat (back_ref 1 exact) (cat (capture_group 0 [] (cat (loop_1_char_body (times 1 None true) (bracket (in_brackets false ((107, 107) ∷ (115, 115) ∷ [])))) end_of_cat)) end_of_cat)) (cat goal end_of_cat)) (utf8_text (195 ∷ 169 ∷ 195 ∷ 169 ∷ 195 ∷ 169 ∷ 195 ∷ 169 ∷ []) false) 0 ≡ []
 unfolding matches
 judged_3_66 = refl
 
 -- `()\1` of flags `i` on `x`
-judged_3_67 : matches (cat (cat (capture_group 0 [] end_of_cat) (cat (back_ref 1 true) end_of_cat)) (cat goal end_of_cat)) (utf8_text (120 ∷ []) false) 0 ≡ (found 0 0 (Some (0, 0) ∷ []) ∷ found 1 1 (Some (1, 1) ∷ []) ∷ [])
+judged_3_67 : matches (cat (cat (capture_group 0 [] end_of_cat) (cat (back_ref 1 folded) end_of_cat)) (cat goal end_of_cat)) (utf8_text (120 ∷ []) false) 0 ≡ (found 0 0 (Some (0, 0) ∷ []) ∷ found 1 1 (Some (1, 1) ∷ []) ∷ [])
 unfolding matches
 judged_3_67 = refl
 
 -- `(a|s)\1` of flags `iu` on `\u{212A}kx`
-judged_3_68 : matches (cat (cat (capture_group 0 [] (alt (cat (char_set (65 ∷ 97 ∷ [])) end_of_cat) (cat (char_set (83 ∷ 115 ∷ 383 ∷ [])) end_of_cat))) (cat (back_ref 1 true) end_of_cat)) (cat goal end_of_cat)) (utf8_text (226 ∷ 132 ∷ 170 ∷ 107 ∷ 120 ∷ []) true) 0 ≡ []
+judged_3_68 : matches (cat (cat (capture_group 0 [] (alt (cat (char_set (65 ∷ 97 ∷ [])) end_of_cat) (cat (char_set (83 ∷ 115 ∷ 383 ∷ [])) end_of_cat))) (cat (back_ref 1 folded) end_of_cat)) (cat goal end_of_cat)) (utf8_text (226 ∷ 132 ∷ 170 ∷ 107 ∷ 120 ∷ []) true) 0 ≡ []
 unfolding matches
 judged_3_68 = refl
 
 -- `(?<!(\u{212A})\1).` of flags `i` on `xbBb`
-judged_3_69 : matches (cat (cat (lookaround (look true true 0 1) (cat (back_ref 1 true) (cat (capture_group 0 [] (cat (char 8490) end_of_cat)) end_of_cat))) (cat match_any_except_line_terminator end_of_cat)) (cat goal end_of_cat)) (utf8_text (120 ∷ 98 ∷ 66 ∷ 98 ∷ []) false) 0 ≡ (found 0 1 (None ∷ []) ∷ found 1 2 (None ∷ []) ∷ found 2 3 (None ∷ []) ∷ found 3 4 (None ∷ []) ∷ [])
+judged_3_69 : matches (cat (cat (lookaround (look true true 0 1) (cat (back_ref 1 folded) (cat (capture_group 0 [] (cat (char 8490) end_of_cat)) end_of_cat))) (cat match_any_except_line_terminator end_of_cat)) (cat goal end_of_cat)) (utf8_text (120 ∷ 98 ∷ 66 ∷ 98 ∷ []) false) 0 ≡ (found 0 1 (None ∷ []) ∷ found 1 2 (None ∷ []) ∷ found 2 3 (None ∷ []) ∷ found 3 4 (None ∷ []) ∷ [])
 unfolding matches
 judged_3_69 = refl
 
 -- `(?:(\u{17F})\1)+` of flags `iu` on `xabAB`
-judged_3_70 : matches (cat (cat (loop (times 1 None true) 0 1 (cat (capture_group 0 [] (cat (char_set (83 ∷ 115 ∷ 383 ∷ [])) end_of_cat)) (cat (back_ref 1 true) end_of_cat))) end_of_cat) (cat goal end_of_cat)) (utf8_text (120 ∷ 97 ∷ 98 ∷ 65 ∷ 66 ∷ []) true) 0 ≡ []
+judged_3_70 : matches (cat (cat (loop (times 1 None true) 0 1 (cat (capture_group 0 [] (cat (char_set (83 ∷ 115 ∷ 383 ∷ [])) end_of_cat)) (cat (back_ref 1 folded) end_of_cat))) end_of_cat) (cat goal end_of_cat)) (utf8_text (120 ∷ 97 ∷ 98 ∷ 65 ∷ 66 ∷ []) true) 0 ≡ []
 unfolding matches
 judged_3_70 = refl
 
 -- `(?!(.)\1).` on `\u{E9}\u{E9}`
-judged_3_71 : matches (cat (cat (lookaround (look true false 0 1) (cat (capture_group 0 [] (cat match_any_except_line_terminator end_of_cat)) (cat (back_ref 1 false) end_of_cat))) (cat match_any_except_line_terminator end_of_cat)) (cat goal end_of_cat)) (utf8_text (195 ∷ 169 ∷ 195 ∷ 169 ∷ []) false) 0 ≡ (found 2 4 (None ∷ []) ∷ [])
+judged_3_71 : matches (cat (cat (lookaround (look true false 0 1) (cat (capture_group 0 [] (cat match_any_except_line_terminator end_of_cat)) (cat (back_ref 1 exact) end_of_cat))) (cat match_any_except_line_terminator end_of_cat)) (cat goal end_of_cat)) (utf8_text (195 ∷ 169 ∷ 195 ∷ 169 ∷ []) false) 0 ≡ (found 2 4 (None ∷ []) ∷ [])
 unfolding matches
 judged_3_71 = refl
 
 -- `\1(\u{1F600})` of flags `iu` on `\u{1F600}\u{1F600}\u{1F600}`
-judged_3_72 : matches (cat (cat (back_ref 1 true) (cat (capture_group 0 [] (cat (char 128512) end_of_cat)) end_of_cat)) (cat goal end_of_cat)) (utf8_text (240 ∷ 159 ∷ 152 ∷ 128 ∷ 240 ∷ 159 ∷ 152 ∷ 128 ∷ 240 ∷ 159 ∷ 152 ∷ 128 ∷ []) true) 0 ≡ (found 0 4 (Some (0, 4) ∷ []) ∷ found 4 8 (Some (4, 8) ∷ []) ∷ found 8 12 (Some (8, 12) ∷ []) ∷ [])
+judged_3_72 : matches (cat (cat (back_ref 1 folded) (cat (capture_group 0 [] (cat (char 128512) end_of_cat)) end_of_cat)) (cat goal end_of_cat)) (utf8_text (240 ∷ 159 ∷ 152 ∷ 128 ∷ 240 ∷ 159 ∷ 152 ∷ 128 ∷ 240 ∷ 159 ∷ 152 ∷ 128 ∷ []) true) 0 ≡ (found 0 4 (Some (0, 4) ∷ []) ∷ found 4 8 (Some (4, 8) ∷ []) ∷ found 8 12 (Some (8, 12) ∷ []) ∷ [])
 unfolding matches
 judged_3_72 = refl
 
 -- `(.*?)\1` of flags `iu` on `<,<,<,<,x`
-judged_3_73 : matches (cat (cat (capture_group 0 [] (cat (loop_1_char_body (times 0 None false) match_any_except_line_terminator) end_of_cat)) (cat (back_ref 1 true) end_of_cat)) (cat goal end_of_cat)) (utf8_text (60 ∷ 44 ∷ 60 ∷ 44 ∷ 60 ∷ 44 ∷ 60 ∷ 44 ∷ 120 ∷ []) true) 0 ≡ (found 0 0 (Some (0, 0) ∷ []) ∷ found 1 1 (Some (1, 1) ∷ []) ∷ found 2 2 (Some (2, 2) ∷ []) ∷ found 3 3 (Some (3, 3) ∷ []) ∷ found 4 4 (Some (4, 4) ∷ []) ∷ found 5 5 (Some (5, 5) ∷ []) ∷ found 6 6 (Some (6, 6) ∷ []) ∷ found 7 7 (Some (7, 7) ∷ []) ∷ found 8 8 (Some (8, 8) ∷ []) ∷ found 9 9 (Some (9, 9) ∷ []) ∷ [])
+judged_3_73 : matches (cat (cat (capture_group 0 [] (cat (loop_1_char_body (times 0 None false) match_any_except_line_terminator) end_of_cat)) (cat (back_ref 1 folded) end_of_cat)) (cat goal end_of_cat)) (utf8_text (60 ∷ 44 ∷ 60 ∷ 44 ∷ 60 ∷ 44 ∷ 60 ∷ 44 ∷ 120 ∷ []) true) 0 ≡ (found 0 0 (Some (0, 0) ∷ []) ∷ found 1 1 (Some (1, 1) ∷ []) ∷ found 2 2 (Some (2, 2) ∷ []) ∷ found 3 3 (Some (3, 3) ∷ []) ∷ found 4 4 (Some (4, 4) ∷ []) ∷ found 5 5 (Some (5, 5) ∷ []) ∷ found 6 6 (Some (6, 6) ∷ []) ∷ found 7 7 (Some (7, 7) ∷ []) ∷ found 8 8 (Some (8, 8) ∷ []) ∷ found 9 9 (Some (9, 9) ∷ []) ∷ [])
 unfolding matches
 judged_3_73 = refl
 
 -- `(.+)\1` of flags `i` on `x,a,a,A,ax`
-judged_3_74 : matches (cat (cat (capture_group 0 [] (cat (loop_1_char_body (times 1 None true) match_any_except_line_terminator) end_of_cat)) (cat (back_ref 1 true) end_of_cat)) (cat goal end_of_cat)) (utf8_text (120 ∷ 44 ∷ 97 ∷ 44 ∷ 97 ∷ 44 ∷ 65 ∷ 44 ∷ 97 ∷ 120 ∷ []) false) 0 ≡ (found 1 9 (Some (1, 5) ∷ []) ∷ [])
+judged_3_74 : matches (cat (cat (capture_group 0 [] (cat (loop_1_char_body (times 1 None true) match_any_except_line_terminator) end_of_cat)) (cat (back_ref 1 folded) end_of_cat)) (cat goal end_of_cat)) (utf8_text (120 ∷ 44 ∷ 97 ∷ 44 ∷ 97 ∷ 44 ∷ 65 ∷ 44 ∷ 97 ∷ 120 ∷ []) false) 0 ≡ (found 1 9 (Some (1, 5) ∷ []) ∷ [])
 unfolding matches
 judged_3_74 = refl
 
 -- `(?<=([ks]+)\1)` on `xsskssksskssk`
-judged_3_75 : matches (cat (cat (lookaround (look false true 0 1) (cat (back_ref 1 false) (cat (capture_group 0 [] (cat (loop_1_char_body (times 1 None true) (bracket (in_brackets false ((107, 107) ∷ (115, 115) ∷ [])))) end_of_cat)) end_of_cat))) end_of_cat) (cat goal end_of_cat)) (utf8_text (120 ∷ 115 ∷ 115 ∷ 107 ∷ 115 ∷ 115 ∷ 107 ∷ 115 ∷ 115 ∷ 107 ∷ 115 ∷ 115 ∷ 107 ∷ []) false) 0 ≡ (found 2 2 (Some (1, 2) ∷ []) ∷ found 3 3 (Some (1, 3) ∷ []) ∷ found 4 4 (Some (1, 4) ∷ []) ∷ found 5 5 (Some (1, 5) ∷ []) ∷ found 6 6 (Some (1, 6) ∷ []) ∷ found 7 7 (Some (1, 7) ∷ []) ∷ found 8 8 (Some (1, 8) ∷ []) ∷ found 9 9 (Some (1, 9) ∷ []) ∷ found 10 10 (Some (1, 10) ∷ []) ∷ found 11 11 (Some (1, 11) ∷ []) ∷ found 12 12 (Some (1, 12) ∷ []) ∷ found 13 13 (Some (1, 13) ∷ []) ∷ [])
+judged_3_75 : matches (cat (cat (lookaround (look false true 0 1) (cat (back_ref 1 exact) (cat (capture_group 0 [] (cat (loop_1_char_body (times 1 None true) (bracket (in_brackets false ((107, 107) ∷ (115, 115) ∷ [])))) end_of_cat)) end_of_cat))) end_of_cat) (cat goal end_of_cat)) (utf8_text (120 ∷ 115 ∷ 115 ∷ 107 ∷ 115 ∷ 115 ∷ 107 ∷ 115 ∷ 115 ∷ 107 ∷ 115 ∷ 115 ∷ 107 ∷ []) false) 0 ≡ (found 2 2 (Some (1, 2) ∷ []) ∷ found 3 3 (Some (1, 3) ∷ []) ∷ found 4 4 (Some (1, 4) ∷ []) ∷ found 5 5 (Some (1, 5) ∷ []) ∷ found 6 6 (Some (1, 6) ∷ []) ∷ found 7 7 (Some (1, 7) ∷ []) ∷ found 8 8 (Some (1, 8) ∷ []) ∷ found 9 9 (Some (1, 9) ∷ []) ∷ found 10 10 (Some (1, 10) ∷ []) ∷ found 11 11 (Some (1, 11) ∷ []) ∷ found 12 12 (Some (1, 12) ∷ []) ∷ found 13 13 (Some (1, 13) ∷ []) ∷ [])
 unfolding matches
 judged_3_75 = refl
 

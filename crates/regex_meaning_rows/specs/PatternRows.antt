@@ -1,7 +1,13 @@
 -- Patterns and their matches.
-use Rattle.std.specs.Prelude.{◌≡◌, [], ◌∷◌, Some, None, refl, true, false}
+use Rattle.std.specs.Prelude.{◌≡◌, Bool, [], ◌∷◌, Some, None, refl, true, false}
+use Rattle.std.specs.Char.Unicode.ToUppercase.{to_uppercase, uppercase_runs, uppercase_strings}
+use Rattle.std.specs.Char.Unicode.Rows.{by_runs, by_strings}
+use Rattle.ucd_table.specs.Rows.{value_in}
+use Rattle.ucd_case.specs.CaseFolding.{simple_folding}
+use Rattle.ucd_case.specs.SimpleFoldingRows.{simple_folding_rows}
+use Rattle.regex_meaning.specs.Canonical.{canonicalize}
 use Rattle.regex_meaning.specs.Tree.{Node, goal, char, char_set, byte_sequence, cat, end_of_cat, alt, bracket, string_set}
-use Rattle.regex_meaning.specs.Tree.{match_any_except_line_terminator, anchor, start_of_line, end_of_line, word_boundary, capture_group, back_ref}
+use Rattle.regex_meaning.specs.Tree.{match_any_except_line_terminator, anchor, start_of_line, end_of_line, word_boundary, capture_group, back_ref, exact, folded, alike}
 use Rattle.regex_meaning.specs.Tree.{lookaround, loop, loop_1_char_body}
 use Rattle.regex_meaning.specs.Text.{utf8_text, utf16_text, ucs2_text}
 use Rattle.regex_meaning_rows.specs.Computing.{found, matches, times, in_brackets, look}
@@ -64,7 +70,7 @@ past_the_end = refl
 
 -- `(a|\1b)c`
 abbrev group_of_a_failed_arm-tree : Node
-group_of_a_failed_arm-tree = (cat (cat (capture_group 0 [] (alt (cat (char 97) end_of_cat) (cat (back_ref 1 false) (cat (char 98) end_of_cat)))) (cat (char 99) end_of_cat)) (cat goal end_of_cat))
+group_of_a_failed_arm-tree = (cat (cat (capture_group 0 [] (alt (cat (char 97) end_of_cat) (cat (back_ref 1 exact) (cat (char 98) end_of_cat)))) (cat (char 99) end_of_cat)) (cat goal end_of_cat))
 
 group_of_a_failed_arm : matches group_of_a_failed_arm-tree (utf8_text (97 ∷ 98 ∷ 99 ∷ []) false) 0 ≡ (found 1 3 ((Some (1, 2)) ∷ []) ∷ [])
 unfolding matches
@@ -88,7 +94,7 @@ groups_cleared = refl
 
 -- `(?=(a+))a*b\1`
 abbrev ahead_once-tree : Node
-ahead_once-tree = (cat (cat (lookaround (look false false 0 1) (cat (capture_group 0 [] (cat (loop_1_char_body (times 1 None true) (char 97)) end_of_cat)) end_of_cat)) (cat (loop_1_char_body (times 0 None true) (char 97)) (cat (char 98) (cat (back_ref 1 false) end_of_cat)))) (cat goal end_of_cat))
+ahead_once-tree = (cat (cat (lookaround (look false false 0 1) (cat (capture_group 0 [] (cat (loop_1_char_body (times 1 None true) (char 97)) end_of_cat)) end_of_cat)) (cat (loop_1_char_body (times 0 None true) (char 97)) (cat (char 98) (cat (back_ref 1 exact) end_of_cat)))) (cat goal end_of_cat))
 
 ahead_once : matches ahead_once-tree (utf8_text (98 ∷ 97 ∷ 97 ∷ 97 ∷ 98 ∷ 97 ∷ 99 ∷ []) false) 0 ≡ (found 3 6 ((Some (3, 4)) ∷ []) ∷ [])
 unfolding matches
@@ -96,7 +102,7 @@ ahead_once = refl
 
 -- `(.*?)a(?!(a+)b\2c)\2(.*)`
 abbrev not_ahead-tree : Node
-not_ahead-tree = (cat (cat (capture_group 0 [] (cat (loop_1_char_body (times 0 None false) match_any_except_line_terminator) end_of_cat)) (cat (char 97) (cat (lookaround (look true false 1 2) (cat (capture_group 1 [] (cat (loop_1_char_body (times 1 None true) (char 97)) end_of_cat)) (cat (char 98) (cat (back_ref 2 false) (cat (char 99) end_of_cat))))) (cat (back_ref 2 false) (cat (capture_group 2 [] (cat (loop_1_char_body (times 0 None true) match_any_except_line_terminator) end_of_cat)) end_of_cat))))) (cat goal end_of_cat))
+not_ahead-tree = (cat (cat (capture_group 0 [] (cat (loop_1_char_body (times 0 None false) match_any_except_line_terminator) end_of_cat)) (cat (char 97) (cat (lookaround (look true false 1 2) (cat (capture_group 1 [] (cat (loop_1_char_body (times 1 None true) (char 97)) end_of_cat)) (cat (char 98) (cat (back_ref 2 exact) (cat (char 99) end_of_cat))))) (cat (back_ref 2 exact) (cat (capture_group 2 [] (cat (loop_1_char_body (times 0 None true) match_any_except_line_terminator) end_of_cat)) end_of_cat))))) (cat goal end_of_cat))
 
 not_ahead : matches not_ahead-tree (utf8_text (98 ∷ 97 ∷ 97 ∷ 97 ∷ 98 ∷ 97 ∷ 97 ∷ 99 ∷ []) false) 0 ≡ (found 0 8 ((Some (0, 2)) ∷ None ∷ (Some (3, 8)) ∷ []) ∷ [])
 unfolding matches
@@ -112,7 +118,7 @@ empty_iteration_dropped = refl
 
 -- `(a*)b\1+`
 abbrev empty_group_again-tree : Node
-empty_group_again-tree = (cat (cat (capture_group 0 [] (cat (loop_1_char_body (times 0 None true) (char 97)) end_of_cat)) (cat (char 98) (cat (loop (times 1 None true) 1 1 (back_ref 1 false)) end_of_cat))) (cat goal end_of_cat))
+empty_group_again-tree = (cat (cat (capture_group 0 [] (cat (loop_1_char_body (times 0 None true) (char 97)) end_of_cat)) (cat (char 98) (cat (loop (times 1 None true) 1 1 (back_ref 1 exact)) end_of_cat))) (cat goal end_of_cat))
 
 empty_group_again : matches empty_group_again-tree (utf8_text (98 ∷ 97 ∷ 97 ∷ 97 ∷ 97 ∷ 99 ∷ []) false) 0 ≡ (found 0 1 ((Some (0, 0)) ∷ []) ∷ [])
 unfolding matches
@@ -160,7 +166,7 @@ reversed_pair_ucs2 = refl
 
 -- `(.)\1`
 abbrev half_pair_utf16-tree : Node
-half_pair_utf16-tree = (cat (cat (capture_group 0 [] (cat match_any_except_line_terminator end_of_cat)) (cat (back_ref 1 false) end_of_cat)) (cat goal end_of_cat))
+half_pair_utf16-tree = (cat (cat (capture_group 0 [] (cat match_any_except_line_terminator end_of_cat)) (cat (back_ref 1 exact) end_of_cat)) (cat goal end_of_cat))
 
 half_pair_utf16 : matches half_pair_utf16-tree (utf16_text (55357 ∷ 55357 ∷ 56832 ∷ []) false) 0 ≡ []
 unfolding matches
@@ -168,7 +174,7 @@ half_pair_utf16 = refl
 
 -- `(.)\1`
 abbrev half_pair_ucs2-tree : Node
-half_pair_ucs2-tree = (cat (cat (capture_group 0 [] (cat match_any_except_line_terminator end_of_cat)) (cat (back_ref 1 false) end_of_cat)) (cat goal end_of_cat))
+half_pair_ucs2-tree = (cat (cat (capture_group 0 [] (cat match_any_except_line_terminator end_of_cat)) (cat (back_ref 1 exact) end_of_cat)) (cat goal end_of_cat))
 
 half_pair_ucs2 : matches half_pair_ucs2-tree (ucs2_text (55357 ∷ 55357 ∷ 56832 ∷ []) false) 0 ≡ (found 0 2 ((Some (0, 1)) ∷ []) ∷ [])
 unfolding matches
@@ -176,11 +182,29 @@ half_pair_ucs2 = refl
 
 -- `(k)\1` iu
 abbrev same_fold-tree : Node
-same_fold-tree = (cat (cat (capture_group 0 [] (cat (char_set (75 ∷ 107 ∷ 8490 ∷ [])) end_of_cat)) (cat (back_ref 1 true) end_of_cat)) (cat goal end_of_cat))
+same_fold-tree = (cat (cat (capture_group 0 [] (cat (char_set (75 ∷ 107 ∷ 8490 ∷ [])) end_of_cat)) (cat (back_ref 1 folded) end_of_cat)) (cat goal end_of_cat))
 
 same_fold : matches same_fold-tree (utf8_text (107 ∷ 226 ∷ 132 ∷ 170 ∷ []) true) 0 ≡ (found 0 4 ((Some (0, 1)) ∷ []) ∷ [])
 unfolding matches
 same_fold = refl
+
+-- `(.)\1` where the characters are compared by `canonicalize`, whatever the text folds
+abbrev alike-tree : (unicode : Bool) → Node
+alike-tree unicode = (cat (cat (capture_group 0 [] (cat match_any_except_line_terminator end_of_cat)) (cat (back_ref 1 (alike unicode)) end_of_cat)) (cat goal end_of_cat))
+
+-- `ÿŸ`
+alike_in_uppercase : matches (alike-tree false) (utf8_text (195 ∷ 191 ∷ 197 ∷ 184 ∷ []) true) 0 ≡ (found 0 4 ((Some (0, 2)) ∷ []) ∷ [])
+unfolding matches canonicalize to_uppercase uppercase_runs uppercase_strings by_runs by_strings
+alike_in_uppercase = refl
+
+-- `ſs` with `u`, and without
+alike_by_folding : matches (alike-tree true) (utf8_text (197 ∷ 191 ∷ 115 ∷ []) false) 0 ≡ (found 0 3 ((Some (0, 2)) ∷ []) ∷ [])
+unfolding matches canonicalize simple_folding simple_folding_rows value_in
+alike_by_folding = refl
+
+not_alike_in_uppercase : matches (alike-tree false) (utf8_text (197 ∷ 191 ∷ 115 ∷ []) true) 0 ≡ []
+unfolding matches canonicalize to_uppercase uppercase_runs uppercase_strings by_runs by_strings
+not_alike_in_uppercase = refl
 
 -- `(?<=(?<a>x)(?<b>y))z`
 abbrev names_behind-tree : Node

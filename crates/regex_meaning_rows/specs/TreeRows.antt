@@ -1,7 +1,7 @@
 -- Patterns and trees: loops, sets, lookarounds, encodings and hostile trees.
 use Rattle.std.specs.Prelude.{◌≡◌, [], ◌∷◌, Some, None, refl, true, false}
 use Rattle.regex_meaning.specs.Tree.{Node, empty, goal, char, char_set, byte_set, byte_sequence, cat, end_of_cat, alt, bracket, string_set}
-use Rattle.regex_meaning.specs.Tree.{match_any_except_line_terminator, anchor, start_of_line, end_of_line, capture_group, back_ref, lookaround, loop}
+use Rattle.regex_meaning.specs.Tree.{match_any_except_line_terminator, anchor, start_of_line, end_of_line, capture_group, back_ref, exact, lookaround, loop}
 use Rattle.regex_meaning.specs.Tree.{loop_1_char_body}
 use Rattle.regex_meaning.specs.Text.{utf8_text, utf16_text, ucs2_text}
 use Rattle.regex_meaning_rows.specs.Computing.{found, matches, first, times, in_brackets, look}
@@ -72,7 +72,7 @@ strings_in_order = refl
 
 -- `(ab)(?<=\1)c`
 abbrev backreference_behind-tree : Node
-backreference_behind-tree = (cat (cat (capture_group 0 [] (cat (char 97) (cat (char 98) end_of_cat))) (cat (lookaround (look false true 1 1) (cat (back_ref 1 false) end_of_cat)) (cat (char 99) end_of_cat))) (cat goal end_of_cat))
+backreference_behind-tree = (cat (cat (capture_group 0 [] (cat (char 97) (cat (char 98) end_of_cat))) (cat (lookaround (look false true 1 1) (cat (back_ref 1 exact) end_of_cat)) (cat (char 99) end_of_cat))) (cat goal end_of_cat))
 
 backreference_behind : matches backreference_behind-tree (utf8_text (97 ∷ 98 ∷ 99 ∷ []) false) 0 ≡ (found 0 3 ((Some (0, 2)) ∷ []) ∷ [])
 unfolding matches
@@ -80,7 +80,7 @@ backreference_behind = refl
 
 -- `(?:(?=(a))ac|ab)\1`
 abbrev group_taken_back-tree : Node
-group_taken_back-tree = (cat (cat (alt (cat (lookaround (look false false 0 1) (cat (capture_group 0 [] (cat (char 97) end_of_cat)) end_of_cat)) (cat (char 97) (cat (char 99) end_of_cat))) (cat (char 97) (cat (char 98) end_of_cat))) (cat (back_ref 1 false) end_of_cat)) (cat goal end_of_cat))
+group_taken_back-tree = (cat (cat (alt (cat (lookaround (look false false 0 1) (cat (capture_group 0 [] (cat (char 97) end_of_cat)) end_of_cat)) (cat (char 97) (cat (char 99) end_of_cat))) (cat (char 97) (cat (char 98) end_of_cat))) (cat (back_ref 1 exact) end_of_cat)) (cat goal end_of_cat))
 
 group_taken_back : matches group_taken_back-tree (utf8_text (97 ∷ 98 ∷ []) false) 0 ≡ (found 0 2 (None ∷ []) ∷ [])
 unfolding matches

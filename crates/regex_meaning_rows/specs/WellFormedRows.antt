@@ -1,6 +1,6 @@
 -- Which trees are well formed.
 use Rattle.std.specs.Prelude.{◌≡◌, [], ◌∷◌, Some, None, refl, true, false}
-use Rattle.regex_meaning.specs.Tree.{empty, goal, char, char_set, byte_set, byte_sequence, cat, end_of_cat, alt, string_set, capture_group, back_ref}
+use Rattle.regex_meaning.specs.Tree.{empty, goal, char, char_set, byte_set, byte_sequence, cat, end_of_cat, alt, string_set, capture_group, back_ref, exact}
 use Rattle.regex_meaning.specs.Tree.{lookaround, loop, loop_1_char_body}
 use Rattle.regex_meaning.specs.WellFormedTrees.{is_well_formed}
 use Rattle.std.specs.Str.{is_utf8, chars}
@@ -15,7 +15,7 @@ same_id_twice : is_well_formed (cat (capture_group 0 [] (char 97)) (cat (capture
 unfolding is_well_formed is_utf8 chars encode
 same_id_twice = refl
 
-no_such_group : is_well_formed (cat (back_ref 1 false) (cat goal end_of_cat)) ≡ false
+no_such_group : is_well_formed (cat (back_ref 1 exact) (cat goal end_of_cat)) ≡ false
 unfolding is_well_formed is_utf8 chars encode
 no_such_group = refl
 
@@ -59,11 +59,11 @@ look_names_too_much : is_well_formed (cat (lookaround (look false false 0 1) (ch
 unfolding is_well_formed is_utf8 chars encode
 look_names_too_much = refl
 
-group_zero : is_well_formed (cat (back_ref 0 false) (cat (capture_group 0 [] (char 97)) (cat goal end_of_cat))) ≡ false
+group_zero : is_well_formed (cat (back_ref 0 exact) (cat (capture_group 0 [] (char 97)) (cat goal end_of_cat))) ≡ false
 unfolding is_well_formed is_utf8 chars encode
 group_zero = refl
 
-group_past_the_last : is_well_formed (cat (back_ref 2 false) (cat (capture_group 0 [] (char 97)) (cat goal end_of_cat))) ≡ false
+group_past_the_last : is_well_formed (cat (back_ref 2 exact) (cat (capture_group 0 [] (char 97)) (cat goal end_of_cat))) ≡ false
 unfolding is_well_formed is_utf8 chars encode
 group_past_the_last = refl
 
@@ -123,7 +123,7 @@ nested_groups : is_well_formed (cat (cat (capture_group 0 [] (alt (cat (capture_
 unfolding is_well_formed is_utf8 chars encode
 nested_groups = refl
 
-loop_with_look : is_well_formed (cat (cat (loop (times 2 None true) 0 1 (alt (cat (lookaround (look false false 0 1) (cat (capture_group 0 [] (cat (loop_1_char_body (times 1 None true) (char 97)) end_of_cat)) end_of_cat)) (cat (loop_1_char_body (times 0 None true) (char 97)) (cat (char 98) (cat (back_ref 1 false) end_of_cat)))) (cat (loop_1_char_body (times 2 (Some 3) true) (char 120)) end_of_cat))) end_of_cat) (cat goal end_of_cat)) ≡ true
+loop_with_look : is_well_formed (cat (cat (loop (times 2 None true) 0 1 (alt (cat (lookaround (look false false 0 1) (cat (capture_group 0 [] (cat (loop_1_char_body (times 1 None true) (char 97)) end_of_cat)) end_of_cat)) (cat (loop_1_char_body (times 0 None true) (char 97)) (cat (char 98) (cat (back_ref 1 exact) end_of_cat)))) (cat (loop_1_char_body (times 2 (Some 3) true) (char 120)) end_of_cat))) end_of_cat) (cat goal end_of_cat)) ≡ true
 unfolding is_well_formed is_utf8 chars encode
 loop_with_look = refl
 

@@ -9,25 +9,17 @@ use Rattle.std.specs.Char.Unicode.ToUppercase.{to_uppercase, uppercase_runs, upp
 use Rattle.std.specs.Char.Unicode.Rows.{Row, in_run, string_of, by_runs, by_strings}
 use Rattle.std.proofs.lemmas.Bool.{and_parts, leb-true, ltb-true, lt-ltb, or_cases}
 use Rattle.ucd_table.specs.Rows.{value_in}
-use Rattle.ucd_table.proofs.Computing.{tables}
-use Rattle.ucd_table.proofs.TrieCheck.{all_below, all_below-at}
 use Rattle.ucd_case.specs.CaseFolding.{simple_folding, simple_fold}
 use Rattle.ucd_case.specs.SimpleFoldingRows.{simple_folding_rows}
 use Rattle.regex_meaning.specs.Text.{fold_code_point}
+use Rattle.regex_meaning.specs.Text.{nonascii_folds_to_ascii_word_char}
+use Rattle.regex_meaning.proofs.Folding.{profile-folds}
 use Rattle.regex_meaning.specs.Canonical.{uppercase_or_itself, canonicalize}
 
 -- ---- In ASCII
 
-abbrev folds_alike : Bool → ℕ → Bool
-folds_alike unicode c = fold_code_point unicode c == canonicalize unicode c
-
-ascii-alike : (unicode : Bool) → all_below (folds_alike unicode) 128 ≡ true
-unfolding canonicalize fold_code_point tables simple_folding simple_folding_rows to_uppercase uppercase_runs uppercase_strings by_runs by_strings
-ascii-alike true = refl
-ascii-alike false = refl
-
 pub folds-in-ascii : (unicode : Bool) (c : ℕ) → c < 128 → fold_code_point unicode c ≡ canonicalize unicode c
-folds-in-ascii unicode c lt = eqb-true _ _ (all_below-at (folds_alike unicode) 128 c (ascii-alike unicode) lt)
+folds-in-ascii unicode c lt = sym (profile-folds unicode c (ap (λ b. b || nonascii_folds_to_ascii_word_char c) (lt-ltb c 128 lt)))
 
 -- ---- Of a character
 
@@ -65,20 +57,20 @@ one-form first second third f c e k n le forms =
 -- ---- Of what is no character
 
 -- no row has a number from here to there
-outside : (rows : List (ℕ × ℕ × List ℕ)) (low high c : ℕ) → list_all (λ r. nat_lt r.1 low || nat_lt high r.0) rows ≡ true → low ≤ c → c ≤ high
-    → value_in [] rows c ≡ []
+pub outside : {V : Type 0} (default : V) (rows : List (ℕ × ℕ × V)) (low high c : ℕ) → list_all (λ r. nat_lt r.1 low || nat_lt high r.0) rows ≡ true → low ≤ c → c ≤ high
+    → value_in default rows c ≡ default
 unfolding value_in
-outside [] low high c h from to = refl
-outside (r ∷ rows) low high c h from to = by (nat_le r.0 c && nat_le c r.1) refl (outside rows low high c parts.1 from to)
+outside default [] low high c h from to = refl
+outside default (r ∷ rows) low high c h from to = by (nat_le r.0 c && nat_le c r.1) refl (outside default rows low high c parts.1 from to)
   where
     parts : ((nat_lt r.1 low || nat_lt high r.0) ≡ true) × (list_all (λ r. nat_lt r.1 low || nat_lt high r.0) rows ≡ true)
     parts = and_parts (nat_lt r.1 low || nat_lt high r.0) _ h
 
-    beside : (nat_le r.0 c && nat_le c r.1) ≡ true → (nat_lt r.1 low ≡ true) ⊎ (nat_lt high r.0 ≡ true) → r.2 ≡ []
+    beside : (nat_le r.0 c && nat_le c r.1) ≡ true → (nat_lt r.1 low ≡ true) ⊎ (nat_lt high r.0 ≡ true) → r.2 ≡ default
     beside e (inl x) = let p = and_parts (nat_le r.0 c) (nat_le c r.1) e in let y = ltb-true r.1 low x in let z = leb-true c r.1 p.1 in absurd (omega (arith, y, z, from))
     beside e (inr x) = let p = and_parts (nat_le r.0 c) (nat_le c r.1) e in let y = ltb-true high r.0 x in let z = leb-true r.0 c p.0 in absurd (omega (arith, y, z, to))
 
-    by : (b : Bool) → (nat_le r.0 c && nat_le c r.1) ≡ b → value_in [] rows c ≡ [] → (if b then r.2 else value_in [] rows c) ≡ []
+    by : (b : Bool) → (nat_le r.0 c && nat_le c r.1) ≡ b → value_in default rows c ≡ default → (if b then r.2 else value_in default rows c) ≡ default
     by true e later = beside e (or_cases (nat_lt r.1 low) (nat_lt high r.0) parts.0)
     by false e later = later
 
@@ -153,8 +145,8 @@ itself-or-itself c = by (nat_lt 0xFFFF c || (nat_le 128 c && nat_lt c 128))
 
 pub no-character : (unicode : Bool) (c : ℕ) → OutOfScalarRange c → c ≡ canonicalize unicode c
 unfolding canonicalize simple_folding to_uppercase
-no-character true c (inl r) = sym (ap (λ v. slice_index_or v 0 c) (outside simple_folding_rows 0xD800 0xDFFF c no-surrogate-folds r.0 r.1))
-no-character true c (inr far) = sym (ap (λ v. slice_index_or v 0 c) (outside simple_folding_rows 0x11_0000 c c (nothing-beyond-folds c) far (omega arith)))
+no-character true c (inl r) = sym (ap (λ v. slice_index_or v 0 c) (outside [] simple_folding_rows 0xD800 0xDFFF c no-surrogate-folds r.0 r.1))
+no-character true c (inr far) = sym (ap (λ v. slice_index_or v 0 c) (outside [] simple_folding_rows 0x11_0000 c c (nothing-beyond-folds c) far (omega arith)))
 no-character false c (inl r) =
     let one : by_strings (by_runs uppercase_runs c ∷ []) uppercase_strings c ≡ c ∷ [] =
     by_strings-apart (by_runs uppercase_runs c ∷ []) uppercase_strings c strings-apart r.0 r.1 ∙ ap (λ d. d ∷ []) (by_runs-apart uppercase_runs c runs-apart r.0 r.1) in

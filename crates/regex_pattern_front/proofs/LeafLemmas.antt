@@ -1,4 +1,5 @@
 -- Nodes without groups are sound parts of a pattern.
+use Rattle.regex_meaning.specs.Tree.{by_case}
 use Rattle.std.proofs.Common.{◌≡◌, ℕ, ◌<◌, ◌≤◌, Bool, true, false, ◌&&◌, [], length, refl, arith, Vec, Global}
 use Rattle.std.specs.Prelude.{nat_le}
 use Rattle.std.proofs.lemmas.Bool.{le-leb}
@@ -47,7 +48,7 @@ module _ (greatest : ℕ) where
 
   pub leaf-BackRef : (group : ℕ) (icase : Bool) → 0 < group → group ≤ greatest → IsWellFormedGrouplessSubtree greatest (node_of (BackRef group icase))
   unfolding node_of
-  leaf-BackRef group icase h k = leaf-reference greatest group icase h k
+  leaf-BackRef group icase h k = leaf-reference greatest group (by_case icase) h k
 
   -- no alternatives are the empty pattern
   pub part-Empty : (first end : ℕ) → AreSoundSubtrees first end greatest [] → IsSoundSubtreeWithGroupIds first end greatest (node_of Empty)

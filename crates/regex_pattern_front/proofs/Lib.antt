@@ -8,23 +8,6 @@ pub mod MatchLemmas
 pub mod OptimizedLemmas
 pub mod PartLemmas
 pub mod PartingLemmas
-pub mod LevelLemmas
 pub mod LeafLemmas
 pub mod FirstByteLemmas
-pub mod PlaceLemmas
-pub mod ReadLemmas
-pub mod QuantifierLemmas
-pub mod EscapeLemmas
-pub mod ClosingLemmas
-pub mod NameLemmas
-pub mod ClassLemmas
-pub mod ModelLemmas
-pub mod ScanLemmas
-pub mod TermLemmas
-pub mod ReferenceLemmas
-mod ParsedLemmas
-mod CanonicalLemmas
-pub mod EcmaEscapeLemmas
-pub mod EcmaNameLemmas
-pub mod CaseVariantLemmas
-pub mod VariantClosureLemmas
+pub mod CanonicalLemmas

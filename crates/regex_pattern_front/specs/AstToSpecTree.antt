@@ -10,7 +10,9 @@ use Rattle.regex_pattern_front.specs.declared.types.BracketContents.{BracketCont
 use Rattle.regex_pattern_front.specs.declared.ir.Node.{Node, Row_of-Node, end_of-Node, more_of-Node, Cat', Alt', CaptureGroup', LookaroundAssertion'}
 use Rattle.regex_pattern_front.specs.declared.ir.Node.{Loop', Loop1CharBody'}
 use Rattle.regex_pattern_front.specs.declared.ir.Node.TheVariants.{Empty, Goal, Char, CharSet, ByteSet, ByteSequence, Bracket, StringSet, MatchAny}
-use Rattle.regex_pattern_front.specs.declared.ir.Node.TheVariants.{MatchAnyExceptLineTerminator, Anchor, WordBoundary, BackRef}
+use Rattle.regex_pattern_front.specs.declared.ir.Node.TheVariants.{MatchAnyExceptLineTerminator, Anchor, WordBoundary, BackRef, CanonicalBackRef}
+use Rattle.regex_pattern_front.specs.declared.canonical.Sameness.{Sameness}
+use Rattle.regex_pattern_front.specs.declared.canonical.Sameness.TheVariants.{Exact, Folded, Alike}
 
 -- an anchor type as that of the definitions
 abbrev pub anchor_of : AnchorType → tree.AnchorType
@@ -30,6 +32,12 @@ abbrev pub group_name_bytes : {R : Type 0} → Option (String R) → List ℕ
 group_name_bytes None = []
 group_name_bytes (Some s) = string_bytes s
 
+-- a sameness as that of the definitions
+abbrev pub sameness_of : Sameness → tree.Sameness
+sameness_of Exact = tree.exact
+sameness_of Folded = tree.folded
+sameness_of (Alike unicode) = tree.alike unicode
+
 -- a node, and a list of children, as a tree of the definitions
 unfoldable mutual
   pub node_of : Node → tree.Node
@@ -48,7 +56,8 @@ unfoldable mutual
   node_of (Anchor type multiline) = tree.anchor (anchor_of type) multiline
   node_of (WordBoundary invert unicode_icase) = tree.word_boundary invert unicode_icase
   node_of (CaptureGroup' id p contents name) = tree.capture_group id (group_name_bytes name) (node_of contents)
-  node_of (BackRef group icase) = tree.back_ref group icase
+  node_of (BackRef group icase) = tree.back_ref group (tree.by_case icase)
+  node_of (CanonicalBackRef group unicode) = tree.back_ref group (tree.alike unicode)
   node_of (LookaroundAssertion' negate backwards start_group end_group p contents) =
       tree.lookaround (record { negate = negate; backwards = backwards; start_group = start_group; end_group = end_group })
       (node_of contents)

@@ -5,14 +5,3 @@ pub mod FirstPassingIndex
 pub mod OptimizedTrees
 pub mod IterativeDropMeasure
 pub mod SubtreeListInvariants
-pub mod ParserGroupIdInvariant
-pub mod ParenthesisDepth
-pub mod CodePointAndQuantifierReaderContracts
-pub mod ClassReaderContracts
-pub mod PartialDisjunctionModel
-pub mod GroupReaderContracts
-pub mod GrouplessTermContracts
-pub mod ParserContracts
-pub mod ParseErrors
-pub mod EcmaReaderContracts
-pub mod CaseVariantContracts

@@ -1,10 +1,35 @@
-//! `Canonicalize` over all of Unicode.
+//! `Canonicalize` over all of Unicode, and which characters a backreference takes for the same.
 
 ghost use Rattle.std.specs.Prelude.{◌≡◌, ◌==◌, ◌≤◌, false, [], ◌∷◌};
-ghost use Rattle.regex_meaning.specs.Canonical.{canonicalize, uppercase_or_itself};
+ghost use Rattle.regex_meaning.specs.{Canonical.{canonicalize, uppercase_or_itself}, Tree.{by_case}};
+ghost use Rattle.regex_pattern_front.specs.AstToSpecTree.{sameness_of};
 
 use crate::folding_and_first_bytes::fold_code_point;
 use ucd_case::simple_fold;
+
+/// Which characters a backreference takes for the same.
+#[derive(Clone, Copy)]
+pub enum Sameness {
+    /// Equal characters.
+    Exact,
+    /// Equal characters, and those that the text folds to the same.
+    Folded,
+    /// Characters with the same `canonicalize`.
+    Alike { unicode: bool },
+}
+
+impl Sameness {
+    /// Returns the sameness of a backreference that compares by the text's fold if `icase` is set.
+    pub fn by_case(icase: bool) -> Sameness
+        ensures { sameness_of result ≡ by_case icase }
+    {
+        if icase {
+            Sameness::Folded
+        } else {
+            Sameness::Exact
+        }
+    }
+}
 
 /// Returns the code point that is compared in place of `c` when case is ignored (ECMA-262, 21.2.2.8.2
 /// `Canonicalize`, over all of Unicode). With `unicode` it is the simple case folding. Without it, it is the

@@ -3,7 +3,8 @@
 ghost use Rattle.std.specs.Prelude.{◌≡◌, ◌+◌, Some, None};
 ghost use Rattle.regex_pattern_front.specs.IterativeDropMeasure.{DecreasesDropMeasure, tree_size, node_size, drop_measure_of_size_and_rest};
 ghost use Rattle.regex_pattern_front.specs.IterativeDropMeasure.{drop_measure_of_node_and_rest};
-ghost use Rattle.regex_pattern_front.specs.{AstToSpecTree.{cat_of}, declared.ir.Node.{Node}};
+ghost use Rattle.regex_pattern_front.specs.AstToSpecTree.{cat_of};
+ghost use Rattle.regex_pattern_front.specs.declared.ir.Node.{Node};
 
 use crate::flags::Flags;
 use crate::types::{BracketContents, CaptureGroupID};
@@ -77,10 +78,17 @@ pub enum Node {
         contents: Box<Node>,
         name: Option<String>,
     },
-    /// The text of a group again. Groups count from 1 here.
+    /// The text of a group again; with `icase`, characters that the text folds to the same are the
+    /// same. Groups count from 1 here.
     BackRef {
         group: u32,
         icase: bool,
+    },
+    /// The text of a group again, where characters with the same `canonicalize` are the same. Groups
+    /// count from 1 here.
+    CanonicalBackRef {
+        group: u32,
+        unicode: bool,
     },
     /// A lookahead or a lookbehind, with the range of the group ids inside it.
     LookaroundAssertion {
@@ -104,7 +112,8 @@ pub enum Node {
 }
 
 impl Node {
-    ghost use Rattle.regex_pattern_front.specs.{OptimizedTrees.{loop_turned_into_char_loop}, AstToSpecTree.{node_of}};
+    ghost use Rattle.regex_pattern_front.specs.OptimizedTrees.{loop_turned_into_char_loop};
+    ghost use Rattle.regex_pattern_front.specs.AstToSpecTree.{node_of};
 
     // Turns a loop into a loop over one character, which names no groups. Other nodes stay as they
     // are.
@@ -171,6 +180,10 @@ impl Node {
                 unicode_icase: _,
             } => continue_drop_with_rest(rest),
             Node::BackRef { group: _, icase: _ } => continue_drop_with_rest(rest),
+            Node::CanonicalBackRef {
+                group: _,
+                unicode: _,
+            } => continue_drop_with_rest(rest),
         }
     }
 }

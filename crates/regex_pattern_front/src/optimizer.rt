@@ -1,7 +1,8 @@
 //! The optimizer, which introduces loops over one character.
 
 ghost use Rattle.std.specs.Prelude.{◌≡◌};
-ghost use Rattle.regex_pattern_front.specs.{AstToSpecTree.{cat_of, node_of}, declared.ir.Node.TheVariants.{Alt}};
+ghost use Rattle.regex_pattern_front.specs.AstToSpecTree.{cat_of, node_of};
+ghost use Rattle.regex_pattern_front.specs.declared.ir.Node.TheVariants.{Alt};
 ghost use Rattle.regex_pattern_front.specs.OptimizedTrees.{reads_one_character, optimized, loop_turned_into_char_loop, rest_of_alternatives};
 ghost use Rattle.regex_pattern_front.specs.OptimizedTrees.{first_alternative_prepended_to_chain, alternatives_with_links_unreversed};
 ghost use Rattle.regex_pattern_front.specs.OptimizedTrees.{OptimizedIsWellFormed, OptimizedHasSameOutcomes, OptimizedHasSameAnswers};

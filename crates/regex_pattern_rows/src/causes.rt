@@ -109,3 +109,41 @@ u:{ → incomplete quantifier at 0
 :é]}{ → a pattern
 :\k<n>(?<n>a) → a pattern
 v:[&\-\--] → a pattern";
+
+// The same in the whole language.
+pub(crate) const ECMASCRIPT_CAUSES: &str = r"u:a\c1 → control escape without a letter at 1
+u:[\c] → control escape without a letter at 1
+u:é\00 → octal escapes are not allowed with u at 1
+u:[\1] → octal escapes are not allowed with u at 1
+u:é\1 → no such group at 1
+u:(a)\2 → no such group at 3
+u:é\p → property escape without a name at 1
+u:[\pL] → property escape without a name at 1
+u:é\p{lu} → unknown property at 1
+u:é\P{Script=greek} → unknown property at 1
+u:[a\p{L] → unknown property at 2
+u:[\d-a] → a class escape is no end of a range at 1
+u:[ab-\s] → a class escape is no end of a range at 2
+:é(?<a → unclosed name at 3
+:é(?<1>) → invalid name at 4
+:(?<é-b>) → invalid name at 4
+:(?<a\u{110000}>) → invalid name at 4
+:\k(?<a>b) → reference without a name at 0
+:\k<b>(?<a>c) → no group has this name at 0
+:(?<a>b)(?<\u0061>c) → duplicate name at 10
+:{1} → nothing to repeat at 0
+:(?<=a)* → an assertion is not repeated at 6
+u:(?=a)* → an assertion is not repeated at 5
+:^* → an assertion is not repeated at 1
+u:a{ → incomplete quantifier at 1
+u:} → lone bracket at 0
+u:\u{110000} → no code point is so great at 0
+u:\u → incomplete Unicode escape at 0
+u:\x → incomplete hexadecimal escape at 0
+u:é\a → unknown escape at 1
+:é\ → nothing to escape at 1
+:[a → unclosed class at 0
+:[b-a] → range out of order at 1
+:(a → unclosed group at 0
+:a) → unopened group at 1
+:\c\8\00\p{L}\u{1}\x{}a{]} → a pattern";

@@ -1,7 +1,7 @@
 //! How deep patterns nest.
 
 use crate::patterns::{add, code_points};
-use regex_pattern_front::greatest_parenthesis_depth_of_pattern::nesting;
+use regex_parser::greatest_parenthesis_depth_of_pattern::nesting;
 use std::alloc::AllocError;
 use std::test::Fail;
 

@@ -1,33 +1,61 @@
 //! What is wrong with texts that are no patterns, and where.
 
-use crate::causes::CAUSES;
+use crate::causes::{CAUSES, ECMASCRIPT_CAUSES};
 use crate::patterns::{add, code_points, flags_of};
 use crate::table::PATTERNS;
-use regex_pattern_front::diagnosis::{Cause, Diagnosis};
+use regex_parser::diagnosis::{Cause, Diagnosis};
+use regex_parser::parse::{ParseError, diagnose, parse_or_diagnose, try_parse, try_parse_in};
+use regex_parser::syntax::Syntax;
 use regex_pattern_front::flags::Flags;
-use regex_pattern_front::parse::{ParseError, diagnose, parse_or_diagnose, try_parse};
 use std::alloc::{AllocError, Global};
 use std::process::Abort;
 use std::test::Fail;
 
 // The error of a text is written, an allocation failure as well.
-fn write_error(text: &mut String, row: &str) -> Result<(), AllocError> {
+fn write_error(text: &mut String, row: &str, syntax: Syntax) -> Result<(), AllocError> {
     let alloc = *text.allocator();
     let (letters, pattern) = row.split_once(':').unwrap_or((row, "no colon"));
     let pattern = code_points(alloc, pattern)?;
-    match try_parse(alloc, &pattern, flags_of(letters)) {
+    match try_parse_in(alloc, &pattern, flags_of(letters), syntax) {
         Ok(_) => text.push_str("a pattern"),
         Err(error) => write!(text, "{error}"),
     }
 }
 
+// Returns the first line of a table that says something else of its text than the parser, with what the
+// parser says.
+fn first_wrong<'t>(
+    alloc: Global,
+    table: &'t str,
+    syntax: Syntax,
+) -> Result<Option<(&'t str, String)>, AllocError> {
+    for line in table.lines() {
+        let (row, wanted) = line.split_once(" → ").unwrap_or((line, "no arrow"));
+        let mut found = String::new(alloc);
+        write_error(&mut found, row, syntax)?;
+        if found.as_str() != wanted {
+            return Ok(Some((line, found)));
+        }
+    }
+    Ok(None)
+}
+
 #[test]
 fn causes_have_these_places(rt: HostRuntime) -> Result<(), Fail> {
-    for line in CAUSES.lines() {
-        let (row, wanted) = line.split_once(" → ").unwrap_or((line, "no arrow"));
-        let mut found = String::new(rt.alloc());
-        write_error(&mut found, row)?;
-        assert!(rt; found.as_str() == wanted, "{found} at {line}");
+    if let Some((line, found)) = first_wrong(rt.alloc(), CAUSES, Syntax::Profile)? {
+        assert!(rt; false, "{found} at {line}");
+    }
+    Ok(())
+}
+
+#[test]
+fn causes_in_the_whole_language_have_these_places(rt: HostRuntime) -> Result<(), Fail> {
+    if let Some((line, found)) = first_wrong(
+        rt.alloc(),
+        ECMASCRIPT_CAUSES,
+        Syntax::EcmaScript2018,
+    )? {
+        assert!(rt; false, "{found} at {line}");
     }
     Ok(())
 }

@@ -8,6 +8,8 @@ mod depths;
 #[cfg(test)]
 mod diagnoses;
 #[cfg(test)]
+mod ecmascript_table;
+#[cfg(test)]
 mod patterns;
 #[cfg(test)]
 mod printing;

@@ -1,11 +1,13 @@
 //! Patterns: their trees, and those that are refused.
 
+use crate::ecmascript_table::ECMASCRIPT_PATTERNS;
 use crate::printing::write_tree;
 use crate::table::PATTERNS;
+use regex_parser::parse::{ParseError, try_parse, try_parse_in};
+use regex_parser::syntax::Syntax;
 use regex_pattern_front::flags::Flags;
 use regex_pattern_front::ir::Regex;
 use regex_pattern_front::optimizer::optimize;
-use regex_pattern_front::parse::{ParseError, try_parse};
 use std::alloc::{AllocError, Global};
 use std::process::Abort;
 use std::test::Fail;
@@ -22,8 +24,13 @@ pub(crate) fn flags_of(letters: &str) -> Flags {
 }
 
 // The tree of a pattern, none where it is refused.
-fn tree(alloc: Global, pattern: &[u32], letters: &str) -> Result<Option<Regex>, AllocError> {
-    match try_parse(alloc, pattern, flags_of(letters)) {
+fn tree(
+    alloc: Global,
+    pattern: &[u32],
+    letters: &str,
+    syntax: Syntax,
+) -> Result<Option<Regex>, AllocError> {
+    match try_parse_in(alloc, pattern, flags_of(letters), syntax) {
         Ok(re) => Ok(Some(re)),
         Err(ParseError::Syntax(_) | ParseError::TooManyGroups) => Ok(None),
         Err(ParseError::Memory) => Err(AllocError),
@@ -44,9 +51,10 @@ fn write_answer(
     text: &mut String,
     letters: &str,
     pattern: &str,
+    syntax: Syntax,
 ) -> Result<(), AllocError> {
     let pattern = code_points(alloc, pattern)?;
-    match tree(alloc, &pattern, letters)? {
+    match tree(alloc, &pattern, letters, syntax)? {
         Some(mut re) => {
             if letters.contains('o') {
                 optimize(&mut re);
@@ -57,14 +65,40 @@ fn write_answer(
     }
 }
 
-#[test]
-fn patterns_have_these_trees(rt: HostRuntime) -> Result<(), Fail> {
-    for line in PATTERNS.lines() {
+// Returns the first line of a table whose pattern has another tree than the line says, with that tree.
+fn first_wrong<'t>(
+    alloc: Global,
+    table: &'t str,
+    syntax: Syntax,
+) -> Result<Option<(&'t str, String)>, AllocError> {
+    for line in table.lines() {
         let (row, wanted) = line.split_once(" → ").unwrap_or((line, "refused"));
         let (letters, pattern) = row.split_once(':').unwrap_or((row, "no colon"));
-        let mut found = String::new(rt.alloc());
-        write_answer(rt.alloc(), &mut found, letters, pattern)?;
-        assert!(rt; found.as_str() == wanted, "{found} at {line}");
+        let mut found = String::new(alloc);
+        write_answer(alloc, &mut found, letters, pattern, syntax)?;
+        if found.as_str() != wanted {
+            return Ok(Some((line, found)));
+        }
+    }
+    Ok(None)
+}
+
+#[test]
+fn patterns_have_these_trees(rt: HostRuntime) -> Result<(), Fail> {
+    if let Some((line, found)) = first_wrong(rt.alloc(), PATTERNS, Syntax::Profile)? {
+        assert!(rt; false, "{found} at {line}");
+    }
+    Ok(())
+}
+
+#[test]
+fn patterns_of_the_whole_language_have_these_trees(rt: HostRuntime) -> Result<(), Fail> {
+    if let Some((line, found)) = first_wrong(
+        rt.alloc(),
+        ECMASCRIPT_PATTERNS,
+        Syntax::EcmaScript2018,
+    )? {
+        assert!(rt; false, "{found} at {line}");
     }
     Ok(())
 }
@@ -98,7 +132,7 @@ fn is_read(alloc: Global, opening: &str, closing: &str, count: usize) -> Result<
     let mut pattern = Vec::new(alloc);
     add(&mut pattern, opening, count)?;
     add(&mut pattern, closing, count)?;
-    match tree(alloc, &pattern, "")? {
+    match tree(alloc, &pattern, "", Syntax::Profile)? {
         Some(mut re) => {
             optimize(&mut re);
             Ok(true)

@@ -3,6 +3,7 @@
 use regex_pattern_front::bytesearch::{
     AsciiBitmap, ByteArraySet, ByteBitmap, ByteSearcher, ByteSet,
 };
+use regex_pattern_front::canonical::{are_alike, canonicalize};
 use regex_pattern_front::codepointset::{CodePointSet, Interval};
 use regex_pattern_front::folding_and_first_bytes::{
     add_utf8_first_bytes_to_bitmap, utf8_first_byte,
@@ -60,6 +61,29 @@ fn byte_arrays_are_searched(rt: HostRuntime) {
             && [b'a', b'b'].byte_set_has_char(0x62)
             && [1, 2, 3].byte_set_has_char(3)
     );
+}
+
+// Without `u`: the uppercase of `ÿ`, `ς` and `µ` is one code unit; that of `ß` is two, those of `ı` and `ſ` are in ASCII,
+// and Deseret letters are two code units. With it: the Kelvin sign and `ẞ` fold, and `İ` does not.
+#[test]
+fn code_points_are_canonicalized(rt: HostRuntime) {
+    let asked = [0x61, 0x41, 0xFF, 0x3C2, 0xB5, 0xDF, 0x131, 0x17F, 0x1_0428];
+    let wanted = [
+        0x41, 0x41, 0x178, 0x3A3, 0x39C, 0xDF, 0x131, 0x17F, 0x1_0428,
+    ];
+    assert_eq!(rt; asked.map(|c| canonicalize(c, false)), wanted);
+    let asked = [
+        0x61, 0x41, 0x3C2, 0x130, 0x17F, 0x1E9E, 0x212A, 0x1_0400, 0x11_0000,
+    ];
+    let wanted = [
+        0x61, 0x61, 0x3C3, 0x130, 0x73, 0xDF, 0x6B, 0x1_0428, 0x11_0000,
+    ];
+    assert_eq!(rt; asked.map(|c| canonicalize(c, true)), wanted);
+    assert_eq!(rt;
+        [0xD801, u32::MAX].map(|c| canonicalize(c, false)),
+        [0xD801, u32::MAX]
+    );
+    assert!(rt; are_alike(0x6B, 0x212A, true) && !are_alike(0x6B, 0x212A, false));
 }
 
 #[test]

@@ -1,5 +1,5 @@
 -- Attempts in so much work: how one begins, what it finds, and that the next ones may be made.
-use Rattle.std.proofs.Common.{◌≡◌, ◌≤◌, ◌<◌, ◌^◌, ℕ, ◌+◌, ◌*◌, Bool, false, List, [], ◌∷◌, Option, Some, None, refl, sym, ap, ◌∙◌, subst, arith}
+use Rattle.std.proofs.Common.{◌≡◌, ◌≤◌, ◌<◌, ◌^◌, ℕ, ◌+◌, ◌*◌, Bool, false, List, [], ◌∷◌, ◌++◌, Option, Some, None, refl, sym, ap, ◌∙◌, subst, arith}
 use Rattle.std.specs.Prelude.{option_map, Result, Ok, Err, IsSome}
 use Rattle.std.proofs.Math.Logic.{∥∥₁_map, ∥∥₁_elim, ∥∥₁_prop}
 use Rattle.std.proofs.Props.{props}
@@ -35,12 +35,14 @@ use Rattle.regress_pikevm.proofs.Remains.{map-end}
 use Rattle.regress_pikevm.specs.declared.pikevm.states.State.{State}
 use Rattle.regress_bounded.specs.ProgramWorkBoundForAllMatches.{HasBound, work_per_unit}
 use Rattle.regress_bounded.specs.SearchStateAsMemoSearchEntries.{IsPaid, IsRight, IsMemoRight, AttemptStartMemoBudgetAndResult, AttemptBeginsWithMemoAndBudget, Stands}
-use Rattle.regress_bounded.specs.SearchStateAsMemoSearchEntries.{IsStanding, IsOver, MayStop, EndsAt, Runs, front_of}
+use Rattle.regress_bounded.specs.CostsOfSearchEvents.{Costs, nothing_yet}
+use Rattle.regress_bounded.specs.SearchStateAsMemoSearchEntries.{IsStanding, IsOver, EndsAt, Runs, front_of}
 use Rattle.regress_bounded.specs.WorkOfCharLoopsAndAttempts.{HasWalked, IsWalked, IsTrying}
 use Rattle.regress_pikevm.specs.States.{state_of}
 use Rattle.regress_bounded.specs.WorkOfSuccessiveAttempts.{Walked, HasWalked as AreWalked}
 use Rattle.regress_bounded.proofs.Ends.{ends-itself}
-use Rattle.regress_bounded.proofs.PaidSearches.{memory-of, then-starts, in-hand, in-order, still-onward, so-far, behind-end, then-ends, then-none}
+use Rattle.regress_bounded.proofs.EventCosts.{event-comes}
+use Rattle.regress_bounded.proofs.PaidSearches.{memory-of, then-starts, in-order, still-onward, so-far, behind-end, then-ends, then-none}
 use Rattle.regress_bounded.proofs.Standing.{row-none}
 use Rattle.regress_bounded.proofs.Standing as standing
 
@@ -55,7 +57,6 @@ module _ {P : Type 0} {offset : P → ℕ} {program : Program} {text : Text} whe
       let t = c.memo.memo_analysis in
       let inside' : b.at ≤ units text = subst (λ n. n ≤ units text) (sym h.at) (boundary_inside text is_text at on) in
       let same : state_before_first_insn program b.at ≡ state_of offset start = ap (state_before_first_insn program) h.at ∙ sym is in
-      let first = in-hand program t paid.memo_analysis text paid.is_text paid.bytes paid.short b.at inside' b.memory in
       record {
         right = right;
         inside = inside';
@@ -64,7 +65,7 @@ module _ {P : Type 0} {offset : P → ℕ} {program : Program} {text : Text} whe
         work = 0;
         now = b.memory;
         row = [];
-        comes = subst (λ u. HasCome program text t rightwards b.memory (tries (first_row program b.at)) 0 b.memory (tried (running u) ∷ [])) same first;
+        costs = subst (λ u. Costs program text t rightwards b.memory (tries (first_row program b.at)) 0 b.memory (tried (running u) ∷ [])) same nothing_yet;
         is = tt;
         holds = h.holds;
         spent = (let t = h.total in omega (arith, t));
@@ -95,18 +96,18 @@ module _ {P : Type 0} (offset : P → ℕ) (program : Program) (text : Text) whe
     nothing-found h =
         let none : h.row ≡ [] = row-none offset program text h.row h.is in
         standing.then-none program text c.memo.memo_analysis h.right.paid b h.is_memory h.answers h.work h.now
-        (subst (HasCome program text c.memo.memo_analysis rightwards b.memory (tries (first_row program b.at)) h.work h.now) none h.comes)
+        (subst (HasCome program text c.memo.memo_analysis rightwards b.memory (tries (first_row program b.at)) h.work h.now) none (standing.come offset program text b h))
 
     end-found : (end : State P) → EndsAt offset program text b end c → b.found.end ≡ Some (state_of offset end)
     end-found end h =
         let s = h.stands in
-        standing.then-ends program text c.memo.memo_analysis s.right.paid b s.is_memory s.answers s.work s.now h.from (state_of offset end) s.row s.comes h.ends
+        standing.then-ends program text c.memo.memo_analysis s.right.paid b s.is_memory s.answers s.work s.now h.from (state_of offset end) s.row (standing.come offset program text b s) h.ends
 
   -- its end is inside the text
   end-inside : (b : AttemptStartMemoBudgetAndResult) (c : MemoAndWorkBudget) (end : State P) → EndsAt offset program text b end c → offset end.pos ≤ units text
   end-inside b c end h =
       let own : offset end.pos ≡ h.from.pos = ap (λ (u : machine.State). u.pos) (ends-itself program text rightwards h.from (state_of offset end) h.ends) in
-      let within = h.stands.comes.keyed.0.sound.within in
+      let within = standing.inside offset program text b h.from h.stands in
       omega (arith, own, within)
 
   runs-found : (b : AttemptStartMemoBudgetAndResult) (c : MemoAndWorkBudget) (end : Option (State P)) → Runs offset program text b (Ok end) c → b.found.end ≡ option_map (λ e. state_of offset e) end
@@ -151,7 +152,7 @@ module _ {P : Type 0} (offset : P → ℕ) (program : Program) (text : Text) whe
       walked-none : Stands offset program text its [] [] new → Walked program text new (at + 1)
       walked-none h =
           let none : h.row ≡ [] = row-none offset program text h.row h.is in
-          let come = subst (HasCome program text t rightwards its.memory (tries (first_row program at)) h.work h.now) none h.comes in
+          let come = subst (HasCome program text t rightwards its.memory (tries (first_row program at)) h.work h.now) none (standing.come offset program text its h) in
           record {
             done = walked.done + h.work;
             walked = then-none program t paid.memo_analysis text paid.is_text paid.bytes paid.short (has_failure new.memo) at walked.done h.work answered (trying (has_failure new.memo) h.work h.now [] come h.holds);
@@ -163,12 +164,12 @@ module _ {P : Type 0} (offset : P → ℕ) (program : Program) (text : Text) whe
       walked-found end h =
           let s = h.stands in
           let own : offset end.pos ≡ h.from.pos = ap (λ (u : machine.State). u.pos) (ends-itself program text rightwards h.from (state_of offset end) h.ends) in
-          let order : at ≤ h.from.pos = in-order program t paid.memo_analysis text paid.is_text paid.bytes paid.short at its.memory s.work s.now (running h.from) s.row s.comes in
+          let order : at ≤ h.from.pos = in-order program t paid.memo_analysis text paid.is_text paid.bytes paid.short at its.memory s.work s.now (running h.from) s.row (standing.come offset program text its s) in
           let on = behind-end at (offset end.pos) (omega (arith, own, order)) in
           record {
             done = walked.done + s.work;
             walked = then-ends program t paid.memo_analysis text paid.is_text paid.bytes paid.short (has_failure new.memo) at walked.done s.work (running h.from) s.row answered
-                (trying (has_failure new.memo) s.work s.now (tried (running h.from) ∷ s.row) s.comes s.holds)
+                (trying (has_failure new.memo) s.work s.now (tried (running h.from) ∷ s.row) (standing.come offset program text its s) s.holds)
                 (least_offset_after_match at (offset end.pos)) (let a = on.0 in omega (arith, a, own)) on.1;
             enough = still-enough s.work s.spent;
           }
@@ -176,15 +177,22 @@ module _ {P : Type 0} (offset : P → ℕ) (program : Program) (text : Text) whe
       -- work is never wanting
       never-over : IsOver offset program text its new → ⊥
       never-over h =
+          let x = h.short in
+          let before = h.stands in
+          let comes : HasCome program text t rightwards its.memory (tries (first_row program at)) (before.work + x.cost) x.now x.row =
+          subst (λ t. HasCome program text t rightwards its.memory (tries (first_row program at)) (before.work + x.cost) x.now x.row) (sym h.same)
+          (event-comes program text h.before.memo.memo_analysis before.right.paid its.memory (tries (first_row program at)) before.work x.cost before.now x.now (h.front ++ before.row) x.row x.happens
+          (standing.come offset program text its before)) in
           let all =
           so-far program t paid.memo_analysis text paid.is_text paid.bytes paid.short at walked.done its.memory
-          (still-onward program t paid.memo_analysis text paid.is_text paid.bytes paid.short ahead walked.done its.memory has at le) answered h.work h.now h.row inside h.comes in
+          (still-onward program t paid.memo_analysis text paid.is_text paid.bytes paid.short ahead walked.done its.memory has at le) answered (before.work + x.cost) x.now x.row inside comes in
           let third : work_per_unit t ≡ 1 + (work_per_position t + (all_keys_cost_per_position t + (insn_analysis_of t 0).ready)) = omega arith in
           let same_all = ap (λ m. m * (units text + 1)) third in
           let u = ap (λ t. work_per_unit t * (units text + 1)) same in
           let e = walked.enough in
-          let over : old.left < h.work = h.over in
-          absurd (omega (arith, all, same_all, u, e, over))
+          let total : before.work + h.before.left ≡ old.left = before.spent in
+          let over = x.over in
+          absurd (omega (arith, all, same_all, u, e, total, over))
 
 -- ---- Before the first one
 
@@ -243,7 +251,7 @@ module _ {P : Type 0} (offset : P → ℕ) {tree : Tree} {text : Text} (can : Tr
     pub none-left : (e : AttemptAbortReason) → IsMemoRight (compiled tree) text old.memo → ByRuns (Err e) → e ≡ Work → new.left ≡ 0
     none-left e knows runs is =
         ∥∥₁_elim knows (Prim.hlevel props) (λ right.
-        let x = first right in (subst (λ e. MayStop offset (compiled tree) text x.begin e new) is (runs x.begin x.begins)).none)
+        let x = first right in (subst (λ e. Runs offset (compiled tree) text x.begin (Err e) new) is (runs x.begin x.begins)).short.none)
 
     -- ---- In turn
 
@@ -278,5 +286,5 @@ module _ {P : Type 0} (offset : P → ℕ) {tree : Tree} {text : Text} (can : Tr
       pub never-wanted : (e : AttemptAbortReason) → ByRuns (Err e) → e ≡ Work → ⊥
       never-wanted e runs is =
           ∥∥₁_elim knows (Prim.hlevel props) (λ right. ∥∥₁_elim walked (Prim.hlevel props) (λ w.
-          let over = subst (λ e. MayStop offset (compiled tree) text (from w) e new) is (runs (from w) (from-begins w right)) in
+          let over = subst (λ e. Runs offset (compiled tree) text (from w) (Err e) new) is (runs (from w) (from-begins w right)) in
           never-over offset (compiled tree) text at ahead old new same w le inside (answered-at tree text can at on) (subst (IsPaid (compiled tree) text) (sym same) right.paid) over))

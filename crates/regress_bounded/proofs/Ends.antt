@@ -1,6 +1,7 @@
 -- A turn that ends a search leaves its state as it is, one that asks stands at a lookaround, and one over characters at a run.
-use Rattle.std.proofs.Common.{◌≡◌, ℕ, ◌+◌, Bool, true, false, ◌&&◌, Option, Some, None, refl, sym, ◌∙◌, subst, length, slice_get, List, []}
+use Rattle.std.proofs.Common.{◌≡◌, ℕ, ◌+◌, Bool, true, false, ◌&&◌, Option, Some, None, refl, sym, ap, ◌∙◌, subst, length, slice_get, List, [], arith}
 use Rattle.std.specs.Prelude.{nat_lt, if◌then◌else◌, ◌==◌}
+use Rattle.regex_meaning.specs.Tree.{Sameness}
 use Rattle.regex_meaning.specs.Text.{Text, Direction, next_character, moved}
 use Rattle.regex_meaning.specs.CodeUnitOffsets.{place_at}
 use Rattle.regex_meaning.specs.Outcomes.{is_some_and}
@@ -10,6 +11,7 @@ use Rattle.regex_meaning.specs.CompilationRelation.{BeginCaptureGroup, EndCaptur
 use Rattle.regress_machine.specs.Machine.{State, Thread, LoopData, Next, goes, scans, ends, asks, with_some, only_if, go, go_if, iterate_or_leave_at_loop_head}
 use Rattle.regress_machine.specs.Machine.{effect_at_iteration_end, loop_again_effect, test_of, on_to, read_one, stay_if, backref_read, read_group, scan, act, act_on}
 use Rattle.regress_memo_laws.specs.EquivalenceAfterSkippingSucceedingLookarounds.{lookaround_at}
+use Rattle.regress_bounded.specs.SearchStateAsMemoSearchEntries.{is_goal_insn}
 
 -- an end is the state's own, nothing is asked where there is no lookaround, and nothing gone over where there is no run
 abbrev pub EndsAs : (looks run : Bool) → State → Next → Type 0
@@ -68,13 +70,13 @@ module _ (looks run : Bool) (s : State) where
   as-stay : (text : Text) (holds : ℕ → Bool) (u : State) → EndsAs looks run s (stay_if text holds u)
   as-stay text holds u = as-with_some (place_at text u.pos) (λ p. go_if (holds p) (on_to text p u)) (λ p. as-go_if (holds p) (on_to text p u))
 
-  as-read_group : (text : Text) (icase : Bool) (d : Direction) (o : Option (ℕ × ℕ)) (u : State) → EndsAs looks run s (read_group text icase d o u)
-  as-read_group text icase d None u = as-with_some (place_at text u.pos) (λ p. go (on_to text p u)) (λ p. tt)
-  as-read_group text icase d (Some range) u =
+  as-read_group : (text : Text) (sameness : Sameness) (d : Direction) (o : Option (ℕ × ℕ)) (u : State) → EndsAs looks run s (read_group text sameness d o u)
+  as-read_group text sameness d None u = as-with_some (place_at text u.pos) (λ p. go (on_to text p u)) (λ p. tt)
+  as-read_group text sameness d (Some range) u =
       as-with_some (place_at text u.pos)
-      (λ p. with_some (place_at text range.0) (λ from. with_some (place_at text range.1) (λ to. backref_read text icase d from to p u)))
-      (λ p. as-with_some (place_at text range.0) (λ from. with_some (place_at text range.1) (λ to. backref_read text icase d from to p u))
-      (λ from. as-with_some (place_at text range.1) (λ to. backref_read text icase d from to p u)
+      (λ p. with_some (place_at text range.0) (λ from. with_some (place_at text range.1) (λ to. backref_read text sameness d from to p u)))
+      (λ p. as-with_some (place_at text range.0) (λ from. with_some (place_at text range.1) (λ to. backref_read text sameness d from to p u))
+      (λ from. as-with_some (place_at text range.1) (λ to. backref_read text sameness d from to p u)
       (λ to. as-go_if _ _)))
 
   as-scan : run ≡ true → (program : Program) (text : Text) (o : Option Insn) (least most : ℕ) (greedy : Bool) (d : Direction) (u : State)
@@ -116,8 +118,8 @@ module _ (program : Program) (text : Text) (d : Direction) (s : State) where
   act-ends-as (Some (Loop1CharBody least most greedy)) = as-scan false true s refl program text (slice_get program.insns (s.ip + 1)) least most greedy d s
   act-ends-as (Some (BeginCaptureGroup id)) = as-only_if false false s (nat_lt id (length s.groups) && nat_lt id (length s.starts)) _ tt
   act-ends-as (Some (EndCaptureGroup id)) = as-only_if false false s (nat_lt id (length s.groups)) _ (as-with_some false false s (slice_get s.starts id) _ (λ start. tt))
-  act-ends-as (Some (BackRef group icase)) =
-      as-with_some false false s (slice_get s.groups group) (λ range. read_group text icase d range s) (λ range. as-read_group false false s text icase d range s)
+  act-ends-as (Some (BackRef group sameness)) =
+      as-with_some false false s (slice_get s.groups group) (λ range. read_group text sameness d range s) (λ range. as-read_group false false s text sameness d range s)
   act-ends-as (Some (Lookahead negate start_group end_group continuation)) = refl
   act-ends-as (Some (Lookbehind negate start_group end_group continuation)) = refl
   act-ends-as (Some _) = as-stay false false s text _ s
@@ -143,3 +145,37 @@ module _ (program : Program) (text : Text) (d : Direction) (s : State) where
   scans-run tries ts is =
       run-there (slice_get program.insns s.ip)
       (subst (EndsAs (is_look (slice_get program.insns s.ip)) (is_run (slice_get program.insns s.ip)) s) is (act-ends-as (slice_get program.insns s.ip)))
+
+  -- Elsewhere than at the end of the program no turn ends a search: what it would come to may be any state.
+  other-ends-as : (x : Insn) (u : State) → is_goal_insn x ≡ false → EndsAs (is_look (Some x)) (is_run (Some x)) u (act_on program text d (Some x) s)
+  other-ends-as Goal u h = cc
+  other-ends-as JustFail u h = tt
+  other-ends-as (Char c) u h = as-tested false false u program text (Char c) d s
+  other-ends-as (CharSet members) u h = as-tested false false u program text (CharSet members) d s
+  other-ends-as (ByteSet members) u h = as-tested false false u program text (ByteSet members) d s
+  other-ends-as (ByteSeq bytes) u h = as-go_if false false u _ _
+  other-ends-as (AsciiBracket members) u h = as-tested false false u program text (AsciiBracket members) d s
+  other-ends-as (Bracket index) u h = as-tested false false u program text (Bracket index) d s
+  other-ends-as MatchAny u h = as-tested false false u program text MatchAny d s
+  other-ends-as MatchAnyExceptLineTerminator u h = as-tested false false u program text MatchAnyExceptLineTerminator d s
+  other-ends-as (Alt secondary) u h = tt
+  other-ends-as (Jump target) u h = tt
+  other-ends-as (EnterLoop f) u h = as-loop_turn false false u f s.ip 0 s
+  other-ends-as (LoopAgain begin) u h = as-again_at false false u (slice_get program.insns begin) begin s
+  other-ends-as (ResetCaptureGroup id) u h = as-only_if false false u (nat_lt id (length s.groups)) _ tt
+  other-ends-as (Loop1CharBody least most greedy) u h = as-scan false true u refl program text (slice_get program.insns (s.ip + 1)) least most greedy d s
+  other-ends-as (BeginCaptureGroup id) u h = as-only_if false false u (nat_lt id (length s.groups) && nat_lt id (length s.starts)) _ tt
+  other-ends-as (EndCaptureGroup id) u h = as-only_if false false u (nat_lt id (length s.groups)) _ (as-with_some false false u (slice_get s.starts id) _ (λ start. tt))
+  other-ends-as (BackRef group sameness) u h =
+      as-with_some false false u (slice_get s.groups group) (λ range. read_group text sameness d range s) (λ range. as-read_group false false u text sameness d range s)
+  other-ends-as (Lookahead negate start_group end_group continuation) u h = refl
+  other-ends-as (Lookbehind negate start_group end_group continuation) u h = refl
+  other-ends-as x u h = as-stay false false u text _ s
+
+  pub never-ends : (x : Insn) → slice_get program.insns s.ip ≡ Some x → is_goal_insn x ≡ false → (e : State) → act program text d s ≡ ends e → ⊥
+  never-ends x here other e is =
+      let further : State = record e { ip = e.ip + 1 } in
+      let own : EndsAs (is_look (Some x)) (is_run (Some x)) further (ends e) =
+      subst (EndsAs (is_look (Some x)) (is_run (Some x)) further) (sym (ap (λ o. act_on program text d o s) here) ∙ is) (other-ends-as x further other) in
+      let never : e.ip ≡ e.ip + 1 = ap (λ (u : State). u.ip) own in
+      absurd (omega (arith, never))

@@ -84,9 +84,10 @@ pub record Furthest {P : Type 0} (offset : P → ℕ) (program : Program) (text 
 
 -- The same by whatever the test is, and from whatever place the characters begin that a run needs.
 pub record HasGoneOver {P : Type 0} (offset : P → ℕ) (program : Program) (text : Text) (m : MemoView) (s : machine.State) (tests : Option (ℕ → Bool)) (least : ℕ) (from : P)
-    (old new : List (StackEntry P)) (at : P) (n : ℕ) : Type 0 where
+    (left : ℕ) (old new : List (StackEntry P)) (at : P) (n : ℕ) : Type 0 where
   pub boundary : IsBoundary text (offset at)
   pub few : n ≤ offset at
+  pub paid : n ≤ left
   pub going : (test : ℕ → Bool) (place : ℕ) → tests ≡ Some test → IsPast offset text test place least from → Furthest offset program text m s least test place old new at n
 
 -- ---- Keys
@@ -180,9 +181,9 @@ module _ {P : Type 0} {offset : P → ℕ} {program : Program} {text : Text} {ru
     -- from there on it is known to fail
     pub furthest-known : (test : ℕ → Bool) → test_of program (Some (insn_as_spec_insn run.body)) ≡ Some test → (place : ℕ) (old mid : List (StackEntry P)) (at : P) (n : ℕ)
         (found : Option Stored) (key : Stored) → found ≡ Some key → option_map memo_key_as_spec found ≡ memo_key_at m.memo_analysis (record s { ip = s.ip + 1; pos = offset at }) → Goes test place old mid at n
-        → has_failure m (memo_key_as_spec key) ≡ true → ScansWithMemo offset program text m.memo_analysis (has_failure m) test place s run.least old mid (None, n)
-    furthest-known test e place old mid at n found key is_key told h known =
-        (h.wait, subst (λ k. has_failure m k ≡ true) (key-found test e place n (offset at) found key is_key told h.past.at) known)
+        → has_failure m (memo_key_as_spec key) ≡ true → (left : ℕ) → ScansWithMemo offset program text m.memo_analysis (has_failure m) test place s run.least left old mid (None, n)
+    furthest-known test e place old mid at n found key is_key told h known left =
+        (h.wait, inl (subst (λ k. has_failure m k ≡ true) (key-found test e place n (offset at) found key is_key told h.past.at) known))
 
     module _ (test : ℕ → Bool) (e : test_of program (Some (insn_as_spec_insn run.body)) ≡ Some test) (place : ℕ) (old mid : List (StackEntry P)) (at : P) (n : ℕ)
         (found : Option Stored) (key : Stored) (is_key : found ≡ Some key) (told : option_map memo_key_as_spec found ≡ memo_key_at m.memo_analysis (record s { ip = s.ip + 1; pos = offset at })) (h : Goes test place old mid at n) (unknown : has_failure m (memo_key_as_spec key) ≡ false)
@@ -213,8 +214,8 @@ module _ {P : Type 0} {offset : P → ℕ} {program : Program} {text : Text} {ru
 
       -- it is the last one
       pub furthest-all : (next : P) (passes : Bool) → HasRisingPlaceOffsets text → passes ≡ false → end_if_matched passes (offset next) ≡ past_if text test rightwards (offset at) → (new : List (StackEntry P))
-          → new ≡ mid ++ AsRecord key ∷ [] → ScansWithMemo offset program text m.memo_analysis (has_failure m) test place s run.least old new (Some there, n)
-      furthest-all next passes is_text fails led new same =
+          → new ≡ mid ++ AsRecord key ∷ [] → (left : ℕ) → ScansWithMemo offset program text m.memo_analysis (has_failure m) test place s run.least left old new (Some there, n)
+      furthest-all next passes is_text fails led new same left =
           let sum = h.past.sum in
           let none = past-all offset text is_text test place n at (offset next) passes h.past fails led in
           record {

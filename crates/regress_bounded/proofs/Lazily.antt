@@ -1,9 +1,10 @@
 -- Runs without a maximum: what they read, the turn of a lazy one, and the way back to it.
-use Rattle.std.proofs.Common.{◌≡◌, ◌≤◌, ◌<◌, ◌^◌, ℕ, ◌+◌, Bool, true, false, List, [], ◌∷◌, ◌++◌, Option, Some, None, refl, sym, ap, ◌∙◌, subst}
-use Rattle.std.proofs.Common.{arith}
-use Rattle.std.specs.Prelude.{IsSome, is_some, option_map, slice_get}
+use Rattle.std.proofs.Common.{◌≡◌, ◌≤◌, ◌<◌, ◌^◌, ℕ, ◌+◌, ◌-◌, Bool, true, false, min, List, [], ◌∷◌, ◌++◌, Option, Some, None, refl, sym, ap, ◌∙◌, subst}
+use Rattle.std.proofs.Common.{arith, inl, inr}
+use Rattle.std.specs.Prelude.{◌⊎◌, IsSome, is_some, option_map, slice_get}
 use Rattle.std.proofs.Math.Logic.{∥∥₁_elim}
 use Rattle.std.proofs.Props.{props}
+use Rattle.std.proofs.lemmas.Bool.{cases_lt}
 use Rattle.regex_meaning.specs.Text.{Text, rightwards, last_place, moved}
 use Rattle.regex_meaning.specs.CodeUnitOffsets.{HasRisingPlaceOffsets, IsBoundary, units, place_at, offset as text_offset}
 use Rattle.regex_meaning.specs.CompilationRelation.{Program, Loop1CharBody}
@@ -15,6 +16,7 @@ use Rattle.regress_machine.specs.InsnEffects.{state_after_char_loop_to_offset}
 use Rattle.regress_machine.proofs.Beside.{moved-zero}
 use Rattle.regress_simulation.specs.CharLoopExitStatesByPreference.{behind}
 use Rattle.regress_memo_laws.specs.CharLoopExitThreadLists.{passing, pending_loop_threads}
+use Rattle.regress_memo_laws.specs.DistinctLists.{IsNew}
 use Rattle.regress_memo_laws.specs.MemoSearch.{Key, Entry, tried, kept, noted, tries}
 use Rattle.regress_memo_analysis.specs.WorkBound.{first_row}
 use Rattle.regress_memo_analysis.specs.AnalysisChecks.{unlimited}
@@ -26,21 +28,20 @@ use Rattle.regress_bounded.specs.declared.stack_of_pending_threads_and_records.U
 use Rattle.regress_bounded.specs.declared.stack_of_pending_threads_and_records.StackEntry.{StackEntry}
 use Rattle.regress_bounded.specs.declared.stack_of_pending_threads_and_records.StackEntry.TheVariants.{Run as AsRun, Record as AsRecord}
 use Rattle.regress_pikevm.specs.declared.pikevm.states.State.{State}
-use Rattle.regress_bounded.specs.SearchStateAsMemoSearchEntries.{AttemptStartMemoBudgetAndResult, IsRow, IsRest, Stands, Standing, IsStanding, IsOver, front_of}
-use Rattle.regress_bounded.specs.SearchStateAsMemoSearchEntries.{IsRunHere, HasPassedOver, IsNearest}
+use Rattle.regress_bounded.specs.CostsOfSearchEvents.{IsKnownToFail, WaitAbove, some_wait, takes_nearest, drops_loop, resumes_loop}
+use Rattle.regress_bounded.specs.SearchStateAsMemoSearchEntries.{AttemptStartMemoBudgetAndResult, IsRow, IsRest, Stands, Standing, IsStanding, ComesOn, IsShort}
+use Rattle.regress_bounded.specs.SearchStateAsMemoSearchEntries.{IsRunHere, HasPassedOver, IsNearest, MayHappen}
 use Rattle.regress_bounded.specs.WorkOfCharLoopsAndAttempts.{IsEndless, key_on}
 use Rattle.regress_bounded.specs.BudgetSpending.{IsTakenFromBudget, WorkExceedsBudgetLeavingNothing}
 use Rattle.regress_pikevm.specs.States.{state_of}
-use Rattle.regress_bounded.proofs.Meeting.{ScansAt, scans-at, greedy-met-none, nearest-behind, with-behind}
+use Rattle.regress_bounded.proofs.EventCosts.{ScansAt, scans-at}
+use Rattle.regress_bounded.proofs.Meeting.{few-happen, greedy-at-least, nearest-behind, row-above}
 use Rattle.regress_memo_laws.proofs.Runs.{passing-left}
 use Rattle.regress_scan.proofs.Reach.{some-of}
 use Rattle.regress_scan.proofs.StopSets.{places-few}
-use Rattle.regress_bounded.proofs.PaidRuns.{lazy-first, lazy-none, lazy-known, lazy-again, lazy-key}
+use Rattle.regress_bounded.proofs.PaidRuns.{lazy-key}
 use Rattle.regress_bounded.proofs.Stopping.{some-key}
-use Rattle.regress_bounded.proofs.Standing.{Popped, popped, back-comes, row-push, on, can-turn, goes-on, is-over}
-use Rattle.regress_memo.specs.Laws.{KeyFails}
-use Rattle.regress_memo.proofs.LawLemmas.{memos-hold}
-use Rattle.regress_memo_laws.specs.DistinctLists.{IsNew}
+use Rattle.regress_bounded.proofs.Standing.{Popped, popped, back-comes, happens-back, row-push, can-turn, new, known, CostsAtLeast, comes-on, is-short}
 use Rattle.regress_input.proofs.Places.{boundary_inside}
 
 -- ---- What a run reads
@@ -52,14 +53,14 @@ few-passed text is test place inside =
     let b = places-few text is (last_place text) (omega arith) in
     omega (arith, a, b, inside)
 
--- its test and its place, and so many characters that are passed over
-pub record PassesOver {P : Type 0} (offset : P → ℕ) (program : Program) (text : Text) (run : UnboundedCharLoop) (s : machine.State) (passed : ℕ) (pos : P) : Type 0 where
+-- its test and its place, and so many characters that are passed over, up to a limit
+pub record PassesOver {P : Type 0} (offset : P → ℕ) (program : Program) (text : Text) (run : UnboundedCharLoop) (limit : ℕ) (s : machine.State) (passed : ℕ) (pos : P) : Type 0 where
   pub test : ℕ → Bool
   pub tests : test_of program (Some (insn_as_spec_insn run.body)) ≡ Some test
   pub place : ℕ
   pub at : place_at text s.pos ≡ Some place
   pub inside : place ≤ last_place text
-  pub over : HasPassedOver offset text test run.least place passed pos
+  pub over : HasPassedOver offset text test limit place passed pos
 
 module _ {P : Type 0} {offset : P → ℕ} {program : Program} {text : Text} {run : UnboundedCharLoop} {greedy : Bool} {s : machine.State} (here : IsRunHere offset program text run greedy s) where
   -- a test, at a place
@@ -80,10 +81,10 @@ module _ {P : Type 0} {offset : P → ℕ} {program : Program} {text : Text} {ru
           at = ∥∥₁_elim there (Prim.hlevel props) (λ x. (by x).at);
         }
 
-    pub passes-over : HasRisingPlaceOffsets text → (passed : ℕ) (pos : P)
-        → ((test : ℕ → Bool) (place : ℕ) → test_of program (Some (insn_as_spec_insn run.body)) ≡ Some test → place_at text s.pos ≡ Some place → HasPassedOver offset text test run.least place passed pos)
-        → PassesOver offset program text run s passed pos
-    passes-over is passed pos h =
+    pub passes-over : HasRisingPlaceOffsets text → (limit passed : ℕ) (pos : P)
+        → ((test : ℕ → Bool) (place : ℕ) → test_of program (Some (insn_as_spec_insn run.body)) ≡ Some test → place_at text s.pos ≡ Some place → HasPassedOver offset text test limit place passed pos)
+        → PassesOver offset program text run limit s passed pos
+    passes-over is limit passed pos h =
         let t = some-of (test_of program (Some (insn_as_spec_insn run.body))) reads-here.test in
         let p = IsBoundary-place text s.pos is reads-here.at in
         record { test = t.0; tests = t.1; place = p.0; at = p.1; inside = p.3; over = h t.0 p.0 t.1 p.1 }
@@ -93,7 +94,8 @@ module _ {P : Type 0} {offset : P → ℕ} {program : Program} {text : Text} {ru
   endless-by test e = record { run = here.insn; body = ap (test_of program) here.body ∙ e }
 
 -- the number of what was passed fits
-pub passed-fits : {P : Type 0} {offset : P → ℕ} {program : Program} {text : Text} {run : UnboundedCharLoop} {s : machine.State} {passed : ℕ} {pos : P} → PassesOver offset program text run s passed pos
+pub passed-fits : {P : Type 0} {offset : P → ℕ} {program : Program} {text : Text} {run : UnboundedCharLoop} {limit : ℕ} {s : machine.State} {passed : ℕ} {pos : P}
+    → PassesOver offset program text run limit s passed pos
     → HasRisingPlaceOffsets text → units text < 2 ^ 63 → passed + 2 < 2 ^ 64
 passed-fits p is short = let few = few-passed _ is p.test p.place p.inside in let sum = p.over.past.sum in omega (arith, few, sum, short)
 
@@ -102,69 +104,88 @@ pub run-which : {P : Type 0} {offset : P → ℕ} {program : Program} {text : Te
     → IsRunHere offset program text run which s
 run-which {run = run} here same = record { insn = here.insn ∙ ap (λ b. Some (Loop1CharBody run.least unlimited b)) same; body = here.body }
 
--- ---- Its turn, where there are too few characters
+-- ---- Its turn
 
 module _ {P : Type 0} {offset : P → ℕ} {program : Program} {text : Text} {b : AttemptStartMemoBudgetAndResult} {s : machine.State} {stack : List (StackEntry P)} {c : MemoAndWorkBudget}
-    (h : Stands offset program text b (tried (running s) ∷ []) stack c) {run : UnboundedCharLoop} {passed : ℕ} {pos : P} (p : PassesOver offset program text run s passed pos) where
-  short-by : {greedy : Bool} → IsRunHere offset program text run greedy s → passed < run.least → on offset program text b s h (passed + 2) h.row
-  short-by {greedy} here few =
-      let all = p.over.all few in
-      let sum = p.over.past.sum in
-      let same : passing text p.test rightwards p.place ≡ passed = omega (arith, sum, all) in
-      subst (λ n. on offset program text b s h (n + 2) h.row) same (by greedy (endless-by here p.test p.tests) (omega (arith, same, few)))
+    (h : Stands offset program text b (tried (running s) ∷ []) stack c) {run : UnboundedCharLoop} {passed : ℕ} {pos : P} (p : PassesOver offset program text run (min run.least (c.left - 1)) s passed pos) where
+  abbrev all : ℕ
+  all = passing text p.test rightwards p.place
+
+  abbrev Least : Type 0
+  Least = CostsAtLeast offset program text b h (passed + 2)
+
+  -- so many characters pass, so what happens costs them, or more
+  pub at-least : {greedy : Bool} → IsRunHere offset program text run greedy s → Least
+  at-least {greedy} here = by (cases_lt all run.least)
     where
-      by : (greedy : Bool) → IsEndless program s p.test run.least greedy → passing text p.test rightwards p.place < run.least
-          → on offset program text b s h (passing text p.test rightwards p.place + 2) h.row
-      by true endless less = greedy-met-none offset program text b s h p.test run.least p.place endless p.at less
-      by false endless less =
-          let paid = h.right.paid in
-          lazy-none program c.memo.memo_analysis paid.memo_analysis paid.bounded text paid.is_text paid.bytes paid.short rightwards b.memory (tries (first_row program b.at)) h.work h.now h.row
-          s p.test run.least p.place endless p.at less h.comes
+      some-first : (greedy : Bool) → IsEndless program s p.test run.least greedy → run.least ≤ all → Least
+      some-first true endless le =
+          let few = p.over.few in
+          let x = greedy-at-least offset program text b s h p.test run.least p.place endless p.at run.least (omega arith) le (λ m first less. absurd (omega (arith, first, less))) in
+          let more = x.more in
+          record { cost = x.cost; now = x.now; row = x.row; happens = x.happens; more = omega (arith, more, few) }
+      some-first false endless le =
+          let few = p.over.few in
+          record {
+            cost = run.least + 2;
+            now = h.now;
+            row = tried (running (behind text rightwards p.place s run.least)) ∷ kept (pending_loop_threads text p.test rightwards (run.least + 1) p.place s) ∷ h.row;
+            happens = takes_nearest s p.test run.least p.place h.row (kept (pending_loop_threads text p.test rightwards (run.least + 1) p.place s) ∷ h.row) endless p.at le some_wait;
+            more = omega (arith, few);
+          }
 
-  module _ {greedy : Bool} (here : IsRunHere offset program text run greedy s) (few : passed < run.least) (c' : MemoAndWorkBudget) (same : c'.memo ≡ c.memo) where
-    pub short-over : WorkExceedsBudgetLeavingNothing (passed + 2) c.left c'.left → IsOver offset program text b c'
-    short-over spent = is-over offset program text b h h.row (passed + 2) c' (short-by here few) same spent
+      by : (all < run.least) ⊎ (run.least ≤ all) → Least
+      by (inl few) =
+          let sum = p.over.past.sum in
+          record {
+            cost = all + 2;
+            now = h.now;
+            row = h.row;
+            happens = few-happen offset program text b s h p.test run.least p.place (endless-by here p.test p.tests) p.at few;
+            more = omega (arith, sum);
+          }
+      by (inr le) = some-first greedy (endless-by here p.test p.tests) le
 
-    pub short-goes : IsTakenFromBudget (passed + 2) c.left c'.left → Stands offset program text b [] stack c'
-    short-goes spent = goes-on offset program text b h [] h.row stack (passed + 2) c' (short-by here few) h.is same spent
+  -- where there are too few, none goes on
+  pub short-goes : {greedy : Bool} → IsRunHere offset program text run greedy s → passed < run.least → (c' : MemoAndWorkBudget) → c'.memo ≡ c.memo → IsTakenFromBudget (passed + 2) c.left c'.left
+      → ComesOn offset program text b h None stack c'
+  short-goes here few c' same spent =
+      let left : c.left ≡ passed + 2 + c'.left = spent in
+      let none = p.over.all (omega (arith, few, left)) in
+      let sum = p.over.past.sum in
+      let is : all ≡ passed = omega (arith, sum, none) in
+      let happens = few-happen offset program text b s h p.test run.least p.place (endless-by here p.test p.tests) p.at (omega (arith, is, few)) in
+      comes-on offset program text b h None h.row stack (passed + 2) c' (subst (λ n. MayHappen offset program text b h (n + 2) h.now h.row) is happens) h.is same spent
 
 -- ---- The turn of a lazy one
 
 module _ {P : Type 0} {offset : P → ℕ} {program : Program} {text : Text} {b : AttemptStartMemoBudgetAndResult} (state : State P) {stack : List (StackEntry P)} {c : MemoAndWorkBudget}
     (h : Stands offset program text b (tried (running (state_of offset state)) ∷ []) stack c) {run : UnboundedCharLoop} (here : IsRunHere offset program text run false (state_of offset state))
-    {passed : ℕ} {pos : P} (p : PassesOver offset program text run (state_of offset state) passed pos) (le : run.least ≤ passed) where
+    {passed : ℕ} {pos : P} (p : PassesOver offset program text run (min run.least (c.left - 1)) (state_of offset state) passed pos) (le : run.least ≤ passed) where
   abbrev s : machine.State
   s = state_of offset state
 
   endless : IsEndless program s p.test run.least false
   endless = endless-by here p.test p.tests
 
-  first : on offset program text b s h (passed + 2)
-      (tried (running (behind text rightwards p.place s passed)) ∷ kept (pending_loop_threads text p.test rightwards (passed + 1) p.place s) ∷ h.row)
-  first =
-      let paid = h.right.paid in
-      let same : run.least ≡ passed = (let few = p.over.few in omega (arith, le, few)) in
-      let sum = p.over.past.sum in
-      subst (λ n. on offset program text b s h (n + 2) (tried (running (behind text rightwards p.place s n)) ∷ kept (pending_loop_threads text p.test rightwards (n + 1) p.place s) ∷ h.row)) same
-      (lazy-first program c.memo.memo_analysis paid.memo_analysis paid.bounded text paid.is_text paid.bytes paid.short rightwards b.memory (tries (first_row program b.at)) h.work h.now h.row
-      s p.test run.least p.place endless p.at (omega (arith, same, sum)) h.comes)
-
-  pub lazy-over : (c' : MemoAndWorkBudget) → c'.memo ≡ c.memo → WorkExceedsBudgetLeavingNothing (passed + 2) c.left c'.left → IsOver offset program text b c'
-  lazy-over c' same spent = is-over offset program text b h _ (passed + 2) c' first same spent
-
   pub lazy-goes : (next : State P) (new : List (StackEntry P))
       → ((test : ℕ → Bool) (place : ℕ) → test_of program (Some (insn_as_spec_insn run.body)) ≡ Some test → place_at text (offset pos) ≡ Some place → IsNearest offset text test place pos state next stack new)
-      → (c' : MemoAndWorkBudget) → c'.memo ≡ c.memo → IsTakenFromBudget (passed + 2) c.left c'.left → Stands offset program text b (front_of offset (Some next)) new c'
+      → (c' : MemoAndWorkBudget) → c'.memo ≡ c.memo → IsTakenFromBudget (passed + 2) c.left c'.left → ComesOn offset program text b h (Some next) new c'
   lazy-goes next new nearest c' same spent =
       let sum = p.over.past.sum in
+      let few = p.over.few in
       let there = moved text rightwards passed p.place in
       let near = nearest p.test there p.tests (ap (place_at text) p.over.past.at ∙ place_at-offset text there h.right.paid.is_text p.over.past.within) in
       let is : behind text rightwards p.place s passed ≡ state_of offset next = sym (near.is_here ∙ ap (λ at. state_after_char_loop_to_offset at s) p.over.past.at) in
       let after = nearest-behind offset program text c.memo.memo_analysis h.right.paid p.test run.least p.place state endless p.inside passed (omega (arith, sum)) there refl pos next stack new near in
-      let come = subst (λ r. on offset program text b s h (passed + 2) (tried (running r) ∷ kept (pending_loop_threads text p.test rightwards (passed + 1) p.place s) ∷ h.row)) is first in
-      let x = with-behind offset program text c.memo.memo_analysis b.memory (tries (first_row program b.at)) (h.work + (passed + 2)) h.now (state_of offset next)
-      (pending_loop_threads text p.test rightwards (passed + 1) p.place s) h.row stack new come h.is after in
-      goes-on offset program text b h (tried (running (state_of offset next)) ∷ []) x.row new (passed + 2) c' x.comes x.is same spent
+      let x = row-above offset program text (pending_loop_threads text p.test rightwards (passed + 1) p.place s) h.row stack new h.is after in
+      let least_is : passed ≡ run.least = omega (arith, le, few) in
+      let above : WaitAbove (pending_loop_threads text p.test rightwards (run.least + 1) p.place s) h.row x.row =
+      subst (λ n. WaitAbove (pending_loop_threads text p.test rightwards (n + 1) p.place s) h.row x.row) least_is x.above in
+      let first : MayHappen offset program text b h (run.least + 2) h.now (tried (running (behind text rightwards p.place s run.least)) ∷ x.row) =
+      takes_nearest s p.test run.least p.place h.row x.row endless p.at (omega (arith, sum, le)) above in
+      let counted = subst (λ n. MayHappen offset program text b h (n + 2) h.now (tried (running (behind text rightwards p.place s n)) ∷ x.row)) (sym least_is) first in
+      comes-on offset program text b h (Some next) x.row new (passed + 2) c' (subst (λ r. MayHappen offset program text b h (passed + 2) h.now (tried (running r) ∷ x.row)) is counted) x.is same spent
 
 -- ---- The way back to one
 
@@ -214,43 +235,39 @@ module _ {P : Type 0} {offset : P → ℕ} {program : Program} {text : Text} {b 
     is : k ≡ key-back
     is = some-key (sym (ap (option_map memo_key_as_spec) found_is) ∙ told ∙ key-there)
 
-    abbrev on-back : (work : ℕ) → List Entry → Type 0
-    on-back work row = HasCome program text c.memo.memo_analysis rightwards b.memory (tries (first_row program b.at)) (h.work + work) h.now row
-
     -- it is known to fail
-    back-known : has_failure c.memo k ≡ true → on-back 1 left-off.rest
+    back-known : has_failure c.memo k ≡ true → MayHappen offset program text b h 1 h.now left-off.rest
     back-known fails =
-        let paid = h.right.paid in
-        lazy-known program c.memo.memo_analysis paid.memo_analysis paid.bounded text paid.is_text paid.bytes paid.short rightwards b.memory (tries (first_row program b.at)) h.work h.now left-off.rest
-        its rest-of.test rest-of.least rest-of.place rest-of.run its-inside (subst (KeyFails program text c.memo.memo_analysis) is (h.right.is_true.fails k fails)) comes-back
+        let known-there : IsKnownToFail program text c.memo.memo_analysis rightwards key-back h.now =
+        subst (λ k. IsKnownToFail program text c.memo.memo_analysis rightwards k h.now) is (known offset program text b h k fails) in
+        happens-back offset program text b stack (AsRun state) h (kept (pending_loop_threads text rest-of.test rightwards 0 rest-of.place its)) rest-of.is
+        (drops_loop its rest-of.test rest-of.least rest-of.place left-off.rest rest-of.run rest-of.at known-there)
 
-    pub back-known-over : has_failure c.memo k ≡ true → (c' : MemoAndWorkBudget) → c'.memo ≡ c.memo → WorkExceedsBudgetLeavingNothing 1 c.left c'.left → IsOver offset program text b c'
-    back-known-over fails c' same spent = is-over offset program text b h left-off.rest 1 c' (back-known fails) same spent
+    pub back-known-over : has_failure c.memo k ≡ true → (c' : MemoAndWorkBudget) → WorkExceedsBudgetLeavingNothing 1 c.left c'.left → IsShort offset program text b h c'
+    back-known-over fails c' spent = is-short offset program text b h 1 c' (back-known fails) spent
 
-    pub back-known-goes : has_failure c.memo k ≡ true → (c' : MemoAndWorkBudget) → c'.memo ≡ c.memo → IsTakenFromBudget 1 c.left c'.left → Stands offset program text b [] stack c'
-    back-known-goes fails c' same spent = goes-on offset program text b h [] left-off.rest stack 1 c' (back-known fails) left-off.below same spent
+    pub back-known-goes : has_failure c.memo k ≡ true → (c' : MemoAndWorkBudget) → c'.memo ≡ c.memo → IsTakenFromBudget 1 c.left c'.left → ComesOn offset program text b h None stack c'
+    back-known-goes fails c' same spent = comes-on offset program text b h None left-off.rest stack 1 c' (back-known fails) left-off.below same spent
 
     -- it is not
-    back-again : has_failure c.memo k ≡ false
-        → on-back 2 (tried (running (behind text rightwards rest-of.place its 0)) ∷ kept (pending_loop_threads text rest-of.test rightwards 1 rest-of.place its)
-        ∷ noted k (pending_loop_threads text rest-of.test rightwards 0 rest-of.place its) ∷ left-off.rest)
-    back-again unknown =
-        let paid = h.right.paid in
-        subst (λ k. on-back 2 (tried (running (behind text rightwards rest-of.place its 0)) ∷ kept (pending_loop_threads text rest-of.test rightwards 1 rest-of.place its)
-        ∷ noted k (pending_loop_threads text rest-of.test rightwards 0 rest-of.place its) ∷ left-off.rest)) (sym is)
-        (lazy-again program c.memo.memo_analysis paid.memo_analysis paid.bounded text paid.is_text paid.bytes paid.short rightwards b.memory (tries (first_row program b.at)) h.work h.now left-off.rest
-        its rest-of.test rest-of.least rest-of.place rest-of.run its-inside
-        (subst (λ k. IsNew k h.now) is (memos-hold.new (has_failure c.memo) h.now k h.holds unknown)) comes-back)
+    abbrev recorded-row : List Entry
+    recorded-row = noted key-back (pending_loop_threads text rest-of.test rightwards 0 rest-of.place its) ∷ left-off.rest
 
-    pub back-over : has_failure c.memo k ≡ false → (c' : MemoAndWorkBudget) → c'.memo ≡ c.memo → WorkExceedsBudgetLeavingNothing 2 c.left c'.left → IsOver offset program text b c'
-    back-over unknown c' same spent = is-over offset program text b h _ 2 c' (back-again unknown) same spent
+    back-again : has_failure c.memo k ≡ false → (row : List Entry) → WaitAbove (pending_loop_threads text rest-of.test rightwards 1 rest-of.place its) recorded-row row
+        → MayHappen offset program text b h 2 h.now (tried (running (behind text rightwards rest-of.place its 0)) ∷ row)
+    back-again unknown row above =
+        happens-back offset program text b stack (AsRun state) h (kept (pending_loop_threads text rest-of.test rightwards 0 rest-of.place its)) rest-of.is
+        (resumes_loop its rest-of.test rest-of.least rest-of.place left-off.rest row rest-of.run rest-of.at (subst (λ k. IsNew k h.now) is (new offset program text b h k unknown)) above)
 
-    pub back-goes : has_failure c.memo k ≡ false → (next : State P) (mid new : List (StackEntry P)) → mid ≡ stack ++ AsRecord stored ∷ []
-        → IsNearest offset text rest-of.test rest-of.place state.pos state next mid new
-        → (c' : MemoAndWorkBudget) → c'.memo ≡ c.memo → IsTakenFromBudget 2 c.left c'.left → Stands offset program text b (front_of offset (Some next)) new c'
-    back-goes unknown next mid new pushed near' c' same spent =
+    pub back-over : has_failure c.memo k ≡ false → (c' : MemoAndWorkBudget) → WorkExceedsBudgetLeavingNothing 2 c.left c'.left → IsShort offset program text b h c'
+    back-over unknown c' spent = is-short offset program text b h 2 c' (back-again unknown (kept (pending_loop_threads text rest-of.test rightwards 1 rest-of.place its) ∷ recorded-row) some_wait) spent
+
+    pub back-goes : has_failure c.memo k ≡ false → (next : State P) (mid last : List (StackEntry P)) → mid ≡ stack ++ AsRecord stored ∷ []
+        → IsNearest offset text rest-of.test rest-of.place state.pos state next mid last
+        → (c' : MemoAndWorkBudget) → c'.memo ≡ c.memo → IsTakenFromBudget 2 c.left c'.left → ComesOn offset program text b h (Some next) last c'
+    back-goes unknown next mid last pushed near' c' same spent =
         let t = c.memo.memo_analysis in
-        let near = subst (λ xs. IsNearest offset text rest-of.test rest-of.place state.pos state next xs new) pushed near' in
+        let near = subst (λ xs. IsNearest offset text rest-of.test rest-of.place state.pos state next xs last) pushed near' in
         let none : moved text rightwards 0 rest-of.place ≡ rest-of.place = moved-zero text rightwards rest-of.place in
         let at : text_offset text (moved text rightwards 0 rest-of.place) ≡ its.pos =
         ap (text_offset text) none ∙ (offset-place_at text its.pos rest-of.place h.right.paid.is_text rest-of.at).0 in
@@ -258,13 +275,12 @@ module _ {P : Type 0} {offset : P → ℕ} {program : Program} {text : Text} {b 
         let all = pending_loop_threads text rest-of.test rightwards 0 rest-of.place its in
         let more = pending_loop_threads text rest-of.test rightwards 1 rest-of.place its in
         let after = nearest-behind offset program text t h.right.paid rest-of.test rest-of.least rest-of.place state rest-of.run its-inside 0 (omega arith)
-        rest-of.place (sym none) state.pos next (stack ++ AsRecord stored ∷ []) new near in
-        let come = subst (λ r. on-back 2 (tried (running r) ∷ kept more ∷ noted k all ∷ left-off.rest)) nearest_is (back-again unknown) in
-        let below : IsRow offset program text (stack ++ AsRecord stored ∷ []) (noted k all ∷ left-off.rest) =
-        row-push offset program text stack (AsRecord stored) (noted k all) left-off.rest (record { threads = all; is = refl }) left-off.below in
-        let x = with-behind offset program text t b.memory (tries (first_row program b.at)) (h.work + 2) h.now (state_of offset next) more (noted k all ∷ left-off.rest)
-        (stack ++ AsRecord stored ∷ []) new come below after in
-        goes-on offset program text b h (tried (running (state_of offset next)) ∷ []) x.row new 2 c' x.comes x.is same spent
+        rest-of.place (sym none) state.pos next (stack ++ AsRecord stored ∷ []) last near in
+        let below : IsRow offset program text (stack ++ AsRecord stored ∷ []) recorded-row =
+        row-push offset program text stack (AsRecord stored) (noted key-back all) left-off.rest (record { threads = all; is = ap (λ k. noted k all) (sym is) }) left-off.below in
+        let x = row-above offset program text more recorded-row (stack ++ AsRecord stored ∷ []) last below after in
+        comes-on offset program text b h (Some next) x.row last 2 c'
+        (subst (λ r. MayHappen offset program text b h 2 h.now (tried (running r) ∷ x.row)) nearest_is (back-again unknown x.row x.above)) x.is same spent
 
 -- ---- What there is to come back to
 

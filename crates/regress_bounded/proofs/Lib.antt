@@ -1,6 +1,7 @@
 pub mod Bodies
 pub mod Ending
 pub mod Ends
+pub mod EventCosts
 pub mod Furthest
 pub mod GreedyMet
 pub mod Lazily

@@ -1,121 +1,130 @@
 -- Runs of a search in so much work: what a turn over one comes to.
-use Rattle.std.proofs.Common.{◌≡◌, ◌≤◌, ◌<◌, ℕ, zero, suc, ◌+◌, ◌-◌, Bool, true, false, List, [], ◌∷◌, ◌++◌, Option, Some, None, refl, sym, ap, ◌∙◌}
+use Rattle.std.proofs.Common.{◌≡◌, ◌≤◌, ◌<◌, ℕ, zero, suc, ◌+◌, ◌-◌, Bool, true, false, List, [], ◌∷◌, ◌++◌, Some, refl, sym, ap, ◌∙◌}
 use Rattle.std.proofs.Common.{subst, arith, inl, inr}
-use Rattle.std.specs.Prelude.{◌==◌, ◌≢◌, slice_get}
+use Rattle.std.specs.Prelude.{◌⊎◌}
+use Rattle.std.proofs.lemmas.Bool.{cases_lt}
 use Rattle.regex_meaning.specs.Text.{Text, rightwards, last_place, moved}
 use Rattle.regex_meaning.specs.CodeUnitOffsets.{place_at, offset as text_offset}
-use Rattle.regex_meaning.specs.CompilationRelation.{Program, Loop1CharBody}
+use Rattle.regex_meaning.specs.CompilationRelation.{Program}
 use Rattle.regex_meaning.proofs.TextLemmas.{place_at-offset}
 use Rattle.regress_machine.specs.Machine as machine
-use Rattle.regress_machine.specs.Machine.{Thread, running, Next, goes, scans, with_some, scan, test_of, act, act_on}
-use Rattle.regress_machine.specs.InsnEffects.{IsNotStuck}
-use Rattle.regress_memo_laws.specs.DistinctLists.{IsNew}
+use Rattle.regress_machine.specs.Machine.{Thread, running}
+use Rattle.regress_simulation.specs.CharLoopExitStatesByPreference.{behind}
 use Rattle.regress_memo_laws.specs.CharLoopExitThreadLists.{passing, pending_loop_threads}
-use Rattle.regress_memo_laws.specs.MemoSearch.{Key, Entry, tried, kept, noted, tries}
+use Rattle.regress_memo_laws.specs.MemoSearch.{Key, Entry, tried, kept, noted}
 use Rattle.regress_memo_laws.proofs.Runs.{passing-on, passing-left}
 use Rattle.regress_memo_analysis.specs.declared.analysis_result.MemoAnalysis.{MemoAnalysis}
-use Rattle.regress_memo_analysis.specs.WorkBound.{first_row}
-use Rattle.regress_memo_analysis.specs.AnalysisChecks.{unlimited}
-use Rattle.regress_memo.specs.declared.memo.ThreadMemoKey.{ThreadMemoKey as Stored}
-use Rattle.regress_memo.specs.MemoContents.{memo_key_as_spec, has_failure}
-use Rattle.regress_memo.specs.AmortizedMemoSearchSteps.{HasCome}
+use Rattle.regress_memo.specs.MemoContents.{has_failure}
 use Rattle.regress_scan.proofs.Reach.{moved-more}
 use Rattle.regress_bounded.specs.declared.memo_and_work_budget.MemoAndWorkBudget.{MemoAndWorkBudget}
 use Rattle.regress_bounded.specs.declared.stack_of_pending_threads_and_records.StackEntry.{StackEntry}
 use Rattle.regress_bounded.specs.declared.stack_of_pending_threads_and_records.StackEntry.TheVariants.{Run as AsRun}
 use Rattle.regress_pikevm.specs.declared.pikevm.states.State.{State}
-use Rattle.regress_bounded.specs.SearchStateAsMemoSearchEntries.{AttemptStartMemoBudgetAndResult, IsUnfailedStateKeyIfAny, IsRow, IsRest, IsPaid, Stands}
-use Rattle.regress_bounded.specs.SearchStateAsMemoSearchEntries.{IsTurn, Scans, PlacesWait, AllWait, IsNearest}
+use Rattle.regress_bounded.specs.CostsOfSearchEvents.{WaitAbove, none_waits, some_wait, too_few, fails_from, takes_furthest}
+use Rattle.regress_bounded.specs.SearchStateAsMemoSearchEntries.{AttemptStartMemoBudgetAndResult, IsRow, IsRest, IsPaid, Stands, MayHappen, IsNearest}
 use Rattle.regress_bounded.specs.WorkOfCharLoopsAndAttempts.{IsEndless, key_on, row_on, row_of_places}
-use Rattle.regress_bounded.specs.BudgetSpending.{IsTakenFromBudget}
 use Rattle.regress_pikevm.specs.States.{state_of}
-use Rattle.regress_bounded.proofs.PaidRuns.{limited-turned, limited-recorded, greedy-known, greedy-all, greedy-none, lazy-later, lazy-last, kept-none}
-use Rattle.regress_bounded.proofs.Standing.{row-push, on, can-turn, new, record_of, left-goes}
+use Rattle.regress_bounded.proofs.PaidRuns.{lazy-later, lazy-last}
+use Rattle.regress_bounded.proofs.Standing.{row-push, new, known, CostsAtLeast}
 
--- ---- What a run reads
+-- ---- A greedy one without a maximum
 
--- a run that scans has a test, and stands at a place
-pub record ScansAt (program : Program) (text : Text) (s : machine.State) : Type 0 where
-  pub test : ℕ → Bool
-  pub body : test_of program (slice_get program.insns (s.ip + 1)) ≡ Some test
-  pub place : ℕ
-  pub at : place_at text s.pos ≡ Some place
+-- the first of some numbers that is known, or that none is
+record FirstKnown (known : ℕ → Bool) (from end : ℕ) : Type 0 where
+  n : ℕ
+  le : from ≤ n
+  less : n < end
+  is : known n ≡ true
+  before : (m : ℕ) → from ≤ m → m < n → known m ≡ false
 
-module _ (program : Program) (text : Text) (s : machine.State) (least most : ℕ) (greedy : Bool) where
-  abbrev over : (ℕ → Bool) → ℕ → Next
-  over test p = scan text least most greedy test rightwards p s
-
-  pub scans-at : slice_get program.insns s.ip ≡ Some (Loop1CharBody least most greedy) → IsNotStuck (act program text rightwards s) → ScansAt program text s
-  scans-at run can =
-      by (test_of program (slice_get program.insns (s.ip + 1))) refl (place_at text s.pos) refl (subst (λ o. IsNotStuck (act_on program text rightwards o s)) run can)
-    where
-      by : (o : Option (ℕ → Bool)) → test_of program (slice_get program.insns (s.ip + 1)) ≡ o → (q : Option ℕ) → place_at text s.pos ≡ q
-          → IsNotStuck (with_some o (λ test. with_some q (λ p. over test p))) → ScansAt program text s
-      by None e q f h = absurd h
-      by (Some test) e None f h = absurd h
-      by (Some test) e (Some p) f h = record { test = test; body = e; place = p; at = f }
-
--- ---- One with a maximum
+first-known : (known : ℕ → Bool) (count from : ℕ) → FirstKnown known from (from + count) ⊎ ((m : ℕ) → from ≤ m → m < from + count → known m ≡ false)
+first-known known zero from = inr (λ m le less. absurd (omega (arith, le, less)))
+first-known known (suc count) from = by (known from) refl (first-known known count (from + 1))
+  where
+    by : (b : Bool) → known from ≡ b → FirstKnown known (from + 1) (from + 1 + count) ⊎ ((m : ℕ) → from + 1 ≤ m → m < from + 1 + count → known m ≡ false)
+        → FirstKnown known from (from + suc count) ⊎ ((m : ℕ) → from ≤ m → m < from + suc count → known m ≡ false)
+    by true e later = inl (record { n = from; le = omega arith; less = omega arith; is = e; before = λ m le less. absurd (omega (arith, le, less)) })
+    by false e (inl f) =
+        let le = f.le in
+        let less = f.less in
+        inl (record {
+          n = f.n;
+          le = omega (arith, le);
+          less = omega (arith, less);
+          is = f.is;
+          before = λ m first last. elim (cases_lt from m) [
+            | inl further ↦ f.before m (omega (arith, further)) last
+            | inr same ↦ let here : from ≡ m = omega (arith, first, same) in subst (λ i. known i ≡ false) here e
+          ];
+        })
+    by false e (inr none) = inr (λ m first last. elim (cases_lt from m) [
+      | inl further ↦ none m (omega (arith, further)) (omega (arith, last))
+      | inr same ↦ let here : from ≡ m = omega (arith, first, same) in subst (λ i. known i ≡ false) here e
+    ])
 
 module _ {P : Type 0} (offset : P → ℕ) (program : Program) (text : Text) (b : AttemptStartMemoBudgetAndResult) (s : machine.State) {stack : List (StackEntry P)} {c : MemoAndWorkBudget}
-    (h : Stands offset program text b (tried (running s) ∷ []) stack c) where
-  not-unlimited : (most : ℕ) → (most == unlimited) ≡ false → most ≢ unlimited
-  not-unlimited most other e = let yes : (most == unlimited) ≡ true = ap (λ m. m == unlimited) e in let never : true ≡ false = sym yes ∙ other in cc
+    (h : Stands offset program text b (tried (running s) ∷ []) stack c) (test : ℕ → Bool) (least place : ℕ) where
+  -- there are too few characters
+  pub few-happen : {greedy : Bool} → IsEndless program s test least greedy → place_at text s.pos ≡ Some place → passing text test rightwards place < least
+      → MayHappen offset program text b h (passing text test rightwards place + 2) h.now h.row
+  few-happen {greedy} endless at few = too_few s test least place greedy h.row endless at few
 
-  left-scans : (work : ℕ) (ts : List Thread) (key : Option Stored) → IsUnfailedStateKeyIfAny c.memo s key → Scans offset program text s work ts
-      → on offset program text b s h work (tries ts ++ record_of offset program text b s h key h.row)
-  left-scans work ts key k x =
-      let at = scans-at program text s x.least x.most x.greedy x.run (can-turn offset program text b s h) in
-      subst (λ n. on offset program text b s h n (tries ts ++ record_of offset program text b s h key h.row)) (sym x.is) (by key k at)
-    where
-      by : (key : Option Stored) → IsUnfailedStateKeyIfAny c.memo s key → ScansAt program text s → on offset program text b s h (x.tries + 1) (tries ts ++ record_of offset program text b s h key h.row)
-      by None k at =
-          let paid = h.right.paid in
-          limited-turned program c.memo.memo_analysis paid.memo_analysis paid.bounded text paid.is_text paid.bytes paid.short rightwards b.memory (tries (first_row program b.at)) h.work h.now h.row
-          s x.least x.most x.greedy x.run at.test at.body at.place at.at (not-unlimited x.most x.limited) x.tries ts x.acts k.is h.comes
-      by (Some key) k at =
-          let paid = h.right.paid in
-          limited-recorded program c.memo.memo_analysis paid.memo_analysis paid.bounded text paid.is_text paid.bytes paid.short rightwards b.memory (tries (first_row program b.at)) h.work h.now h.row
-          s x.least x.most x.greedy x.run at.test at.body at.place at.at (not-unlimited x.most x.limited) x.tries ts x.acts (memo_key_as_spec key) k.is
-          (new offset program text b s h (memo_key_as_spec key) k.unknown) h.comes
-
-  -- what a turn leaves, above a record where there is a key
-  pub left : (work : ℕ) (ts : List Thread) (key : Option Stored) → IsUnfailedStateKeyIfAny c.memo s key → IsTurn offset program text s work ts
-      → on offset program text b s h work (tries ts ++ record_of offset program text b s h key h.row)
-  left work ts key k (inl x) = subst (λ n. on offset program text b s h n (tries ts ++ record_of offset program text b s h key h.row)) (sym x.1) (left-goes offset program text b s h ts key k x.0)
-  left work ts key k (inr x) = left-scans work ts key k x
-
-  -- ---- A greedy one without a maximum
-
-  module _ (test : ℕ → Bool) (least place : ℕ) (endless : IsEndless program s test least true) (at : place_at text s.pos ≡ Some place) where
+  module _ (endless : IsEndless program s test least true) (at : place_at text s.pos ≡ Some place) where
     abbrev key-of : ℕ → Key
     key-of n = key_on program text c.memo.memo_analysis rightwards test place s n
 
-    all-new : (n : ℕ) → ((m : ℕ) → least ≤ m → m < n → has_failure c.memo (key-of m) ≡ false) → (m : ℕ) → least ≤ m → m < n → IsNew (key-of m) h.now
-    all-new n unknown m le less = new offset program text b s h (key-of m) (unknown m le less)
+    abbrev places-row : ℕ → List Entry
+    places-row n = row_of_places program text c.memo.memo_analysis rightwards test place s least (n - least)
 
-    pub greedy-met-none : passing text test rightwards place < least → on offset program text b s h (passing text test rightwards place + 2) h.row
-    greedy-met-none few =
-        let paid = h.right.paid in
-        greedy-none program c.memo.memo_analysis paid.memo_analysis paid.bounded text paid.is_text paid.bytes paid.short rightwards b.memory (tries (first_row program b.at)) h.work h.now h.row
-        s test least place endless at few h.comes
+    abbrev AreUnknown : (n : ℕ) → Type 0
+    AreUnknown n = (m : ℕ) → least ≤ m → m < n → has_failure c.memo (key-of m) ≡ false
 
-    pub greedy-met-known : (new : List (StackEntry P)) (n : ℕ) → PlacesWait offset program text c.memo.memo_analysis (has_failure c.memo) test place s least stack new n → has_failure c.memo (key-of n) ≡ true
-        → on offset program text b s h (n + 2) (row_of_places program text c.memo.memo_analysis rightwards test place s least (n - least) ++ h.row)
-    greedy-met-known new n w known =
-        let paid = h.right.paid in
-        greedy-known program c.memo.memo_analysis paid.memo_analysis paid.bounded text paid.is_text paid.bytes paid.short rightwards b.memory (tries (first_row program b.at)) h.work h.now h.row
-        s test least place endless at n w.enough w.pass (h.right.is_true.fails (key-of n) known) (all-new n w.unknown) h.comes
+    -- from a place on it is known to fail
+    pub known-happens : (n : ℕ) → least ≤ n → n ≤ passing text test rightwards place → AreUnknown n → has_failure c.memo (key-of n) ≡ true
+        → MayHappen offset program text b h (n + 2) h.now (places-row n ++ h.row)
+    known-happens n le few unknown fails =
+        fails_from s test least place n h.row endless at le few (λ m first less. new offset program text b h (key-of m) (unknown m first less)) (known offset program text b h (key-of n) fails)
 
-    pub greedy-met-all : (new : List (StackEntry P)) (here : State P) (n : ℕ) → AllWait offset program text c.memo.memo_analysis (has_failure c.memo) test place s least stack new here n
-        → on offset program text b s h (n + 2) (tried (running (state_of offset here)) ∷ noted (key-of n) (row_on program text c.memo.memo_analysis rightwards test place s n)
-        ∷ row_of_places program text c.memo.memo_analysis rightwards test place s least (n - least) ++ h.row)
-    greedy-met-all new here n w =
-        let paid = h.right.paid in
-        subst (λ r. on offset program text b s h (n + 2) (tried (running r) ∷ noted (key-of n) (row_on program text c.memo.memo_analysis rightwards test place s n)
-        ∷ row_of_places program text c.memo.memo_analysis rightwards test place s least (n - least) ++ h.row)) (sym w.is_here)
-        (greedy-all program c.memo.memo_analysis paid.memo_analysis paid.bounded text paid.is_text paid.bytes paid.short rightwards b.memory (tries (first_row program b.at)) h.work h.now h.row
-        s test least place endless at n w.all w.enough (all-new (n + 1) w.unknown) h.comes)
+    -- from none it is
+    pub furthest-happens : (n : ℕ) → n ≡ passing text test rightwards place → least ≤ n → AreUnknown (n + 1)
+        → MayHappen offset program text b h (n + 2) h.now
+        (tried (running (behind text rightwards place s n)) ∷ noted (key-of n) (row_on program text c.memo.memo_analysis rightwards test place s n) ∷ places-row n ++ h.row)
+    furthest-happens n all le unknown =
+        takes_furthest s test least place n h.row endless at all le (λ m first less. new offset program text b h (key-of m) (unknown m first less))
+
+    -- so far it is from none, so what happens costs so much, or more
+    pub greedy-at-least : (n : ℕ) → least ≤ n → n ≤ passing text test rightwards place → AreUnknown n → CostsAtLeast offset program text b h (n + 2)
+    greedy-at-least n le few unknown = by (first-known (λ m. has_failure c.memo (key-of m)) count n)
+      where
+        count : ℕ
+        count = passing text test rightwards place + 1 - n
+
+        below : (m end : ℕ) → (n ≤ m → has_failure c.memo (key-of m) ≡ false) → least ≤ m → has_failure c.memo (key-of m) ≡ false
+        below m end later first = elim (cases_lt m n) [
+          | inl nearer ↦ unknown m first nearer
+          | inr past ↦ later past
+        ]
+
+        by : FirstKnown (λ m. has_failure c.memo (key-of m)) n (n + count) ⊎ ((m : ℕ) → n ≤ m → m < n + count → has_failure c.memo (key-of m) ≡ false) → CostsAtLeast offset program text b h (n + 2)
+        by (inl f) =
+            let from = f.le in
+            let less = f.less in
+            record {
+              cost = f.n + 2;
+              now = h.now;
+              row = places-row f.n ++ h.row;
+              happens = known-happens f.n (omega (arith, le, from)) (omega (arith, less, few)) (λ m first last. below m f.n (λ past. f.before m past last) first) f.is;
+              more = omega (arith, from);
+            }
+        by (inr none) =
+            let all = passing text test rightwards place in
+            record {
+              cost = all + 2;
+              now = h.now;
+              row = tried (running (behind text rightwards place s all)) ∷ noted (key-of all) (row_on program text c.memo.memo_analysis rightwards test place s all) ∷ places-row all ++ h.row;
+              happens = furthest-happens all refl (omega (arith, le, few)) (λ m first last. below m all (λ past. none m past (omega (arith, last, few))) first);
+              more = omega (arith, few);
+            }
 
 -- ---- Lazy ones
 
@@ -169,27 +178,15 @@ module _ {P : Type 0} (offset : P → ℕ) (program : Program) (text : Text) (t 
           others.waits
 
 -- what stands in a row once the nearest place is in hand
-module _ {P : Type 0} (offset : P → ℕ) (program : Program) (text : Text) (t : MemoAnalysis) (memory : List Key) (first : List Entry) (work : ℕ) (now : List Key) (r : machine.State) where
-  pub record InHand (stack : List (StackEntry P)) : Type 0 where
-    pub row : List Entry
-    pub comes : HasCome program text t rightwards memory first work now (tried (running r) ∷ row)
-    pub is : IsRow offset program text stack row
+pub record RowAbove {P : Type 0} (offset : P → ℕ) (program : Program) (text : Text) (waits : List Thread) (rest : List Entry) (stack : List (StackEntry P)) : Type 0 where
+  pub row : List Entry
+  pub above : WaitAbove waits rest row
+  pub is : IsRow offset program text stack row
 
-  pub with-behind : (waits : List Thread) (rest : List Entry) (old new : List (StackEntry P)) → HasCome program text t rightwards memory first work now (tried (running r) ∷ kept waits ∷ rest)
-      → IsRow offset program text old rest → Behind offset program text waits old new → InHand new
-  with-behind waits rest old new come is (none-waits e same) =
-      subst InHand (sym same)
-      (record {
-        row = rest;
-        comes = kept-none program t text memory first work now rest r rightwards
-            (subst (λ ts. HasCome program text t rightwards memory first work now (tried (running r) ∷ kept ts ∷ rest)) e come);
-        is = is;
-      })
-  with-behind waits rest old new come is (some-wait next further same) =
-      subst InHand (sym same) (record { row = kept waits ∷ rest; comes = come; is = row-push offset program text old (AsRun next) (kept waits) rest further is })
-
--- a turn is some work
-pub less-spent : {P : Type 0} (offset : P → ℕ) (program : Program) (text : Text) (s : machine.State) (work : ℕ) (ts : List Thread) → IsTurn offset program text s work ts
-    → (old new : ℕ) → IsTakenFromBudget work old new → new < old
-less-spent offset program text s work ts (inl x) old new spent = let e : old ≡ work + new = spent in let one = x.1 in omega (arith, e, one)
-less-spent offset program text s work ts (inr x) old new spent = let e : old ≡ work + new = spent in let some = x.is in omega (arith, e, some)
+pub row-above : {P : Type 0} (offset : P → ℕ) (program : Program) (text : Text) (waits : List Thread) (rest : List Entry) (old new : List (StackEntry P)) → IsRow offset program text old rest
+    → Behind offset program text waits old new → RowAbove offset program text waits rest new
+row-above offset program text waits rest old new is (none-waits e same) =
+    subst (RowAbove offset program text waits rest) (sym same) (record { row = rest; above = none_waits e; is = is })
+row-above offset program text waits rest old new is (some-wait next further same) =
+    subst (RowAbove offset program text waits rest) (sym same)
+    (record { row = kept waits ∷ rest; above = some_wait; is = row-push offset program text old (AsRun next) (kept waits) rest further is })

@@ -19,12 +19,11 @@ use Rattle.regress_memo_analysis.specs.AnalysisAsLivenessAndPotentials.{analysis
 use Rattle.regress_memo_analysis.specs.CheckedAnalysis.{IsRecordableMemoKey, Serves}
 use Rattle.regress_memo_analysis.proofs.WholeLemmas.{ledgers-serve}
 use Rattle.regress_memo.specs.Laws.{analysis_keys, KeyFails}
-use Rattle.regress_memo.specs.MemoContents.{memo_key_as_spec, memo_key_at, has_failure, RecordsFailure}
+use Rattle.regress_memo.specs.MemoContents.{memo_key_as_spec, has_failure, RecordsFailure}
 use Rattle.regress_memo.specs.MemoContractView.{MemoView}
-use Rattle.regress_memo.specs.AmortizedMemoSearchSteps.{HasCome, IsKeyed, ComesOn}
+use Rattle.regress_memo.specs.AmortizedMemoSearchSteps.{HasCome, IsKeyed}
 use Rattle.regress_memo.proofs.LawLemmas.{memos-hold, memos-are-true, keys-are-there}
 use Rattle.regress_memo.specs.declared.memo.ThreadMemoKey.{ThreadMemoKey as Stored}
-use Rattle.regress_memo.proofs.SearchLemmas.{searches-are-paid}
 use Rattle.regress_bounded.specs.declared.memo_and_work_budget.MemoAndWorkBudget.{MemoAndWorkBudget}
 use Rattle.regress_bounded.specs.declared.stack_of_pending_threads_and_records.StackEntry.{StackEntry}
 use Rattle.regress_bounded.specs.declared.stack_of_pending_threads_and_records.StackEntry.TheVariants.{Thread as AsThread, Record as AsRecord}
@@ -32,8 +31,10 @@ use Rattle.regress_pikevm.specs.declared.pikevm.states.State.{State}
 use Rattle.std.proofs.Math.Logic.{∥∥₁_map, ∥∥₁_elim}
 use Rattle.std.proofs.Props.{props}
 use Rattle.regress_bounded.specs.SearchStateAsMemoSearchEntries.{IsPaid, IsRight, IsMemoRight, IsStanding, AttemptStartMemoBudgetAndResult}
-use Rattle.regress_bounded.specs.SearchStateAsMemoSearchEntries.{IsUnfailedStateKeyIfAny, IsRecordOf, StandsFor, AreFor, IsRow, Stands}
-use Rattle.regress_bounded.specs.SearchStateAsMemoSearchEntries.{IsOver, front_of}
+use Rattle.regress_bounded.specs.SearchStateAsMemoSearchEntries.{IsRecordOf, StandsFor, AreFor, IsRow, Stands}
+use Rattle.regress_bounded.specs.SearchStateAsMemoSearchEntries.{ComesOn, IsShort, MayHappen, front_of}
+use Rattle.regress_bounded.specs.CostsOfSearchEvents.{Costs, Happens, IsKnownToFail, reaches, resumes, then_happens}
+use Rattle.regress_bounded.proofs.EventCosts.{costs-come}
 use Rattle.regress_bounded.specs.BudgetSpending.{IsTakenFromBudget, WorkExceedsBudgetLeavingNothing}
 use Rattle.regress_pikevm.specs.States.{state_of}
 
@@ -116,70 +117,72 @@ module _ (program : Program) (text : Text) (t : MemoAnalysis) (paid : IsPaid pro
             let e : Some result_without_threads ≡ Some f.within.found = f.within.searches in
             let is : result_without_threads ≡ f.within.found = cc in sym f.within.end ∙ sym (ap (λ (f : Found). f.end) is)
 
--- ---- The thread in hand, and a step on
+-- ---- The thread in hand, and an event on
 
--- what the course of an attempt leads to
 module _ {P : Type 0} (offset : P → ℕ) (program : Program) (text : Text) (b : AttemptStartMemoBudgetAndResult) {front : List Entry} {stack : List (StackEntry P)} {c : MemoAndWorkBudget}
     (h : Stands offset program text b front stack c) where
-  abbrev pub ComeTo : (work : ℕ) → List Key → List Entry → Type 0
-  ComeTo work now row = HasCome program text c.memo.memo_analysis rightwards b.memory (tries (first_row program b.at)) work now row
+  -- what was done so far is covered
+  pub come : HasCome program text c.memo.memo_analysis rightwards b.memory (tries (first_row program b.at)) h.work h.now (front ++ h.row)
+  come = costs-come program text c.memo.memo_analysis h.right.paid b.at h.inside b.memory h.work h.now (front ++ h.row) h.costs
 
-  abbrev pub laws : (work : ℕ) (now : List Key) (rest : List Entry) → ComesOn program text c.memo.memo_analysis rightwards b.memory (tries (first_row program b.at)) work now rest
-  laws work now rest =
-      let paid = h.right.paid in
-      searches-are-paid.comes_on program c.memo.memo_analysis paid.memo_analysis paid.bounded text paid.is_text paid.bytes paid.short rightwards b.memory (tries (first_row program b.at)) work now rest
+  pub new : (k : Key) → has_failure c.memo k ≡ false → IsNew k h.now
+  new k unknown = memos-hold.new (has_failure c.memo) h.now k h.holds unknown
 
-  -- with what was known
-  pub stands-with : (front' row' : List Entry) (stack' : List (StackEntry P)) (work' left' : ℕ) → ComeTo work' h.now (front' ++ row') → IsRow offset program text stack' row'
-      → work' + left' ≡ b.total → (memo' : MemoView) → memo' ≡ c.memo → Stands offset program text b front' stack' (record { memo = memo'; left = left' })
-  stands-with front' row' stack' work' left' come is spent memo' same =
-      subst (λ m. Stands offset program text b front' stack' (record { memo = m; left = left' })) (sym same)
-      (record { right = h.right; inside = h.inside; is_memory = h.is_memory; answers = h.answers; work = work'; now = h.now; row = row'; comes = come; is = is; holds = h.holds; spent = spent })
+  pub known : (k : Key) → has_failure c.memo k ≡ true → IsKnownToFail program text c.memo.memo_analysis rightwards k h.now
+  known k fails = record { known = h.holds.all k fails; fails = h.right.is_true.fails k fails }
 
-  -- so much work is done
-  pub goes-on : (front' row' : List Entry) (stack' : List (StackEntry P)) (work : ℕ) (c' : MemoAndWorkBudget) → ComeTo (h.work + work) h.now (front' ++ row') → IsRow offset program text stack' row'
-      → c'.memo ≡ c.memo → IsTakenFromBudget work c.left c'.left → Stands offset program text b front' stack' c'
-  goes-on front' row' stack' work c' come is same spent =
-      stands-with front' row' stack' (h.work + work) c'.left come is (let e = h.spent in let s : c.left ≡ work + c'.left = spent in omega (arith, e, s)) c'.memo same
+  -- an event costs so much, and it is taken from what was left
+  pub comes-on : (next : Option (State P)) (row' : List Entry) (stack' : List (StackEntry P)) (cost : ℕ) (c' : MemoAndWorkBudget) → MayHappen offset program text b h cost h.now (front_of offset next ++ row')
+      → IsRow offset program text stack' row' → c'.memo ≡ c.memo → IsTakenFromBudget cost c.left c'.left → ComesOn offset program text b h next stack' c'
+  comes-on next row' stack' cost c' happens is same spent =
+      subst (λ m. ComesOn offset program text b h next stack' (record { memo = m; left = c'.left })) (sym same)
+      (record {
+        stands = record {
+          right = h.right;
+          inside = h.inside;
+          is_memory = h.is_memory;
+          answers = h.answers;
+          work = h.work + cost;
+          now = h.now;
+          row = row';
+          costs = then_happens h.work cost h.now h.now (front ++ h.row) (front_of offset next ++ row') h.costs happens;
+          is = is;
+          holds = h.holds;
+          spent = (let e = h.spent in let s : c.left ≡ cost + c'.left = spent in omega (arith, e, s));
+        };
+        cost = cost;
+        happens = happens;
+        spent = spent;
+      })
+
+  -- what may happen costs so much, or more
+  pub record CostsAtLeast (work : ℕ) : Type 0 where
+    pub cost : ℕ
+    pub now : List Key
+    pub row : List Entry
+    pub happens : MayHappen offset program text b h cost now row
+    pub more : work ≤ cost
 
   -- there was not so much
-  pub is-over : (row' : List Entry) (work : ℕ) (c' : MemoAndWorkBudget) → ComeTo (h.work + work) h.now row' → c'.memo ≡ c.memo → WorkExceedsBudgetLeavingNothing work c.left c'.left → IsOver offset program text b c'
-  is-over row' work c' come same spent =
-      subst (λ m. IsOver offset program text b (record { memo = m; left = c'.left })) (sym same)
-      (record { work = h.work + work; now = h.now; row = row'; comes = come; over = (let e = h.spent in let s : c.left < work = spent.0 in omega (arith, e, s)); none = spent.1 })
+  pub falls-short : (work : ℕ) (c' : MemoAndWorkBudget) → CostsAtLeast work → WorkExceedsBudgetLeavingNothing work c.left c'.left → IsShort offset program text b h c'
+  falls-short work c' x spent =
+      record { cost = x.cost; now = x.now; row = x.row; happens = x.happens; over = (let s : c.left < work = spent.0 in let m = x.more in omega (arith, s, m)); none = spent.1 }
+
+  pub is-short : {now' : List Key} {row' : List Entry} (cost : ℕ) (c' : MemoAndWorkBudget) → MayHappen offset program text b h cost now' row' → WorkExceedsBudgetLeavingNothing cost c.left c'.left
+      → IsShort offset program text b h c'
+  is-short {now'} {row'} cost c' happens spent = falls-short cost c' (record { cost = cost; now = now'; row = row'; happens = happens; more = omega arith }) spent
 
 -- the thread in hand
 module _ {P : Type 0} (offset : P → ℕ) (program : Program) (text : Text) (b : AttemptStartMemoBudgetAndResult) (s : machine.State) {stack : List (StackEntry P)} {c : MemoAndWorkBudget}
     (h : Stands offset program text b (tried (running s) ∷ []) stack c) where
-  abbrev pub on : (work : ℕ) → List Entry → Type 0
-  on work row = HasCome program text c.memo.memo_analysis rightwards b.memory (tries (first_row program b.at)) (h.work + work) h.now row
-
   pub keyed : IsKeyed program text c.memo.memo_analysis rightwards s
-  keyed = h.comes.keyed.0
+  keyed = (come offset program text b h).keyed.0
 
   pub inside : s.pos ≤ units text
   inside = keyed.sound.within
 
   pub can-turn : IsNotStuck (act program text rightwards s)
-  can-turn = then-can program text c.memo.memo_analysis h.right.paid b h.is_memory h.answers h.work h.now s h.row h.comes
-
-  -- it is known to fail
-  pub known : (k : Key) → memo_key_at c.memo.memo_analysis s ≡ Some k → has_failure c.memo k ≡ true → on 1 h.row
-  known k is fails = (laws offset program text b h h.work h.now h.row).known s k is (h.right.is_true.fails k fails) h.comes
-
-  -- ---- What it leaves
-
-  pub new : (k : Key) → has_failure c.memo k ≡ false → IsNew k h.now
-  new k unknown = memos-hold.new (has_failure c.memo) h.now k h.holds unknown
-
-  -- a record of it, if it has a key
-  abbrev pub record_of : Option Stored → List Entry → List Entry
-  record_of None row = row
-  record_of (Some k) row = noted (memo_key_as_spec k) (running s ∷ []) ∷ row
-
-  pub left-goes : (ts : List Thread) (key : Option Stored) → IsUnfailedStateKeyIfAny c.memo s key → act program text rightwards s ≡ goes ts → on 1 (tries ts ++ record_of key h.row)
-  left-goes ts None key e = (laws offset program text b h h.work h.now h.row).turned s ts e key.is h.comes
-  left-goes ts (Some k) key e = (laws offset program text b h h.work h.now h.row).recorded s ts (memo_key_as_spec k) e key.is (new (memo_key_as_spec k) key.unknown) h.comes
+  can-turn = then-can program text c.memo.memo_analysis h.right.paid b h.is_memory h.answers h.work h.now s h.row (come offset program text b h)
 
 -- ---- What is come back to
 
@@ -188,29 +191,33 @@ module _ {P : Type 0} (offset : P → ℕ) (program : Program) (text : Text) (b 
   abbrev pub popped : Popped offset program text stack w h.row
   popped = row-pop offset program text stack w h.row h.is
 
-  -- so much work later
-  abbrev pub back-on : (work : ℕ) → List Key → List Entry → Type 0
-  back-on work now row = HasCome program text c.memo.memo_analysis rightwards b.memory (tries (first_row program b.at)) (h.work + work) now row
+  -- what may happen with the entry
+  pub happens-back : (e : Entry) → popped.entry ≡ e → {cost : ℕ} {now' : List Key} {row' : List Entry}
+      → Happens program text c.memo.memo_analysis rightwards h.now cost (e ∷ popped.rest) now' row' → MayHappen offset program text b h cost now' row'
+  happens-back e is {cost} {now'} {row'} happens =
+      subst (λ row. Happens program text c.memo.memo_analysis rightwards h.now cost row now' row') (sym (popped.is ∙ ap (λ e. e ∷ popped.rest) is)) happens
 
   pub back-comes : (e : Entry) → popped.entry ≡ e → HasCome program text c.memo.memo_analysis rightwards b.memory (tries (first_row program b.at)) h.work h.now (e ∷ popped.rest)
-  back-comes e is = subst (HasCome program text c.memo.memo_analysis rightwards b.memory (tries (first_row program b.at)) h.work h.now) (popped.is ∙ ap (λ e. e ∷ popped.rest) is) h.comes
+  back-comes e is =
+      subst (HasCome program text c.memo.memo_analysis rightwards b.memory (tries (first_row program b.at)) h.work h.now) (popped.is ∙ ap (λ e. e ∷ popped.rest) is)
+      (come offset program text b h)
 
 -- to a thread
 module _ {P : Type 0} {offset : P → ℕ} {program : Program} {text : Text} {b : AttemptStartMemoBudgetAndResult} (stack : List (StackEntry P)) (w : StackEntry P) {c : MemoAndWorkBudget}
     (h : Stands offset program text b [] (stack ++ w ∷ []) c) (s : State P) (is : w ≡ AsThread s) where
-  taken-up : back-on offset program text b stack w h 1 h.now (tried (running (state_of offset s)) ∷ (popped offset program text b stack w h).rest)
+  taken-up : MayHappen offset program text b h 1 h.now (tried (running (state_of offset s)) ∷ (popped offset program text b stack w h).rest)
   taken-up =
       let p = popped offset program text b stack w h in
       let there : p.entry ≡ tried (waiting (state_of offset s)) = subst (λ w. StandsFor offset program text w p.entry) is p.stands in
-      (laws offset program text b h h.work h.now p.rest).taken_up (state_of offset s) (back-comes offset program text b stack w h (tried (waiting (state_of offset s))) there)
+      happens-back offset program text b stack w h (tried (waiting (state_of offset s))) there (resumes (state_of offset s) p.rest)
 
-  pub thread-goes : (c' : MemoAndWorkBudget) → c'.memo ≡ c.memo → IsTakenFromBudget 1 c.left c'.left → Stands offset program text b (front_of offset (Some s)) stack c'
+  pub thread-goes : (c' : MemoAndWorkBudget) → c'.memo ≡ c.memo → IsTakenFromBudget 1 c.left c'.left → ComesOn offset program text b h (Some s) stack c'
   thread-goes c' same spent =
       let p = popped offset program text b stack w h in
-      goes-on offset program text b h (tried (running (state_of offset s)) ∷ []) p.rest stack 1 c' taken-up p.below same spent
+      comes-on offset program text b h (Some s) p.rest stack 1 c' taken-up p.below same spent
 
-  pub thread-over : (c' : MemoAndWorkBudget) → c'.memo ≡ c.memo → WorkExceedsBudgetLeavingNothing 1 c.left c'.left → IsOver offset program text b c'
-  thread-over c' same spent = is-over offset program text b h _ 1 c' taken-up same spent
+  pub thread-over : (c' : MemoAndWorkBudget) → WorkExceedsBudgetLeavingNothing 1 c.left c'.left → IsShort offset program text b h c'
+  thread-over c' spent = is-short offset program text b h 1 c' taken-up spent
 
 -- to a record
 module _ {P : Type 0} {offset : P → ℕ} {program : Program} {text : Text} {b : AttemptStartMemoBudgetAndResult} (stack : List (StackEntry P)) (w : StackEntry P) {c : MemoAndWorkBudget}
@@ -241,46 +248,52 @@ module _ {P : Type 0} {offset : P → ℕ} {program : Program} {text : Text} {b 
       let s = served program text c.memo.memo_analysis h.right.paid in
       reached-fail program text (analysis_as_liveness c.memo.memo_analysis) keys s.plan.account s.serves.keys rightwards h.now (memo_key_as_spec k) stood.threads below.rest b.found record-finds
 
-  reached : back-on offset program text b stack w h 1 (memo_key_as_spec k ∷ h.now) below.rest
-  reached = (laws offset program text b h h.work h.now below.rest).reached (memo_key_as_spec k) stood.threads at-record
+  reached : MayHappen offset program text b h 1 (memo_key_as_spec k ∷ h.now) below.rest
+  reached = happens-back offset program text b stack w h (noted (memo_key_as_spec k) stood.threads) stood.is (reaches (memo_key_as_spec k) stood.threads below.rest)
 
-  pub record-over : (c' : MemoAndWorkBudget) → c'.memo ≡ c.memo → WorkExceedsBudgetLeavingNothing 1 c.left c'.left → IsOver offset program text b c'
-  record-over c' same spent =
-      subst (λ m. IsOver offset program text b (record { memo = m; left = c'.left })) (sym same)
-      (record { work = h.work + 1; now = memo_key_as_spec k ∷ h.now; row = below.rest; comes = reached; over = (let e = h.spent in let s : c.left < 1 = spent.0 in omega (arith, e, s)); none = spent.1 })
+  pub record-over : (c' : MemoAndWorkBudget) → WorkExceedsBudgetLeavingNothing 1 c.left c'.left → IsShort offset program text b h c'
+  record-over c' spent = is-short offset program text b h 1 c' reached spent
 
-  -- what is by a ledger
-  record ByLedger (t : MemoAnalysis) : Type 0 where
+  -- what is by an analysis
+  record ByAnalysis (t : MemoAnalysis) : Type 0 where
     paid : IsPaid program text t
     memory : IsMemory program text (analysis_as_liveness t) (analysis_keys program text t) b.memory
-    comes : HasCome program text t rightwards b.memory (tries (first_row program b.at)) (h.work + 1) (memo_key_as_spec k ∷ h.now) below.rest
+    costs : Costs program text t rightwards b.memory (tries (first_row program b.at)) (h.work + 1) (memo_key_as_spec k ∷ h.now) below.rest
 
   noted-by : (m n : MemoView) → m ≡ c.memo → RecordsFailure (memo_key_as_spec k) m n → (left : ℕ) → IsTakenFromBudget 1 c.left left
-      → IsRight program text n × Stands offset program text b [] stack (record { memo = n; left = left })
+      → IsRight program text n × ComesOn offset program text b h None stack (record { memo = n; left = left })
   noted-by m n is notes left spent =
       let notes' : RecordsFailure (memo_key_as_spec k) c.memo n = subst (λ m. RecordsFailure (memo_key_as_spec k) m n) is notes in
-      let by : ByLedger n.memo_analysis = subst ByLedger (sym notes'.same.memo_analysis) (record { paid = h.right.paid; memory = h.is_memory; comes = reached }) in
+      let by : ByAnalysis n.memo_analysis =
+      subst ByAnalysis (sym notes'.same.memo_analysis)
+      (record { paid = h.right.paid; memory = h.is_memory; costs = then_happens h.work 1 h.now (memo_key_as_spec k ∷ h.now) h.row below.rest h.costs reached }) in
       let right : IsRight program text n = record { paid = by.paid; is_true = memos-are-true.failure program text (memo_key_as_spec k) c.memo n notes' record-fails h.right.is_true } in (
         right,
         record {
-          right = right;
-          inside = h.inside;
-          is_memory = by.memory;
-          answers = h.answers;
-          work = h.work + 1;
-          now = memo_key_as_spec k ∷ h.now;
-          row = below.rest;
-          comes = by.comes;
-          is = below.below;
-          holds = memos-hold.failure (memo_key_as_spec k) c.memo n h.now notes' h.holds;
-          spent = (let e = h.spent in let s : c.left ≡ 1 + left = spent in omega (arith, e, s));
+          stands = record {
+            right = right;
+            inside = h.inside;
+            is_memory = by.memory;
+            answers = h.answers;
+            work = h.work + 1;
+            now = memo_key_as_spec k ∷ h.now;
+            row = below.rest;
+            costs = by.costs;
+            is = below.below;
+            holds = memos-hold.failure (memo_key_as_spec k) c.memo n h.now notes' h.holds;
+            spent = (let e = h.spent in let s : c.left ≡ 1 + left = spent in omega (arith, e, s));
+          };
+          cost = 1;
+          happens = reached;
+          spent = spent;
         },
       )
 
   pub record-right : (m n : MemoView) → m ≡ c.memo → RecordsFailure (memo_key_as_spec k) m n → (left : ℕ) → IsTakenFromBudget 1 c.left left → IsRight program text n
   record-right m n is notes left spent = (noted-by m n is notes left spent).0
 
-  pub record-goes : (m : MemoView) (c' : MemoAndWorkBudget) → m ≡ c.memo → RecordsFailure (memo_key_as_spec k) m c'.memo → IsTakenFromBudget 1 c.left c'.left → Stands offset program text b [] stack c'
+  pub record-goes : (m : MemoView) (c' : MemoAndWorkBudget) → m ≡ c.memo → RecordsFailure (memo_key_as_spec k) m c'.memo → IsTakenFromBudget 1 c.left c'.left
+      → ComesOn offset program text b h None stack c'
   record-goes m c' is notes spent = (noted-by m c'.memo is notes c'.left spent).1
 
 -- ---- What there is

@@ -1,5 +1,5 @@
 -- What a step comes to: the next thread, or a refusal that is handed on.
-use Rattle.std.proofs.Common.{◌≡◌, ◌≤◌, ℕ, ◌+◌, List, Option, Some, sym, subst, arith}
+use Rattle.std.proofs.Common.{◌≡◌, ◌<◌, ℕ, ◌+◌, List, Option, Some, refl, sym, subst, arith}
 use Rattle.std.specs.Prelude.{Result, Ok, Err, IsErrAnd}
 use Rattle.regex_meaning.specs.Text.{Text}
 use Rattle.regex_meaning.specs.CompilationRelation.{Program}
@@ -7,13 +7,13 @@ use Rattle.regress_memo_laws.specs.MemoSearch.{Entry}
 use Rattle.regress_pikevm.specs.declared.pikevm.states.State.{State}
 use Rattle.regress_bounded.specs.declared.memo_and_work_budget.MemoAndWorkBudget.{MemoAndWorkBudget}
 use Rattle.regress_bounded.specs.declared.memo_and_work_budget.AttemptAbortReason.{AttemptAbortReason}
-use Rattle.regress_bounded.specs.declared.memo_and_work_budget.AttemptAbortReason.TheVariants.{Work}
+use Rattle.regress_bounded.specs.declared.memo_and_work_budget.AttemptAbortReason.TheVariants.{Memory, Work}
 use Rattle.regress_bounded.specs.declared.stack_of_pending_threads_and_records.StackEntry.{StackEntry}
 use Rattle.regress_bounded.specs.declared.thread_steps_and_backtracking.StepResult.{StepResult}
 use Rattle.regress_bounded.specs.declared.thread_steps_and_backtracking.StepResult.TheVariants.{On, End}
-use Rattle.regress_bounded.specs.SearchStateAsMemoSearchEntries.{AttemptStartMemoBudgetAndResult, Stands, IsStanding, IsOver, MayStop, ComesOn, GoesOn, EndsAt, Turns}
-use Rattle.regress_bounded.specs.SearchStateAsMemoSearchEntries.{TurnsFrom, Runs, front_of}
-use Rattle.regress_bounded.specs.BudgetSpending.{IsTakenFromBudget}
+use Rattle.regress_bounded.specs.SearchStateAsMemoSearchEntries.{AttemptStartMemoBudgetAndResult, Stands, IsStanding, IsShort, MayStop, ComesOn, GoesOn, EndsAt, Turns}
+use Rattle.regress_bounded.specs.SearchStateAsMemoSearchEntries.{TurnsFrom, Runs}
+use Rattle.regress_bounded.proofs.EventCosts.{cost-some}
 
 -- what holds of a refusal holds of what hands it on
 pub handed-on : {X : Type 0} (P : Result X AttemptAbortReason → Type 0) (r : Result X AttemptAbortReason) (e : AttemptAbortReason) → IsErrAnd r (λ f. f ≡ e) → P (Err e) → P r
@@ -24,34 +24,51 @@ handed-on P (Err f) e h p = subst (λ f. P (Err f)) (sym h) p
 pub some-key : {X : Type 0} {x y : X} → Some x ≡ Some y → x ≡ y
 some-key e = cc
 
-module _ {P : Type 0} {offset : P → ℕ} {program : Program} {text : Text} {b : AttemptStartMemoBudgetAndResult} where
-  -- it goes on with the next thread, in some work
-  pub went-on : {next : Option (State P)} {stack : List (StackEntry P)} {c : MemoAndWorkBudget} {left : ℕ} (work : ℕ)
-      → 1 ≤ work → IsTakenFromBudget work left c.left → Stands offset program text b (front_of offset next) stack c → ComesOn offset program text b left next stack c
-  went-on {c = c} {left = left} work some spent stands = record { stands = stands; less = (let e : left ≡ work + c.left = spent in omega (arith, some, e)) }
+module _ {P : Type 0} {offset : P → ℕ} {program : Program} {text : Text} {b : AttemptStartMemoBudgetAndResult} {front : List Entry} {stack : List (StackEntry P)} {c : MemoAndWorkBudget}
+    (h : Stands offset program text b front stack c) where
+  -- an event is some work
+  pub comes-less : {next : Option (State P)} {new : List (StackEntry P)} {after : MemoAndWorkBudget} → ComesOn offset program text b h next new after → after.left < c.left
+  comes-less {after = after} x = let e : c.left ≡ x.cost + after.left = x.spent in let some = cost-some x.happens in omega (arith, e, some)
 
-  -- or it hands on a refusal
-  module _ {front : List Entry} {stack : List (StackEntry P)} {c : MemoAndWorkBudget} (h : Stands offset program text b front stack c) where
-    pub over-stops : (e : AttemptAbortReason) (c' : MemoAndWorkBudget) → e ≡ Work → IsOver offset program text b c' → MayStop offset program text b e c'
-    over-stops e c' is over = subst (λ e. MayStop offset program text b e c') (sym is) over
+  -- it may be given up where the next event costs more than is left
+  pub may-stop : (e : AttemptAbortReason) (after : MemoAndWorkBudget) → (e ≡ Work → IsShort offset program text b h after) → MayStop offset program text b h e after
+  may-stop Memory after short = tt
+  may-stop Work after short = short refl
 
-    pub runs-handed : (c' : MemoAndWorkBudget) (r : Result (Option (State P)) AttemptAbortReason) (e : AttemptAbortReason) → IsErrAnd r (λ f. f ≡ e) → MayStop offset program text b e c' → Runs offset program text b r c'
-    runs-handed c' r e is stops = handed-on (λ r. Runs offset program text b r c') r e is stops
+  module _ (stack' : List (StackEntry P)) (after : MemoAndWorkBudget) where
+    pub goes-short : (r : Result (Option (State P)) AttemptAbortReason) (e : AttemptAbortReason) → IsErrAnd r (λ f. f ≡ e) → e ≡ Work → IsShort offset program text b h after
+        → GoesOn offset program text b h r stack' after
+    goes-short r e handed is short = handed-on (λ r. GoesOn offset program text b h r stack' after) r e handed (may-stop e after (λ is. short))
 
-    module _ (left : ℕ) (stack' : List (StackEntry P)) where
-      pub turns-handed : (c' : MemoAndWorkBudget) (r : Result (StepResult P) AttemptAbortReason) (e : AttemptAbortReason) → IsErrAnd r (λ f. f ≡ e) → MayStop offset program text b e c' → Turns offset program text b left r stack' c'
-      turns-handed c' r e is stops = handed-on (λ r. Turns offset program text b left r stack' c') r e is stops
+    pub turns-handed : (r : Result (StepResult P) AttemptAbortReason) (e : AttemptAbortReason) → IsErrAnd r (λ f. f ≡ e) → MayStop offset program text b h e after
+        → Turns offset program text b h r stack' after
+    turns-handed r e handed stops = handed-on (λ r. Turns offset program text b h r stack' after) r e handed stops
 
-      pub goes-over : {c' : MemoAndWorkBudget} (r : Result (Option (State P)) AttemptAbortReason) (e : AttemptAbortReason) → IsErrAnd r (λ f. f ≡ e) → e ≡ Work → IsOver offset program text b c' → GoesOn offset program text b left r stack' c'
-      goes-over {c'} r e is work over = handed-on (λ r. GoesOn offset program text b left r stack' c') r e is (over-stops e c' work over)
+    pub turns-short : (r : Result (StepResult P) AttemptAbortReason) (e : AttemptAbortReason) → IsErrAnd r (λ f. f ≡ e) → (e ≡ Work → IsShort offset program text b h after)
+        → Turns offset program text b h r stack' after
+    turns-short r e handed short = turns-handed r e handed (may-stop e after short)
+
+  -- what stops a part of an attempt stops the attempt
+  stops-all : (after : MemoAndWorkBudget) → after.memo.memo_analysis ≡ c.memo.memo_analysis → (e : AttemptAbortReason) → MayStop offset program text b h e after → Runs offset program text b (Err e) after
+  stops-all after same Memory stops = tt
+  stops-all after same Work stops = record { front = front; stack = stack; before = c; stands = h; same = same; short = stops }
+
+  pub runs-stopped : (after : MemoAndWorkBudget) → after.memo.memo_analysis ≡ c.memo.memo_analysis → (r : Result (Option (State P)) AttemptAbortReason) (e : AttemptAbortReason) → IsErrAnd r (λ f. f ≡ e)
+      → MayStop offset program text b h e after → Runs offset program text b r after
+  runs-stopped after same r e handed stops = handed-on (λ r. Runs offset program text b r after) r e handed (stops-all after same e stops)
+
+-- a refusal of an attempt is handed on
+pub runs-handed : {P : Type 0} (offset : P → ℕ) (program : Program) (text : Text) (b : AttemptStartMemoBudgetAndResult) (after : MemoAndWorkBudget) (r : Result (Option (State P)) AttemptAbortReason)
+    (e : AttemptAbortReason) → IsErrAnd r (λ f. f ≡ e) → Runs offset program text b (Err e) after → Runs offset program text b r after
+runs-handed offset program text b after r e handed stops = handed-on (λ r. Runs offset program text b r after) r e handed stops
 
 -- what a turn came to
 module _ {P : Type 0} {offset : P → ℕ} {program : Program} {text : Text} {front : List Entry} {old : List (StackEntry P)} {before : MemoAndWorkBudget}
     (there : IsStanding offset program text front old before) (new : List (StackEntry P)) (behind : MemoAndWorkBudget) {came : StepResult P} where
   pub came-on : {next : Option (State P)} → came ≡ On next → TurnsFrom offset program text front old before (Ok came) new behind
-      → (b : AttemptStartMemoBudgetAndResult) → Stands offset program text b front old before → ComesOn offset program text b before.left next new behind
-  came-on is goes b h = subst (λ came. Turns offset program text b before.left (Ok came) new behind) is (goes b h)
+      → (b : AttemptStartMemoBudgetAndResult) (h : Stands offset program text b front old before) → ComesOn offset program text b h next new behind
+  came-on is goes b h = subst (λ came. Turns offset program text b h (Ok came) new behind) is (goes b h)
 
   pub came-end : {end : State P} → came ≡ End end → TurnsFrom offset program text front old before (Ok came) new behind
       → (b : AttemptStartMemoBudgetAndResult) → Stands offset program text b front old before → EndsAt offset program text b end behind
-  came-end is goes b h = subst (λ came. Turns offset program text b before.left (Ok came) new behind) is (goes b h)
+  came-end is goes b h = subst (λ came. Turns offset program text b h (Ok came) new behind) is (goes b h)

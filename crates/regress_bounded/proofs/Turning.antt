@@ -1,55 +1,48 @@
 -- One turn of a search in so much work: what it can do, and what becomes of what it leaves.
-use Rattle.std.proofs.Common.{◌≡◌, ◌≤◌, ◌<◌, ℕ, ◌+◌, Bool, true, false, min, List, [], ◌∷◌, ◌++◌, map, length, Option, Some, None, refl, sym, ap}
+use Rattle.std.proofs.Common.{◌≡◌, ◌≤◌, ◌<◌, ℕ, ◌+◌, ◌-◌, Bool, true, false, min, List, [], ◌∷◌, ◌++◌, map, length, Option, Some, None, refl, sym, ap}
 use Rattle.std.proofs.Common.{◌∙◌, subst, arith, inl, inr, append_assoc, append-nil, slice_get}
-use Rattle.std.specs.Prelude.{◌==◌, ⊤, if◌then◌else◌, is_some, option_map, get_or, Result, Ok, Err, IsErrAnd}
+use Rattle.std.specs.Prelude.{◌⊎◌, ◌==◌, Result, Ok, Err, IfOk, IfSome, if◌then◌else◌, is_some, option_map, get_or}
 use Rattle.std.proofs.Math.Logic.{∥∥₁_elim}
 use Rattle.std.proofs.Props.{props}
-use Rattle.std.proofs.lemmas.Bool.{eqb-true}
-use Rattle.regex_meaning.specs.Text.{Text, rightwards, last_place}
-use Rattle.regex_meaning.specs.CodeUnitOffsets.{HasRisingPlaceOffsets, units}
-use Rattle.regex_meaning.specs.CompilationRelation.{Program, Insn, Loop1CharBody}
-use Rattle.regex_meaning.proofs.TextLemmas.{offset-place_at}
+use Rattle.std.proofs.lemmas.Bool.{cases_lt, eqb-true}
+use Rattle.regex_meaning.specs.Text.{Text, rightwards}
+use Rattle.regex_meaning.specs.CodeUnitOffsets.{HasRisingPlaceOffsets, place_at, units}
+use Rattle.regex_meaning.specs.CompilationRelation.{Program, Insn, Goal, Loop1CharBody}
 use Rattle.regex_pattern_front.specs.AstToSpecTree.{tree_of}
 use Rattle.regex_pattern_front.specs.declared.ir.Regex.{Regex}
 use Rattle.regress_plan.specs.InsnsAsSpecInsns.{insn_as_spec_insn}
 use Rattle.regress_plan.specs.declared.insn.Insn.{Insn as Coded}
-use Rattle.regress_plan.specs.declared.insn.Insn.TheVariants.{Loop1CharBody as CodedRun}
+use Rattle.regress_plan.specs.declared.insn.Insn.TheVariants.{Goal as CodedGoal, Loop1CharBody as CodedRun}
 use Rattle.regress_program.specs.CompilationOfTreesAsFunction.{compiled}
 use Rattle.regress_machine.specs.Machine as machine
-use Rattle.regress_machine.specs.Machine.{Thread, running, waiting, Next, goes, scans, ends, asks, stuck, first_running_and_others_waiting, act}
+use Rattle.regress_machine.specs.Machine.{Thread, running, waiting, Next, goes, scans, ends, asks, stuck, first_running_and_others_waiting, test_of, act, act_on}
 use Rattle.regress_machine.specs.InsnEffects.{IsNotStuck}
 use Rattle.regress_machine.proofs.Fetched.{act-some, fetched-below}
 use Rattle.regress_simulation.proofs.Runs.{run-turn}
 use Rattle.regress_memo_laws.specs.CharLoopExitThreadLists.{passing}
-use Rattle.regress_memo_laws.specs.MemoSearch.{Key, Entry, tried, tries}
-use Rattle.regress_memo_laws.proofs.Runs.{passing-left}
-use Rattle.regress_memo_analysis.specs.WorkBound.{first_row}
+use Rattle.regress_memo_laws.specs.MemoSearch.{Key, Entry, tried, noted, tries}
 use Rattle.regress_memo_analysis.specs.AnalysisChecks.{unlimited}
 use Rattle.regress_memo.specs.declared.memo.ThreadMemoKey.{ThreadMemoKey as Stored}
 use Rattle.regress_memo.specs.MemoContents.{memo_key_as_spec, memo_key_at, has_failure}
-use Rattle.regress_memo.specs.AmortizedMemoSearchSteps.{HasCome}
 use Rattle.regress_bounded.specs.declared.memo_and_work_budget.MemoAndWorkBudget.{MemoAndWorkBudget}
-use Rattle.regress_bounded.specs.declared.memo_and_work_budget.AttemptAbortReason.{AttemptAbortReason}
 use Rattle.regress_bounded.specs.declared.stack_of_pending_threads_and_records.StackEntry.{StackEntry}
-use Rattle.regress_bounded.specs.declared.stack_of_pending_threads_and_records.StackEntry.TheVariants.{Thread as AsThread}
-use Rattle.regress_bounded.specs.declared.thread_steps_and_backtracking.StepResult.{StepResult}
+use Rattle.regress_bounded.specs.declared.stack_of_pending_threads_and_records.StackEntry.TheVariants.{Thread as AsThread, Record as AsRecord}
 use Rattle.regress_pikevm.specs.declared.pikevm.states.State.{State}
 use Rattle.regress_pikevm.specs.declared.pikevm.states.NextStates.{NextStates}
-use Rattle.regress_pikevm.specs.declared.pikevm.states.NextStates.TheVariants.{Lookaround}
-use Rattle.regress_bounded.specs.SearchStateAsMemoSearchEntries.{AttemptStartMemoBudgetAndResult, IsUnfailedStateKeyIfAny, IsNotUnboundedCharLoop}
-use Rattle.regress_bounded.specs.SearchStateAsMemoSearchEntries.{IsStanding, IsRow, Stands, Turns, IsOver, IsTurn, Leaves, HasTaken}
-use Rattle.regress_bounded.specs.SearchStateAsMemoSearchEntries.{IsRunHere, front_of, is_known_key, unbounded_char_loop_min_and_greed}
-use Rattle.regress_bounded.specs.BudgetSpending.{IsTakenFromBudget, WorkExceedsBudgetLeavingNothing}
-use Rattle.regress_pikevm.specs.States.{state_of, preferred_last, next_threads, waiting_threads}
+use Rattle.regress_bounded.specs.CostsOfSearchEvents.{LeavesThreads, IsNewIfAny, chars_tried, work_of, threads_left, with_record_of, drops, turns, tries_chars}
+use Rattle.regress_bounded.specs.SearchStateAsMemoSearchEntries.{AttemptStartMemoBudgetAndResult, IsUnfailedStateKeyIfAny, IsNotUnboundedCharLoop, char_loop_max}
+use Rattle.regress_bounded.specs.SearchStateAsMemoSearchEntries.{is_goal_insn}
+use Rattle.regress_bounded.specs.SearchStateAsMemoSearchEntries.{IsStanding, IsRow, Stands, MayHappen, ComesOn, IsShort, HasTaken, HasTakenThreads, HasPassedOver}
+use Rattle.regress_bounded.specs.SearchStateAsMemoSearchEntries.{IsRunHere, front_of, is_known_key, stack_with_record_of_key_pushed, unbounded_char_loop_min_and_greed}
+use Rattle.regress_bounded.specs.BudgetSpending.{IsTakenFromBudget, IsWorkOrMoreThanLeft, WorkExceedsBudgetLeavingNothing}
+use Rattle.regress_pikevm.specs.States.{state_of, next_threads, preferred_last, waiting_threads}
 use Rattle.regress_pikevm.proofs.Fetching.{insn-here}
 use Rattle.regress_pikevm.proofs.Remains.{scan-threads, waiting-append}
-use Rattle.regress_scan.proofs.StopSets.{places-few}
 use Rattle.regress_bounded.proofs.Bodies.{body-tested, body-insn, body-below}
-use Rattle.regress_bounded.proofs.Ends.{asks-none, scans-run}
-use Rattle.regress_bounded.proofs.Meeting.{scans-at}
-use Rattle.regress_bounded.proofs.PaidRuns.{left-few}
-use Rattle.regress_bounded.proofs.Stopping.{some-key, turns-handed}
-use Rattle.regress_bounded.proofs.Standing.{row-push, stands-with, can-turn, inside, on, known, goes-on, is-over}
+use Rattle.regress_bounded.proofs.Ends.{asks-none, never-ends, scans-run}
+use Rattle.regress_bounded.proofs.EventCosts.{ScansAt, scans-at}
+use Rattle.regress_bounded.proofs.Stopping.{some-key}
+use Rattle.regress_bounded.proofs.Standing.{row-push, can-turn, inside, new, known, comes-on, is-short}
 
 -- ---- What the thread in hand can do
 
@@ -88,11 +81,6 @@ module _ {P : Type 0} {offset : P → ℕ} {program : Program} {text : Text} {s 
       ∥∥₁_elim there (Prim.hlevel props) (λ h.
       let within = inside offset program text h.begin s h.stands in let all = h.stands.right.is_true.places in omega (arith, within, all))
 
-  -- it asks nothing
-  pub never-asks : {t : NextStates P} → next_threads offset t ≡ act program text rightwards s → {forward negate : Bool} {inner after : State P} → t ≡ Lookaround forward negate inner after → ⊥
-  never-asks turned is =
-      ∥∥₁_elim there (Prim.hlevel props) (λ h. asks-none program text rightwards s _ _ _ _ (sym turned ∙ ap (next_threads offset) is) (h.stands.right.paid.no_look s.ip))
-
 -- a key that is known
 record IsKnownKey (test : Key → Bool) (o : Option Key) : Type 0 where
   key : Key
@@ -107,14 +95,14 @@ known-key test (Some k) o e h = record { key = memo_key_as_spec k; is = sym e; k
 module _ {P : Type 0} {offset : P → ℕ} {program : Program} {text : Text} {b : AttemptStartMemoBudgetAndResult} {s : machine.State} {stack : List (StackEntry P)} {c : MemoAndWorkBudget}
     (h : Stands offset program text b (tried (running s) ∷ []) stack c) (key : Option Stored) (its : option_map memo_key_as_spec key ≡ memo_key_at c.memo.memo_analysis s)
     (fails : is_known_key (has_failure c.memo) (option_map memo_key_as_spec key) ≡ true) where
-  comes-known : on offset program text b s h 1 h.row
-  comes-known = let k = known-key (has_failure c.memo) key (memo_key_at c.memo.memo_analysis s) its fails in known offset program text b s h k.key k.is k.known
+  known-happens : MayHappen offset program text b h 1 h.now h.row
+  known-happens = let k = known-key (has_failure c.memo) key (memo_key_at c.memo.memo_analysis s) its fails in drops s k.key h.row k.is (known offset program text b h k.key k.known)
 
-  pub known-over : (c' : MemoAndWorkBudget) → c'.memo ≡ c.memo → WorkExceedsBudgetLeavingNothing 1 c.left c'.left → IsOver offset program text b c'
-  known-over c' same spent = is-over offset program text b h h.row 1 c' comes-known same spent
+  pub known-over : (c' : MemoAndWorkBudget) → WorkExceedsBudgetLeavingNothing 1 c.left c'.left → IsShort offset program text b h c'
+  known-over c' spent = is-short offset program text b h 1 c' known-happens spent
 
-  pub known-goes : (c' : MemoAndWorkBudget) → c'.memo ≡ c.memo → IsTakenFromBudget 1 c.left c'.left → Stands offset program text b [] stack c'
-  known-goes c' same spent = goes-on offset program text b h [] h.row stack 1 c' comes-known h.is same spent
+  pub known-goes : (c' : MemoAndWorkBudget) → c'.memo ≡ c.memo → IsTakenFromBudget 1 c.left c'.left → ComesOn offset program text b h None stack c'
+  known-goes c' same spent = comes-on offset program text b h None h.row stack 1 c' known-happens h.is same spent
 
 -- ---- What stands there
 
@@ -122,6 +110,25 @@ module _ {P : Type 0} {offset : P → ℕ} {program : Program} {text : Text} {b 
 pub endless-other : (insn : Coded) → ((greedy : Bool) (least most : ℕ) → insn ≡ CodedRun greedy least most → ⊥) → None ≡ unbounded_char_loop_min_and_greed (insn_as_spec_insn insn)
 endless-other (CodedRun greedy least most) other = absurd (other greedy least most refl)
 endless-other insn other = refl
+
+-- no other instruction ends the search
+pub goal-other : (insn : Coded) → (insn ≡ CodedGoal → ⊥) → false ≡ is_goal_insn (insn_as_spec_insn insn)
+goal-other CodedGoal other = absurd (other refl)
+goal-other insn other = refl
+
+pub char-loop-other : (insn : Coded) → ((greedy : Bool) (least most : ℕ) → insn ≡ CodedRun greedy least most → ⊥) → None ≡ char_loop_max (insn_as_spec_insn insn)
+char-loop-other (CodedRun greedy least most) other = absurd (other greedy least most refl)
+char-loop-other insn other = refl
+
+-- a run of this maximum
+record HasMaximum (x : Insn) (most : ℕ) : Type 0 where
+  least : ℕ
+  greedy : Bool
+  is : x ≡ Loop1CharBody least most greedy
+
+maximum-of : (x : Insn) (most : ℕ) → Some most ≡ char_loop_max x → HasMaximum x most
+maximum-of (Loop1CharBody l m g) most e = let same : most ≡ m = some-key e in record { least = l; greedy = g; is = ap (λ n. Loop1CharBody l n g) (sym same) }
+maximum-of x most e = cc
 
 -- one that has a maximum
 pub has-maximum : (greedy : Bool) (least most : ℕ) → None ≡ unbounded_char_loop_min_and_greed (Loop1CharBody least most greedy) → (most == unlimited) ≡ false
@@ -150,101 +157,145 @@ module _ {P : Type 0} (offset : P → ℕ) (re : Regex) (text : Text) (insns : L
     pub here : (body : Coded) → body ≡ get_or insns (s.ip + 1) body
         → IsRunHere offset (compiled (tree_of re)) text (record { body = body; least = least; greedy = greedy }) greedy s
 
-module _ {P : Type 0} {offset : P → ℕ} (re : Regex) {text : Text} (insns : List Coded) (code : map insn_as_spec_insn insns ≡ (compiled (tree_of re)).insns) {s : machine.State}
-    {stack : List (StackEntry P)} {c : MemoAndWorkBudget} (there : IsStanding offset (compiled (tree_of re)) text (tried (running s) ∷ []) stack c) where
+module _ (re : Regex) (text : Text) (insns : List Coded) (code : map insn_as_spec_insn insns ≡ (compiled (tree_of re)).insns) (s : machine.State)
+    (can : IsNotStuck (act (compiled (tree_of re)) text rightwards s)) where
   abbrev its-program : Program
   its-program = compiled (tree_of re)
 
-  its-can : IsNotStuck (act its-program text rightwards s)
-  its-can = standing-can there
+  pub can-below : s.ip < length insns
+  can-below = fetched-below insn_as_spec_insn insns its-program.insns s.ip code (act-some its-program text rightwards (slice_get its-program.insns s.ip) s can)
 
+  pub can-insn : (insn : Coded) → insn ≡ get_or insns s.ip insn → slice_get its-program.insns s.ip ≡ Some (insn_as_spec_insn insn)
+  can-insn insn is = insn-here re insns code text rightwards s can insn is
+
+  -- a run, and the instruction that it reads by
+  pub record ReadsAt (least most : ℕ) (greedy : Bool) : Type 0 where
+    pub run : slice_get its-program.insns s.ip ≡ Some (Loop1CharBody least most greedy)
+    pub at : ScansAt its-program text s
+    pub below : s.ip + 1 < length insns
+    pub body : (body : Coded) → body ≡ get_or insns (s.ip + 1) body → slice_get its-program.insns (s.ip + 1) ≡ Some (insn_as_spec_insn body)
+
+  pub reads-at : (least most : ℕ) (greedy : Bool) → slice_get its-program.insns s.ip ≡ Some (Loop1CharBody least most greedy) → ReadsAt least most greedy
+  reads-at least most greedy run =
+      let at = scans-at its-program text s least most greedy run can in
+      let tested = body-tested its-program s.ip at.test at.body in
+      record { run = run; at = at; below = body-below re insns code s.ip tested; body = λ body is. body-insn re insns code s.ip tested body is }
+
+  -- the same by its maximum
+  pub record ReadsUpTo (most : ℕ) : Type 0 where
+    pub least : ℕ
+    pub greedy : Bool
+    pub reads : ReadsAt least most greedy
+
+  pub reads-up-to : (insn : Coded) → insn ≡ get_or insns s.ip insn → (most : ℕ) → Some most ≡ char_loop_max (insn_as_spec_insn insn) → ReadsUpTo most
+  reads-up-to insn is most found =
+      let m = maximum-of (insn_as_spec_insn insn) most found in
+      record { least = m.least; greedy = m.greedy; reads = reads-at m.least most m.greedy (can-insn insn is ∙ ap Some m.is) }
+
+module _ {P : Type 0} {offset : P → ℕ} (re : Regex) {text : Text} (insns : List Coded) (code : map insn_as_spec_insn insns ≡ (compiled (tree_of re)).insns) {s : machine.State}
+    {stack : List (StackEntry P)} {c : MemoAndWorkBudget} (there : IsStanding offset (compiled (tree_of re)) text (tried (running s) ∷ []) stack c) where
   pub here-below : s.ip < length insns
-  here-below = fetched-below insn_as_spec_insn insns its-program.insns s.ip code (act-some its-program text rightwards (slice_get its-program.insns s.ip) s its-can)
+  here-below = can-below re text insns code s (standing-can there)
 
-  pub here-insn : (insn : Coded) → insn ≡ get_or insns s.ip insn → slice_get its-program.insns s.ip ≡ Some (insn_as_spec_insn insn)
-  here-insn insn is = insn-here re insns code text rightwards s its-can insn is
+  pub here-insn : (insn : Coded) → insn ≡ get_or insns s.ip insn → slice_get (compiled (tree_of re)).insns s.ip ≡ Some (insn_as_spec_insn insn)
+  here-insn insn is = can-insn re text insns code s (standing-can there) insn is
 
   pub run-at : (insn : Coded) → insn ≡ get_or insns s.ip insn → (greedy : Bool) (least : ℕ) → Some (least, greedy) ≡ unbounded_char_loop_min_and_greed (insn_as_spec_insn insn)
       → RunAt offset re text insns s greedy least
   run-at insn is greedy least found =
-      let run = here-insn insn is ∙ ap Some (endless-run (insn_as_spec_insn insn) greedy least found) in
-      let at = scans-at its-program text s least unlimited greedy run its-can in
-      let tested = body-tested its-program s.ip at.test at.body in
-      record {
-        below = body-below re insns code s.ip tested;
-        reads = λ body body_is. body-insn re insns code s.ip tested body body_is;
-        here = λ body body_is. record { insn = run; body = body-insn re insns code s.ip tested body body_is };
-      }
+      let x = reads-at re text insns code s (standing-can there) least unlimited greedy (here-insn insn is ∙ ap Some (endless-run (insn_as_spec_insn insn) greedy least found)) in
+      record { below = x.below; reads = x.body; here = λ body body_is. record { insn = x.run; body = x.body body body_is } }
 
 -- ---- What its turn is
 
--- how many characters it tries
-abbrev pub tried_in : Next → ℕ
-tried_in (scans tries ts) = tries
-tried_in _ = 0
+-- a turn that ends the search is at an instruction that does
+pub goal-ends : (re : Regex) (text : Text) (s : machine.State) (insn : Coded) → slice_get (compiled (tree_of re)).insns s.ip ≡ Some (insn_as_spec_insn insn) → true ≡ is_goal_insn (insn_as_spec_insn insn)
+    → act (compiled (tree_of re)) text rightwards s ≡ ends s
+goal-ends re text s insn here goal =
+    ap (λ o. act_on (compiled (tree_of re)) text rightwards o s) (here ∙ ap Some (by (insn_as_spec_insn insn) (sym goal)))
+  where
+    by : (x : Insn) → is_goal_insn x ≡ true → x ≡ Goal
+    by Goal e = refl
+    by x e = cc
 
--- the threads that it leaves, where it neither asks nor ends
-abbrev pub left_in : Next → List Thread
-left_in (goes ts) = ts
-left_in (scans tries ts) = ts
-left_in _ = []
+-- one elsewhere leaves threads
+module _ {P : Type 0} {offset : P → ℕ} {program : Program} {text : Text} {s : machine.State} {stack : List (StackEntry P)} {c : MemoAndWorkBudget}
+    (there : IsStanding offset program text (tried (running s) ∷ []) stack c) where
+  pub leads-on : (insn : Insn) → slice_get program.insns s.ip ≡ Some insn → false ≡ is_goal_insn insn → LeavesThreads (act program text rightwards s)
+  leads-on insn here other = by (act program text rightwards s) refl (standing-can there)
+    where
+      by : (x : Next) → act program text rightwards s ≡ x → IsNotStuck x → LeavesThreads x
+      by (goes ts) is can = tt
+      by (scans tries ts) is can = tt
+      by (ends t) is can = absurd (never-ends program text rightwards s insn here (sym other) t is)
+      by (asks inner negate u t) is can =
+          ∥∥₁_elim there (Prim.hlevel props) (λ h. asks-none program text rightwards s inner negate u t is (h.stands.right.paid.no_look s.ip))
+      by stuck is can = absurd can
 
-abbrev pub LeadsOn : Next → Type 0
-LeadsOn (goes ts) = Unit {0}
-LeadsOn (scans tries ts) = Unit {0}
-LeadsOn _ = ⊥
+-- elsewhere than at a run it tries no character
+pub other-work : (program : Program) (text : Text) (s : machine.State) (x : Insn) → slice_get program.insns s.ip ≡ Some x → None ≡ char_loop_max x → (left : ℕ)
+    → IsWorkOrMoreThanLeft left (work_of (act program text rightwards s)) 1
+other-work program text s x here none left = inl (by (act program text rightwards s) refl)
+  where
+    by : (n : Next) → act program text rightwards s ≡ n → 1 ≡ work_of n
+    by (scans n ts) is =
+        let r = scans-run program text rightwards s n ts is in
+        let never : None ≡ Some r.most = none ∙ ap char_loop_max (some-key (sym here ∙ r.is)) in
+        let no : ⊥ = cc in absurd no
+    by (goes ts) is = refl
+    by (ends t) is = refl
+    by (asks inner negate u t) is = refl
+    by stuck is = refl
 
-module _ {P : Type 0} (offset : P → ℕ) (program : Program) (text : Text) (s : machine.State) where
-  is-turn : IsNotUnboundedCharLoop program s.ip → (x : Next) → act program text rightwards s ≡ x → LeadsOn x → IsTurn offset program text s (tried_in x + 1) (left_in x)
-  is-turn limited (goes ts) is leads = inl (is, refl)
-  is-turn limited (scans tries ts) is leads =
-      let r = scans-run program text rightwards s tries ts is in
-      inr (record { least = r.least; most = r.most; greedy = r.greedy; run = r.is; limited = limited r.least r.most r.greedy r.is; tries = tries; acts = is; is = refl })
-  is-turn limited (ends t) is leads = absurd leads
-  is-turn limited (asks inner negate u t) is leads = absurd leads
-  is-turn limited stuck is leads = absurd leads
+-- how much work it is, where so many characters pass up to a limit
+pub run-work : (program : Program) (text : Text) (s : machine.State) → HasRisingPlaceOffsets text → (test : ℕ → Bool) (place least most : ℕ) (greedy : Bool)
+    → slice_get program.insns s.ip ≡ Some (Loop1CharBody least most greedy) → test_of program (slice_get program.insns (s.ip + 1)) ≡ Some test → place_at text s.pos ≡ Some place
+    → {P : Type 0} (offset : P → ℕ) (left passed : ℕ) (pos : P) → HasPassedOver offset text test (min most (left - 1)) place passed pos
+    → IsWorkOrMoreThanLeft left (work_of (act program text rightwards s)) (min most (passed + 1) + 1)
+run-work program text s is_text test place least most greedy run body at offset left passed pos over = by (cases_lt passed (min most (left - 1)))
+  where
+    all : ℕ
+    all = passing text test rightwards place
 
--- no more characters are tried than there are, and one
-tries-few : (program : Program) (text : Text) (s : machine.State) → HasRisingPlaceOffsets text → (x : Next) → act program text rightwards s ≡ x → tried_in x ≤ units text + 1
-tries-few program text s is_text (scans tries ts) is =
-    let r = scans-run program text rightwards s tries ts is in
-    let at = scans-at program text s r.least r.most r.greedy r.is (subst IsNotStuck (sym is) tt) in
-    let place = (offset-place_at text s.pos at.place is_text at.at).1 in
-    let few : tries ≡ min r.most (passing text at.test rightwards at.place + 1) =
-    ap tried_in (sym is ∙ run-turn program text rightwards at.place s r.least r.most r.greedy at.test r.is at.body at.at) in
-    let a = passing-left text at.test rightwards at.place place in
-    let b = left-few text rightwards at.place place in
-    let c = places-few text is_text (last_place text) (omega arith) in
-    omega (arith, few, a, b, c)
-tries-few program text s is_text (goes ts) is = omega arith
-tries-few program text s is_text (ends t) is = omega arith
-tries-few program text s is_text (asks inner negate u t) is = omega arith
-tries-few program text s is_text stuck is = omega arith
+    tries_are : chars_tried (act program text rightwards s) ≡ min most (all + 1)
+    tries_are = ap chars_tried (run-turn program text rightwards place s least most greedy test run body at)
 
--- what the executor makes of it, by one arm of a turn
-module _ {P : Type 0} {offset : P → ℕ} {program : Program} {text : Text} {s : machine.State} {stack : List (StackEntry P)} {c : MemoAndWorkBudget} {t x : NextStates P} where
-  pub arm-few : IsStanding offset program text (tried (running s) ∷ []) stack c → next_threads offset t ≡ act program text rightwards s → t ≡ x → HasRisingPlaceOffsets text
-      → tried_in (next_threads offset x) ≤ units text + 1
-  arm-few there turned is is_text = tries-few program text s is_text (next_threads offset x) (sym turned ∙ ap (next_threads offset) is)
-
-  module _ {b : AttemptStartMemoBudgetAndResult} (h : Stands offset program text b (tried (running s) ∷ []) stack c) (limited : IsNotUnboundedCharLoop program s.ip) (turned : next_threads offset t ≡ act program text rightwards s)
-      (is : t ≡ x) (leads : LeadsOn (next_threads offset x)) where
-    pub arm-turn : IsTurn offset program text s (tried_in (next_threads offset x) + 1) (left_in (next_threads offset x))
-    arm-turn = is-turn offset program text s limited (next_threads offset x) (sym turned ∙ ap (next_threads offset) is) leads
-
-    module _ {key : Option Stored} (k : IsUnfailedStateKeyIfAny c.memo s key) (stack' : List (StackEntry P)) (c' : MemoAndWorkBudget) where
-      -- what it leaves, by the clause of the function that does
-      abbrev LeftBy : Result ⊤ AttemptAbortReason → Type 0
-      LeftBy r = (program : Program) (text : Text) (b : AttemptStartMemoBudgetAndResult) (s : machine.State) (ts : List Thread) → IsTurn offset program text s (tried_in (next_threads offset x) + 1) ts
-          → IsUnfailedStateKeyIfAny c.memo s key → Stands offset program text b (tried (running s) ∷ []) stack c → Leaves offset program text b c.left ts r stack' c'
-
-      pub arm-leaves : LeftBy (Ok tt) → Stands offset program text b (tries (left_in (next_threads offset x))) stack' c' × (c'.left < c.left)
-      arm-leaves left = left program text b s (left_in (next_threads offset x)) arm-turn k h
-
-      pub arm-stops : (r : Result (StepResult P) AttemptAbortReason) (e : AttemptAbortReason) → IsErrAnd r (λ f. f ≡ e) → LeftBy (Err e) → Turns offset program text b c.left r stack' c'
-      arm-stops r e handed left = turns-handed h c.left stack' c' r e handed (left program text b s (left_in (next_threads offset x)) arm-turn k h)
+    by : (passed < min most (left - 1)) ⊎ (min most (left - 1) ≤ passed) → IsWorkOrMoreThanLeft left (work_of (act program text rightwards s)) (min most (passed + 1) + 1)
+    by (inl few) =
+        let none = over.all few in
+        let sum = over.past.sum in
+        let same : passed ≡ all = omega (arith, none, sum) in
+        inl (ap (λ n. min most (n + 1) + 1) same ∙ ap (λ n. n + 1) (sym tries_are))
+    by (inr full) =
+        let few = over.few in
+        let sum = over.past.sum in
+        elim (cases_lt (left - 1) most) [
+          | inl less ↦ inr (omega (arith, full, few, less), omega (arith, full, few, less, sum, tries_are))
+          | inr le ↦ let both : min most (passed + 1) + 1 ≡ min most (all + 1) + 1 = omega (arith, full, few, le, sum) in inl (both ∙ ap (λ n. n + 1) (sym tries_are))
+        ]
 
 -- ---- What becomes of what it leaves
+
+pub leads-can : (x : Next) → LeavesThreads x → IsNotStuck x
+leads-can (goes ts) leads = tt
+leads-can (scans tries ts) leads = tt
+leads-can (ends t) leads = absurd leads
+leads-can (asks inner negate u t) leads = absurd leads
+leads-can stuck leads = absurd leads
+
+-- what the executor makes of it, by one arm of a turn
+module _ {P : Type 0} (offset : P → ℕ) {step : Next} {t x : NextStates P} (turned : next_threads offset t ≡ step) (is : t ≡ x) where
+  pub arm-leads : LeavesThreads step → LeavesThreads (next_threads offset x)
+  arm-leads leads = subst LeavesThreads (sym turned ∙ ap (next_threads offset) is) leads
+
+  pub arm-threads : threads_left step ≡ threads_left (next_threads offset x)
+  arm-threads = ap threads_left (sym turned ∙ ap (next_threads offset) is)
+
+-- the same where the states are told
+pub taken-threads : {P E : Type 0} (offset : P → ℕ) (ts : List Thread) (states : List (State P)) (old last : List (StackEntry P)) → ts ≡ first_running_and_others_waiting (preferred_last offset states)
+    → (r : Result (Option (State P)) E) → IfOk r (λ next. HasTaken offset states old next last) → IfOk r (λ next. HasTakenThreads offset ts old next last)
+taken-threads offset ts states old last are (Ok next) h = record { states = states; are = are; taken = h }
+taken-threads offset ts states old last are (Err e) h = tt
 
 -- one thread more behind others
 tries-on : (us : List Thread) (u : Thread) (row : List Entry) → tries (us ++ u ∷ []) ++ row ≡ tries us ++ tried u ∷ row
@@ -265,40 +316,78 @@ module _ {P : Type 0} (offset : P → ℕ) (program : Program) (text : Text) whe
       (subst (λ l. IsRow offset program text l (tries (waiting_threads offset others) ++ tried (waiting (state_of offset s)) ∷ row))
       (append_assoc old (AsThread s ∷ []) (map (λ o. AsThread o) others)) all)
 
-  module _ (b : AttemptStartMemoBudgetAndResult) {c : MemoAndWorkBudget} where
-    -- what is in hand is parted otherwise
-    parted : {front : List Entry} {stack : List (StackEntry P)} (h : Stands offset program text b front stack c) (front' row' : List Entry) (stack' : List (StackEntry P))
-        → front ++ h.row ≡ front' ++ row' → IsRow offset program text stack' row' → Stands offset program text b front' stack' c
-    parted h front' row' stack' same is =
-        stands-with offset program text b h front' row' stack' h.work c.left
-        (subst (HasCome program text c.memo.memo_analysis rightwards b.memory (tries (first_row program b.at)) h.work h.now) same h.comes) is h.spent c.memo refl
+  -- the preferred one is taken, and the others wait above a row
+  record TakenAbove (ts : List Thread) (below : List Entry) (next : Option (State P)) (stack : List (StackEntry P)) : Type 0 where
+    row : List Entry
+    same : tries ts ++ below ≡ front_of offset next ++ row
+    is : IsRow offset program text stack row
 
-    -- the second one waits
-    waits-on : (u : Thread) (s : State P) (stack : List (StackEntry P))
-        → Stands offset program text b (tries (u ∷ waiting (state_of offset s) ∷ [])) stack c → Stands offset program text b (tries (u ∷ [])) (stack ++ AsThread s ∷ []) c
-    waits-on u s stack h =
-        let e : Entry = tried (waiting (state_of offset s)) in
-        parted h (tries (u ∷ [])) (e ∷ h.row) (stack ++ AsThread s ∷ []) refl (row-push offset program text stack (AsThread s) e h.row refl h.is)
+  taken-above : (ts : List Thread) (below : List Entry) (old last : List (StackEntry P)) → IsRow offset program text old below → (next : Option (State P)) → HasTakenThreads offset ts old next last
+      → TakenAbove ts below next last
+  taken-above ts below old last is next t = by next t.taken
+    where
+      by : (next : Option (State P)) → HasTaken offset t.states old next last → TakenAbove ts below next last
+      by None h = record {
+        row = below;
+        same = ap (λ us. tries us ++ below) (t.are ∙ ap (λ l. first_running_and_others_waiting (preferred_last offset l)) h.0);
+        is = subst (λ l. IsRow offset program text l below) (sym h.1) is;
+      }
+      by (Some s) h =
+          let order : ts ≡ running (state_of offset s) ∷ waiting_threads offset h.others =
+          t.are ∙ sym (append-nil (first_running_and_others_waiting (preferred_last offset t.states))) ∙ sym (scan-threads offset t.states h.others [] s h.is) in
+          record {
+            row = tries (waiting_threads offset h.others) ++ below;
+            same = ap (λ us. tries us ++ below) order;
+            is = subst (λ l. IsRow offset program text l (tries (waiting_threads offset h.others) ++ below)) (sym h.wait) (rows-push h.others old below is);
+          }
 
-    -- the preferred one is taken
-    takes-on : (states : List (State P)) (next : Option (State P)) (old new : List (StackEntry P)) → HasTaken offset states old next new
-        → Stands offset program text b (tries (first_running_and_others_waiting (preferred_last offset states))) old c → Stands offset program text b (front_of offset next) new c
-    takes-on states None old new t h =
-        subst (λ l. Stands offset program text b [] l c) (sym t.1)
-        (subst (λ l. Stands offset program text b (tries (first_running_and_others_waiting (preferred_last offset l))) old c) t.0 h)
-    takes-on states (Some s) old new t h =
-        let order : first_running_and_others_waiting (preferred_last offset states) ≡ running (state_of offset s) ∷ waiting_threads offset t.others =
-        sym (append-nil (first_running_and_others_waiting (preferred_last offset states))) ∙ sym (scan-threads offset states t.others [] s t.is) in
-        let h' : Stands offset program text b (tries (running (state_of offset s) ∷ waiting_threads offset t.others)) old c =
-        subst (λ us. Stands offset program text b (tries us) old c) order h in
-        subst (λ l. Stands offset program text b (front_of offset (Some s)) l c) (sym t.wait)
-        (parted h' (front_of offset (Some s)) (tries (waiting_threads offset t.others) ++ h'.row) (old ++ map (λ o. AsThread o) t.others) refl (rows-push t.others old h'.row h'.is))
+module _ {P : Type 0} {offset : P → ℕ} {program : Program} {text : Text} {b : AttemptStartMemoBudgetAndResult} {s : machine.State} {stack : List (StackEntry P)} {c : MemoAndWorkBudget}
+    (h : Stands offset program text b (tried (running s) ∷ []) stack c) (limited : IsNotUnboundedCharLoop program s.ip) {key : Option Stored} (k : IsUnfailedStateKeyIfAny c.memo s key)
+    (leads : LeavesThreads (act program text rightwards s)) where
+  abbrev recorded : List Entry
+  recorded = with_record_of s (option_map memo_key_as_spec key) h.row
 
-module _ {P : Type 0} {offset : P → ℕ} {program : Program} {text : Text} {b : AttemptStartMemoBudgetAndResult} {c : MemoAndWorkBudget} {old new : List (StackEntry P)} where
-  pub one-waits : {u : Thread} (s : State P) → Stands offset program text b (tried u ∷ tried (waiting (state_of offset s)) ∷ []) old c → new ≡ old ++ AsThread s ∷ []
-      → Stands offset program text b (tried u ∷ []) new c
-  one-waits {u} s h is = subst (λ xs. Stands offset program text b (tried u ∷ []) xs c) (sym is) (waits-on offset program text b u s old h)
+  turn-happens : MayHappen offset program text b h (work_of (act program text rightwards s)) h.now (tries (threads_left (act program text rightwards s)) ++ recorded)
+  turn-happens = by (act program text rightwards s) refl leads
+    where
+      new-key : (key : Option Stored) → IfSome key (λ k. has_failure c.memo (memo_key_as_spec k) ≡ false) → IsNewIfAny (option_map memo_key_as_spec key) h.now
+      new-key None unknown = tt
+      new-key (Some k) unknown = new offset program text b h (memo_key_as_spec k) unknown
 
-  pub one-taken : (states : List (State P)) (next : Option (State P)) → Stands offset program text b (tries (first_running_and_others_waiting (preferred_last offset states))) old c
-      → HasTaken offset states old next new → Stands offset program text b (front_of offset next) new c
-  one-taken states next h t = takes-on offset program text b states next old new t h
+      by : (x : Next) → act program text rightwards s ≡ x → LeavesThreads x → MayHappen offset program text b h (work_of x) h.now (tries (threads_left x) ++ recorded)
+      by (goes ts) is leads = turns s ts (option_map memo_key_as_spec key) h.row is k.is (new-key key k.unknown)
+      by (scans n ts) is leads =
+          let r = scans-run program text rightwards s n ts is in
+          tries_chars s r.least r.most r.greedy n ts (option_map memo_key_as_spec key) h.row r.is (limited r.least r.most r.greedy r.is) is k.is (new-key key k.unknown)
+      by (ends t) is leads = absurd leads
+      by (asks inner negate u t) is leads = absurd leads
+      by stuck is leads = absurd leads
+
+  -- there was not so much
+  pub turn-over : (number : ℕ) → IsWorkOrMoreThanLeft c.left (work_of (act program text rightwards s)) number → (c' : MemoAndWorkBudget) → WorkExceedsBudgetLeavingNothing number c.left c'.left
+      → IsShort offset program text b h c'
+  turn-over number (inl same) c' spent = is-short offset program text b h (work_of (act program text rightwards s)) c' turn-happens (subst (λ n. WorkExceedsBudgetLeavingNothing n c.left c'.left) same spent)
+  turn-over number (inr more) c' spent = is-short offset program text b h (work_of (act program text rightwards s)) c' turn-happens (more.1, spent.1)
+
+  -- its record waits
+  record-waits : (mid : List (StackEntry P)) → mid ≡ stack_with_record_of_key_pushed key stack → IsRow offset program text mid recorded
+  record-waits mid pushed = subst (λ xs. IsRow offset program text xs recorded) (sym pushed) (by key)
+    where
+      by : (key : Option Stored) → IsRow offset program text (stack_with_record_of_key_pushed key stack) (with_record_of s (option_map memo_key_as_spec key) h.row)
+      by None = h.is
+      by (Some k) =
+          row-push offset program text stack (AsRecord k) (noted (memo_key_as_spec k) (running s ∷ [])) h.row (record { threads = running s ∷ []; is = refl }) h.is
+
+  pub turn-goes : (number : ℕ) → IsWorkOrMoreThanLeft c.left (work_of (act program text rightwards s)) number → (mid last : List (StackEntry P)) → mid ≡ stack_with_record_of_key_pushed key stack
+      → (next : Option (State P)) → HasTakenThreads offset (threads_left (act program text rightwards s)) mid next last
+      → (c' : MemoAndWorkBudget) → c'.memo ≡ c.memo → IsTakenFromBudget number c.left c'.left → ComesOn offset program text b h next last c'
+  turn-goes number works mid last pushed next taken c' same spent =
+      let x = taken-above offset program text (threads_left (act program text rightwards s)) recorded mid last (record-waits mid pushed) next taken in
+      let work = work_of (act program text rightwards s) in
+      let exact : number ≡ work = by works in
+      comes-on offset program text b h next x.row last work c' (subst (λ row. MayHappen offset program text b h work h.now row) x.same turn-happens) x.is same
+      (subst (λ n. IsTakenFromBudget n c.left c'.left) exact spent)
+    where
+      by : IsWorkOrMoreThanLeft c.left (work_of (act program text rightwards s)) number → number ≡ work_of (act program text rightwards s)
+      by (inl same) = same
+      by (inr more) = absurd (let left : c.left ≡ number + c'.left = spent in let over = more.0 in omega (arith, left, over))

@@ -1,3 +1,4 @@
+pub mod CostsOfSearchEvents
 pub mod ProgramWorkBoundForAllMatches
 pub mod SearchStateAsMemoSearchEntries
 pub mod WorkOfCharLoopsAndAttempts

@@ -1,16 +1,16 @@
 -- The state of a bounded search as a list of entries of `regress_memo_laws`: threads, pending lazy
 -- loops, and records.
 use Rattle.std.specs.Prelude.{◌≡◌, ◌≤◌, ◌<◌, ◌^◌, ◌+◌, ◌-◌, ℕ, Bool, true, false, List, [], ◌∷◌, ◌++◌, map, reverse, Option, Some, None, option_map}
-use Rattle.std.specs.Prelude.{Result, Ok, Err, IfSome, ◌⊎◌, ◌==◌, if◌then◌else◌, ⊤, slice_get}
+use Rattle.std.specs.Prelude.{Result, Ok, Err, IfSome, ◌⊎◌, ◌==◌, if◌then◌else◌, slice_get}
 use Rattle.regex_meaning.specs.Text.{Text, rightwards, moved, last_place}
 use Rattle.regex_meaning.specs.CodeUnitOffsets.{HasRisingPlaceOffsets, offset as text_offset, place_at, units}
-use Rattle.regex_meaning.specs.CompilationRelation.{Program, Insn, Loop1CharBody}
+use Rattle.regex_meaning.specs.CompilationRelation.{Program, Insn, Goal, Loop1CharBody}
 use Rattle.regex_pattern_front.specs.AstToSpecTree.{tree_of}
 use Rattle.regex_pattern_front.specs.declared.ir.Regex.{Regex}
 use Rattle.regress_plan.specs.InsnsAsSpecInsns.{insn_as_spec_insn}
 use Rattle.regress_program.specs.CompilationOfTreesAsFunction.{compiled}
 use Rattle.regress_machine.specs.Machine as machine
-use Rattle.regress_machine.specs.Machine.{Thread, running, waiting, first_running_and_others_waiting, goes, scans, ends, act, Found, search}
+use Rattle.regress_machine.specs.Machine.{Thread, running, waiting, first_running_and_others_waiting, ends, act, Found, search}
 use Rattle.regress_machine.specs.InsnEffects.{state_after_char_loop_to_offset}
 use Rattle.regress_simulation.specs.CharLoopExitStatesByPreference.{behind}
 use Rattle.regress_memo_laws.specs.Liveness.{ReadsAsBytes}
@@ -26,7 +26,6 @@ use Rattle.regress_memo.specs.declared.memo.ThreadMemoKey.{ThreadMemoKey as Stor
 use Rattle.regress_memo.specs.Laws.{IsTrueOf, ListsExactlyKnownKeys, analysis_keys}
 use Rattle.regress_memo.specs.MemoContents.{memo_key_as_spec, has_failure, memo_key_at}
 use Rattle.regress_memo.specs.MemoContractView.{MemoView}
-use Rattle.regress_memo.specs.AmortizedMemoSearchSteps.{HasCome}
 use Rattle.regress_bounded.specs.declared.memo_and_work_budget.MemoAndWorkBudget.{MemoAndWorkBudget}
 use Rattle.regress_bounded.specs.declared.memo_and_work_budget.AttemptAbortReason.{AttemptAbortReason}
 use Rattle.regress_bounded.specs.declared.memo_and_work_budget.AttemptAbortReason.TheVariants.{Memory, Work}
@@ -36,8 +35,10 @@ use Rattle.regress_bounded.specs.declared.stack_of_pending_threads_and_records.S
 use Rattle.regress_bounded.specs.declared.thread_steps_and_backtracking.StepResult.{StepResult}
 use Rattle.regress_bounded.specs.declared.thread_steps_and_backtracking.StepResult.TheVariants.{On, End}
 use Rattle.regress_pikevm.specs.declared.pikevm.states.State.{State}
+use Rattle.regress_bounded.specs.BudgetSpending.{IsTakenFromBudget}
+use Rattle.regress_bounded.specs.CostsOfSearchEvents.{Costs, Happens}
 use Rattle.regress_bounded.specs.WorkOfCharLoopsAndAttempts.{IsEndless, key_on, row_on, row_of_places}
-use Rattle.regress_pikevm.specs.States.{state_of, running_thread}
+use Rattle.regress_pikevm.specs.States.{state_of, preferred_last, running_thread}
 
 -- The stack with a record of the key pushed, if there is a key.
 abbrev pub stack_with_record_of_key_pushed : {P : Type 0} → Option Stored → List (StackEntry P) → List (StackEntry P)
@@ -81,6 +82,16 @@ is_known_key known (Some k) = known k
 abbrev pub unbounded_char_loop_min_and_greed : Insn → Option (ℕ × Bool)
 unbounded_char_loop_min_and_greed (Loop1CharBody least most greedy) = if most == unlimited then Some (least, greedy) else None
 unbounded_char_loop_min_and_greed _ = None
+
+-- The maximum of a char loop.
+abbrev pub char_loop_max : Insn → Option ℕ
+char_loop_max (Loop1CharBody least most greedy) = Some most
+char_loop_max _ = None
+
+-- Whether an instruction ends the search.
+abbrev pub is_goal_insn : Insn → Bool
+is_goal_insn Goal = true
+is_goal_insn _ = false
 
 -- No char loop without a maximum is at this instruction.
 abbrev pub IsNotUnboundedCharLoop : Program → (ip : ℕ) → Type 0
@@ -144,8 +155,8 @@ module _ {P : Type 0} (offset : P → ℕ) where
 
     -- ---- The state of an attempt
 
-    -- The work done so far led to the entries `front`, followed by those of the stack. The memo
-    -- table holds exactly the known failures.
+    -- The events so far led to the entries `front`, followed by those of the stack. The budget is
+    -- what they cost and what is left. The memo table holds exactly the known failures.
     pub record Stands (b : AttemptStartMemoBudgetAndResult) (front : List Entry) (stack : List (StackEntry P)) (c : MemoAndWorkBudget) : Type 0 where
       pub right : IsRight program text c.memo
       pub inside : b.at ≤ units text
@@ -155,7 +166,7 @@ module _ {P : Type 0} (offset : P → ℕ) where
       pub work : ℕ
       pub now : List Key
       pub row : List Entry
-      pub comes : HasCome program text c.memo.memo_analysis rightwards b.memory (tries (first_row program b.at)) work now (front ++ row)
+      pub costs : Costs program text c.memo.memo_analysis rightwards b.memory (tries (first_row program b.at)) work now (front ++ row)
       pub is : IsRow stack row
       pub holds : ListsExactlyKnownKeys (has_failure c.memo) now
       pub spent : work + c.left ≡ b.total
@@ -169,35 +180,42 @@ module _ {P : Type 0} (offset : P → ℕ) where
     abbrev pub IsStanding : (front : List Entry) → List (StackEntry P) → MemoAndWorkBudget → Type 0
     IsStanding front stack c = ∥ Standing front stack c ∥₁
 
-    -- The attempt needed more work than was allowed, and no work is left.
-    pub record IsOver (b : AttemptStartMemoBudgetAndResult) (c : MemoAndWorkBudget) : Type 0 where
-      pub work : ℕ
-      pub now : List Key
-      pub row : List Entry
-      pub comes : HasCome program text c.memo.memo_analysis rightwards b.memory (tries (first_row program b.at)) work now row
-      pub over : b.total < work
-      pub none : c.left ≡ 0
+    module _ (b : AttemptStartMemoBudgetAndResult) {front : List Entry} {stack : List (StackEntry P)} {c : MemoAndWorkBudget} (h : Stands b front stack c) where
+      -- What may happen next, and what it costs.
+      abbrev pub MayHappen : (cost : ℕ) → List Key → List Entry → Type 0
+      MayHappen cost now row = Happens program text c.memo.memo_analysis rightwards h.now cost (front ++ h.row) now row
 
-    -- An attempt may be given up: always for lack of memory, and for lack of work only if it is
-    -- exhausted.
-    abbrev pub MayStop : AttemptStartMemoBudgetAndResult → AttemptAbortReason → MemoAndWorkBudget → Type 0
-    MayStop b Memory c = Unit {0}
-    MayStop b Work c = IsOver b c
+      -- The next event costs more than is left. Then nothing is left.
+      pub record IsShort (after : MemoAndWorkBudget) : Type 0 where
+        pub cost : ℕ
+        pub now : List Key
+        pub row : List Entry
+        pub happens : MayHappen cost now row
+        pub over : c.left < cost
+        pub none : after.left ≡ 0
 
-    -- The search continues with the next thread, and less work is left.
-    pub record ComesOn (b : AttemptStartMemoBudgetAndResult) (left : ℕ) (next : Option (State P)) (stack : List (StackEntry P)) (c : MemoAndWorkBudget) : Type 0 where
-      pub stands : Stands b (front_of next) stack c
-      pub less : c.left < left
+      -- One event leads to the next thread, and exactly its cost is taken from what was left.
+      pub record ComesOn (next : Option (State P)) (new : List (StackEntry P)) (after : MemoAndWorkBudget) : Type 0 where
+        pub stands : Stands b (front_of next) new after
+        pub cost : ℕ
+        pub happens : MayHappen cost stands.now (front_of next ++ stands.row)
+        pub spent : IsTakenFromBudget cost c.left after.left
 
-    -- The result of a part of an attempt: it continues with the next thread, or is given up.
-    abbrev pub GoesOn : AttemptStartMemoBudgetAndResult → (left : ℕ) → Result (Option (State P)) AttemptAbortReason → List (StackEntry P) → MemoAndWorkBudget → Type 0
-    GoesOn b left (Ok next) stack c = ComesOn b left next stack c
-    GoesOn b left (Err e) stack c = MayStop b e c
+      -- An attempt may be given up: always for lack of memory, and for lack of work only if the
+      -- next event costs more than is left.
+      abbrev pub MayStop : AttemptAbortReason → MemoAndWorkBudget → Type 0
+      MayStop Memory after = Unit {0}
+      MayStop Work after = IsShort after
+
+      -- The result of a part of an attempt: it continues with the next thread, or is given up.
+      abbrev pub GoesOn : Result (Option (State P)) AttemptAbortReason → List (StackEntry P) → MemoAndWorkBudget → Type 0
+      GoesOn (Ok next) new after = ComesOn next new after
+      GoesOn (Err e) new after = MayStop e after
 
     -- `GoesOn` for each attempt that was in this state.
     abbrev pub GoesFrom : (front : List Entry) (old : List (StackEntry P)) → MemoAndWorkBudget → Result (Option (State P)) AttemptAbortReason
         → (new : List (StackEntry P)) → MemoAndWorkBudget → Type 0
-    GoesFrom front old c r new c' = (b : AttemptStartMemoBudgetAndResult) → Stands b front old c → GoesOn b c.left r new c'
+    GoesFrom front old c r new after = (b : AttemptStartMemoBudgetAndResult) (h : Stands b front old c) → GoesOn b h r new after
 
     -- The step of the current thread ends the search.
     pub record EndsAt (b : AttemptStartMemoBudgetAndResult) (end : State P) (c : MemoAndWorkBudget) : Type 0 where
@@ -207,43 +225,32 @@ module _ {P : Type 0} (offset : P → ℕ) where
       pub ends : act program text rightwards from ≡ ends (state_of offset end)
 
     -- The result of a step: the search continues, ends, or is given up.
-    abbrev pub Turns : AttemptStartMemoBudgetAndResult → (left : ℕ) → Result (StepResult P) AttemptAbortReason → List (StackEntry P) → MemoAndWorkBudget → Type 0
-    Turns b left (Ok (On next)) stack c = ComesOn b left next stack c
-    Turns b left (Ok (End s)) stack c = EndsAt b s c
-    Turns b left (Err e) stack c = MayStop b e c
+    abbrev pub Turns : (b : AttemptStartMemoBudgetAndResult) {front : List Entry} {stack : List (StackEntry P)} {c : MemoAndWorkBudget} → Stands b front stack c
+        → Result (StepResult P) AttemptAbortReason → List (StackEntry P) → MemoAndWorkBudget → Type 0
+    Turns b h (Ok (On next)) new after = ComesOn b h next new after
+    Turns b h (Ok (End s)) new after = EndsAt b s after
+    Turns b h (Err e) new after = MayStop b h e after
 
     -- `Turns` for each attempt that was in this state.
     abbrev pub TurnsFrom : (front : List Entry) (old : List (StackEntry P)) → MemoAndWorkBudget → Result (StepResult P) AttemptAbortReason
         → (new : List (StackEntry P)) → MemoAndWorkBudget → Type 0
-    TurnsFrom front old c r new c' = (b : AttemptStartMemoBudgetAndResult) → Stands b front old c → Turns b c.left r new c'
+    TurnsFrom front old c r new after = (b : AttemptStartMemoBudgetAndResult) (h : Stands b front old c) → Turns b h r new after
+
+    -- The attempt was given up before an event that costs more than was left. Now nothing is left.
+    pub record IsOver (b : AttemptStartMemoBudgetAndResult) (c : MemoAndWorkBudget) : Type 0 where
+      pub front : List Entry
+      pub stack : List (StackEntry P)
+      pub before : MemoAndWorkBudget
+      pub stands : Stands b front stack before
+      pub same : c.memo.memo_analysis ≡ before.memo.memo_analysis
+      pub short : IsShort b stands c
 
     -- The result of an attempt: no entry is left, it found an end, or it was given up.
     abbrev pub Runs : AttemptStartMemoBudgetAndResult → Result (Option (State P)) AttemptAbortReason → MemoAndWorkBudget → Type 0
     Runs b (Ok None) c = Stands b [] [] c
     Runs b (Ok (Some s)) c = EndsAt b s c
-    Runs b (Err e) c = MayStop b e c
-
-    -- ---- One step
-
-    -- The step of a char loop with a maximum: its work is the number of characters tested plus 1.
-    pub record Scans (s : machine.State) (work : ℕ) (ts : List Thread) : Type 0 where
-      pub least : ℕ
-      pub most : ℕ
-      pub greedy : Bool
-      pub run : slice_get program.insns s.ip ≡ Some (Loop1CharBody least most greedy)
-      pub limited : (most == unlimited) ≡ false
-      pub tries : ℕ
-      pub acts : act program text rightwards s ≡ scans tries ts
-      pub is : work ≡ tries + 1
-
-    -- The step of a state, its work, and the threads that it leaves.
-    abbrev pub IsTurn : machine.State → (work : ℕ) → List Thread → Type 0
-    IsTurn s work ts = ((act program text rightwards s ≡ goes ts) × (work ≡ 1)) ⊎ Scans s work ts
-
-    -- The threads that a step leaves are the front entries, above a record if there is a key.
-    abbrev pub Leaves : AttemptStartMemoBudgetAndResult → (left : ℕ) → List Thread → Result ⊤ AttemptAbortReason → List (StackEntry P) → MemoAndWorkBudget → Type 0
-    Leaves b left ts (Ok done) stack c = Stands b (tries ts) stack c × (c.left < left)
-    Leaves b left ts (Err e) stack c = MayStop b e c
+    Runs b (Err Memory) c = Unit {0}
+    Runs b (Err Work) c = IsOver b c
 
     -- ---- Char loops without a maximum
 
@@ -276,10 +283,11 @@ module _ {P : Type 0} (offset : P → ℕ) where
             → IsRow new (noted (key_of_place n) (row_on program text t rightwards test place s n)
             ∷ row_of_places program text t rightwards test place s least (n - least) ++ row)
 
-      -- The loop is known to fail after `n` characters, or else it was scanned up to its end.
-      abbrev pub ScansWithMemo : (old new : List (StackEntry P)) → Option (State P) × ℕ → Type 0
-      ScansWithMemo old new (None, n) = PlacesWait old new n × (known (key_of_place n) ≡ true)
-      ScansWithMemo old new (Some here, n) = AllWait old new here n
+      -- After `n` characters the loop is known to fail or the work left does not suffice, or else it
+      -- was scanned up to its end.
+      abbrev pub ScansWithMemo : (left : ℕ) (old new : List (StackEntry P)) → Option (State P) × ℕ → Type 0
+      ScansWithMemo left old new (None, n) = PlacesWait old new n × ((known (key_of_place n) ≡ true) ⊎ (left < n + 2))
+      ScansWithMemo left old new (Some here, n) = AllWait old new here n
 
   -- ---- Characters read
 
@@ -317,3 +325,9 @@ module _ {P : Type 0} (offset : P → ℕ) where
   abbrev pub HasTaken : (states : List (State P)) (old : List (StackEntry P)) → Option (State P) → (new : List (StackEntry P)) → Type 0
   HasTaken states old None new = (states ≡ []) × (new ≡ old)
   HasTaken states old (Some s) new = TakesLast states old s new
+
+  -- The preferred one of these threads is taken, and the others are pushed.
+  pub record HasTakenThreads (ts : List Thread) (old : List (StackEntry P)) (next : Option (State P)) (new : List (StackEntry P)) : Type 0 where
+    pub states : List (State P)
+    pub are : ts ≡ first_running_and_others_waiting (preferred_last offset states)
+    pub taken : HasTaken states old next new

@@ -1,6 +1,6 @@
 //! The work budget of a search: what is known to fail, and how much work may still be done.
 
-ghost use Rattle.std.specs.Prelude.{◌≡◌, ◌<◌, ◌≤◌, OnOk, IfErr, IfSome, option_map};
+ghost use Rattle.std.specs.Prelude.{◌≡◌, ◌<◌, ◌≤◌, ◌-◌, min, OnOk, IfErr, IfSome, option_map};
 ghost use Rattle.regress_memo_analysis.specs.CheckedAnalysis.{IsRecordableMemoKey};
 ghost use Rattle.regress_memo.specs.MemoContents.{memo_key_as_spec, memo_key_at as key_of_state};
 ghost use Rattle.regress_pikevm.specs.States.{state_of};
@@ -53,6 +53,15 @@ impl MemoAndWorkBudget {
         }
         self.left -= work;
         Ok(())
+    }
+
+    /// Returns how many characters a step may read, at most `most`: each costs 1, and the step itself
+    /// does.
+    #[inline(always)]
+    pub(crate) fn chars_within_budget(&self, most: usize) -> usize
+        ensures { result ≡ min most (self.now.left - 1) }
+    {
+        most.min(self.left.saturating_sub(1) as usize)
     }
 
     /// Returns the key that a state would have at this instruction and position, or `None` if the

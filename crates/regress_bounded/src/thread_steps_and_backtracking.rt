@@ -1,23 +1,25 @@
 //! Steps of threads and backtracking, each with its work.
 
-ghost use Rattle.std.specs.Prelude.{◌≡◌, ◌≤◌, List, IfOk, IfSome, OnOk, [], ◌∷◌, ◌++◌, map, option_map};
-ghost use Rattle.regex_meaning.specs.{CompilationRelation.{Program as Code}, Text.{Text}};
+ghost use Rattle.std.specs.Prelude.{◌≡◌, ◌≤◌, List, IfErr, IfOk, IfSome, OnOk, [], ◌∷◌, ◌++◌, map, option_map};
+ghost use Rattle.regex_meaning.specs.{CodeUnitOffsets.{units}, Text.{rightwards}};
 ghost use Rattle.regex_pattern_front.specs.AstToSpecTree.{tree_of};
-ghost use Rattle.regress_memo_laws.specs.MemoSearch.{tried, tries};
-ghost use Rattle.regress_machine.specs.Machine.{State as MachineState, Thread, running};
+ghost use Rattle.regress_memo_laws.specs.MemoSearch.{tried};
+ghost use Rattle.regress_machine.specs.{InsnEffects.{IsNotStuck}, Machine.{act, running}};
 ghost use Rattle.regress_memo.specs.MemoContents.{memo_key_as_spec, has_failure};
 ghost use Rattle.regress_program.specs.{CompilationOfTreesAsFunction.{compiled}, InsnsAndStartPredicatesAsSpec.{insn_as_spec_insn}};
 ghost use Rattle.regress_memo_analysis.specs.CheckedAnalysis.{IsRecordableMemoKey};
-ghost use Rattle.regress_bounded.specs.SearchStateAsMemoSearchEntries.{AttemptStartMemoBudgetAndResult, IsMemoRightForRegex, IsUnfailedStateKeyIfAny};
-ghost use Rattle.regress_bounded.specs.SearchStateAsMemoSearchEntries.{IsNotUnboundedCharLoop, is_known_key, unbounded_char_loop_min_and_greed, IsTurn, Stands};
-ghost use Rattle.regress_bounded.specs.SearchStateAsMemoSearchEntries.{IsStanding, GoesFrom, TurnsFrom, Leaves, HasTaken, stack_with_record_of_key_pushed};
-ghost use Rattle.regress_bounded.specs.{BudgetSpending.{IsTakenFromBudget}, declared.thread_steps_and_backtracking.StepResult.TheVariants.{On}};
-ghost use Rattle.regress_pikevm.specs.States.{state_of, running_thread};
+ghost use Rattle.regress_bounded.specs.CostsOfSearchEvents.{LeavesThreads, threads_left, work_of};
+ghost use Rattle.regress_bounded.specs.SearchStateAsMemoSearchEntries.{IsMemoRightForRegex, IsUnfailedStateKeyIfAny, char_loop_max, is_goal_insn};
+ghost use Rattle.regress_bounded.specs.SearchStateAsMemoSearchEntries.{IsNotUnboundedCharLoop, is_known_key, unbounded_char_loop_min_and_greed};
+ghost use Rattle.regress_bounded.specs.SearchStateAsMemoSearchEntries.{IsStanding, GoesFrom, TurnsFrom, HasTaken, HasTakenThreads, stack_with_record_of_key_pushed};
+ghost use Rattle.regress_bounded.specs.BudgetSpending.{IsTakenFromBudget, IsWorkOrMoreThanLeft, WorkExceedsBudgetLeavingNothing};
+ghost use Rattle.regress_bounded.specs.declared.memo_and_work_budget.AttemptAbortReason.TheVariants.{Work};
+ghost use Rattle.regress_pikevm.specs.States.{state_of};
 
 use crate::memo_and_work_budget::{AttemptAbortReason, MemoAndWorkBudget};
 use crate::stack_of_pending_threads_and_records::{StackEntry, UnboundedCharLoop, push_entry};
 use crate::unbounded_char_loops::{
-    execute_unbounded_char_loop_with_memo, resume_pending_lazy_char_loop,
+    execute_unbounded_char_loop_with_memo, read_chars_within_budget, resume_pending_lazy_char_loop,
 };
 use regress_exec::program_and_input::ProgramAndInput;
 use regress_input::cursor::Forward;
@@ -105,8 +107,8 @@ fn is_known(key: Option<ThreadMemoKey>, course: &MemoAndWorkBudget) -> bool
     }
 }
 
-// Executes one instruction. If there is a key, its record is pushed before the threads that the
-// instruction leaves.
+// Executes one instruction whose work is spent first. If there is a key, its record is pushed before
+// the threads that the instruction leaves.
 fn turn_above<Input: InputIndexer>(
     searched: &ProgramAndInput<'_, Input>,
     insns: &[Insn],
@@ -123,50 +125,89 @@ fn turn_above<Input: InputIndexer>(
     requires limited { IsNotUnboundedCharLoop (compiled (tree_of searched.now.program.now)) state.ip }
     ensures memo { course.new.memo ≡ course.old.memo }
     ensures left { course.new.left ≤ course.old.left }
+    ensures refused { IfErr result (λ e. e ≡ Work → stack.new.items ≡ stack.old.items) }
     ensures goes { let at = Input.Position.offset in let s = searched.now in
         TurnsFrom at (compiled (tree_of s.program.now)) (Input.text s.input) (tried (running (state_of at state)) ∷ [])
         stack.old.items course.old result stack.new.items course.new }
 {
-    match execute_insn(searched, insns, Forward, state)? {
-        NextStates::Dead => complete_step(key, None, stack, course),
-        NextStates::Continue(next) => complete_step(key, Some(next), stack, course),
-        NextStates::Fork(next, other) => {
-            spend_and_push_record(key, 1, stack, course)?;
-            push_entry(StackEntry::Thread(other), stack)?;
-            Ok(StepResult::On(Some(next)))
-        }
-        NextStates::CharLoopExits(tries, states) => {
-            spend_and_push_record(key, tries as u64 + 1, stack, course)?;
-            let next = take_first(states, stack)?;
-            Ok(StepResult::On(next))
-        }
-        NextStates::Lookaround { .. } => unreachable!(),
-        NextStates::Accept(end) => Ok(StepResult::End(end)),
+    if is_goal(insns[state.ip]) {
+        return Ok(StepResult::End(state));
     }
+    let work = work_of_step(searched, insns, &state, course);
+    spend_and_push_record(key, work, stack, course)?;
+    let next = push_threads_of_step(searched, insns, state, stack)?;
+    Ok(StepResult::On(next))
 }
 
-// Completes a step after which at most this one thread continues: spends a unit of work, and pushes
-// a record if there is a key.
+// Checks whether an instruction ends the search.
 #[inline(always)]
-fn complete_step<P: PositionType>(
-    key: Option<ThreadMemoKey>,
-    next: Option<State<P>>,
-    stack: &mut Vec<StackEntry<P>>,
-    course: &mut MemoAndWorkBudget,
-) -> Result<StepResult<P>, AttemptAbortReason>
-    ensures memo { course.new.memo ≡ course.old.memo }
-    ensures left { course.new.left ≤ course.old.left }
-    ensures spent { OnOk result (IsTakenFromBudget 1 course.old.left course.new.left) }
-    ensures pushed { OnOk result (stack.new.items ≡ stack_with_record_of_key_pushed key stack.old.items) }
-    ensures next { IfOk result (λ step. step ≡ On next) }
-    ensures goes { (program : Code) (text : Text) (s : MachineState) → IsUnfailedStateKeyIfAny
-        course.old.memo s key
-        → IsTurn P.offset program text s 1 (running_thread P.offset next)
-        → TurnsFrom P.offset program text (tried (running s) ∷ []) stack.old.items course.old
-        result stack.new.items course.new }
+fn is_goal(insn: Insn) -> bool
+    ensures { result ≡ is_goal_insn (insn_as_spec_insn insn) }
 {
-    spend_and_push_record(key, 1, stack, course)?;
-    Ok(StepResult::On(next))
+    matches!(insn, Insn::Goal)
+}
+
+// Returns the work of a step: 1, and 1 for each character that a char loop tries. If this is more
+// than is left, returns a number that is also more, and reads no more characters than are left.
+fn work_of_step<Input: InputIndexer>(
+    searched: &ProgramAndInput<'_, Input>,
+    insns: &[Insn],
+    state: &State<Input::Position>,
+    course: &MemoAndWorkBudget,
+) -> u64
+    requires code { map insn_as_spec_insn insns.now ≡ (compiled (tree_of searched.now.program.now)).insns }
+    requires can { let s = searched.now in IsNotStuck (act (compiled (tree_of s.program.now)) (Input.text s.input)
+        rightwards (state_of Input.Position.offset state.now)) }
+    ensures { let s = searched.now in IsWorkOrMoreThanLeft course.now.left (work_of (act
+        (compiled (tree_of s.program.now)) (Input.text s.input) rightwards
+        (state_of Input.Position.offset state.now))) result }
+{
+    let Some(most) = char_loop_max(insns[state.ip]) else {
+        return 1;
+    };
+    let mut at = state.pos;
+    let passed = read_chars_within_budget(searched, insns[state.ip + 1], most, course, &mut at);
+    most.min(passed + 1) as u64 + 1
+}
+
+// Returns the maximum of a char loop, or `None` for any other instruction.
+#[inline(always)]
+fn char_loop_max(insn: Insn) -> Option<usize>
+    ensures { result ≡ char_loop_max (insn_as_spec_insn insn) }
+{
+    let Insn::Loop1CharBody { max_iters, .. } = insn else {
+        return None;
+    };
+    Some(max_iters)
+}
+
+// Executes an instruction that does not end the search, pushes the threads that it leaves, and
+// returns the preferred one.
+fn push_threads_of_step<Input: InputIndexer>(
+    searched: &ProgramAndInput<'_, Input>,
+    insns: &[Insn],
+    state: State<Input::Position>,
+    stack: &mut Vec<StackEntry<Input::Position>>,
+) -> Result<Option<State<Input::Position>>, AllocError>
+    requires code { map insn_as_spec_insn insns.now ≡ (compiled (tree_of searched.now.program.now)).insns }
+    requires inside { Input.Position.offset state.pos ≤ units (Input.text searched.now.input) }
+    requires leads { let s = searched.now in LeavesThreads (act (compiled (tree_of s.program.now)) (Input.text s.input)
+        rightwards (state_of Input.Position.offset state)) }
+    ensures { let s = searched.now in IfOk result (λ next. HasTakenThreads Input.Position.offset
+        (threads_left (act (compiled (tree_of s.program.now)) (Input.text s.input) rightwards
+        (state_of Input.Position.offset state))) stack.old.items next stack.new.items) }
+{
+    match execute_insn(searched, insns, Forward, state)? {
+        NextStates::Dead => Ok(None),
+        NextStates::Continue(next) => Ok(Some(next)),
+        NextStates::Fork(next, other) => {
+            push_entry(StackEntry::Thread(other), stack)?;
+            Ok(Some(next))
+        }
+        NextStates::CharLoopExits(_, states) => take_first(states, stack),
+        NextStates::Lookaround { .. } => unreachable!(),
+        NextStates::Accept(_) => unreachable!(),
+    }
 }
 
 // Spends `work`, and pushes a record if there is a key.
@@ -180,11 +221,8 @@ fn spend_and_push_record<P: PositionType>(
     ensures left { course.new.left ≤ course.old.left }
     ensures spent { OnOk result (IsTakenFromBudget work course.old.left course.new.left) }
     ensures pushed { OnOk result (stack.new.items ≡ stack_with_record_of_key_pushed key stack.old.items) }
-    ensures leaves { (program : Code) (text : Text) (b : AttemptStartMemoBudgetAndResult) (s : MachineState)
-        (ts : List Thread)
-        → IsTurn P.offset program text s work ts → IsUnfailedStateKeyIfAny course.old.memo s key
-        → Stands P.offset program text b (tried (running s) ∷ []) stack.old.items course.old
-        → Leaves P.offset program text b course.old.left ts result stack.new.items course.new }
+    ensures over { IfErr result (λ e. e ≡ Work
+        → WorkExceedsBudgetLeavingNothing work course.old.left course.new.left × (stack.new.items ≡ stack.old.items)) }
 {
     course.spend(work)?;
     if let Some(key) = key {
@@ -226,6 +264,7 @@ pub(crate) fn resume_entry_or_record_failure<Input: InputIndexer>(
     ensures right { let s = searched.now in IsMemoRightForRegex s.program.now (Input.text s.input) course.new.memo }
     ensures memo_analysis { course.new.memo.memo_analysis ≡ course.old.memo.memo_analysis }
     ensures left { course.new.left ≤ course.old.left }
+    ensures refused { IfErr result (λ e. e ≡ Work → stack.new.items ≡ stack.old.items) }
     ensures goes { let at = Input.Position.offset in let s = searched.now in
         GoesFrom at (compiled (tree_of s.program.now)) (Input.text s.input) []
         (stack.old.items ++ waiting ∷ []) course.old result stack.new.items course.new }

@@ -1,6 +1,6 @@
 //! Char loops without a maximum: each of their exits has a record.
 
-ghost use Rattle.std.specs.Prelude.{◌≡◌, ◌<◌, ◌≤◌, ◌^◌, ◌+◌, ℕ, Bool, true, false, Some, IfOk, IsSome, [], ◌∷◌, ◌++◌, map};
+ghost use Rattle.std.specs.Prelude.{◌≡◌, ◌<◌, ◌≤◌, ◌^◌, ◌+◌, ◌-◌, ℕ, Bool, true, false, min, Some, IfOk, IfErr, IsSome, [], ◌∷◌, ◌++◌, map};
 ghost use Rattle.regex_meaning.specs.CodeUnitOffsets.{IsBoundary, place_at};
 ghost use Rattle.regex_pattern_front.specs.AstToSpecTree.{tree_of};
 ghost use Rattle.regress_memo_laws.specs.{CharLoopExitThreadLists.{passing}, MemoSearch.{tried}};
@@ -10,6 +10,7 @@ ghost use Rattle.regress_program.specs.{CompilationOfTreesAsFunction.{compiled},
 ghost use Rattle.regress_scan.specs.OffsetsAfterMatchedInsns.{ByteInsnHasByteText, char_test_of_insn};
 ghost use Rattle.regress_bounded.specs.SearchStateAsMemoSearchEntries.{IsMemoRightForRegex, IsRunHere, IsStanding, GoesFrom, ScansWithMemo, HasPassedOver, IsPast};
 ghost use Rattle.regress_bounded.specs.SearchStateAsMemoSearchEntries.{IsNearest};
+ghost use Rattle.regress_bounded.specs.declared.memo_and_work_budget.AttemptAbortReason.TheVariants.{Work};
 ghost use Rattle.regress_bounded.specs.declared.stack_of_pending_threads_and_records.StackEntry.TheVariants.{Run as AsRun};
 ghost use Rattle.regress_pikevm.specs.States.{state_of};
 
@@ -26,26 +27,30 @@ use regress_pikevm::pikevm::states::State;
 use regress_program::insn::Insn;
 use std::alloc::AllocError;
 
-// Reads the characters that a loop requires, and returns how many there were.
-fn read_minimum_chars<Input: InputIndexer>(
+/// Reads the characters at a position that a loop accepts, at most `most`, and no more than the
+/// budget has work for beside the step itself. Returns how many there were.
+pub(crate) fn read_chars_within_budget<Input: InputIndexer>(
     searched: &ProgramAndInput<'_, Input>,
-    run: UnboundedCharLoop,
+    body: Insn,
+    most: usize,
+    course: &MemoAndWorkBudget,
     pos: &mut Input::Position,
 ) -> usize
-    requires test { IsSome (char_test_of_insn searched.now.program.now run.body) }
+    requires test { IsSome (char_test_of_insn searched.now.program.now body) }
     requires at { IsBoundary (Input.text searched.now.input) (Input.Position.offset pos.old) }
-    requires bytes { ByteInsnHasByteText run.body (Input.text searched.now.input) Input.Units.ARE_BYTES }
+    requires bytes { ByteInsnHasByteText body (Input.text searched.now.input) Input.Units.ARE_BYTES }
     ensures at { IsBoundary (Input.text searched.now.input) (Input.Position.offset pos.new) }
     ensures passed { let s = searched.now in let text = Input.text s.input in (test : ℕ → Bool) (place : ℕ)
-        → char_test_of_insn s.program.now run.body ≡ Some test → place_at text
-        (Input.Position.offset pos.old) ≡ Some place
-        → HasPassedOver Input.Position.offset text test run.least place result pos.new }
+        → char_test_of_insn s.program.now body ≡ Some test → place_at text
+        (Input.Position.offset pos.old) ≡ Some place → HasPassedOver Input.Position.offset text
+        test (min most (course.now.left - 1)) place result pos.new }
 {
+    let limit = course.chars_within_budget(most);
     let mut count = 0;
-    'characters: while count < run.least {
+    'characters: while count < limit {
         let mut next = *pos;
         if !read_or_assertion_insn_matchers::insn_accepts_next_char(
-            searched, run.body, Forward, &mut next,
+            searched, body, Forward, &mut next,
         ) {
             break;
         }
@@ -59,7 +64,7 @@ fn read_minimum_chars<Input: InputIndexer>(
 ///
 /// A greedy loop takes the furthest exit and pushes the nearer ones. It stops at a position from
 /// which on it is known to fail. A lazy loop takes the nearest exit and pushes one entry for all
-/// others.
+/// others. No more characters are read than the budget has work for.
 pub(crate) fn execute_unbounded_char_loop_with_memo<Input: InputIndexer>(
     searched: &ProgramAndInput<'_, Input>,
     run: UnboundedCharLoop,
@@ -76,12 +81,13 @@ pub(crate) fn execute_unbounded_char_loop_with_memo<Input: InputIndexer>(
         (tried (running (state_of Input.Position.offset state)) ∷ []) stack.old.items course.old }
     ensures memo { course.new.memo ≡ course.old.memo }
     ensures left { course.new.left ≤ course.old.left }
+    ensures refused { IfErr result (λ e. e ≡ Work → run.greedy ≡ false → stack.new.items ≡ stack.old.items) }
     ensures goes { let at = Input.Position.offset in let s = searched.now in
         GoesFrom at (compiled (tree_of s.program.now)) (Input.text s.input) (tried (running (state_of at state)) ∷ [])
         stack.old.items course.old result stack.new.items course.new }
 {
     let mut at = state.pos;
-    let passed = read_minimum_chars(searched, run, &mut at);
+    let passed = read_chars_within_budget(searched, run.body, run.least, course, &mut at);
     if passed < run.least {
         course.spend(passed as u64 + 2)?;
         return Ok(None);
@@ -97,7 +103,8 @@ pub(crate) fn execute_unbounded_char_loop_with_memo<Input: InputIndexer>(
 }
 
 // Scans a greedy loop from its nearest exit on. Returns the thread at the furthest exit, or `None`
-// if the loop is known to fail from some position on, and the number of characters read in all.
+// if the loop is known to fail from some position on or the work left does not suffice, and the
+// number of characters accepted in all.
 fn scan_with_memo<Input: InputIndexer>(
     searched: &ProgramAndInput<'_, Input>,
     run: UnboundedCharLoop,
@@ -114,15 +121,21 @@ fn scan_with_memo<Input: InputIndexer>(
     requires test { IsSome (char_test_of_insn searched.now.program.now run.body) }
     requires at { IsBoundary (Input.text searched.now.input) (Input.Position.offset from) }
     requires few { run.least ≤ Input.Position.offset from }
-    ensures { let at = Input.Position.offset in let s = searched.now in let text = Input.text s.input in
+    requires paid { run.least ≤ course.now.left }
+    ensures paid { IfOk result (λ r. r.1 ≤ course.now.left) }
+    ensures scans { let at = Input.Position.offset in let s = searched.now in let text = Input.text s.input in
         (test : ℕ → Bool) (place : ℕ) → char_test_of_insn s.program.now run.body ≡ Some test
         → IsPast at text test place run.least from
         → IfOk result (ScansWithMemo at (compiled (tree_of s.program.now)) text course.now.memo.memo_analysis
-        (has_failure course.now.memo) test place (state_of at state.now) run.least stack.old.items stack.new.items) }
+        (has_failure course.now.memo) test place (state_of at state.now) run.least course.now.left
+        stack.old.items stack.new.items) }
 {
     let mut at = from;
     let mut count = run.least;
     'places: loop {
+        if course.left < count as u64 + 2 {
+            return Ok((None, count));
+        }
         let Some(key) = course.key_at(state.ip + 1, at, state) else {
             unreachable!()
         };
@@ -182,6 +195,7 @@ pub(crate) fn resume_pending_lazy_char_loop<Input: InputIndexer>(
         [] (stack.old.items ++ AsRun state ∷ []) course.old }
     ensures memo { course.new.memo ≡ course.old.memo }
     ensures left { course.new.left ≤ course.old.left }
+    ensures refused { IfErr result (λ e. e ≡ Work → stack.new.items ≡ stack.old.items) }
     ensures goes { let at = Input.Position.offset in let s = searched.now in
         GoesFrom at (compiled (tree_of s.program.now)) (Input.text s.input) []
         (stack.old.items ++ AsRun state ∷ []) course.old result stack.new.items course.new }

@@ -1,9 +1,10 @@
 -- What refuses a pattern, as a code.
 use Rattle.std.proofs.Common.{◌≡◌, ◌⊎◌, inl, inr, refl, sym, subst, Err}
-use Rattle.regex_pattern_front.specs.declared.parse.ParseError.TheVariants as parse
+use Rattle.regex_parser.specs.SyntaxDialects.{spec_syntax_of}
+use Rattle.regex_parser.specs.declared.parse.ParseError.TheVariants as parse
 use Rattle.regress_program.specs.declared.emit.EmitError.TheVariants as emit
 use Rattle.regex_meaning.specs.FlagLettersAndEscaping.{flags_from_letters}
-use Rattle.regress_match.specs.CompileErrors.{IsPatternRefusedWith}
+use Rattle.regress_match.specs.CompileErrors.{IsPatternRefusedWithSyntax}
 use Rattle.regress_match.specs.declared.api.compile_and_replace_errors.Error.{Error}
 use Rattle.regress_match.specs.declared.api.compile_and_replace_errors.Error.TheVariants as error
 use Rattle.regress_c.specs.Codes.{refused_as}
@@ -12,13 +13,13 @@ use Rattle.regress_c.specs.declared.compiling.Bounds.{Bounds}
 use Rattle.regress_c.specs.declared.refusal.Refusal.{Refusal}
 use Rattle.regress_c.specs.declared.refusal.Refusal.TheVariants.{Empty, Full, NotUtf8, NotBoundary, ShortBuffer, Memory, StepLimit, Syntax}
 use Rattle.regress_c.specs.declared.refusal.Refusal.TheVariants.{TooManyGroups, TooManyLoops, TooManyInstructions, UnknownFlag, TooLong, TooDeep}
-use Rattle.regress_c.specs.declared.refusal.Refusal.TheVariants.{NoGroup, NotOpen, NotCounted, NoBound, WorkLimit}
+use Rattle.regress_c.specs.declared.refusal.Refusal.TheVariants.{NoGroup, NotOpen, NotCounted, NoBound, WorkLimit, UnknownSyntax}
 
 -- want of memory, or the pattern itself
 abbrev pub IsOfCompiling : Given → Refusal → Type 0
-IsOfCompiling g r = (r ≡ Memory) ⊎ RefusesPattern (flags_from_letters g.flags) g.characters r
+IsOfCompiling g r = (r ≡ Memory) ⊎ RefusesPattern g.syntax (flags_from_letters g.flags) g.characters r
 
-of-compiling : (g : Given) (e : Error) → IsPatternRefusedWith (flags_from_letters g.flags) g.characters e → IsOfCompiling g (refused_as e)
+of-compiling : (g : Given) (e : Error) → IsPatternRefusedWithSyntax (spec_syntax_of g.syntax) (flags_from_letters g.flags) g.characters e → IsOfCompiling g (refused_as e)
 of-compiling g error.Memory refuses = inl refl
 of-compiling g (error.Parse (parse.Syntax d)) refuses = inr refuses.none
 of-compiling g (error.Parse parse.TooManyGroups) refuses = absurd refuses
@@ -43,5 +44,5 @@ module _ (g : Given) (bounds : Bounds) (readable : IsReadable g) (within : IsWit
   refuses TooManyInstructions h = (readable, within, the-pattern h (λ e. cc))
   refuses _ h = absurd (the-pattern h (λ e. cc))
 
-  pub error-refuses : (e : Error) (r : Refusal) → IsPatternRefusedWith (flags_from_letters g.flags) g.characters e → r ≡ refused_as e → Compiles g bounds (Err r)
+  pub error-refuses : (e : Error) (r : Refusal) → IsPatternRefusedWithSyntax (spec_syntax_of g.syntax) (flags_from_letters g.flags) g.characters e → r ≡ refused_as e → Compiles g bounds (Err r)
   error-refuses e r can is = refuses r (subst (IsOfCompiling g) (sym is) (of-compiling g e can))

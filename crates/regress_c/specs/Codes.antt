@@ -1,6 +1,6 @@
 -- The codes of refusals, and the refusals for the errors of the crates below.
 use Rattle.std.specs.Prelude.{ℕ}
-use Rattle.regex_pattern_front.specs.declared.parse.ParseError.TheVariants as parse
+use Rattle.regex_parser.specs.declared.parse.ParseError.TheVariants as parse
 use Rattle.regress_program.specs.declared.emit.EmitError.TheVariants as emit
 use Rattle.regress_exec.specs.declared.exec.SearchError.{SearchError}
 use Rattle.regress_exec.specs.declared.exec.SearchError.TheVariants as search
@@ -11,7 +11,7 @@ use Rattle.regress_match.specs.declared.api.compile_and_replace_errors.Error.The
 use Rattle.regress_c.specs.declared.refusal.Refusal.{Refusal}
 use Rattle.regress_c.specs.declared.refusal.Refusal.TheVariants.{Empty, Full, NotUtf8, NotBoundary, ShortBuffer, Memory, StepLimit, Syntax}
 use Rattle.regress_c.specs.declared.refusal.Refusal.TheVariants.{TooManyGroups, TooManyLoops, TooManyInstructions, UnknownFlag, TooLong, TooDeep}
-use Rattle.regress_c.specs.declared.refusal.Refusal.TheVariants.{NoGroup, NotOpen, NotCounted, NoBound, WorkLimit}
+use Rattle.regress_c.specs.declared.refusal.Refusal.TheVariants.{NoGroup, NotOpen, NotCounted, NoBound, WorkLimit, UnknownSyntax}
 
 -- The code of a call that succeeded.
 abbrev pub done : ℕ
@@ -42,6 +42,7 @@ code_of NotOpen = 17
 code_of NotCounted = 18
 code_of NoBound = 19
 code_of WorkLimit = 20
+code_of UnknownSyntax = 21
 
 -- The refusal for an error of compiling a pattern. Every other error is reported as `Memory`.
 abbrev pub refused_as : Error → Refusal

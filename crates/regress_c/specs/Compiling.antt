@@ -2,29 +2,37 @@
 use Rattle.std.specs.Prelude.{◌≡◌, ◌<◌, ◌≤◌, ◌-◌, ◌^◌, ℕ, List, Option, Some, None, Result, Ok, Err, length}
 use Rattle.regex_meaning.specs.Tree.{Flags}
 use Rattle.regex_meaning.specs.FlagLettersAndEscaping.{flags_from_letters}
-use Rattle.regex_pattern_front.specs.ParenthesisDepth.{greatest_parenthesis_depth_in}
-use Rattle.regex_grammar.specs.ParserInvariants.{HasNoTree, OpensTooManyGroups}
+use Rattle.regex_parser.specs.ParenthesisDepth.{greatest_parenthesis_depth_in}
+use Rattle.regex_parser.specs.SyntaxDialects.{spec_syntax_of}
+use Rattle.regex_parser.specs.ParserInvariants.{HasNoTreeIn, OpensTooManyGroups}
+use Rattle.regex_parser.specs.declared.syntax.Syntax as pattern
+use Rattle.regex_parser.specs.declared.syntax.Syntax.TheVariants.{Profile}
 use Rattle.regress_program.specs.declared.emit.EmitError.TheVariants as emit
-use Rattle.regress_match.specs.ProgramTreesAndAnswers.{IsCompiledWith}
-use Rattle.regress_match.specs.CompileErrors.{ExceedsLimit}
+use Rattle.regress_match.specs.ProgramTreesAndAnswers.{IsCompiledWithSyntax}
+use Rattle.regress_match.specs.CompileErrors.{ExceedsLimitWithSyntax}
 use Rattle.regress_match.specs.declared.api.regex.Regex.{Regex}
 use Rattle.regress_c.specs.Codes.{code_of, done}
 use Rattle.regress_c.specs.Reading.{AreFlags}
 use Rattle.regress_c.specs.declared.compiling.Bounds.{Bounds}
 use Rattle.regress_c.specs.declared.refusal.Refusal.{Refusal}
 use Rattle.regress_c.specs.declared.refusal.Refusal.TheVariants.{Empty, Full, NotUtf8, Memory, Syntax, TooManyGroups, TooManyLoops}
-use Rattle.regress_c.specs.declared.refusal.Refusal.TheVariants.{TooManyInstructions, UnknownFlag, TooLong, TooDeep}
+use Rattle.regress_c.specs.declared.refusal.Refusal.TheVariants.{TooManyInstructions, UnknownFlag, UnknownSyntax, TooLong, TooDeep}
 
--- A pattern as given: whether it is valid in its encoding, its code points, and the letters of its
--- flags.
+-- A pattern as given: its language, whether it is valid in its encoding, its code points, and the
+-- letters of its flags.
 pub record Given : Type 1 where
+  pub syntax : pattern.Syntax
   pub is_text : Type 0
   pub characters : List ℕ
   pub flags : List ℕ
 
 -- The pattern with these fields.
+abbrev pub given_with_syntax : pattern.Syntax → (is_text : Type 0) → (characters flags : List ℕ) → Given
+given_with_syntax syntax is_text characters flags = record { syntax = syntax; is_text = is_text; characters = characters; flags = flags }
+
+-- The pattern of the profile with these fields.
 abbrev pub given : (is_text : Type 0) → (characters flags : List ℕ) → Given
-given is_text characters flags = record { is_text = is_text; characters = characters; flags = flags }
+given = given_with_syntax Profile
 
 -- All letters are those of flags, and the pattern is valid in its encoding.
 pub record IsReadable (g : Given) : Type 0 where
@@ -42,23 +50,23 @@ pub record IsWithin (bounds : Bounds) (characters : List ℕ) : Type 0 where
 
 -- When the pattern itself is refused: the grammar has no tree for it, it opens too many groups, or
 -- its tree exceeds another limit.
-abbrev pub RefusesPattern : Flags → (characters : List ℕ) → Refusal → Type 0
-RefusesPattern flags characters Syntax = HasNoTree flags characters
-RefusesPattern flags characters TooManyGroups = OpensTooManyGroups characters
-RefusesPattern flags characters TooManyLoops = ExceedsLimit flags characters emit.TooManyLoops
-RefusesPattern flags characters TooManyInstructions = ExceedsLimit flags characters emit.TooManyInstructions
-RefusesPattern flags characters _ = ⊥
+abbrev pub RefusesPattern : pattern.Syntax → Flags → (characters : List ℕ) → Refusal → Type 0
+RefusesPattern syntax flags characters Syntax = HasNoTreeIn (spec_syntax_of syntax) flags characters
+RefusesPattern syntax flags characters TooManyGroups = OpensTooManyGroups characters
+RefusesPattern syntax flags characters TooManyLoops = ExceedsLimitWithSyntax (spec_syntax_of syntax) flags characters emit.TooManyLoops
+RefusesPattern syntax flags characters TooManyInstructions = ExceedsLimitWithSyntax (spec_syntax_of syntax) flags characters emit.TooManyInstructions
+RefusesPattern syntax flags characters _ = ⊥
 
 -- The result is the pattern compiled with these flags, or why it is refused.
 abbrev pub Compiles : Given → Bounds → Result Regex Refusal → Type 0
 Compiles g bounds (Ok re) =
-    IsReadable g × IsWithin bounds g.characters × IsCompiledWith (flags_from_letters g.flags) g.characters re
+    IsReadable g × IsWithin bounds g.characters × IsCompiledWithSyntax (spec_syntax_of g.syntax) (flags_from_letters g.flags) g.characters re
 Compiles g bounds (Err UnknownFlag) = ¬ AreFlags g.flags
 Compiles g bounds (Err NotUtf8) = ¬ g.is_text
 Compiles g bounds (Err Memory) = IsReadable g
 Compiles g bounds (Err TooLong) = IsReadable g × (bounds.length < length g.characters)
 Compiles g bounds (Err TooDeep) = IsReadable g × (bounds.nesting < greatest_parenthesis_depth_in g.characters)
-Compiles g bounds (Err refusal) = IsReadable g × IsWithin bounds g.characters × RefusesPattern (flags_from_letters g.flags) g.characters refusal
+Compiles g bounds (Err refusal) = IsReadable g × IsWithin bounds g.characters × RefusesPattern g.syntax (flags_from_letters g.flags) g.characters refusal
 
 -- The result of compiling into a handle that holds `held`; a handle that is not empty is refused.
 abbrev pub CompilesInto : (held : Option Regex) → Given → Bounds → Result Regex Refusal → Type 0
@@ -79,6 +87,13 @@ held_after held (Err refusal) = held
 abbrev pub RepliesMade : (before : Option Regex) → Given → Bounds → (after : Option Regex) → (code : ℕ) → Type 0
 RepliesMade before g bounds after code = (made : Result Regex Refusal)
     × CompilesInto before g bounds made × (code ≡ code_of_made made) × (after ≡ held_after before made)
+
+-- The same for a pattern of this language. Without one, the language is refused, and the handle is
+-- unchanged.
+abbrev pub RepliesMadeWithSyntax :
+    (before : Option Regex) → Option pattern.Syntax → (pattern.Syntax → Given) → Bounds → (after : Option Regex) → (code : ℕ) → Type 0
+RepliesMadeWithSyntax before None g bounds after code = (code ≡ code_of UnknownSyntax) × (after ≡ before)
+RepliesMadeWithSyntax before (Some syntax) g bounds after code = RepliesMade before (g syntax) bounds after code
 
 -- The result is an equal pattern if a pattern is held and the other handle is empty; otherwise it
 -- is refused, or an allocation failed.

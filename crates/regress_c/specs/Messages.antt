@@ -25,4 +25,5 @@ message_of code =
     else if code == 18 then codes "steps are counted in UTF-8 only"
     else if code == 19 then codes "no work bound is known"
     else if code == 20 then codes "the work limit is reached"
+    else if code == 21 then codes "unknown syntax"
     else codes "unknown code"

@@ -1,7 +1,9 @@
--- Reading of flags and of the texts of patterns.
-use Rattle.std.specs.Prelude.{◌≡◌, ℕ, Bool, List, ◌||◌, ◌==◌, IsTrue, Result, Ok, Err, Vec}
+-- Reading of flags, of the numbers of languages, and of the texts of patterns.
+use Rattle.std.specs.Prelude.{◌≡◌, ℕ, Bool, List, ◌||◌, ◌==◌, IsTrue, Option, Some, None, Result, Ok, Err, Vec, if◌then◌else◌}
 use Rattle.std.specs.List.{All}
 use Rattle.regex_meaning.specs.FlagLettersAndEscaping.{flags_from_letters}
+use Rattle.regex_parser.specs.declared.syntax.Syntax.{Syntax}
+use Rattle.regex_parser.specs.declared.syntax.Syntax.TheVariants.{Profile, EcmaScript2018}
 use Rattle.regress_match.specs.PublicFlagsAsSpecFlags.{spec_flags_of}
 use Rattle.regress_match.specs.declared.api.flags.Flags.{Flags}
 use Rattle.regress_c.specs.declared.refusal.Refusal.{Refusal}
@@ -21,6 +23,10 @@ abbrev pub ReadsFlags : (letters : List ℕ) → Result Flags Refusal → Type 0
 ReadsFlags letters (Ok flags) = AreFlags letters × (spec_flags_of flags ≡ flags_from_letters letters)
 ReadsFlags letters (Err UnknownFlag) = ¬ AreFlags letters
 ReadsFlags letters (Err _) = ⊥
+
+-- The language with this number.
+abbrev pub syntax_of_number : (number : ℕ) → Option Syntax
+syntax_of_number number = if number == 0 then Some Profile else if number == 1 then Some EcmaScript2018 else None
 
 -- The result is the code points of a pattern, or `NotUtf8` if it is not valid in its encoding.
 abbrev pub Reads : {Z : Type 0} → (is_text : Type 0) → (characters : List ℕ) → Result (Vec ℕ Z) Refusal → Type 0

@@ -6,6 +6,7 @@ use Rattle.regex_meaning.specs.FlagLettersAndEscaping.{escape}
 use Rattle.regex_meaning.specs.MatchGroupsByNumberAndName.{Answer, group_names_by_id}
 use Rattle.regex_meaning.specs.Replace.{replaced}
 use Rattle.regex_meaning.specs.Tree.{group_ids}
+use Rattle.regex_parser.specs.declared.syntax.Syntax as pattern
 use Rattle.regress_match.specs.ProgramTreesAndAnswers.{tree_for_byte_units, utf8_answers}
 use Rattle.regress_match.specs.ExpansionsAndMatchRanges.{matches_with_expansions}
 use Rattle.regress_match.specs.declared.api.regex.Regex.{Regex}
@@ -17,7 +18,7 @@ use Rattle.regress_c.specs.declared.answer.Told.{Told}
 use Rattle.regress_c.specs.declared.answer.Which.{Which}
 use Rattle.regress_c.specs.declared.answer.Which.TheVariants.{First, All}
 use Rattle.regress_c.specs.declared.refusal.Refusal.{Refusal}
-use Rattle.regress_c.specs.declared.refusal.Refusal.TheVariants.{Empty, NotUtf8, ShortBuffer, Memory, Syntax, UnknownFlag, NoGroup}
+use Rattle.regress_c.specs.declared.refusal.Refusal.TheVariants.{Empty, NotUtf8, ShortBuffer, Memory, Syntax, UnknownFlag, UnknownSyntax, NoGroup}
 use Rattle.regress_c.specs.declared.reply.Reply.{Reply}
 
 -- ---- A text, and a buffer for it
@@ -134,3 +135,12 @@ place_after (Err refusal) at = at
 abbrev pub RepliesTold : Given → (width : ℕ → ℕ) → (at : ℕ) → (before : List ℕ) → (at' : ℕ) → (after : List ℕ) → Reply → Type 0
 RepliesTold given width at before at' after reply = (told : Result (Option Told) Refusal)
     × Diagnoses given width told × (reply ≡ told_reply told (length before)) × (at' ≡ place_after told at) × (after ≡ left_by_told told before)
+
+-- The same for a pattern of this language. Without one, the language is refused, and nothing is
+-- written.
+abbrev pub RepliesToldWithSyntax : Option pattern.Syntax → (pattern.Syntax → Given) → (width : ℕ → ℕ)
+    → (at : ℕ) → (before : List ℕ) → (at' : ℕ) → (after : List ℕ) → Reply → Type 0
+RepliesToldWithSyntax None given width at before at' after reply =
+    (reply ≡ record { code = code_of UnknownSyntax; count = 0 }) × (at' ≡ at) × (after ≡ before)
+RepliesToldWithSyntax (Some syntax) given width at before at' after reply =
+    RepliesTold (given syntax) width at before at' after reply

@@ -3,8 +3,10 @@
 ghost use Rattle.std.specs.Prelude.{◌≡◌, ◌<◌, ◌≤◌, IfSome, Some, get_or, length, map, string_bytes, take, []};
 ghost use Rattle.std.specs.List.{sum_by};
 ghost use Rattle.std.specs.Result.{result_map_both};
-ghost use Rattle.regress_c.specs.Compiling.{given};
-ghost use Rattle.regress_c.specs.Texts.{Diagnoses, Escapes, Names, Replaces, ReplacesBy, RepliesText, RepliesTold, count_reply, left_by_made, left_by_text, made_reply};
+ghost use Rattle.regress_c.specs.Compiling.{given_with_syntax};
+ghost use Rattle.regress_c.specs.Reading.{syntax_of_number};
+ghost use Rattle.regress_c.specs.Texts.{Diagnoses, Escapes, Names, Replaces, ReplacesBy, RepliesText, RepliesTold, RepliesToldWithSyntax, count_reply, left_by_made};
+ghost use Rattle.regress_c.specs.Texts.{left_by_text, made_reply};
 ghost use Rattle.regress_c.specs.Texts.{text_reply};
 ghost use Rattle.regress_c.specs.{Codes.{done}, GroupNumbers.{first_id_named, number_reply}, Messages.{message_of as message_text}};
 
@@ -14,8 +16,9 @@ use crate::pattern::Pattern;
 use crate::refusal::{DONE, Refusal};
 use crate::reply::Reply;
 use crate::source::Source;
-use regex_pattern_front::parse::diagnose;
-use regress_match::{Regex, escape};
+use crate::syntax::syntax_of;
+use regress_match::backends::diagnose_in;
+use regress_match::{Regex, Syntax, escape};
 use std::alloc::{AllocError, Global};
 
 /// Which matches are replaced.
@@ -170,18 +173,38 @@ fn name_at(names: &[String], index: usize) -> &str
     }
 }
 
+/// Writes what is wrong with a pattern of the language with this number, like `diagnosis`.
+pub(crate) fn diagnosis_with_syntax<S: Source>(
+    alloc: Global,
+    source: &S,
+    flags: &[u8],
+    syntax: u32,
+    at: &mut usize,
+    buffer: &mut [u8],
+) -> Reply
+    ensures { RepliesToldWithSyntax (syntax_of_number syntax)
+        (λ s. given_with_syntax s (S.is_text source.now) (S.characters source.now) flags.now) S.width_of
+        at.old buffer.old at.new buffer.new result }
+{
+    match syntax_of(syntax) {
+        Some(syntax) => diagnosis(alloc, source, flags, syntax, at, buffer),
+        None => Refusal::UnknownSyntax.reply(),
+    }
+}
+
 /// Writes what is wrong with a pattern that has a syntax error, and sets `at` to where.
 pub(crate) fn diagnosis<S: Source>(
     alloc: Global,
     source: &S,
     flags: &[u8],
+    syntax: Syntax,
     at: &mut usize,
     buffer: &mut [u8],
 ) -> Reply
-    ensures { RepliesTold (given (S.is_text source.now) (S.characters source.now) flags.now) S.width_of
-        at.old buffer.old at.new buffer.new result }
+    ensures { RepliesTold (given_with_syntax syntax (S.is_text source.now) (S.characters source.now) flags.now)
+        S.width_of at.old buffer.old at.new buffer.new result }
 {
-    match diagnosed(alloc, source, flags) {
+    match diagnosed(alloc, source, flags, syntax) {
         Ok(Some(told)) => {
             *at = told.at;
             copied(told.cause.as_bytes(), buffer, Refusal::Syntax.code())
@@ -202,12 +225,18 @@ struct Told {
 }
 
 // Returns the diagnosis of a pattern, or `None` if there is nothing wrong.
-fn diagnosed<S: Source>(alloc: Global, source: &S, flags: &[u8]) -> Result<Option<Told>, Refusal>
-    ensures { Diagnoses (given (S.is_text source.now) (S.characters source.now) flags.now) S.width_of result }
+fn diagnosed<S: Source>(
+    alloc: Global,
+    source: &S,
+    flags: &[u8],
+    syntax: Syntax,
+) -> Result<Option<Told>, Refusal>
+    ensures { Diagnoses (given_with_syntax syntax (S.is_text source.now) (S.characters source.now) flags.now)
+        S.width_of result }
 {
     let flags = flags_from(flags)?;
     let code_points = source.code_points(alloc)?;
-    let Some(diagnosis) = diagnose(alloc, &code_points, flags.for_front())? else {
+    let Some(diagnosis) = diagnose_in(alloc, &code_points, flags.for_front(), syntax)? else {
         return Ok(None);
     };
     Ok(Some(Told {

@@ -2,13 +2,15 @@
 
 ghost use Rattle.std.specs.Prelude.{◌≡◌, None};
 ghost use Rattle.std.specs.Result.{result_map_both};
-ghost use Rattle.regress_c.specs.Compiling.{Compiles, RepliesMade, code_of_made, given, held_after};
+ghost use Rattle.regress_c.specs.Compiling.{Compiles, RepliesMade, RepliesMadeWithSyntax, code_of_made, given_with_syntax, held_after};
+ghost use Rattle.regress_c.specs.Reading.{syntax_of_number};
 
 use crate::flags::flags_from;
 use crate::pattern::Pattern;
 use crate::refusal::{DONE, Refusal};
 use crate::source::Source;
-use regress_match::{Regex, nesting};
+use crate::syntax::syntax_of;
+use regress_match::{Regex, Syntax, nesting};
 use std::alloc::Global;
 
 /// The maximum length and nesting depth of a pattern.
@@ -29,23 +31,44 @@ impl Bounds {
     };
 }
 
+/// Compiles a pattern of the language with this number into an empty handle, and returns the code.
+pub(crate) fn compile_with_syntax<S: Source>(
+    alloc: Global,
+    pattern: &mut Pattern,
+    source: &S,
+    flags: &[u8],
+    syntax: u32,
+    bounds: Bounds,
+) -> u32
+    ensures { RepliesMadeWithSyntax pattern.old.held (syntax_of_number syntax)
+        (λ s. given_with_syntax s (S.is_text source.now) (S.characters source.now) flags.now) bounds
+        pattern.new.held result }
+{
+    match syntax_of(syntax) {
+        Some(syntax) => compile(alloc, pattern, source, flags, syntax, bounds),
+        None => Refusal::UnknownSyntax.code(),
+    }
+}
+
 /// Compiles a pattern into an empty handle, and returns the code.
 pub(crate) fn compile<S: Source>(
     alloc: Global,
     pattern: &mut Pattern,
     source: &S,
     flags: &[u8],
+    syntax: Syntax,
     bounds: Bounds,
 ) -> u32
-    ensures { RepliesMade pattern.old.held (given (S.is_text source.now) (S.characters source.now) flags.now)
-        bounds pattern.new.held result }
+    ensures { RepliesMade pattern.old.held
+        (given_with_syntax syntax (S.is_text source.now) (S.characters source.now) flags.now) bounds
+        pattern.new.held result }
 {
     match pattern.take(alloc) {
         Some(held) => {
             pattern.put(held);
             Refusal::Full.code()
         }
-        None => fill(pattern, compiled(alloc, source, flags, bounds)),
+        None => fill(pattern, compiled(alloc, source, flags, syntax, bounds)),
     }
 }
 
@@ -69,10 +92,11 @@ fn compiled<S: Source>(
     alloc: Global,
     source: &S,
     flags: &[u8],
+    syntax: Syntax,
     bounds: Bounds,
 ) -> Result<Box<Regex>, Refusal>
-    ensures { Compiles (given (S.is_text source.now) (S.characters source.now) flags.now) bounds
-        (result_map_both (λ b. b.value) (λ e. e) result) }
+    ensures { Compiles (given_with_syntax syntax (S.is_text source.now) (S.characters source.now) flags.now)
+        bounds (result_map_both (λ b. b.value) (λ e. e) result) }
 {
     let flags = flags_from(flags)?;
     let code_points = source.code_points(alloc)?;
@@ -82,7 +106,7 @@ fn compiled<S: Source>(
     if nesting(&code_points) > bounds.nesting {
         return Err(Refusal::TooDeep);
     }
-    match Regex::from_unicode(alloc, &code_points, flags) {
+    match Regex::from_unicode_with_syntax(alloc, &code_points, flags, syntax) {
         Ok(re) => Ok(Box::new(alloc, re)?),
         Err(error) => Err(Refusal::of_error(error)),
     }

@@ -9,12 +9,13 @@
 ghost use Rattle.std.specs.Prelude.{◌≡◌, IsUtf8, None, Some, chars, length};
 ghost use Rattle.std.specs.Char.{len_utf8};
 ghost use Rattle.regex_meaning.specs.Text.{utf16_characters, utf16_width};
-ghost use Rattle.regress_c.specs.{Compiling.{RepliesCloned, RepliesMade, given, unbounded}, Going.{RepliesNext}};
+ghost use Rattle.regress_c.specs.{Compiling.{RepliesCloned, RepliesMade, RepliesMadeWithSyntax, given, given_with_syntax, unbounded}, Going.{RepliesNext}};
 ghost use Rattle.regress_c.specs.{InWork.{RepliesInWork, RepliesReckoned}, Opening.{OpensUcs2, OpensUtf8, OpensUtf16, RepliesOpened}};
+ghost use Rattle.regress_c.specs.Reading.{syntax_of_number};
 ghost use Rattle.regress_c.specs.Searching.{Replies, can_start_utf8, can_start_utf16, ucs2_coming, utf8_coming, utf16_coming};
 ghost use Rattle.regress_c.specs.{AllInWork.{RepliesAllInWork}, Codes.{done}, GroupNumbers.{number_reply}};
 ghost use Rattle.regress_c.specs.{MatchesAt.{ucs2_coming_at, utf16_coming_at, utf8_coming_at}, Messages.{message_of}};
-ghost use Rattle.regress_c.specs.Texts.{Escapes, NamesBy, ReplacesBy, RepliesText, RepliesTold, count_reply, left_by_text, text_reply};
+ghost use Rattle.regress_c.specs.Texts.{Escapes, NamesBy, ReplacesBy, RepliesText, RepliesTold, RepliesToldWithSyntax, count_reply, left_by_text, text_reply};
 ghost use Rattle.regress_c.specs.declared.answer.Which.TheVariants.{First, All};
 
 mod all_in_work;
@@ -34,12 +35,13 @@ mod search;
 mod searching;
 mod source;
 mod subject;
+mod syntax;
 mod worked;
 
 use crate::all_in_work::find_all;
 use crate::anchored::{AnchoredUcs2, AnchoredUtf8, AnchoredUtf16};
 use crate::answer::{Which, named, numbered};
-use crate::compiling::{Bounds, compile};
+use crate::compiling::{Bounds, compile, compile_with_syntax};
 use crate::going::go_on;
 use crate::opening::open;
 use crate::pattern::Pattern;
@@ -50,6 +52,7 @@ use crate::searching::search;
 use crate::source::{Utf8Source, Utf16Source};
 use crate::subject::{Ucs2, Utf8, Utf16};
 use crate::worked::{find, reckon};
+use regress_match::Syntax;
 use std::alloc::Global;
 
 /// The version, encoded as in the header: 10203 for `1.2.3`.
@@ -82,6 +85,7 @@ pub extern "C" fn regress_c_compile_utf8(
         pattern,
         &Utf8Source { bytes: text },
         flags,
+        Syntax::Profile,
         Bounds::NONE,
     )
 }
@@ -98,7 +102,14 @@ pub extern "C" fn regress_c_compile_utf8_within(
     ensures { RepliesMade pattern.old.held (given (IsUtf8 text.now) (chars text.now) flags.now) bounds.now
         pattern.new.held result }
 {
-    compile(alloc, pattern, &Utf8Source { bytes: text }, flags, *bounds)
+    compile(
+        alloc,
+        pattern,
+        &Utf8Source { bytes: text },
+        flags,
+        Syntax::Profile,
+        *bounds,
+    )
 }
 
 /// Compiles a UTF-16 pattern, like `regress_c_compile_utf8`.
@@ -117,6 +128,7 @@ pub extern "C" fn regress_c_compile_utf16(
         pattern,
         &Utf16Source { units: text },
         flags,
+        Syntax::Profile,
         Bounds::NONE,
     )
 }
@@ -133,7 +145,63 @@ pub extern "C" fn regress_c_compile_utf16_within(
     ensures { RepliesMade pattern.old.held (given (Unit {0}) (utf16_characters text.now) flags.now)
         bounds.now pattern.new.held result }
 {
-    compile(alloc, pattern, &Utf16Source { units: text }, flags, *bounds)
+    compile(
+        alloc,
+        pattern,
+        &Utf16Source { units: text },
+        flags,
+        Syntax::Profile,
+        *bounds,
+    )
+}
+
+/// Compiles a UTF-8 pattern of the language with this number in the header, and within bounds, like
+/// `regress_c_compile_utf8`.
+#[unsafe(no_mangle)]
+pub extern "C" fn regress_c_compile_utf8_with_syntax(
+    alloc: Global,
+    pattern: &mut Pattern,
+    text: &[u8],
+    flags: &[u8],
+    syntax: u32,
+    bounds: &Bounds,
+) -> u32
+    ensures { RepliesMadeWithSyntax pattern.old.held (syntax_of_number syntax)
+        (λ s. given_with_syntax s (IsUtf8 text.now) (chars text.now) flags.now) bounds.now
+        pattern.new.held result }
+{
+    compile_with_syntax(
+        alloc,
+        pattern,
+        &Utf8Source { bytes: text },
+        flags,
+        syntax,
+        *bounds,
+    )
+}
+
+/// Compiles a UTF-16 pattern, like `regress_c_compile_utf8_with_syntax`.
+#[unsafe(no_mangle)]
+pub extern "C" fn regress_c_compile_utf16_with_syntax(
+    alloc: Global,
+    pattern: &mut Pattern,
+    text: &[u16],
+    flags: &[u8],
+    syntax: u32,
+    bounds: &Bounds,
+) -> u32
+    ensures { RepliesMadeWithSyntax pattern.old.held (syntax_of_number syntax)
+        (λ s. given_with_syntax s (Unit {0}) (utf16_characters text.now) flags.now) bounds.now
+        pattern.new.held result }
+{
+    compile_with_syntax(
+        alloc,
+        pattern,
+        &Utf16Source { units: text },
+        flags,
+        syntax,
+        *bounds,
+    )
 }
 
 /// Writes what is wrong with a UTF-8 pattern, and sets `at` to the offset in bytes at which it
@@ -149,7 +217,14 @@ pub extern "C" fn regress_c_diagnose_utf8(
     ensures { RepliesTold (given (IsUtf8 text.now) (chars text.now) flags.now) len_utf8 at.old cause.old
         at.new cause.new result }
 {
-    answer::diagnosis(alloc, &Utf8Source { bytes: text }, flags, at, cause)
+    answer::diagnosis(
+        alloc,
+        &Utf8Source { bytes: text },
+        flags,
+        Syntax::Profile,
+        at,
+        cause,
+    )
 }
 
 /// Writes what is wrong with a UTF-16 pattern, and sets `at` to the offset in code units at which
@@ -165,7 +240,56 @@ pub extern "C" fn regress_c_diagnose_utf16(
     ensures { RepliesTold (given (Unit {0}) (utf16_characters text.now) flags.now) utf16_width at.old
         cause.old at.new cause.new result }
 {
-    answer::diagnosis(alloc, &Utf16Source { units: text }, flags, at, cause)
+    answer::diagnosis(
+        alloc,
+        &Utf16Source { units: text },
+        flags,
+        Syntax::Profile,
+        at,
+        cause,
+    )
+}
+
+/// Writes what is wrong with a UTF-8 pattern of the language with this number in the header, like
+/// `regress_c_diagnose_utf8`.
+#[unsafe(no_mangle)]
+pub extern "C" fn regress_c_diagnose_utf8_with_syntax(
+    alloc: Global,
+    text: &[u8],
+    flags: &[u8],
+    syntax: u32,
+    at: &mut usize,
+    cause: &mut [u8],
+) -> Reply
+    ensures { RepliesToldWithSyntax (syntax_of_number syntax)
+        (λ s. given_with_syntax s (IsUtf8 text.now) (chars text.now) flags.now) len_utf8 at.old cause.old
+        at.new cause.new result }
+{
+    answer::diagnosis_with_syntax(alloc, &Utf8Source { bytes: text }, flags, syntax, at, cause)
+}
+
+/// Writes what is wrong with a UTF-16 pattern, like `regress_c_diagnose_utf8_with_syntax`.
+#[unsafe(no_mangle)]
+pub extern "C" fn regress_c_diagnose_utf16_with_syntax(
+    alloc: Global,
+    text: &[u16],
+    flags: &[u8],
+    syntax: u32,
+    at: &mut usize,
+    cause: &mut [u8],
+) -> Reply
+    ensures { RepliesToldWithSyntax (syntax_of_number syntax)
+        (λ s. given_with_syntax s (Unit {0}) (utf16_characters text.now) flags.now) utf16_width at.old
+        cause.old at.new cause.new result }
+{
+    answer::diagnosis_with_syntax(
+        alloc,
+        &Utf16Source { units: text },
+        flags,
+        syntax,
+        at,
+        cause,
+    )
 }
 
 /// Puts an equal pattern into an empty handle, without compiling it again, and returns a code.

@@ -29,6 +29,7 @@ pub(crate) fn message_of(code: u32) -> &'static str
         18 => "steps are counted in UTF-8 only",
         19 => "no work bound is known",
         20 => "the work limit is reached",
+        21 => "unknown syntax",
         _ => "unknown code",
     }
 }

@@ -4,7 +4,7 @@ ghost use Rattle.std.specs.Prelude.{◌≡◌};
 ghost use Rattle.regress_c.specs.Codes.{code_of, refused_as};
 
 use crate::reply::Reply;
-use regex_pattern_front::parse::ParseError;
+use regex_parser::parse::ParseError;
 use regress_match::{Error, SearchError, WorkError};
 use regress_program::emit::EmitError;
 use std::alloc::{AllocError, AllocFailed};
@@ -57,6 +57,8 @@ pub(crate) enum Refusal {
     NoBound,
     /// The work budget is used up.
     WorkLimit,
+    /// No syntax has this number.
+    UnknownSyntax,
 }
 
 impl Refusal {
@@ -84,6 +86,7 @@ impl Refusal {
             Refusal::NotCounted => 18,
             Refusal::NoBound => 19,
             Refusal::WorkLimit => 20,
+            Refusal::UnknownSyntax => 21,
         }
     }
 

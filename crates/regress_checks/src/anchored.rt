@@ -1,9 +1,9 @@
 //! Which patterns have programs that are tried at the left end alone.
 
 use crate::rows::{Row, compare};
+use regex_parser::parse::try_parse;
 use regex_pattern_front::flags::Flags;
 use regex_pattern_front::ir::Regex;
-use regex_pattern_front::parse::try_parse;
 use regress_program::emit::{emit, emit_units};
 use std::alloc::{AllocError, Global};
 

@@ -1,7 +1,7 @@
 //! The texts of errors, and the diagnoses of patterns that are refused.
 
 use regress_match::emit::EmitError;
-use regress_match::{Error, Flags, Regex, ReplaceError, SearchError};
+use regress_match::{Error, Flags, Regex, ReplaceError, SearchError, Syntax};
 use std::alloc::AllocError;
 use std::test::Fail;
 
@@ -54,7 +54,13 @@ fn errors_of_the_face_have_texts(rt: HostRuntime) -> Result<(), Fail> {
 }
 
 fn write_told(text: &mut String, pattern: &str, flags: &str) -> Result<(), AllocError> {
-    match Regex::diagnose(*text.allocator(), pattern, Flags::from(flags))? {
+    let alloc = *text.allocator();
+    let told = if flags.starts_with('+') {
+        Regex::diagnose_with_syntax(alloc, pattern, Flags::from(flags), Syntax::EcmaScript2018)?
+    } else {
+        Regex::diagnose(alloc, pattern, Flags::from(flags))?
+    };
+    match told {
         Some(told) => write!(
             text,
             "{told}, byte {}\n{}",
@@ -65,8 +71,14 @@ fn write_told(text: &mut String, pattern: &str, flags: &str) -> Result<(), Alloc
     }
 }
 
-// A pattern, its flags, and the text of its diagnosis.
-const TOLD: [(&str, &str, &str); 6] = [
+// A pattern, its flags, behind a `+` if it is one of the whole language, and the text of its diagnosis.
+const TOLD: [(&str, &str, &str); 8] = [
+    (
+        r"a\p{x}",
+        "+u",
+        "unknown property at 1, byte 1\na\\p{x}\n ^ unknown property",
+    ),
+    (r"\p{L}", "+u", "a pattern"),
     (
         "é(a|b",
         "",

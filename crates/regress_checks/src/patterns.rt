@@ -1,7 +1,7 @@
 //! Patterns of rows, and those of trees made by hand, of which some are no pattern's.
 
 use regress_match::backends::{emit, emit_units, optimize};
-use regress_match::{Error, Flags, Regex};
+use regress_match::{Error, Flags, Regex, Syntax};
 use regress_program::emit::EmitError;
 use regress_program::insn::CompiledRegexFor16BitUnits;
 use regress_trees::tree_of;
@@ -45,6 +45,24 @@ fn regex_of_points(alloc: Global, pattern: &str, no_opt: bool) -> Result<Regex, 
     Regex::from_unicode(alloc, &points, flags)
 }
 
+// A pattern with the flags of these letters. Behind a `+` it is one of the whole language.
+fn regex_of_letters(
+    alloc: Global,
+    pattern: &str,
+    letters: &str,
+    no_opt: bool,
+) -> Result<Regex, Error> {
+    let flags = Flags {
+        no_opt,
+        ..Flags::from(letters)
+    };
+    if letters.starts_with('+') {
+        Regex::with_syntax(alloc, pattern, flags, Syntax::EcmaScript2018)
+    } else {
+        Regex::with_flags(alloc, pattern, flags)
+    }
+}
+
 // A pattern with the flags of these letters. In place of letters stand the constructors that take none, `new` and
 // `from_str`; `points` for that of code points; `tree`, where the pattern is a tree in words, and `pair`, where it is two.
 pub fn regex_of(alloc: Global, pattern: &str, flags: &str, no_opt: bool) -> Result<Regex, Error> {
@@ -54,13 +72,7 @@ pub fn regex_of(alloc: Global, pattern: &str, flags: &str, no_opt: bool) -> Resu
         "points" => regex_of_points(alloc, pattern, no_opt),
         "tree" => regex_of_trees(alloc, pattern, pattern, no_opt),
         "pair" => regex_of_pair(alloc, pattern, no_opt),
-        letters => {
-            let flags = Flags {
-                no_opt,
-                ..Flags::from(letters)
-            };
-            Regex::with_flags(alloc, pattern, flags)
-        }
+        letters => regex_of_letters(alloc, pattern, letters, no_opt),
     }
 }
 

@@ -2,8 +2,8 @@
 
 use crate::lines::write_utf8;
 use crate::rows::{Row, compare};
+use regex_parser::parse::try_parse;
 use regex_pattern_front::flags::Flags;
-use regex_pattern_front::parse::try_parse;
 use regress_match::SearchError;
 use regress_match::backends::{DefaultExecutor, emit};
 use regress_pikevm::exec::{Matches, ProducerFromProgramAndText};

@@ -7,6 +7,17 @@ pub const SEARCHES: &str = r#"a|ab~~abc~all~0..1
 ((a)|(ab))((c)|(bc))~~abc~all~0..3 0..1 0..1 - 1..3 - 1..3
 (?<=x)y~~yxy~all~2..3
 (?<=x)y~~xyxy~1~1..2; 3..4
+\101|(?=a)*b~+~Ab~all~0..1; 1..2
+\p{Lu}+~+u~aÉB~all~1..4
+\1(a)~+~aa~all~0..1 0..1; 1..2 1..2
+(?<\u0061>a)\k<a>~+~aa~all~0..2 0..1
+\k<n>{~+~k<n>{~all~0..5
+[^é]~+i~Éa~all~2..3
+ß~+i~ẞ~all~
+ß~+iu~ẞ~all~0..3
+(ß)\1~+iu~ßẞ~all~0..5 0..2
+(?=a)*~+u~a~all~no pattern
+\-~+u~-~all~no pattern
 a|ab~~xab~at 0~
 a|ab~~xab~at 1~1..2
 a|ab~~xab~at 2~
@@ -196,6 +207,17 @@ cat:2 istrings:2 set:61,62 set:61 goal~tree~ABaBxA~0~0..2; 2..4; 5..6
 cat:2 istrings:2 set:E9,73 set:31 goal~tree~ésÉséS1~0~0..3; 6..9; 9..10
 cat:3 behind:0,0 istrings:2 set:62 set:61,62 c goal~tree~ABcbcB~0~2..3; 4..5
 cat:3 loop:0,0,1 istrings:1 set:61,62 c goal~tree~xaBABcab~0~1..6
+cat:3 group:0 any canonical:1,0 goal~tree~aAéÉÿŸµΜ~0~0..2 0..1; 2..6 2..4; 6..10 6..8; 10..14 10..12
+cat:3 group:0 any canonical:1,0 goal~tree~ßẞkKſs𐐨𐐀ıIİi~0~
+cat:3 group:0 any canonical:1,0 goal~tree~ςσ~0~0..4 0..2
+cat:3 group:0 any canonical:1,1 goal~tree~aAéÉßẞkKſs𐐨𐐀~0~0..2 0..1; 2..6 2..4; 6..11 6..8; 11..15 11..12; 15..18 15..17; 18..26 18..22
+cat:3 group:0 any canonical:1,1 goal~tree~ıIİiab~0~
+cat:2 behind:0,1 cat:2 group:0 any canonical:1,1 goal~tree~xKk~0~5..5 4..5
+cat:2 behind:0,1 cat:2 group:0 any canonical:1,0 goal~tree~xKk~0~
+cat:3 group:0 loop1:2,2 any canonical:1,0 goal~tree~éxÉXéxÉy~0~0..6 0..3
+cat:4 alt group:0 a empty canonical:1,0 b goal~tree~b~0~0..1 -
+cat:3 group:0 any canonical:1,0 goal~tree~abBA~0~1..3 1..2
+cat:3 group:0 any canonical:1,1 goal~tree~abBA~0~1..3 1..2
 cat:2 loop:0,0,3E8,3E8 empty goal~tree~~0~0..0
 cat:2 loop:0,0,FFFFFFFF a goal~tree~a~0~
 cat:2 ahead:5,5 a goal~tree~a~0~0..0

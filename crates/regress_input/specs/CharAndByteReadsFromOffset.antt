@@ -8,6 +8,8 @@ use Rattle.std.specs.Char.{len_utf8}
 use Rattle.regex_pattern_front.specs.FirstPassingIndex.{FindsFirstPassingIndex}
 use Rattle.regex_meaning.specs.Text.{Text, Direction, rightwards, leftwards, offsets_from, characters_ahead, next_characters, moved}
 use Rattle.regex_meaning.specs.CodeUnitOffsets.{offset, place_at, read}
+use Rattle.regex_meaning.specs.Tree.{Sameness}
+use Rattle.regex_meaning.specs.Outcomes.{is_same}
 use Rattle.regex_meaning.specs.CodeUnits.{Encoding, utf8, utf16, ucs2}
 
 -- The reading direction for a value of `FORWARD`.
@@ -64,6 +66,10 @@ module _ (text : Text) where
   -- Like `past_repeated_range_if_next`, but characters are also equal if their folds are equal.
   abbrev pub past_repeated_range_icase : (from to : ℕ) → Direction → (at : ℕ) → Option ℕ
   past_repeated_range_icase from to = past_spelled_if_next (same_fold text.fold) (characters_between from to)
+
+  -- Like `past_repeated_range_if_next`, for characters that are the same in this sense.
+  abbrev pub past_range_same : Sameness → (from to : ℕ) → Direction → (at : ℕ) → Option ℕ
+  past_range_same same from to = past_spelled_if_next (is_same text same) (characters_between from to)
 
   -- The text between two boundaries, with offsets counted from 0.
   abbrev pub part : (from to : ℕ) → Text

@@ -4,9 +4,9 @@ ghost use Rattle.std.specs.Prelude.{◌≡◌, ◌≤◌, IfSome};
 ghost use Rattle.regex_meaning.specs.CodeUnitOffsets.{IsBoundary, units};
 
 use regress_input::cursor::{self, Direction, Forward};
-use regress_input::front::ByteSearcher;
+use regress_input::front::{ByteSearcher, Sameness};
 use regress_input::indexing::{CharProperties, ElementType, InputIndexer};
-use regress_input::matchers::{backref, backref_icase};
+use regress_input::matchers::{backref, backref_alike, backref_icase};
 use regress_input::position::PositionType;
 use regress_input::scm::SingleCharMatcher;
 
@@ -175,20 +175,20 @@ pub(crate) fn part<Input: InputIndexer>(
     )
 }
 
-// The offset past the characters of a range, beside another place; with `icase` case does not count.
+// The offset past the characters of a range, beside another place.
 pub(crate) fn past_range<Input: InputIndexer, Dir: Direction>(
     input: &Input,
     dir: Dir,
     [place, count, beside]: [usize; 3],
-    icase: bool,
+    same: Sameness,
 ) -> Option<usize> {
     let start = position(input, place);
     let end = further(input, start, count);
     let mut pos = position(input, beside);
-    let matches = if icase {
-        backref_icase(input, dir, start..end, &mut pos)
-    } else {
-        backref(input, dir, start..end, &mut pos)
+    let matches = match same {
+        Sameness::Exact => backref(input, dir, start..end, &mut pos),
+        Sameness::Folded => backref_icase(input, dir, start..end, &mut pos),
+        Sameness::Alike { unicode } => backref_alike(input, dir, start..end, unicode, &mut pos),
     };
     if matches {
         Some(input.pos_to_offset(pos))

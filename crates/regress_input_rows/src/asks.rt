@@ -6,7 +6,7 @@ use crate::answers::{
 };
 use crate::matches::{matching, past_char};
 use regress_input::cursor::{Backward, Direction, Forward};
-use regress_input::front::BracketContents;
+use regress_input::front::{BracketContents, Sameness};
 use regress_input::indexing::{InputIndexer, law_reads_are_inverse};
 use std::alloc::AllocError;
 
@@ -50,9 +50,21 @@ fn beside<Input: InputIndexer, Dir: Direction>(input: &Input, dir: Dir, ask: &As
         "literal" => at(past_bytes(input, dir, place, &[low_byte(b)])),
         "literal2" => at(past_bytes(input, dir, place, &[low_byte(b), low_byte(c)])),
         "char" => at(past_char(input, dir, place, b)),
-        "range" => at(past_range(input, dir, [place, b as usize, c as usize], false)),
-        "icase" => at(past_range(input, dir, [place, b as usize, c as usize], true)),
-        _ => NO_QUESTION,
+        name => match sameness(name) {
+            Some(same) => at(past_range(input, dir, [place, b as usize, c as usize], same)),
+            None => NO_QUESTION,
+        },
+    }
+}
+
+// How characters are compared by a question for a range.
+fn sameness(name: &str) -> Option<Sameness> {
+    match name {
+        "range" => Some(Sameness::Exact),
+        "icase" => Some(Sameness::Folded),
+        "alike" => Some(Sameness::Alike { unicode: false }),
+        "alike_u" => Some(Sameness::Alike { unicode: true }),
+        _ => None,
     }
 }
 

@@ -1,5 +1,6 @@
 pub mod CallerLemmas
 pub mod FoundLemmas
+pub mod GroupCountLemmas
 pub mod Answering
 pub mod EscapeLemmas
 pub mod Expansion

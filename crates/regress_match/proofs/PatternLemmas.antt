@@ -3,18 +3,24 @@ use Rattle.std.proofs.Common.{◌≡◌, ℕ, List, Bool, true, refl, sym, ap, �
 use Rattle.regex_meaning.specs.Tree.{Tree, Node, Flags}
 use Rattle.regex_meaning.specs.Text as text
 use Rattle.regex_meaning.specs.MatchGroupsByNumberAndName.{Answer, answers_from}
-use Rattle.regex_grammar.specs.Grammar.{Parses}
+use Rattle.regex_grammar.specs.Grammar.{PatternDialect, ParsesBy, profile}
+use Rattle.regex_grammar.specs.EcmaGrammarWithAnnexB.{ecmascript}
 use Rattle.regex_grammar.proofs.Whole.{one_tree}
+use Rattle.regex_grammar.proofs.EcmaTrees.{one-tree}
 use Rattle.regex_pattern_front.proofs.OptimizedLemmas.{answers-optimized}
 use Rattle.regress_program.specs.OptimizedTreeUnlessNoOpt.{planned_tree}
 use Rattle.regress_program.proofs.RunningLemmas.{planned-same}
-use Rattle.regress_match.specs.Laws.{SearchesFollowThePattern}
-use Rattle.regress_match.specs.ProgramTreesAndAnswers.{IsCompiledWith, tree_for_byte_units, tree_for_16_bit_units}
+use Rattle.regress_match.specs.Laws.{SearchesFollowThePattern, SearchesFollowThePatternWithSyntax}
+use Rattle.regress_match.specs.ProgramTreesAndAnswers.{IsCompiledWithSyntax, tree_for_byte_units, tree_for_16_bit_units}
 use Rattle.regress_match.specs.declared.api.regex.Regex.{Regex}
 
-module _ (flags : Flags) (pattern : List ℕ) (re : Regex) (tree : Tree) (is : IsCompiledWith flags pattern re) (parsed : Parses flags pattern tree) where
+-- a pattern of this syntax has at most one tree
+abbrev HasOneTree : PatternDialect → Type 0
+HasOneTree s = (flags : Flags) (pattern : List ℕ) (t u : Tree) → ParsesBy s flags pattern t → ParsesBy s flags pattern u → t ≡ u
+
+module _ (s : PatternDialect) (one : HasOneTree s) (flags : Flags) (pattern : List ℕ) (re : Regex) (tree : Tree) (is : IsCompiledWithSyntax s flags pattern re) (parsed : ParsesBy s flags pattern tree) where
   the-tree : tree_for_16_bit_units re ≡ tree
-  the-tree = one_tree flags pattern (tree_for_16_bit_units re) tree is.parsed parsed
+  the-tree = one flags pattern (tree_for_16_bit_units re) tree is.parsed parsed
 
   in-units : (of : Bool → text.Text) (start : ℕ)
       → answers_from (tree_for_16_bit_units re).root (of (tree_for_16_bit_units re).flags.unicode) start ≡ answers_from tree.root (of flags.unicode) start
@@ -30,10 +36,17 @@ module _ (flags : Flags) (pattern : List ℕ) (re : Regex) (tree : Tree) (is : I
       (answers-optimized (tree_for_16_bit_units re).root is.well_formed (of (tree_for_16_bit_units re).flags.unicode) start)
       ∙ in-units of start
 
+module _ (s : PatternDialect) (one : HasOneTree s) where
+  follow : SearchesFollowThePatternWithSyntax s
+  follow flags pattern re tree is parsed units start = (
+    in-bytes s one flags pattern re tree is parsed (text.utf8_text units) start,
+    in-bytes s one flags pattern re tree is parsed (text.ascii_text units) start,
+    in-units s one flags pattern re tree is parsed (text.utf16_text units) start,
+    in-units s one flags pattern re tree is parsed (text.ucs2_text units) start,
+  )
+
 pub searches-follow : SearchesFollowThePattern
-searches-follow flags pattern re tree is parsed units start = (
-  in-bytes flags pattern re tree is parsed (text.utf8_text units) start,
-  in-bytes flags pattern re tree is parsed (text.ascii_text units) start,
-  in-units flags pattern re tree is parsed (text.utf16_text units) start,
-  in-units flags pattern re tree is parsed (text.ucs2_text units) start,
-)
+searches-follow = follow profile one_tree
+
+pub ecmascript-searches-follow : SearchesFollowThePatternWithSyntax ecmascript
+ecmascript-searches-follow = follow ecmascript one-tree

@@ -2,33 +2,36 @@
 use Rattle.std.proofs.Common.{◌≡◌, ◌≤◌, ◌^◌, false, length, refl, sym, ◌∙◌, subst, arith, IsTrue}
 use Rattle.std.specs.Prelude.{ℕ, List, Result, Ok, Err, IfErr}
 use Rattle.std.specs.Result.{IsErrAnd}
-use Rattle.regex_pattern_front.specs.declared.parse.ParseError.{ParseError}
-use Rattle.regex_pattern_front.specs.declared.parse.ParseError.TheVariants as parse
+use Rattle.regex_parser.specs.declared.parse.ParseError.{ParseError}
+use Rattle.regex_parser.specs.declared.parse.ParseError.TheVariants as parse
 use Rattle.regress_program.specs.declared.emit.EmitError.{EmitError}
 use Rattle.regress_program.specs.declared.emit.EmitError.TheVariants as emit
 use Rattle.regex_meaning.specs.Tree.{Node, Tree, Flags, group_ids}
 use Rattle.regex_meaning.specs.CompilationRelation.{tree_contains_byte_nodes}
 use Rattle.regress_match.specs.declared.api.compile_and_replace_errors.Error.{Error}
 use Rattle.regress_program.specs.CompileRefusals.{TreeHasByteCompileErrorCause}
-use Rattle.regex_grammar.specs.Grammar.{Parses}
-use Rattle.regex_grammar.specs.ParserInvariants.{OpensTooManyGroups, group_names_found_by_scan}
-use Rattle.regex_grammar.proofs.Trees.{scan_counts_pattern_groups}
-use Rattle.regex_pattern_front.specs.ParseErrors.{IsParseErrorOf}
-use Rattle.regress_match.specs.CompileErrors.{error_of_parse, error_of_emit, IsPatternRefusedWith}
+use Rattle.regex_grammar.specs.Grammar.{ParsesBy}
+use Rattle.regex_parser.specs.ParserInvariants.{OpensTooManyGroups, group_names_found_by_scan}
+use Rattle.regex_parser.specs.SyntaxDialects.{spec_syntax_of}
+use Rattle.regex_parser.specs.ParseErrors.{IsParseErrorIn}
+use Rattle.regex_parser.specs.declared.syntax.Syntax.{Syntax}
+use Rattle.regress_match.specs.CompileErrors.{error_of_parse, error_of_emit, IsPatternRefusedWithSyntax}
+use Rattle.regress_match.proofs.GroupCountLemmas.{scan-counts-groups}
 
-module _ (flags : Flags) (pattern : List ℕ) where
-  pub parse-refuses : (e : ParseError) → IsParseErrorOf flags pattern e → IsPatternRefusedWith flags pattern (error_of_parse e)
+module _ (syntax : Syntax) (flags : Flags) (pattern : List ℕ) where
+  pub parse-refuses : (e : ParseError) → IsParseErrorIn (spec_syntax_of syntax) flags pattern e
+      → IsPatternRefusedWithSyntax (spec_syntax_of syntax) flags pattern (error_of_parse e)
   parse-refuses parse.Memory told = tt
   parse-refuses (parse.Syntax d) told = told
   parse-refuses parse.TooManyGroups many = many
 
   -- a tree with too many groups is that of a pattern that opens as many
-  opens-many : (tree : Tree) → Parses flags pattern tree → 2 ^ 16 ≤ length (group_ids tree.root) → OpensTooManyGroups pattern
-  opens-many tree parsed many = let same : length (group_ids tree.root) ≡ length (group_names_found_by_scan pattern) = (scan_counts_pattern_groups flags pattern tree parsed).0 in omega (arith, same, many)
+  opens-many : (tree : Tree) → ParsesBy (spec_syntax_of syntax) flags pattern tree → 2 ^ 16 ≤ length (group_ids tree.root) → OpensTooManyGroups pattern
+  opens-many tree parsed many = let same : length (group_ids tree.root) ≡ length (group_names_found_by_scan pattern) = scan-counts-groups syntax flags pattern tree parsed in omega (arith, same, many)
 
-  pub emit-refuses : (tree : Tree) → Parses flags pattern tree → (e : EmitError)
+  pub emit-refuses : (tree : Tree) → ParsesBy (spec_syntax_of syntax) flags pattern tree → (e : EmitError)
       → ¬ (e ≡ emit.NotWellFormed) → ¬ (e ≡ emit.BytesInUnits) → TreeHasByteCompileErrorCause e tree
-      → IsPatternRefusedWith flags pattern (error_of_emit e)
+      → IsPatternRefusedWithSyntax (spec_syntax_of syntax) flags pattern (error_of_emit e)
   emit-refuses tree parsed emit.NotWellFormed h k refused = h refl
   emit-refuses tree parsed emit.BytesInUnits h k refused = k refl
   emit-refuses tree parsed emit.TooManyGroups h k refused = opens-many tree parsed refused.1.groups

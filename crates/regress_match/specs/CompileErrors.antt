@@ -1,13 +1,13 @@
 -- The errors of the compilation stages as errors of the whole, and when each of them occurs.
 use Rattle.std.specs.Prelude.{◌≡◌, ℕ, List, Option, Some, None}
 use Rattle.regex_meaning.specs.Tree.{Tree, Flags}
-use Rattle.regex_grammar.specs.Grammar.{Parses}
-use Rattle.regex_grammar.specs.ParserInvariants.{OpensTooManyGroups}
+use Rattle.regex_grammar.specs.Grammar.{PatternDialect, ParsesBy, profile}
+use Rattle.regex_parser.specs.ParserInvariants.{OpensTooManyGroups}
 use Rattle.regress_program.specs.CompileRefusals.{TreeHasByteCompileErrorCause}
-use Rattle.regex_pattern_front.specs.ParseErrors.{IsDiagnosisOf}
-use Rattle.regex_pattern_front.specs.declared.diagnosis.Diagnosis.{Diagnosis}
-use Rattle.regex_pattern_front.specs.declared.parse.ParseError.{ParseError}
-use Rattle.regex_pattern_front.specs.declared.parse.ParseError.TheVariants as parse
+use Rattle.regex_parser.specs.ParseErrors.{IsDiagnosisIn}
+use Rattle.regex_parser.specs.declared.diagnosis.Diagnosis.{Diagnosis}
+use Rattle.regex_parser.specs.declared.parse.ParseError.{ParseError}
+use Rattle.regex_parser.specs.declared.parse.ParseError.TheVariants as parse
 use Rattle.regress_program.specs.declared.emit.EmitError.{EmitError}
 use Rattle.regress_program.specs.declared.emit.EmitError.TheVariants as emit
 use Rattle.regress_exec.specs.declared.exec.SearchError.{SearchError}
@@ -32,26 +32,34 @@ abbrev pub error_of_emit : EmitError → Error
 error_of_emit emit.Memory = Memory
 error_of_emit e = Emit e
 
--- The pattern's tree exceeds the limit that the error `e` names.
-pub record ExceedsLimit (flags : Flags) (pattern : List ℕ) (e : EmitError) : Type 0 where
+-- The tree of a pattern of this syntax exceeds the limit that the error `e` names.
+pub record ExceedsLimitWithSyntax (s : PatternDialect) (flags : Flags) (pattern : List ℕ) (e : EmitError) : Type 0 where
   pub tree : Tree
-  pub parsed : Parses flags pattern tree
+  pub parsed : ParsesBy s flags pattern tree
   pub refused : TreeHasByteCompileErrorCause e tree
 
--- When a pattern is refused: the grammar has no tree for it, and the diagnosis is at a code point of
--- it or at its end; it opens too many groups; its tree exceeds another limit; or an allocation
--- failed.
+-- The same for a pattern of the profile.
+abbrev pub ExceedsLimit : Flags → (pattern : List ℕ) → EmitError → Type 0
+ExceedsLimit = ExceedsLimitWithSyntax profile
+
+-- When a pattern of this syntax is refused: the grammar has no tree for it, and the diagnosis is at a
+-- code point of it or at its end; it opens too many groups; its tree exceeds another limit; or an
+-- allocation failed.
+abbrev pub IsPatternRefusedWithSyntax : PatternDialect → Flags → (pattern : List ℕ) → Error → Type 0
+IsPatternRefusedWithSyntax s flags pattern (Parse (parse.Syntax d)) = IsDiagnosisIn s flags pattern d
+IsPatternRefusedWithSyntax s flags pattern (Parse parse.TooManyGroups) = ⊥
+IsPatternRefusedWithSyntax s flags pattern (Parse parse.Memory) = ⊥
+IsPatternRefusedWithSyntax s flags pattern (Emit emit.TooManyGroups) = OpensTooManyGroups pattern
+IsPatternRefusedWithSyntax s flags pattern (Emit emit.TooManyLoops) = ExceedsLimitWithSyntax s flags pattern emit.TooManyLoops
+IsPatternRefusedWithSyntax s flags pattern (Emit emit.TooManyInstructions) = ExceedsLimitWithSyntax s flags pattern emit.TooManyInstructions
+IsPatternRefusedWithSyntax s flags pattern (Emit emit.NotWellFormed) = ⊥
+IsPatternRefusedWithSyntax s flags pattern (Emit emit.BytesInUnits) = ⊥
+IsPatternRefusedWithSyntax s flags pattern (Emit emit.Memory) = ⊥
+IsPatternRefusedWithSyntax s flags pattern Memory = Unit {0}
+
+-- When a pattern of the profile is refused.
 abbrev pub IsPatternRefusedWith : Flags → (pattern : List ℕ) → Error → Type 0
-IsPatternRefusedWith flags pattern (Parse (parse.Syntax d)) = IsDiagnosisOf flags pattern d
-IsPatternRefusedWith flags pattern (Parse parse.TooManyGroups) = ⊥
-IsPatternRefusedWith flags pattern (Parse parse.Memory) = ⊥
-IsPatternRefusedWith flags pattern (Emit emit.TooManyGroups) = OpensTooManyGroups pattern
-IsPatternRefusedWith flags pattern (Emit emit.TooManyLoops) = ExceedsLimit flags pattern emit.TooManyLoops
-IsPatternRefusedWith flags pattern (Emit emit.TooManyInstructions) = ExceedsLimit flags pattern emit.TooManyInstructions
-IsPatternRefusedWith flags pattern (Emit emit.NotWellFormed) = ⊥
-IsPatternRefusedWith flags pattern (Emit emit.BytesInUnits) = ⊥
-IsPatternRefusedWith flags pattern (Emit emit.Memory) = ⊥
-IsPatternRefusedWith flags pattern Memory = Unit {0}
+IsPatternRefusedWith = IsPatternRefusedWithSyntax profile
 
 -- The error is an allocation failure, the only error of a search without a step limit.
 abbrev pub IsOutOfMemory : SearchError → Type 0

@@ -4,8 +4,8 @@ use Rattle.regex_meaning.specs.Tree.{Tree, Flags}
 use Rattle.regex_meaning.specs.Text.{utf8_text, ascii_text, utf16_text, ucs2_text}
 use Rattle.regex_meaning.specs.MatchGroupsByNumberAndName.{answers_from}
 use Rattle.regex_meaning.specs.Replace.{replaced}
-use Rattle.regex_grammar.specs.Grammar.{Parses}
-use Rattle.regress_match.specs.ProgramTreesAndAnswers.{IsCompiledWith, utf8_answers, ascii_answers, utf16_answers, ucs2_answers}
+use Rattle.regex_grammar.specs.Grammar.{PatternDialect, ParsesBy, profile}
+use Rattle.regress_match.specs.ProgramTreesAndAnswers.{IsCompiledWithSyntax, utf8_answers, ascii_answers, utf16_answers, ucs2_answers}
 use Rattle.regress_match.specs.ExpansionsAndMatchRanges.{MatchesFitTextInOrderFrom, matches_with_expansions}
 use Rattle.regress_match.specs.declared.api.regex.Regex.{Regex}
 
@@ -16,14 +16,18 @@ WholeMatchesGiveBack = (re : Regex) (text : List ℕ)
     (replaced text 0 (matches_with_expansions text (codes "$0") (take 1 answers)) ≡ text) × (replaced text 0 (matches_with_expansions text (codes "$0") answers) ≡ text)
 
 -- The matches in a text, in each encoding, are those of the tree that the grammar gives to the
--- pattern.
-abbrev pub SearchesFollowThePattern : Type 0
-SearchesFollowThePattern = (flags : Flags) (pattern : List ℕ) (re : Regex) (tree : Tree)
-    → IsCompiledWith flags pattern re → Parses flags pattern tree → (text : List ℕ) (start : ℕ)
+-- pattern of this syntax.
+abbrev pub SearchesFollowThePatternWithSyntax : PatternDialect → Type 0
+SearchesFollowThePatternWithSyntax s = (flags : Flags) (pattern : List ℕ) (re : Regex) (tree : Tree)
+    → IsCompiledWithSyntax s flags pattern re → ParsesBy s flags pattern tree → (text : List ℕ) (start : ℕ)
     → (utf8_answers re text start ≡ answers_from tree.root (utf8_text text flags.unicode) start)
     × (ascii_answers re text start ≡ answers_from tree.root (ascii_text text flags.unicode) start)
     × (utf16_answers re text start ≡ answers_from tree.root (utf16_text text flags.unicode) start)
     × (ucs2_answers re text start ≡ answers_from tree.root (ucs2_text text flags.unicode) start)
+
+-- The same for a pattern of the profile.
+abbrev pub SearchesFollowThePattern : Type 0
+SearchesFollowThePattern = SearchesFollowThePatternWithSyntax profile
 
 -- The matches from a start on lie in the text, in order and without overlap, and each match and
 -- each of its groups is a range of whole characters.

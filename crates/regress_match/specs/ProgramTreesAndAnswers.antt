@@ -8,7 +8,7 @@ use Rattle.regex_meaning.specs.MatchGroupsByNumberAndName.{Answer, answers_from}
 use Rattle.regex_meaning.specs.SearchAnswers.{answer_at}
 use Rattle.regex_meaning.specs.StepBudget.{answers_within, finishes_within}
 use Rattle.regex_meaning.specs.WellFormedTrees.{is_well_formed}
-use Rattle.regex_grammar.specs.Grammar.{Parses}
+use Rattle.regex_grammar.specs.Grammar.{PatternDialect, ParsesBy, profile}
 use Rattle.regex_pattern_front.specs.AstToSpecTree.{tree_of}
 use Rattle.regex_pattern_front.specs.OptimizedTrees.{has_no_char_loops}
 use Rattle.regress_program.specs.CompilationOfTreesAsFunction.{compiled}
@@ -23,17 +23,21 @@ tree_for_byte_units re = tree_of re.cr
 abbrev pub tree_for_16_bit_units : Regex → Tree
 tree_for_16_bit_units re = tree_of re.units
 
--- The pattern with these flags parses to `tree_for_16_bit_units`, which is well-formed and has no char loops.
--- The program for 16-bit code units is the code of that tree, and the program for bytes is the code
--- of the tree that is run in its place (`optimized_tree_unless_no_opt`).
-pub record IsCompiledWith (wanted : Flags) (pattern : List ℕ) (re : Regex) : Type 0 where
-  pub parsed : Parses wanted pattern (tree_for_16_bit_units re)
+-- The pattern of this syntax with these flags parses to `tree_for_16_bit_units`, which is well-formed
+-- and has no char loops. The program for 16-bit code units is the code of that tree, and the program
+-- for bytes is the code of the tree that is run in its place (`optimized_tree_unless_no_opt`).
+pub record IsCompiledWithSyntax (s : PatternDialect) (wanted : Flags) (pattern : List ℕ) (re : Regex) : Type 0 where
+  pub parsed : ParsesBy s wanted pattern (tree_for_16_bit_units re)
   pub flags : (tree_for_16_bit_units re).flags ≡ wanted
   pub well_formed : IsTrue (is_well_formed (tree_for_16_bit_units re).root)
   pub plain : IsTrue (has_no_char_loops (tree_for_16_bit_units re).root)
   pub units : Is16BitProgramOfTree (compiled (tree_for_16_bit_units re)) (tree_for_16_bit_units re)
   pub optimized : tree_for_byte_units re ≡ optimized_tree_unless_no_opt (tree_for_16_bit_units re)
   pub bytes : IsByteProgramOfTree (compiled (tree_for_byte_units re)) (tree_for_byte_units re)
+
+-- The same for a pattern of the profile.
+abbrev pub IsCompiledWith : (wanted : Flags) → (pattern : List ℕ) → Regex → Type 0
+IsCompiledWith = IsCompiledWithSyntax profile
 
 -- The text that these bytes are read as, in UTF-8, under the pattern's `unicode` flag.
 abbrev pub bytes_as_utf8_text : Regex → (bytes : List ℕ) → Text

@@ -18,13 +18,14 @@ pub use self::escaping::escape;
 pub use self::flags::Flags;
 pub use self::laws::{
     matches_stand_in_text, searches_answer_in_turn, searches_answer_in_work,
-    searches_follow_the_pattern, work_bounds_are_limited,
+    searches_follow_the_ecmascript_pattern, searches_follow_the_pattern, work_bounds_are_limited,
 };
 pub use self::regex::{AsciiMatches, LimitedMatches, Matches, Regex};
 pub use self::replace::whole_matches_give_back;
 pub use self::searches_resumed_at_offsets::{Step, next_from};
 pub use self::work_budget_searches::{BoundedRegex, MatchesInWork};
-pub use regex_pattern_front::diagnosis::{CaretDiagnosis, Cause, Diagnosis};
+pub use regex_parser::diagnosis::{CaretDiagnosis, Cause, Diagnosis};
+pub use regex_parser::syntax::Syntax;
 pub use regress_exec::exec::{Groups, Match, NamedGroups, SearchError, WorkError};
 pub use regress_input::indexing::is_unit_boundary;
 pub use std::ops::Range;

@@ -11,8 +11,8 @@ pub use crate::executor_aliases_per_encoding::{
     BacktrackExecutor, DefaultAsciiExecutor, DefaultExecutor, DefaultUcs2Executor,
     DefaultUtf16Executor, LimitedExecutor,
 };
+pub use regex_parser::parse::{diagnose, diagnose_in, try_parse, try_parse_in};
 pub use regex_pattern_front::optimizer::optimize;
-pub use regex_pattern_front::parse::{diagnose, try_parse};
 use regress_exec::exec::{Executor, Matches};
 pub use regress_pikevm::pikevm::PikeVMExecutor;
 pub use regress_program::emit::{emit, emit_units};

@@ -1,7 +1,8 @@
 //! Regular expressions with the syntax and semantics of ECMAScript: the match engine of the crate
 //! `regress`.
 //!
-//! A [`Regex`] is compiled from a pattern. Its searches yield exactly the list of matches that the
+//! A [`Regex`] is compiled from a pattern, which is one of the profile unless [`Syntax`] says
+//! otherwise. Its searches yield exactly the list of matches that the
 //! pattern's tree defines: the leftmost match, of highest priority, and then the matches after it.
 //!
 //! The modules below the public API are re-exported, so a caller who names their items needs no
@@ -11,16 +12,17 @@
 pub mod api;
 pub mod backends;
 mod executor_aliases_per_encoding;
+pub mod front;
 pub mod program;
 
 pub use crate::api::{
     AsciiMatches, BoundedRegex, CaretDiagnosis, Cause, Diagnosis, Error, Flags, Groups,
     LimitedMatches, Match, Matches, MatchesInWork, NamedGroups, Range, Regex, ReplaceError,
-    SearchError, Step, WorkError, escape, is_unit_boundary, next_from,
+    SearchError, Step, Syntax, WorkError, escape, is_unit_boundary, next_from,
 };
-pub use regex_pattern_front::greatest_parenthesis_depth_of_pattern::nesting;
+pub use regex_parser::greatest_parenthesis_depth_of_pattern::nesting;
 pub use regress_backtrack::classicalbacktrack;
 pub use regress_exec::{exec, search_loop};
-pub use regress_input::{cursor, front, indexing, matchers, position, scm};
+pub use regress_input::{cursor, indexing, matchers, position, scm};
 pub use regress_pikevm::pikevm;
 pub use regress_program::{emit, insn, startpredicate};

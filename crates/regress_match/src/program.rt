@@ -1,6 +1,6 @@
 //! The program `regress-tool`.
 
-use crate::api::{Error, Flags, Regex};
+use crate::api::{Error, Flags, Regex, Syntax};
 use regress_exec::exec::{Match, SearchError};
 use std::alloc::Global;
 use std::io;
@@ -17,26 +17,67 @@ const NOT_FOUND: u8 = 1;
 /// written.
 const REFUSED: u8 = 2;
 
+/// The word before the others that makes the pattern one of `Syntax::EcmaScript2018`.
+const ES2018: &str = "--es2018";
+
+/// What the words ask for.
+#[derive(Clone, Copy)]
+struct Arguments<'a> {
+    syntax: Syntax,
+    pattern: &'a str,
+    flags: &'a str,
+    text: &'a str,
+}
+
 /// Searches a text, and returns the exit status: 0 with a match, 1 without, 2 on a refusal.
 ///
-/// `words` are the pattern, the flags and the text; a word that is not UTF-8 is `None`. Each match
-/// is written to `out` as one line, before the next match is searched for: the range in bytes and
-/// the ranges of the groups, with `-` for a group that did not match. A refusal is written to `err`
-/// as one line. If a line cannot be written, the program ends and writes nothing more.
+/// `words` are the pattern, the flags and the text; a word that is not UTF-8 is `None`. If
+/// `--es2018` precedes these three words, the pattern is one of `Syntax::EcmaScript2018`, and
+/// otherwise one of `Syntax::Profile`. Each match is written to `out` as one line, before the next
+/// match is searched for: the range in bytes and the ranges of the groups, with `-` for a group
+/// that did not match. A refusal is written to `err` as one line. If a line cannot be written, the
+/// program ends and writes nothing more.
 pub fn run<W: Write, W2: Write>(
     alloc: Global,
     words: &[Option<String>],
     out: &mut W,
     err: &mut W2,
 ) -> u8 {
-    let [Some(pattern), Some(flags), Some(text)] = words else {
-        return print_refusal(err, "usage: regress-tool PATTERN FLAGS TEXT");
+    let Some(arguments) = read_arguments(words) else {
+        return print_refusal(err, "usage: regress-tool [--es2018] PATTERN FLAGS TEXT");
     };
-    match Regex::with_flags(alloc, pattern.as_str(), Flags::from(flags.as_str())) {
-        Ok(re) => print_matches(&re, text.as_str(), out, err),
+    let flags = Flags::from(arguments.flags);
+    match Regex::with_syntax(alloc, arguments.pattern, flags, arguments.syntax) {
+        Ok(re) => print_matches(&re, arguments.text, out, err),
         Err(Error::Memory) => print_refusal(err, "out of memory"),
         Err(_) => print_refusal(err, "pattern refused"),
     }
+}
+
+// Reads the words. Returns `None` if their number is wrong, or one of them is not UTF-8.
+fn read_arguments(words: &[Option<String>]) -> Option<Arguments<'_>> {
+    match words {
+        [pattern, flags, text] => read_three(Syntax::Profile, pattern, flags, text),
+        [Some(option), pattern, flags, text] if option.as_str() == ES2018 => {
+            read_three(Syntax::EcmaScript2018, pattern, flags, text)
+        }
+        _ => None,
+    }
+}
+
+// Reads the words after the option. Returns `None` if one of them is not UTF-8.
+fn read_three<'a>(
+    syntax: Syntax,
+    pattern: &'a Option<String>,
+    flags: &'a Option<String>,
+    text: &'a Option<String>,
+) -> Option<Arguments<'a>> {
+    Some(Arguments {
+        syntax,
+        pattern: pattern.as_ref()?.as_str(),
+        flags: flags.as_ref()?.as_str(),
+        text: text.as_ref()?.as_str(),
+    })
 }
 
 // Writes one line that says why there is no answer.

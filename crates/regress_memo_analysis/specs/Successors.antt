@@ -38,7 +38,7 @@ successors_of ip (ResetCaptureGroup id) = fall_through ip false false
 successors_of ip (Loop1CharBody least most greedy) = Run (record { least = least; most = most; greedy = greedy })
 successors_of ip (BeginCaptureGroup id) = fall_through ip false false
 successors_of ip (EndCaptureGroup id) = fall_through ip false false
-successors_of ip (BackRef group icase) = Same
+successors_of ip (BackRef group sameness) = Same
 successors_of ip (Lookahead negate start_group end_group continuation) =
     LookaroundDirectionNegationAndContinuation (record { forward = true; negate = negate; past = continuation })
 successors_of ip (Lookbehind negate start_group end_group continuation) =

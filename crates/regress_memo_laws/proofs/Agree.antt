@@ -7,6 +7,7 @@ use Rattle.std.proofs.lemmas.Bool.{cases_lt, eq-eqb, eqb-true, eqb-false, ne_eqb
 use mathlib.Core.Logic.{inl, inr}
 use Rattle.std.proofs.lemmas.List.{length-set, length-reverse}
 use Rattle.std.proofs.lemmas.List.Sums.{prefix_len-le-length}
+use Rattle.regex_meaning.specs.Tree.{Sameness}
 use Rattle.regex_meaning.specs.NumberListHelpers.{numbers_from}
 use Rattle.regex_meaning.specs.Text.{Text, Direction, rightwards, leftwards, next_character, moved, characters_ahead}
 use Rattle.regex_meaning.specs.CodeUnitOffsets.{HasRisingPlaceOffsets, units, offset, place_at}
@@ -625,20 +626,20 @@ module _ (program : Program) (text : Text) (is : HasRisingPlaceOffsets text) (a 
       same-go_if a (units text) w d (holds p) _ _ (λ h.
       agree-on a (units text) w d s t g false (s.ip + 1) (offset text p) leads (stays-at d s.pos (offset text p) (offset-place_at text s.pos p is at).0) (offset-inside text is p)))
 
-  turn-again : (icase : Bool) (from to p : ℕ) → place_at text s.pos ≡ Some p → IsConsistentPlainEdge a false s.ip (s.ip + 1) → Turn (backref_read text icase d from to p s) (backref_read text icase d from to p there)
-  turn-again icase from to p at leads =
+  turn-again : (sameness : Sameness) (from to p : ℕ) → place_at text s.pos ≡ Some p → IsConsistentPlainEdge a false s.ip (s.ip + 1) → Turn (backref_read text sameness d from to p s) (backref_read text sameness d from to p there)
+  turn-again sameness from to p at leads =
       same-go_if a (units text) w d _ _ _ (λ h.
       agree-on a (units text) w d s t g false (s.ip + 1) _ leads (moves-any _ s.pos _ (moves-on text is d s.pos p _ at (leb-true _ _ (and-left _ _ h)))) (offset-inside text is _))
 
-  turn-group : (icase : Bool) (o : Option (ℕ × ℕ)) → IsConsistentPlainEdge a false s.ip (s.ip + 1) → Turn (read_group text icase d o s) (read_group text icase d o there)
-  turn-group icase None leads =
+  turn-group : (sameness : Sameness) (o : Option (ℕ × ℕ)) → IsConsistentPlainEdge a false s.ip (s.ip + 1) → Turn (read_group text sameness d o s) (read_group text sameness d o there)
+  turn-group sameness None leads =
       same-some a (units text) w d (place_at text s.pos) _ _ (λ p at.
       (agree-on a (units text) w d s t g false (s.ip + 1) (offset text p) leads (stays-at d s.pos (offset text p) (offset-place_at text s.pos p is at).0) (offset-inside text is p), tt))
-  turn-group icase (Some range) leads =
+  turn-group sameness (Some range) leads =
       same-some a (units text) w d (place_at text s.pos) _ _ (λ p at.
       same-some a (units text) w d (place_at text range.0) _ _ (λ from at_from.
       same-some a (units text) w d (place_at text range.1) _ _ (λ to at_to.
-      turn-again icase from to p at leads)))
+      turn-again sameness from to p at leads)))
 
   -- literal bytes
   bytes-move : (d : Direction) (all bytes : List ℕ) (at : ℕ) → has_bytes all d bytes at ≡ true → Moves d (nat_lt 0 (length bytes)) at (moved_by d (length bytes) at)
@@ -729,11 +730,11 @@ module _ (program : Program) (text : Text) (is : HasRisingPlaceOffsets text) (a 
         tt,
       ))
 
-  turn-back : (group : ℕ) (icase : Bool) → IsConsistentPlainEdge a false s.ip (s.ip + 1) → a.groups ≡ true → Turn (act_on program text d (Some (BackRef group icase)) s) (act_on program text d (Some (BackRef group icase)) there)
-  turn-back group icase leads asked_groups =
-      subst (λ (xs : Groups). Turn (with_some (slice_get s.groups group) (λ range. read_group text icase d range s)) (with_some (slice_get xs group) (λ range. read_group text icase d range there)))
+  turn-back : (group : ℕ) (sameness : Sameness) → IsConsistentPlainEdge a false s.ip (s.ip + 1) → a.groups ≡ true → Turn (act_on program text d (Some (BackRef group sameness)) s) (act_on program text d (Some (BackRef group sameness)) there)
+  turn-back group sameness leads asked_groups =
+      subst (λ (xs : Groups). Turn (with_some (slice_get s.groups group) (λ range. read_group text sameness d range s)) (with_some (slice_get xs group) (λ range. read_group text sameness d range there)))
       (g.groups asked_groups)
-      (same-some a (units text) w d (slice_get s.groups group) _ _ (λ range e. turn-group icase range leads))
+      (same-some a (units text) w d (slice_get s.groups group) _ _ (λ range e. turn-group sameness range leads))
 
   turn-alike : (o : Option Insn) → IsSoundLivenessAt a (units text) program o s.ip → NextIn (units text) (act_on program text d o s) → Turn (act_on program text d o s) (act_on program text d o there)
   turn-alike None r inside = tt
@@ -758,7 +759,7 @@ module _ (program : Program) (text : Text) (is : HasRisingPlaceOffsets text) (a 
   turn-alike (Some (Loop1CharBody least most greedy)) r inside = turn-run least most greedy r (test_of program (slice_get program.insns (s.ip + 1)))
   turn-alike (Some (BeginCaptureGroup id)) r inside = turn-begun id r
   turn-alike (Some (EndCaptureGroup id)) r inside = turn-closed id r.0 r.1
-  turn-alike (Some (BackRef group icase)) r inside = turn-back group icase r.0 r.1
+  turn-alike (Some (BackRef group sameness)) r inside = turn-back group sameness r.0 r.1
   turn-alike (Some (Lookahead negate start_group end_group continuation)) r inside = (refl, refl, alike-asked a (units text) w d s t g continuation r rightwards negate)
   turn-alike (Some (Lookbehind negate start_group end_group continuation)) r inside = (refl, refl, alike-asked a (units text) w d s t g continuation r leftwards negate)
   turn-alike (Some _) r inside = turn-stay _ r

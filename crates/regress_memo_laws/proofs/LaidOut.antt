@@ -3,6 +3,7 @@ use Rattle.std.proofs.Common.{◌≡◌, ℕ, ◌+◌, List, [], ◌∷◌, leng
 use Rattle.std.specs.Prelude.{◌&&◌, nat_lt}
 use Rattle.std.specs.List.{prefix_len}
 use Rattle.std.proofs.lemmas.List.{length-set}
+use Rattle.regex_meaning.specs.Tree.{Sameness}
 use Rattle.regex_meaning.specs.Laws.{Each}
 use Rattle.regex_meaning.proofs.Each.{Each-all}
 use Rattle.regex_meaning.specs.Text.{Text, Direction, next_character, moved}
@@ -52,9 +53,9 @@ module _ (program : Program) (text : Text) (d : Direction) (s : State) (is : Has
   looks : (holds : ℕ → Bool) → IsOfNext Good (stay_if text holds s)
   looks holds = of-with_some Good (place_at text s.pos) (λ p. go_if (holds p) (on_to text p s)) (λ p e. of-go_if Good (holds p) (on_to text p s) (λ b. on p))
 
-  reads_group : (icase : Bool) (o : Option (ℕ × ℕ)) → IsOfNext Good (read_group text icase d o s)
-  reads_group icase None = of-with_some Good (place_at text s.pos) (λ p. go (on_to text p s)) (λ p e. (on p, tt))
-  reads_group icase (Some range) =
+  reads_group : (sameness : Sameness) (o : Option (ℕ × ℕ)) → IsOfNext Good (read_group text sameness d o s)
+  reads_group sameness None = of-with_some Good (place_at text s.pos) (λ p. go (on_to text p s)) (λ p e. (on p, tt))
+  reads_group sameness (Some range) =
       of-with_some Good (place_at text s.pos) _ (λ p e. of-with_some Good (place_at text range.0) _ (λ from e. of-with_some Good (place_at text range.1) _ (λ to e.
       of-go_if Good _ (on_to text (moved text d _ p) s) (λ b. on (moved text d _ p)))))
 
@@ -90,7 +91,7 @@ module _ (program : Program) (text : Text) (d : Direction) (s : State) (is : Has
       let closed : ℕ → Next = λ start. go (record s { ip = s.ip + 1; groups = slice_set s.groups id (Some (range_swapped_if_leftwards d start s.pos)) }) in
       of-only_if Good (nat_lt id (length s.groups)) (with_some (slice_get s.starts id) closed)
       (of-with_some Good (slice_get s.starts id) closed (λ start e. (with_group id (Some (range_swapped_if_leftwards d start s.pos)), tt)))
-  acts (Some (BackRef group icase)) = of-with_some Good (slice_get s.groups group) (λ range. read_group text icase d range s) (λ range e. reads_group icase range)
+  acts (Some (BackRef group sameness)) = of-with_some Good (slice_get s.groups group) (λ range. read_group text sameness d range s) (λ range e. reads_group sameness range)
   acts (Some (Lookahead negate start_group end_group continuation)) = (at (s.ip + 1), at continuation)
   acts (Some (Lookbehind negate start_group end_group continuation)) = (at (s.ip + 1), at continuation)
   acts o = reads (test_of program o)

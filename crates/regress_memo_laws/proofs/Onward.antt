@@ -5,6 +5,7 @@ use Rattle.std.specs.Prelude.{nat_lt, encode_utf8_all}
 use Rattle.std.specs.List.{prefix_len}
 use Rattle.std.proofs.lemmas.Bool.{leb-true}
 use Rattle.std.proofs.lemmas.List.Sums.{prefix_len-le-length}
+use Rattle.regex_meaning.specs.Tree.{Sameness}
 use Rattle.regex_meaning.specs.Laws.{Each}
 use Rattle.regex_meaning.proofs.Each.{Each-map, Each-reverse}
 use Rattle.regex_meaning.specs.NumberListHelpers.{numbers_from}
@@ -57,9 +58,9 @@ module _ (program : Program) (text : Text) (is : HasRisingPlaceOffsets text) (s 
   stay-on : (holds : ℕ → Bool) → NextOn (stay_if text holds s)
   stay-on holds = of-with_some Past (place_at text s.pos) _ (λ p at. of-go_if Past (holds p) (on_to text p s) (λ h. stands-at p at))
 
-  group-on : (icase : Bool) (o : Option (ℕ × ℕ)) → NextOn (read_group text icase rightwards o s)
-  group-on icase None = of-with_some Past (place_at text s.pos) _ (λ p at. (stands-at p at, tt))
-  group-on icase (Some range) =
+  group-on : (sameness : Sameness) (o : Option (ℕ × ℕ)) → NextOn (read_group text sameness rightwards o s)
+  group-on sameness None = of-with_some Past (place_at text s.pos) _ (λ p at. (stands-at p at, tt))
+  group-on sameness (Some range) =
       of-with_some Past (place_at text s.pos) _ (λ p at. of-with_some Past (place_at text range.0) _ (λ from at_from.
       of-with_some Past (place_at text range.1) _ (λ to at_to.
       of-go_if Past _ (on_to text (moved text rightwards _ p) s) (λ h. (moves-on text is rightwards s.pos p _ at (leb-true _ _ (and-left _ _ h))).passed))))
@@ -115,7 +116,7 @@ module _ (program : Program) (text : Text) (is : HasRisingPlaceOffsets text) (s 
       of-only_if Past (nat_lt id (length s.groups) && nat_lt id (length s.starts))
       (go (record s { ip = s.ip + 1; groups = slice_set s.groups id None; starts = slice_set s.starts id s.pos })) (here, tt)
   act-on (Some (EndCaptureGroup id)) = of-only_if Past (nat_lt id (length s.groups)) _ (of-with_some Past (slice_get s.starts id) _ (λ start e. (here, tt)))
-  act-on (Some (BackRef group icase)) = of-with_some Past (slice_get s.groups group) _ (λ range e. group-on icase range)
+  act-on (Some (BackRef group sameness)) = of-with_some Past (slice_get s.groups group) _ (λ range e. group-on sameness range)
   act-on (Some (Lookahead negate start_group end_group continuation)) = (here, here)
   act-on (Some (Lookbehind negate start_group end_group continuation)) = (here, here)
   act-on (Some _) = stay-on _

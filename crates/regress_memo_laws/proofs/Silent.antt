@@ -3,6 +3,7 @@ use Rattle.std.proofs.Common.{◌≡◌, ℕ, ◌+◌, List, [], ◌∷◌, leng
 use Rattle.std.proofs.Common.{slice_set}
 use Rattle.std.specs.List.{prefix_len}
 use Rattle.std.proofs.lemmas.List.{length-set}
+use Rattle.regex_meaning.specs.Tree.{Sameness}
 use Rattle.regex_meaning.specs.Laws.{Each}
 use Rattle.regex_meaning.proofs.Each.{Each-all}
 use Rattle.regex_meaning.specs.Text.{Text, Direction, next_character, moved}
@@ -63,9 +64,9 @@ module _ (silent : ℕ → Bool) (groups : Groups) (starts : List ℕ) (loops : 
     stay-keeps : (holds : ℕ → Bool) → silent (s.ip + 1) ≡ true → NextKeeps (stay_if text holds s)
     stay-keeps holds h = of-with_some Keeps (place_at text s.pos) (λ p. go_if (holds p) (on_to text p s)) (λ p e. of-go_if Keeps (holds p) (on_to text p s) (λ b. on p h))
 
-    group-keeps : (icase : Bool) (o : Option (ℕ × ℕ)) → silent (s.ip + 1) ≡ true → NextKeeps (read_group text icase d o s)
-    group-keeps icase None h = of-with_some Keeps (place_at text s.pos) (λ p. go (on_to text p s)) (λ p e. (on p h, tt))
-    group-keeps icase (Some range) h =
+    group-keeps : (sameness : Sameness) (o : Option (ℕ × ℕ)) → silent (s.ip + 1) ≡ true → NextKeeps (read_group text sameness d o s)
+    group-keeps sameness None h = of-with_some Keeps (place_at text s.pos) (λ p. go (on_to text p s)) (λ p e. (on p h, tt))
+    group-keeps sameness (Some range) h =
         of-with_some Keeps (place_at text s.pos) _ (λ p e. of-with_some Keeps (place_at text range.0) _ (λ from e. of-with_some Keeps (place_at text range.1) _ (λ to e.
         of-go_if Keeps _ (on_to text (moved text d _ p) s) (λ b. on (moved text d _ p) h))))
 
@@ -94,7 +95,7 @@ module _ (silent : ℕ → Bool) (groups : Groups) (starts : List ℕ) (loops : 
     act-keeps (Some (Loop1CharBody least most greedy)) h = scan-keeps (test_of program (slice_get program.insns (s.ip + 1))) least most greedy h
     act-keeps (Some (BeginCaptureGroup id)) h = absurd h
     act-keeps (Some (EndCaptureGroup id)) h = absurd h
-    act-keeps (Some (BackRef group icase)) h = of-with_some Keeps (slice_get s.groups group) (λ range. read_group text icase d range s) (λ range e. group-keeps icase range h)
+    act-keeps (Some (BackRef group sameness)) h = of-with_some Keeps (slice_get s.groups group) (λ range. read_group text sameness d range s) (λ range e. group-keeps sameness range h)
     act-keeps (Some (Lookahead negate start_group end_group continuation)) h = (record { at = h.0; has = k.has; began = k.began; many = k.many }, record { at = h.1; has = k.has; began = k.began; many = k.many })
     act-keeps (Some (Lookbehind negate start_group end_group continuation)) h = (record { at = h.0; has = k.has; began = k.began; many = k.many }, record { at = h.1; has = k.has; began = k.began; many = k.many })
     act-keeps o h = read-keeps (test_of program o) h

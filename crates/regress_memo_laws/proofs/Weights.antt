@@ -5,6 +5,7 @@ use Rattle.std.specs.Prelude.{if◌then◌else◌, nat_lt, nat_le, ◌==◌}
 use mathlib.Core.Logic.{inl, inr}
 use Rattle.std.proofs.lemmas.Bool.{cases_lt, eqb-true, leb-true, ltb-true}
 use Rattle.std.proofs.lemmas.List.Sums.{sum_by-cons, sum_by-append}
+use Rattle.regex_meaning.specs.Tree.{Sameness}
 use Rattle.regex_meaning.specs.NumberListHelpers.{numbers_from}
 use Rattle.regex_meaning.specs.Text.{Text, Direction, rightwards, leftwards}
 use Rattle.regex_meaning.specs.CodeUnitOffsets.{units, place_at}
@@ -228,9 +229,9 @@ module _ (program : Program) (text : Text) (w : Potentials) (d : Direction) (s :
   stay-few : (holds : ℕ → Bool) → CoversOne w s.ip (s.ip + 1) → Few (stay_if text holds s)
   stay-few holds h = few-with_some w (w.left s.ip) (place_at text s.pos) _ (λ p. few-go_if w (w.left s.ip) _ _ h)
 
-  group-few : (icase : Bool) (o : Option (ℕ × ℕ)) → CoversOne w s.ip (s.ip + 1) → Few (read_group text icase d o s)
-  group-few icase None h = few-with_some w (w.left s.ip) (place_at text s.pos) _ (λ p. few-go w (w.left s.ip) (on_to text p s) h)
-  group-few icase (Some range) h =
+  group-few : (sameness : Sameness) (o : Option (ℕ × ℕ)) → CoversOne w s.ip (s.ip + 1) → Few (read_group text sameness d o s)
+  group-few sameness None h = few-with_some w (w.left s.ip) (place_at text s.pos) _ (λ p. few-go w (w.left s.ip) (on_to text p s) h)
+  group-few sameness (Some range) h =
       few-with_some w (w.left s.ip) (place_at text s.pos) _ (λ p. few-with_some w (w.left s.ip) (place_at text range.0) _ (λ from.
       few-with_some w (w.left s.ip) (place_at text range.1) _ (λ to. few-go_if w (w.left s.ip) _ _ h)))
 
@@ -262,7 +263,7 @@ module _ (program : Program) (text : Text) (w : Potentials) (d : Direction) (s :
       (go (record s { ip = s.ip + 1; groups = slice_set s.groups id None; starts = slice_set s.starts id s.pos }))
       (few-go w (w.left s.ip) (record s { ip = s.ip + 1; groups = slice_set s.groups id None; starts = slice_set s.starts id s.pos }) h)
   act-few (Some (EndCaptureGroup id)) h = few-only_if w (w.left s.ip) _ _ (few-with_some w (w.left s.ip) (slice_get s.starts id) _ (λ start. few-go w (w.left s.ip) (record s { ip = s.ip + 1; groups = slice_set s.groups id (Some (range_swapped_if_leftwards d start s.pos)) }) h))
-  act-few (Some (BackRef group icase)) h = few-with_some w (w.left s.ip) (slice_get s.groups group) _ (λ range. group-few icase range h)
+  act-few (Some (BackRef group sameness)) h = few-with_some w (w.left s.ip) (slice_get s.groups group) _ (λ range. group-few sameness range h)
   act-few (Some (Lookahead negate start_group end_group continuation)) h = tt
   act-few (Some (Lookbehind negate start_group end_group continuation)) h = tt
   act-few o h = read-few (test_of program o) h

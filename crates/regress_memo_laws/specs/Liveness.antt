@@ -114,7 +114,7 @@ module _ (a : Liveness) where
   IsSoundLivenessAt top program (Some (Loop1CharBody min_iters max_iters greedy)) ip = IsConsistentPlainEdge (nat_lt 0 min_iters) ip (ip + 2)
   IsSoundLivenessAt top program (Some (BeginCaptureGroup id)) ip = IsConsistentEdge false (λ i. i == id) none ip (ip + 1)
   IsSoundLivenessAt top program (Some (EndCaptureGroup id)) ip = IsConsistentPlainEdge false ip (ip + 1) × (a.groups ≡ true → a.start ip id ≡ true)
-  IsSoundLivenessAt top program (Some (BackRef group icase)) ip = IsConsistentPlainEdge false ip (ip + 1) × (a.groups ≡ true)
+  IsSoundLivenessAt top program (Some (BackRef group sameness)) ip = IsConsistentPlainEdge false ip (ip + 1) × (a.groups ≡ true)
   IsSoundLivenessAt top program (Some (Lookahead negate start_group end_group continuation)) ip = IsConsistentLookaround ip continuation
   IsSoundLivenessAt top program (Some (Lookbehind negate start_group end_group continuation)) ip = IsConsistentLookaround ip continuation
   IsSoundLivenessAt top program None ip = Unit {0}

@@ -1,5 +1,6 @@
 -- The effects of instructions on states of the executor, in terms of the abstract machine.
 use Rattle.std.specs.Prelude.{◌≡◌, ℕ, ◌++◌, ◌∷◌, [], Bool, List, map, Option, Some, option_map, slice_get, if◌then◌else◌}
+use Rattle.regex_meaning.specs.Tree.{Sameness}
 use Rattle.regex_meaning.specs.Text.{Text}
 use Rattle.regex_meaning.specs.CodeUnitOffsets.{place_at}
 use Rattle.regex_meaning.specs.Outcomes.{Groups}
@@ -57,14 +58,14 @@ module _ {P : Type 0} (offset : P → ℕ) where
   abbrev pub end_and_groups : Option (State P) → Option (ℕ × Groups)
   end_and_groups end = option_map (λ e. end_of (state_of offset e)) end
 
-  module _ (text : Text) (forward icase : Bool) where
+  module _ (text : Text) (forward : Bool) (same : Sameness) where
     -- the effect of a backreference to a range
     abbrev pub effect_of_range_backref : Option (P × P) → State P → Next
-    effect_of_range_backref range s = read_group text icase (direction_of_forward_flag forward) (range_of offset range) (state_of offset s)
+    effect_of_range_backref range s = read_group text same (direction_of_forward_flag forward) (range_of offset range) (state_of offset s)
 
     -- the effect of a backreference to a group
     abbrev pub effect_of_backref : (group : ℕ) → State P → Next
-    effect_of_backref group s = with_some (slice_get (groups_of offset s.groups.items) group) (λ range. read_group text icase (direction_of_forward_flag forward) range (state_of offset s))
+    effect_of_backref group s = with_some (slice_get (groups_of offset s.groups.items) group) (λ range. read_group text same (direction_of_forward_flag forward) range (state_of offset s))
 
   -- one more exit state of a char loop is pushed, if it is wanted
   abbrev pub PushesExit : (wanted : Bool) → (at : P) → State P → (old new : List (State P)) → Type 0

@@ -7,7 +7,7 @@ use Rattle.regex_meaning.specs.StartPredicate.{abstract_start_predicate}
 use Rattle.regex_pattern_front.specs.AstToSpecTree.{node_of}
 use Rattle.regex_pattern_front.specs.declared.ir.Node.{Node}
 use Rattle.regex_pattern_front.specs.declared.ir.Node.TheVariants.{Goal, CharSet, ByteSet, ByteSequence, Cat, Alt, StringSet, CaptureGroup}
-use Rattle.regex_pattern_front.specs.declared.ir.Node.TheVariants.{LookaroundAssertion, BackRef, Loop, Loop1CharBody, rolls-Cat, rolls-Alt}
+use Rattle.regex_pattern_front.specs.declared.ir.Node.TheVariants.{LookaroundAssertion, BackRef, CanonicalBackRef, Loop, Loop1CharBody, rolls-Cat, rolls-Alt}
 use Rattle.regex_pattern_front.specs.declared.ir.Node.TheVariants.{rolls-CaptureGroup, rolls-LookaroundAssertion, rolls-Loop, rolls-Loop1CharBody}
 use Rattle.regex_pattern_front.specs.declared.ir.Node.TheOpen.{Node-F}
 use Rattle.regex_pattern_front.specs.declared.ir.Node.TheViews.{roll-Node}
@@ -106,26 +106,27 @@ pub ends-other : (n : Node) → (n ≡ Goal → ⊥) → ((v : Vec Node Global) 
 ends-other = ind-Node (λ n. (n ≡ Goal → ⊥) → ((v : Vec Node Global) → n ≡ Cat v → ⊥) → ends_in_goal (node_of n) ≡ false) (λ x y is. ends-rolled x)
 
 sound-rolled : (groups : ℕ) (x : Node-F Node) → ((v : Vec ℕ Global) → roll-Node x ≡ CharSet v → ⊥) → ((v : Vec ℕ Global) → roll-Node x ≡ ByteSet v → ⊥) → ((v : Vec ℕ Global) → roll-Node x ≡ ByteSequence v → ⊥)
-    → ((strings : Vec (Vec ℕ Global) Global) (icase : Bool) → roll-Node x ≡ StringSet strings icase → ⊥) → ((group : ℕ) (icase : Bool) → roll-Node x ≡ BackRef group icase → ⊥)
+    → ((strings : Vec (Vec ℕ Global) Global) (icase : Bool) → roll-Node x ≡ StringSet strings icase → ⊥) → ((group : ℕ) (icase : Bool) → roll-Node x ≡ BackRef group icase → ⊥) → ((group : ℕ) (unicode : Bool) → roll-Node x ≡ CanonicalBackRef group unicode → ⊥)
     → ((loopee : Box Node Global) (q : Quantifier) (groups : Range ℕ) → roll-Node x ≡ Loop loopee q groups → ⊥) → ((loopee : Box Node Global) (q : Quantifier) → roll-Node x ≡ Loop1CharBody loopee q → ⊥)
     → is_well_formed_node groups (node_of (roll-Node x)) ≡ true
 unfolding node_of roll-Node roll
-sound-rolled groups (Node-F.CharSet v) h1 h2 h3 h4 h5 h6 h7 = absurd (h1 v refl)
-sound-rolled groups (Node-F.ByteSet v) h1 h2 h3 h4 h5 h6 h7 = absurd (h2 v refl)
-sound-rolled groups (Node-F.ByteSequence v) h1 h2 h3 h4 h5 h6 h7 = absurd (h3 v refl)
-sound-rolled groups (Node-F.StringSet v i) h1 h2 h3 h4 h5 h6 h7 = absurd (h4 v i refl)
-sound-rolled groups (Node-F.BackRef g i) h1 h2 h3 h4 h5 h6 h7 = absurd (h5 g i refl)
-sound-rolled groups (Node-F.Loop b q g) h1 h2 h3 h4 h5 h6 h7 = absurd (h6 b q g (sym (rolls-Loop b q g)))
-sound-rolled groups (Node-F.Loop1CharBody b q) h1 h2 h3 h4 h5 h6 h7 = absurd (h7 b q (sym (rolls-Loop1CharBody b q)))
-sound-rolled groups (Node-F.Cat v) h1 h2 h3 h4 h5 h6 h7 = row (is_well_formed_node groups) true v refl (λ first rest. refl)
-sound-rolled groups _ h1 h2 h3 h4 h5 h6 h7 = refl
+sound-rolled groups (Node-F.CharSet v) h1 h2 h3 h4 h5 h6 h7 h8 = absurd (h1 v refl)
+sound-rolled groups (Node-F.ByteSet v) h1 h2 h3 h4 h5 h6 h7 h8 = absurd (h2 v refl)
+sound-rolled groups (Node-F.ByteSequence v) h1 h2 h3 h4 h5 h6 h7 h8 = absurd (h3 v refl)
+sound-rolled groups (Node-F.StringSet v i) h1 h2 h3 h4 h5 h6 h7 h8 = absurd (h4 v i refl)
+sound-rolled groups (Node-F.BackRef g i) h1 h2 h3 h4 h5 h6 h7 h8 = absurd (h5 g i refl)
+sound-rolled groups (Node-F.CanonicalBackRef g u) h1 h2 h3 h4 h5 h6 h7 h8 = absurd (h6 g u refl)
+sound-rolled groups (Node-F.Loop b q g) h1 h2 h3 h4 h5 h6 h7 h8 = absurd (h7 b q g (sym (rolls-Loop b q g)))
+sound-rolled groups (Node-F.Loop1CharBody b q) h1 h2 h3 h4 h5 h6 h7 h8 = absurd (h8 b q (sym (rolls-Loop1CharBody b q)))
+sound-rolled groups (Node-F.Cat v) h1 h2 h3 h4 h5 h6 h7 h8 = row (is_well_formed_node groups) true v refl (λ first rest. refl)
+sound-rolled groups _ h1 h2 h3 h4 h5 h6 h7 h8 = refl
 
 pub sound-other : (groups : ℕ) (n : Node) → ((v : Vec ℕ Global) → n ≡ CharSet v → ⊥) → ((v : Vec ℕ Global) → n ≡ ByteSet v → ⊥) → ((v : Vec ℕ Global) → n ≡ ByteSequence v → ⊥)
-    → ((strings : Vec (Vec ℕ Global) Global) (icase : Bool) → n ≡ StringSet strings icase → ⊥) → ((group : ℕ) (icase : Bool) → n ≡ BackRef group icase → ⊥)
+    → ((strings : Vec (Vec ℕ Global) Global) (icase : Bool) → n ≡ StringSet strings icase → ⊥) → ((group : ℕ) (icase : Bool) → n ≡ BackRef group icase → ⊥) → ((group : ℕ) (unicode : Bool) → n ≡ CanonicalBackRef group unicode → ⊥)
     → ((loopee : Box Node Global) (q : Quantifier) (groups : Range ℕ) → n ≡ Loop loopee q groups → ⊥) → ((loopee : Box Node Global) (q : Quantifier) → n ≡ Loop1CharBody loopee q → ⊥)
     → is_well_formed_node groups (node_of n) ≡ true
 sound-other groups = ind-Node (λ n. ((v : Vec ℕ Global) → n ≡ CharSet v → ⊥) → ((v : Vec ℕ Global) → n ≡ ByteSet v → ⊥) → ((v : Vec ℕ Global) → n ≡ ByteSequence v → ⊥)
-    → ((strings : Vec (Vec ℕ Global) Global) (icase : Bool) → n ≡ StringSet strings icase → ⊥) → ((group : ℕ) (icase : Bool) → n ≡ BackRef group icase → ⊥)
+    → ((strings : Vec (Vec ℕ Global) Global) (icase : Bool) → n ≡ StringSet strings icase → ⊥) → ((group : ℕ) (icase : Bool) → n ≡ BackRef group icase → ⊥) → ((group : ℕ) (unicode : Bool) → n ≡ CanonicalBackRef group unicode → ⊥)
     → ((loopee : Box Node Global) (q : Quantifier) (groups : Range ℕ) → n ≡ Loop loopee q groups → ⊥) → ((loopee : Box Node Global) (q : Quantifier) → n ≡ Loop1CharBody loopee q → ⊥)
     → is_well_formed_node groups (node_of n) ≡ true) (λ x y is. sound-rolled groups x)
 

@@ -115,7 +115,7 @@ code_of unicode behind (anchor type multiline) at loops brackets = anchor_insn t
 code_of unicode behind (word_boundary invert unicode_icase) at loops brackets = word_boundary_insn invert unicode_icase ∷ []
 code_of unicode behind (capture_group id name contents) at loops brackets =
     BeginCaptureGroup id ∷ (code_of unicode behind contents (at + 1) loops brackets ++ EndCaptureGroup id ∷ [])
-code_of unicode behind (back_ref group icase) at loops brackets = BackRef (group - 1) icase ∷ []
+code_of unicode behind (back_ref group sameness) at loops brackets = BackRef (group - 1) sameness ∷ []
 code_of unicode behind (lookaround l contents) at loops brackets =
     lookaround_insn l (at + node_insn_count contents + 2) ∷ (code_of unicode l.backwards contents (at + 1) loops brackets ++ Goal ∷ [])
 code_of unicode behind (loop q start_group end_group loopee) at loops brackets =

@@ -4,7 +4,8 @@
 ghost use Rattle.std.specs.Prelude.{◌≡◌, ◌&&◌, not, false, IfOk, IsOk};
 ghost use Rattle.regex_meaning.specs.StartPredicate.{IsSoundStartPredicateOf, is_anchored, start_predicate, resolved_start_predicate as predicate_of, sequence, one_of};
 ghost use Rattle.regex_meaning.specs.WellFormedTrees.{IsWellFormed};
-ghost use Rattle.regex_pattern_front.specs.{ByteSetMembers.{member_bytes_of_byte_bitmap}, AstToSpecTree.{node_of, tree_of}};
+ghost use Rattle.regex_pattern_front.specs.ByteSetMembers.{member_bytes_of_byte_bitmap};
+ghost use Rattle.regex_pattern_front.specs.AstToSpecTree.{node_of, tree_of};
 ghost use Rattle.regress_program.specs.{JoinedStartPredicatesOfAlternatives.{abstract_start_predicate_as_spec}, InsnsAndStartPredicatesAsSpec.{start_predicate_as_spec}};
 ghost use Rattle.regress_program.specs.StartPredicatesAndWhenTheyAllocate.{PredicateBitmapHasOverThreeBytes, is_anchored_tree, predicate_is_byte_sequence};
 ghost use Rattle.regress_program.specs.StartPredicatesAndWhenTheyAllocate.{making_start_predicate_may_allocate};
@@ -144,6 +145,7 @@ fn is_start_anchored(node: &Node) -> bool
             | Node::MatchAnyExceptLineTerminator
             | Node::WordBoundary { .. }
             | Node::BackRef { .. }
+            | Node::CanonicalBackRef { .. }
             | Node::LookaroundAssertion { .. }
             | Node::Loop { .. }
             | Node::Loop1CharBody { .. } => return false,

@@ -1,8 +1,8 @@
 //! Wide and deep patterns are compiled.
 
+use regex_parser::parse::try_parse;
 use regex_pattern_front::flags::Flags;
 use regex_pattern_front::optimizer::optimize;
-use regex_pattern_front::parse::try_parse;
 use regress_program::emit::{emit, emit_units};
 use std::alloc::{AllocError, Global};
 use std::process::Abort;

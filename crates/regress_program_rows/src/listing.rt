@@ -1,6 +1,7 @@
 //! Programs in words.
 
 use crate::predicates::{write_bytes, write_members};
+use regex_pattern_front::canonical::Sameness;
 use regex_pattern_front::ir::Regex;
 use regress_program::emit::{EmitError, emit, emit_units};
 use regress_program::insn::{Insn, LoopFields};
@@ -70,9 +71,9 @@ fn write_insn(text: &mut String, insn: &Insn) -> Result<(), AllocError> {
         Insn::BeginCaptureGroup(id) => write_word(text, "BeginCaptureGroup", &[*id as usize]),
         Insn::EndCaptureGroup(id) => write_word(text, "EndCaptureGroup", &[*id as usize]),
         Insn::ResetCaptureGroup(id) => write_word(text, "ResetCaptureGroup", &[*id as usize]),
-        Insn::BackRef { group, icase } => {
+        Insn::BackRef { group, same } => {
             write_word(text, "BackRef", &[*group as usize])?;
-            text.push_str(truth(*icase))
+            text.push_str(sameness(*same))
         }
         Insn::Lookahead { .. } | Insn::Lookbehind { .. } => write_look(text, insn),
         _ => write_test(text, insn),
@@ -129,6 +130,15 @@ fn write_test(text: &mut String, insn: &Insn) -> Result<(), AllocError> {
 fn write_flag(text: &mut String, word: &str, flag: bool) -> Result<(), AllocError> {
     text.push_str(word)?;
     text.push_str(truth(flag))
+}
+
+fn sameness(same: Sameness) -> &'static str {
+    match same {
+        Sameness::Exact => " false",
+        Sameness::Folded => " true",
+        Sameness::Alike { unicode: false } => " alike",
+        Sameness::Alike { unicode: true } => " alike with u",
+    }
 }
 
 fn truth(value: bool) -> &'static str {

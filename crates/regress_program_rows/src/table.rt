@@ -62,9 +62,13 @@ program cat:3 any loop:0,0,0 group:0 a goal → NotWellFormed
 program cat:3 any loop:0,1,0 a goal → NotWellFormed
 program cat:3 any loop:1,0,0 a goal → NotWellFormed
 program cat:3 any ahead:0,1 a goal → NotWellFormed
+program cat:3 group:0 a canonical:1,0 goal → BeginCaptureGroup 0, Char 97, EndCaptureGroup 0, BackRef 0 alike, Goal
+program cat:3 group:0 a canonical:1,1 goal → BeginCaptureGroup 0, Char 97, EndCaptureGroup 0, BackRef 0 alike with u, Goal
 program cat:3 any ref:1 goal → NotWellFormed
 program cat:3 any cat:2 group:0 empty ref:0 goal → NotWellFormed
 program cat:3 any cat:2 group:0 empty ref:2 goal → NotWellFormed
+program cat:3 any cat:2 group:0 empty canonical:0,0 goal → NotWellFormed
+program cat:3 any cat:2 group:0 empty canonical:2,1 goal → NotWellFormed
 program cat:3 any loop:0,0,2,1 a goal → NotWellFormed
 program cat:3 any loop1:2,1 a goal → NotWellFormed
 program cat:3 any loop:0,0,3,2 a goal → NotWellFormed

@@ -5,14 +5,14 @@ ghost use lib.Pointwise.{pointwise};
 ghost use Rattle.regex_meaning.specs.{Text.{is_scalar, is_word_char}, Tree.{start_of_line, end_of_line}};
 ghost use Rattle.regex_meaning.specs.{Outcomes.{is_at_word_boundary, is_line_boundary, is_some_and, exclusive_or}, CodeUnitOffsets.{IsBoundary}};
 ghost use Rattle.regex_meaning.specs.CompilationRelation.{ByteSeq, Bracket};
-ghost use Rattle.regex_pattern_front.specs.AstToSpecTree.{tree_of};
+ghost use Rattle.regex_pattern_front.specs.AstToSpecTree.{sameness_of, tree_of};
 ghost use Rattle.regress_input.specs.CharAndByteReadsFromOffset.{end_if_matched, place};
 ghost use Rattle.regress_program.specs.{CompilationOfTreesAsFunction.{compiled}, InsnsAndStartPredicatesAsSpec.{insn_as_spec_insn}};
 ghost use Rattle.regress_machine.specs.{Machine.{test_of}, InsnEffects.{is_byte_sequence_insn}};
 ghost use Rattle.regress_scan.specs.OffsetsAfterMatchedInsns.{anchor_matches_at, past_backref, char_test_of_insn};
 
 use regress_input::cursor::Direction;
-use regress_input::front::ByteSet;
+use regress_input::front::{ByteSet, Sameness};
 use regress_input::indexing::{CharProperties, ElementType, InputIndexer};
 use regress_input::matchers;
 use regress_input::scm::is_one_of_four_chars;
@@ -163,7 +163,7 @@ pub fn passes_word_boundary_assertion<Input: InputIndexer>(
 pub fn backref_matches<Input: InputIndexer, Dir: Direction>(
     start: Input::Position,
     end: Input::Position,
-    icase: bool,
+    same: Sameness,
     input: &Input,
     dir: Dir,
     pos: &mut Input::Position,
@@ -172,14 +172,19 @@ pub fn backref_matches<Input: InputIndexer, Dir: Direction>(
     requires from { IsBoundary (Input.text input.now) (Input.Position.offset start) }
     requires to { IsBoundary (Input.text input.now) (Input.Position.offset end) }
     ensures { let at = Input.Position.offset in end_if_matched result (at pos.new)
-        ≡ past_backref (Input.text input.now) Dir.FORWARD icase (at start) (at end) (at pos.old) }
+        ≡ past_backref (Input.text input.now) Dir.FORWARD (sameness_of same) (at start) (at end) (at pos.old) }
 {
     if input.pos_to_offset(end) < input.pos_to_offset(start) {
         return true;
     }
-    if icase {
-        matchers::backref_icase(input, dir, start..end, pos)
-    } else {
-        matchers::backref(input, dir, start..end, pos)
+    match same {
+        Sameness::Exact => matchers::backref(input, dir, start..end, pos),
+        Sameness::Folded => matchers::backref_icase(input, dir, start..end, pos),
+        Sameness::Alike { unicode } => {
+            let mut at = *pos;
+            let matches = matchers::backref_alike(input, dir, start..end, unicode, &mut at);
+            *pos = at;
+            matches
+        }
     }
 }

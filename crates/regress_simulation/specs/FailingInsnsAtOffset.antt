@@ -55,7 +55,7 @@ module _ (program : Program) (text : Text) (at : ℕ) (may : ℕ → Bool) where
       || min_iters == 0 && may (ip + 2)
   may_at (Some (BeginCaptureGroup id)) ip = may (ip + 1)
   may_at (Some (EndCaptureGroup id)) ip = may (ip + 1)
-  may_at (Some (BackRef group icase)) ip = true
+  may_at (Some (BackRef group sameness)) ip = true
   may_at (Some (Lookahead negate start_group end_group continuation)) ip = may continuation && (negate || may (ip + 1))
   may_at (Some (Lookbehind negate start_group end_group continuation)) ip = may continuation
   may_at _ ip = false

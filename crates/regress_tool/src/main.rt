@@ -1,4 +1,4 @@
-//! Searches a text for a pattern: `regress-tool PATTERN FLAGS TEXT`.
+//! Searches a text for a pattern: `regress-tool [--es2018] PATTERN FLAGS TEXT`.
 #![tactic(auto)]
 
 use regress_match::program;

@@ -3,7 +3,8 @@
 //! Each node stands before its children, as in `cat:2 alt a b goal`. Behind a colon are numbers in hexadecimal, with
 //! commas between them. A word of one letter is that character. The other words are:
 //!
-//! - with no child `goal`, `empty`, `any`, `start`, `line`, `char:C`, `ref:GROUP`, `set:C,..`, `byteset:B,..`, `bytes:B,..`, and
+//! - with no child `goal`, `empty`, `any`, `start`, `line`, `char:C`, `ref:GROUP`, `canonical:GROUP,UNICODE` for a
+//!   reference by `Canonicalize`, `set:C,..`, `byteset:B,..`, `bytes:B,..`, and
 //!   `class:FIRST,LAST,..` and `not:FIRST,LAST,..`;
 //! - with one child `group:ID`, `named:ID,LETTER`, `ahead:FIRST,END`, `behind:FIRST,END`, `loop:FIRST,END,MIN`,
 //!   `loop:FIRST,END,MIN,MAX`, `loop1:MIN` and `loop1:MIN,MAX`, where `FFFFFFFF` is the greatest minimum there is;
@@ -196,6 +197,10 @@ fn leaf(alloc: Global, name: &str, numbers: &[u32]) -> Option<Node> {
         ("ref", [group]) => Some(Node::BackRef {
             group: *group,
             icase: false,
+        }),
+        ("canonical", [group, unicode]) => Some(Node::CanonicalBackRef {
+            group: *group,
+            unicode: *unicode != 0,
         }),
         ("set", members) => Some(Node::CharSet(Vec::from_slice(alloc, members).ok()?)),
         ("byteset", members) => Some(Node::ByteSet(bytes_of(alloc, members)?)),

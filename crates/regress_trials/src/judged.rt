@@ -7,8 +7,25 @@ use serde::Deserialize;
 use std::alloc::{AllocError, Global};
 use std::fs;
 
-/// The file of cases, one a line.
-const CASES: &str = "v8.jsonl";
+/// The word before the others that asks for the whole language.
+const ES2018: &str = "--es2018";
+
+/// A file of cases, one a line, and the language of their patterns.
+#[derive(Clone, Copy)]
+struct Cases {
+    file: &'static str,
+    is_whole: bool,
+}
+
+const PROFILE_CASES: Cases = Cases {
+    file: "v8.jsonl",
+    is_whole: false,
+};
+
+const WHOLE_CASES: Cases = Cases {
+    file: "es2018.jsonl",
+    is_whole: true,
+};
 
 /// What stands on standard error where a pattern is refused.
 const PATTERN_REFUSED: &[u8] = b"pattern refused\n";
@@ -27,7 +44,7 @@ struct Case {
 }
 
 // Whether the program ends as the case says, and complains only where the pattern is refused.
-fn ends_as_judged(alloc: Global, case: Case) -> Result<bool, AllocError> {
+fn ends_as_judged(alloc: Global, is_whole: bool, case: Case) -> Result<bool, AllocError> {
     let Case {
         pattern,
         flags,
@@ -35,7 +52,13 @@ fn ends_as_judged(alloc: Global, case: Case) -> Result<bool, AllocError> {
         stdout,
         status,
     } = case;
-    let words = vec![in alloc; Some(pattern), Some(flags), Some(text)]?;
+    let mut words = Vec::new(alloc);
+    if is_whole {
+        words.push(Some(String::from_str(alloc, ES2018)?))?;
+    }
+    for word in vec![in alloc; pattern, flags, text]? {
+        words.push(Some(word))?;
+    }
     let mut out = Vec::new(alloc);
     let mut err = Vec::new(alloc);
     let got = program::run(alloc, &words, &mut out, &mut err);
@@ -47,14 +70,21 @@ fn ends_as_judged(alloc: Global, case: Case) -> Result<bool, AllocError> {
     Ok(got == status && out.as_slice() == stdout.as_bytes() && err.as_slice() == told)
 }
 
-/// Tells how many cases there are, and whether all agree.
-pub fn agrees(rt: &HostRuntime) -> Result<bool> {
+/// Tells of each language how many cases there are, and whether all agree.
+pub fn agree(rt: &HostRuntime) -> Result<bool> {
+    let profile = agrees(rt, PROFILE_CASES)?;
+    let whole = agrees(rt, WHOLE_CASES)?;
+    Ok(profile && whole)
+}
+
+// Tells how many cases there are in a file, and whether all agree.
+fn agrees(rt: &HostRuntime, cases: Cases) -> Result<bool> {
     let alloc = rt.alloc();
-    let cases = fs::read_to_string(rt, CASES)?;
+    let lines = fs::read_to_string(rt, cases.file)?;
     let mut agree = 0u64;
     let mut differ = 0u64;
-    for line in cases.lines() {
-        if ends_as_judged(alloc, serde_json::from_str(alloc, line)?)? {
+    for line in lines.lines() {
+        if ends_as_judged(alloc, cases.is_whole, serde_json::from_str(alloc, line)?)? {
             agree = agree.saturating_add(1);
         } else {
             eprintln!(rt; "differs: {line}")?;

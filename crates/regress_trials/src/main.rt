@@ -35,7 +35,7 @@ fn main(rt: HostRuntime) -> Result<ExitCode> {
         hostile::tell_all(&rt)?;
         return Ok(ExitCode::SUCCESS);
     }
-    let judged = judged::agrees(&rt)?;
+    let judged = judged::agree(&rt)?;
     let constructed = sweep::agrees(&rt)?;
     seeded::tell_all(&rt)?;
     hostile::tell_all(&rt)?;

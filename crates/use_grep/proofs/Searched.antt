@@ -3,11 +3,11 @@ use Rattle.std.proofs.Common.{◌≡◌, ℕ, List, [], ◌∷◌, Bool, true, f
 use Rattle.std.specs.Prelude.{◌||◌, chars, is_some, slice_get, if◌then◌else◌}
 use Rattle.regex_meaning.specs.Tree.{Flags, Tree}
 use Rattle.regex_meaning.specs.FlagLettersAndEscaping.{flags_from_letters}
-use Rattle.regex_grammar.specs.Grammar.{Parses}
-use Rattle.regress_match.specs.ProgramTreesAndAnswers.{IsCompiledWith, tree_for_16_bit_units}
+use Rattle.regex_grammar.specs.EcmaGrammarWithAnnexB.{ParsesEcmaScript, ecmascript}
+use Rattle.regress_match.specs.ProgramTreesAndAnswers.{IsCompiledWithSyntax, tree_for_16_bit_units}
 use Rattle.regress_match.specs.declared.api.regex.Regex.{Regex}
 use Rattle.regress_match.proofs.FlagLemmas.{flags_by}
-use Rattle.regress_match.proofs.PatternLemmas.{searches-follow}
+use Rattle.regress_match.proofs.PatternLemmas.{ecmascript-searches-follow}
 use Rattle.regex_meaning.proofs.Each.{Each, Each-map}
 use Rattle.use_grep.specs.Selecting.{HasNoneInLines, IsLocal, IsSearchOf, framed, has_match, lines_of, searched, tree_flags}
 use Rattle.use_grep.proofs.InParts.{lines-have_none}
@@ -18,15 +18,15 @@ unfolding flags_from_letters
 flags-of_case true m d n u v em ed en eu ev = rw (em, ed, en, eu, ev) refl
 flags-of_case false m d n u v em ed en eu ev = rw (em, ed, en, eu, ev) refl
 
-is-search : (flags : Flags) (pattern : List ℕ) (re : Regex) → IsCompiledWith flags (chars pattern) re → IsSearchOf flags pattern re
+is-search : (flags : Flags) (pattern : List ℕ) (re : Regex) → IsCompiledWithSyntax ecmascript flags (chars pattern) re → IsSearchOf flags pattern re
 is-search flags pattern re is = record {
   tree = tree_for_16_bit_units re;
   parsed = is.parsed;
-  found = λ tree parsed line. ap (λ answers. is_some (slice_get answers 0)) (searches-follow flags (chars pattern) re tree is parsed line 0).0;
+  found = λ tree parsed line. ap (λ answers. is_some (slice_get answers 0)) (ecmascript-searches-follow flags (chars pattern) re tree is parsed line 0).0;
 }
 
 -- A text with no match has none in its lines, where the grammar has a local tree of the pattern.
-pub none-in_lines : (flags : Flags) (pattern : List ℕ) (re : Regex) → IsCompiledWith flags (chars pattern) re → IsLocal flags pattern → HasNoneInLines re
+pub none-in_lines : (flags : Flags) (pattern : List ℕ) (re : Regex) → IsCompiledWithSyntax ecmascript flags (chars pattern) re → IsLocal flags pattern → HasNoneInLines re
 none-in_lines flags pattern re is local text utf8 none =
     let found = (is-search flags pattern re is).found local.0 local.1 in
     filter-none (has_match re) (lines_of text)
@@ -39,8 +39,8 @@ none-in_lines flags pattern re is local text utf8 none =
 
 module _ (flags wanted : Flags) (same : flags ≡ wanted) (words whole_lines : Bool) (pattern : List ℕ) (re : Regex) where
   -- the flags, and what is searched, said in the words of the options
-  search-of : (text : List ℕ) → IsCompiledWith flags (chars text) re → IsSearchOf wanted text re
-  search-of text is = is-search wanted text re (subst (λ f. IsCompiledWith f (chars text) re) same is)
+  search-of : (text : List ℕ) → IsCompiledWithSyntax ecmascript flags (chars text) re → IsSearchOf wanted text re
+  search-of text is = is-search wanted text re (subst (λ f. IsCompiledWithSyntax ecmascript f (chars text) re) same is)
 
   abbrev chosen : Bool → List ℕ
   chosen b = if b then framed whole_lines pattern else pattern
@@ -48,17 +48,17 @@ module _ (flags wanted : Flags) (same : flags ≡ wanted) (words whole_lines : B
   neither : words ≡ false → whole_lines ≡ false → (words || whole_lines) ≡ false
   neither w l = rw (w, l) refl
 
-  pub alone-searched : words ≡ false → whole_lines ≡ false → IsCompiledWith flags (chars pattern) re
+  pub alone-searched : words ≡ false → whole_lines ≡ false → IsCompiledWithSyntax ecmascript flags (chars pattern) re
       → IsSearchOf wanted (searched words whole_lines pattern) re
   alone-searched w l is = subst (λ b. IsSearchOf wanted (chosen b) re) (sym (neither w l)) (search-of pattern is)
 
-  pub framed-searched : (text : List ℕ) → (words || whole_lines) ≡ true → text ≡ framed whole_lines pattern → IsCompiledWith flags (chars text) re
+  pub framed-searched : (text : List ℕ) → (words || whole_lines) ≡ true → text ≡ framed whole_lines pattern → IsCompiledWithSyntax ecmascript flags (chars text) re
       → IsSearchOf wanted (searched words whole_lines pattern) re
   framed-searched text either is_framed is =
       subst (λ b. IsSearchOf wanted (chosen b) re) (sym either) (subst (λ t. IsSearchOf wanted t re) is_framed (search-of text is))
 
-  pub alone-is-one : IsCompiledWith flags (chars pattern) re → (tree : Tree) × Parses wanted (chars pattern) tree
-  alone-is-one is = (tree_for_16_bit_units re, subst (λ f. Parses f (chars pattern) (tree_for_16_bit_units re)) same is.parsed)
+  pub alone-is-one : IsCompiledWithSyntax ecmascript flags (chars pattern) re → (tree : Tree) × ParsesEcmaScript wanted (chars pattern) tree
+  alone-is-one is = (tree_for_16_bit_units re, subst (λ f. ParsesEcmaScript f (chars pattern) (tree_for_16_bit_units re)) same is.parsed)
 
 -- a pattern that is framed asks for one of the two
 pub by-words : (words whole_lines : Bool) → words ≡ true → (words || whole_lines) ≡ true

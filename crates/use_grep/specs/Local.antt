@@ -9,7 +9,7 @@ is_local_node (byte_sequence bytes) = false
 is_local_node (string_set strings icase) = false
 is_local_node (anchor type multiline) = false
 is_local_node (word_boundary invert unicode_icase) = not invert
-is_local_node (back_ref group icase) = false
+is_local_node (back_ref group same) = false
 is_local_node (lookaround l contents) = false
 is_local_node _ = true
 

@@ -7,7 +7,7 @@ use Rattle.regex_meaning.specs.Text.{utf8_text}
 use Rattle.regex_meaning.specs.FlagLettersAndEscaping.{flags_from_letters}
 use Rattle.regex_meaning.specs.MatchGroupsByNumberAndName.{Answer, answers_from}
 use Rattle.regex_meaning.specs.Replace.{replaced}
-use Rattle.regex_grammar.specs.Grammar.{Parses}
+use Rattle.regex_grammar.specs.EcmaGrammarWithAnnexB.{ParsesEcmaScript}
 use Rattle.regress_match.specs.ProgramTreesAndAnswers.{utf8_answers}
 use Rattle.regress_match.specs.declared.api.regex.Regex.{Regex}
 use Rattle.use_grep.specs.Local.{is_local}
@@ -70,13 +70,13 @@ tree_flags ignore_case = if ignore_case then flags_from_letters (codes "i") else
 -- The grammar has a tree of the pattern, and a line has a match where such a tree finds one in it.
 pub record IsSearchOf (flags : Flags) (pattern : List ℕ) (re : Regex) : Type 0 where
   pub tree : Tree
-  pub parsed : Parses flags (chars pattern) tree
-  pub found : (tree : Tree) → Parses flags (chars pattern) tree → (line : List ℕ)
+  pub parsed : ParsesEcmaScript flags (chars pattern) tree
+  pub found : (tree : Tree) → ParsesEcmaScript flags (chars pattern) tree → (line : List ℕ)
       → has_match re line ≡ is_some (slice_get (answers_from tree.root (utf8_text line flags.unicode) 0) 0)
 
 -- the grammar has a tree of the pattern whose matches depend on the characters that they read alone
 abbrev pub IsLocal : (flags : Flags) → (pattern : List ℕ) → Type 0
-IsLocal flags pattern = (tree : Tree) × Parses flags (chars pattern) tree × (is_local tree.root ≡ true)
+IsLocal flags pattern = (tree : Tree) × ParsesEcmaScript flags (chars pattern) tree × (is_local tree.root ≡ true)
 
 -- a text with no match has none in its lines
 abbrev pub HasNoneInLines : Regex → Type 0

@@ -11,9 +11,10 @@ ghost use Rattle.regress_match.specs.PublicFlagsAsSpecFlags.{spec_flags_of};
 ghost use Rattle.regress_program.specs.LeafNodesAndOptimizableLoops.{cat_of};
 ghost use Rattle.use_grep.specs.{Local.{is_local as is_local_tree}, Selecting.{IsLocal}};
 
+use crate::patterns::SYNTAX;
 use regex_pattern_front::ir::Node;
 use regress_match::Flags;
-use regress_match::backends::try_parse;
+use regress_match::backends::try_parse_in;
 use std::alloc::{AllocError, Global};
 
 /// Checks whether a pattern is local in this sense. A pattern that is refused is not.
@@ -25,7 +26,7 @@ pub fn is_local(alloc: Global, pattern: &str, flags: Flags) -> Result<bool, Allo
     ensures { IfOk result (λ b. IsTrue b → IsLocal (spec_flags_of flags) pattern.now) }
 {
     let characters = characters(alloc, pattern)?;
-    match try_parse(alloc, &characters, flags.for_front()) {
+    match try_parse_in(alloc, &characters, flags.for_front(), SYNTAX) {
         Ok(parsed) => Ok(is_local_node(&parsed.node)),
         Err(_) => Ok(false),
     }
@@ -69,6 +70,7 @@ fn is_local_node(node: &Node) -> bool
             | Node::StringSet { .. }
             | Node::Anchor { .. }
             | Node::BackRef { .. }
+            | Node::CanonicalBackRef { .. }
             | Node::LookaroundAssertion { .. } => return false,
         }
     }

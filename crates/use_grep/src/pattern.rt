@@ -2,12 +2,13 @@
 
 ghost use Rattle.std.specs.Prelude.{◌≡◌, ◌++◌, IfOk, IsTrue, chars, codes, if◌then◌else◌, string_bytes};
 ghost use Rattle.regex_meaning.specs.Tree.{Tree};
-ghost use Rattle.regex_grammar.specs.Grammar.{Parses};
+ghost use Rattle.regex_grammar.specs.EcmaGrammarWithAnnexB.{ParsesEcmaScript};
 ghost use Rattle.regress_match.specs.PublicFlagsAsSpecFlags.{spec_flags_of};
 ghost use Rattle.use_grep.specs.Selecting.{HasNoneInLines, IsSearchOf, framed, searched, tree_flags};
 
 use crate::local::is_local;
 use crate::options::Options;
+use crate::patterns::SYNTAX;
 use regress_match::{Error, Flags, Regex};
 use std::alloc::{AllocError, Global};
 use std::io;
@@ -34,14 +35,14 @@ pub struct Query {
 ///
 /// # Errors
 ///
-/// The errors of `Regex::with_flags`, also for the pattern without what `-w` and `-x` put around it.
+/// The errors of `Regex::with_syntax`, also for the pattern without what `-w` and `-x` put around it.
 pub fn compile(alloc: Global, options: &Options<'_>) -> Result<Query, Error>
     ensures searched { IfOk result (λ q. IsSearchOf (tree_flags options.now.ignore_case)
         (searched options.now.words options.now.whole_lines options.now.pattern.now) q.re) }
     ensures alone { IfOk result (λ _. (tree : Tree)
-        × Parses (tree_flags options.now.ignore_case) (chars options.now.pattern.now) tree) }
+        × ParsesEcmaScript (tree_flags options.now.ignore_case) (chars options.now.pattern.now) tree) }
 {
-    let alone = Regex::with_flags(alloc, options.pattern, flags(options))?;
+    let alone = Regex::with_syntax(alloc, options.pattern, flags(options), SYNTAX)?;
     if !options.words && !options.whole_lines {
         let is_local = is_local(alloc, options.pattern, flags(options))?;
         return Ok(Query {
@@ -50,7 +51,7 @@ pub fn compile(alloc: Global, options: &Options<'_>) -> Result<Query, Error>
         });
     }
     let framed = framed(alloc, options.pattern, options.whole_lines)?;
-    let re = Regex::with_flags(alloc, framed.as_str(), flags(options))?;
+    let re = Regex::with_syntax(alloc, framed.as_str(), flags(options), SYNTAX)?;
     Ok(Query {
         re,
         is_local: false,
@@ -72,12 +73,12 @@ fn framed(alloc: Global, pattern: &str, whole_lines: bool) -> Result<String, All
 ///
 /// # Errors
 ///
-/// The errors of `Regex::with_flags`.
+/// The errors of `Regex::with_syntax`.
 pub fn check_alone(alloc: Global, options: &Options<'_>, pattern: &str) -> Result<(), Error>
     ensures { IfOk result (λ _. (tree : Tree)
-        × Parses (tree_flags options.now.ignore_case) (chars pattern.now) tree) }
+        × ParsesEcmaScript (tree_flags options.now.ignore_case) (chars pattern.now) tree) }
 {
-    let _alone = Regex::with_flags(alloc, pattern, flags(options))?;
+    let _alone = Regex::with_syntax(alloc, pattern, flags(options), SYNTAX)?;
     Ok(())
 }
 
@@ -92,7 +93,7 @@ pub fn say_refused(
     pattern: &str,
     why: &Error,
 ) -> io::Result<()> {
-    match Regex::diagnose(rt.alloc(), pattern, flags(options))? {
+    match Regex::diagnose_with_syntax(rt.alloc(), pattern, flags(options), SYNTAX)? {
         Some(told) => {
             let below = told.below_text(pattern);
             eprintln!(rt; "use_grep: {told}\n{below}")

@@ -2,12 +2,15 @@
 
 use crate::options::has_patterns;
 use anyhow::{Result, bail};
-use regress_match::escape;
+use regress_match::{Syntax, escape};
 use simdutf8::compat::from_utf8;
 use std::alloc::{AllocError, Global};
 use std::fs;
 use std::io::Read;
 use use_support::Given;
+
+/// The language of the patterns.
+pub const SYNTAX: Syntax = Syntax::EcmaScript2018;
 
 /// Returns the patterns of a command line: those of `-e`, and then those of `-f`, or the first word. Each line is a
 /// pattern. With `-F` their syntax characters are escaped.

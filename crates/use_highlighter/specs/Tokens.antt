@@ -4,7 +4,7 @@ use Rattle.std.specs.List.{position_or_len}
 use Rattle.regex_meaning.specs.Tree.{Tree}
 use Rattle.regex_meaning.specs.FlagLettersAndEscaping.{flags_from_letters}
 use Rattle.regex_meaning.specs.MatchGroupsByNumberAndName.{Answer, named_group}
-use Rattle.regex_grammar.specs.Grammar.{Parses}
+use Rattle.regex_grammar.specs.EcmaGrammarWithAnnexB.{ParsesEcmaScript}
 use Rattle.use_highlighter.specs.declared.tokens.Token.{Token}
 
 abbrev pub names_of : List Token → List (List ℕ)
@@ -12,7 +12,7 @@ names_of tokens = map (λ t. t.name.now) tokens
 
 -- the token's pattern is one by itself: the grammar has a tree of it
 abbrev pub IsPattern : Token → Type 0
-IsPattern t = (tree : Tree) × Parses (flags_from_letters []) (chars t.pattern.now) tree
+IsPattern t = (tree : Tree) × ParsesEcmaScript (flags_from_letters []) (chars t.pattern.now) tree
 
 -- a token as an alternative of a pattern: a group by its name
 abbrev pub arm_of : Token → List ℕ

@@ -1,14 +1,18 @@
 //! The tokens that are looked for.
 
 ghost use Rattle.std.specs.Prelude.{◌≡◌, ◌++◌, [], All, IfOk, chars, is_some, string_bytes};
+ghost use Rattle.regex_grammar.specs.EcmaGrammarWithAnnexB.{ecmascript};
 ghost use Rattle.regex_meaning.specs.{FlagLettersAndEscaping.{flags_from_letters}, MatchGroupsByNumberAndName.{named_group}};
 ghost use Rattle.regress_exec.specs.MatchesAsSpecAnswers.{answer_of};
-ghost use Rattle.regress_match.specs.{PublicFlagsAsSpecFlags.{spec_flags_of}, ProgramTreesAndAnswers.{IsCompiledWith}};
+ghost use Rattle.regress_match.specs.{PublicFlagsAsSpecFlags.{spec_flags_of}, ProgramTreesAndAnswers.{IsCompiledWithSyntax}};
 ghost use Rattle.use_highlighter.specs.Tokens.{IsPattern, any_of, arm_of, names_of, token_of};
 
 use anyhow::{Result, bail};
-use regress_match::{Error, Flags, Match, Regex};
+use regress_match::{Error, Flags, Match, Regex, Syntax};
 use std::alloc::{AllocError, Global};
+
+/// The language of the tokens' patterns.
+const SYNTAX: Syntax = Syntax::EcmaScript2018;
 
 /// A token: its name, and the pattern that matches it.
 #[derive(Clone, Copy, Debug)]
@@ -39,14 +43,15 @@ pub fn tokens<'a>(alloc: Global, words: &[&'a str]) -> Result<Vec<Token<'a>>> {
 ///
 /// Where the pattern of a token is none by itself, or a name is none of a group, and where there is no memory.
 pub fn compile(alloc: Global, tokens: &[Token<'_>]) -> Result<Regex>
-    ensures compiled { IfOk result (IsCompiledWith (flags_from_letters []) (chars (any_of tokens.now))) }
+    ensures compiled { IfOk result (IsCompiledWithSyntax ecmascript (flags_from_letters [])
+        (chars (any_of tokens.now))) }
     ensures alone { IfOk result (λ _. All IsPattern tokens.now) }
 {
     for token in tokens {
         refuse_wrong(alloc, token)?;
     }
     let any = any_of(alloc, tokens)?;
-    let why = match Regex::new(alloc, any.as_str()) {
+    let why = match Regex::with_syntax(alloc, any.as_str(), flags(), SYNTAX) {
         Ok(re) => return Ok(re),
         Err(why) => why,
     };
@@ -68,7 +73,7 @@ fn refuse_wrong(alloc: Global, token: &Token<'_>) -> Result<()>
     ensures { IfOk result (λ _. IsPattern token.now) }
 {
     let name = token.name;
-    let told = Regex::diagnose(alloc, token.pattern, flags())?;
+    let told = Regex::diagnose_with_syntax(alloc, token.pattern, flags(), SYNTAX)?;
     match told {
         Some(told) => bail!("{name}: {told}\n{}", told.below_text(token.pattern)),
         None => Ok(()),

@@ -1,6 +1,7 @@
 -- Why the constructor of a regular expression fails.
 use Rattle.std.specs.Prelude.{◌≡◌, ℕ, List, Some, false}
-use Rattle.regress_match.specs.CompileErrors.{IsPatternRefusedWith}
+use Rattle.regex_grammar.specs.EcmaGrammarWithAnnexB.{ecmascript}
+use Rattle.regress_match.specs.CompileErrors.{IsPatternRefusedWithSyntax}
 use Rattle.regress_match.specs.declared.api.compile_and_replace_errors.Error.{Error}
 use Rattle.regress_match.specs.declared.api.compile_and_replace_errors.Error.TheVariants as error
 use Rattle.use_regexp.specs.Flags.{flags_of, tree_flags}
@@ -19,7 +20,7 @@ of_pattern e = Pattern e
 pub record IsRefused (source letters : List ℕ) (e : Error) : Type 0 where
   pub flags : flags.Flags
   pub are : flags_of letters ≡ Some flags
-  pub refused : IsPatternRefusedWith (tree_flags flags) (characters_of flags.unicode source) e
+  pub refused : IsPatternRefusedWithSyntax ecmascript (tree_flags flags) (characters_of flags.unicode source) e
 
 -- when each error is possible for a source and letters of flags
 abbrev pub CanRefuse : (source letters : List ℕ) → RegExpError → Type 0

@@ -10,7 +10,7 @@ use crate::error::RegExpError;
 use crate::flags::Flags;
 use crate::units;
 use regress_match::exec::{MatchProducer, Matches};
-use regress_match::{Match, Regex, SearchError};
+use regress_match::{Match, Regex, SearchError, Syntax};
 use std::alloc::{AllocError, Global};
 
 /// A compiled pattern with its source text and its flags.
@@ -26,7 +26,8 @@ impl Pattern {
     ghost use Rattle.use_regexp.specs.Exec.{StandsFrom, first_match, found, last_behind, match_here, search_index as search_index_of};
     ghost use Rattle.use_regexp.specs.Loops.{AreFoundInTurn, AreTaken, next_last};
 
-    /// Compiles a pattern with the flags of these letters (21.2.3.2.2, RegExpInitialize). With `u` the source is read
+    /// Compiles a pattern of the whole language, with annex B, with the flags of these letters
+    /// (21.2.3.2.2, RegExpInitialize). With `u` the source is read
     /// as UTF-16; without it each code unit is a character.
     ///
     /// # Errors
@@ -41,7 +42,12 @@ impl Pattern {
             return Err(RegExpError::Flags);
         };
         let characters = units::characters(alloc, flags.unicode, source)?;
-        let re = Regex::from_unicode(alloc, &characters, flags.for_pattern())?;
+        let re = Regex::from_unicode_with_syntax(
+            alloc,
+            &characters,
+            flags.for_pattern(),
+            Syntax::EcmaScript2018,
+        )?;
         let source = Vec::from_slice(alloc, source)?;
         Ok(Pattern { re, source, flags })
     }

@@ -3,14 +3,16 @@ use Rattle.std.specs.Prelude.{◌≡◌, ℕ, List, String, chars, codes, string
 use Rattle.std.specs.Global.{Global}
 use Rattle.regex_meaning.specs.FlagLettersAndEscaping.{flags_from_letters}
 use Rattle.regex_meaning.specs.Laws.{Each}
-use Rattle.regress_match.specs.ProgramTreesAndAnswers.{IsCompiledWith}
+use Rattle.regex_grammar.specs.EcmaGrammarWithAnnexB.{ecmascript}
+use Rattle.regress_match.specs.ProgramTreesAndAnswers.{IsCompiledWithSyntax}
 use Rattle.regress_match.specs.declared.api.regex.Regex.{Regex}
 use Rattle.use_validator.specs.Judge.{IsToldOf}
 use Rattle.use_validator.specs.declared.judge.Verdict.{Verdict}
 
--- the program is that of the pattern with this text, which is read with the flag `u`
+-- the program is that of the pattern with this text, which is read with the flag `u` as one of the
+-- whole language
 abbrev pub IsProgramOf : (text : List ℕ) → Regex → Type 0
-IsProgramOf text re = IsCompiledWith (flags_from_letters (codes "u")) (chars text) re
+IsProgramOf text re = IsCompiledWithSyntax ecmascript (flags_from_letters (codes "u")) (chars text) re
 
 abbrev pub AreProgramsOf : List (String Global × Regex) → Type 0
 AreProgramsOf entries = Each (λ e. IsProgramOf (string_bytes e.0) e.1) entries

@@ -6,9 +6,12 @@ ghost use Rattle.regress_match.specs.PublicFlagsAsSpecFlags.{spec_flags_of};
 ghost use Rattle.use_validator.specs.Patterns.{AreOfTheirTexts, IsPatternOf, IsProgramOf};
 
 use anyhow::{Result, bail};
-use regress_match::{Error, Flags, Regex};
+use regress_match::{Error, Flags, Regex, Syntax};
 use std::alloc::Global;
 use std::collections::BTreeMap;
+
+/// The language of a schema's patterns.
+const SYNTAX: Syntax = Syntax::EcmaScript2018;
 
 /// Each pattern of a schema as a program, by its text.
 #[derive(Drop)]
@@ -63,7 +66,7 @@ fn compile(alloc: Global, place: &str, pattern: &str) -> Result<Regex>
         Err(why) => why,
     };
     if let Error::Parse(_) = why {
-        if let Some(told) = Regex::diagnose(alloc, pattern, flags())? {
+        if let Some(told) = Regex::diagnose_with_syntax(alloc, pattern, flags(), SYNTAX)? {
             bail!(
                 "the schema's #{place} is refused: {told}\n{}",
                 told.below_text(pattern)
@@ -77,7 +80,7 @@ fn compile(alloc: Global, place: &str, pattern: &str) -> Result<Regex>
 fn read(alloc: Global, pattern: &str) -> Result<Regex, Error>
     ensures { IfOk result (IsProgramOf pattern.now) }
 {
-    Regex::with_flags(alloc, pattern, flags())
+    Regex::with_syntax(alloc, pattern, flags(), SYNTAX)
 }
 
 // Returns the flags of a schema's patterns.

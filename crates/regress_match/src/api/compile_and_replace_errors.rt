@@ -3,8 +3,8 @@
 ghost use Rattle.std.specs.Prelude.{◌≡◌};
 ghost use Rattle.regress_match.specs.CompileErrors.{diagnosis_in_error, error_of_emit, error_of_parse};
 
-use regex_pattern_front::diagnosis::Diagnosis;
-use regex_pattern_front::parse::ParseError;
+use regex_parser::diagnosis::Diagnosis;
+use regex_parser::parse::ParseError;
 use regress_exec::exec::SearchError;
 use regress_program::emit::EmitError;
 use std::alloc::AllocError;

@@ -2,13 +2,14 @@
 
 ghost use Rattle.std.specs.Prelude.{◌≡◌, ◌≤◌, IfOk, IfSome, None, chars, length};
 ghost use Rattle.regex_meaning.specs.Tree.{Tree};
-ghost use Rattle.regex_grammar.specs.Grammar.{Parses};
-ghost use Rattle.regex_pattern_front.specs.ParserContracts.{IsTextRefused};
+ghost use Rattle.regex_grammar.specs.Grammar.{Parses, ParsesBy};
+ghost use Rattle.regex_parser.specs.ParserContracts.{IsTextRefused, IsTextRefusedIn};
+ghost use Rattle.regex_parser.specs.SyntaxDialects.{spec_syntax_of};
 ghost use Rattle.regress_match.specs.PublicFlagsAsSpecFlags.{spec_flags_of};
 
-use crate::api::{Flags, Regex};
-use regex_pattern_front::diagnosis::Diagnosis;
-use regex_pattern_front::parse::diagnose;
+use crate::api::{Flags, Regex, Syntax};
+use regex_parser::diagnosis::Diagnosis;
+use regex_parser::parse::diagnose_in;
 use std::alloc::{AllocError, Global};
 
 // Returns the code points of a text.
@@ -40,7 +41,27 @@ impl Regex {
             IfSome told (λ d. IsTextRefused (spec_flags_of flags) (chars pattern.now))
             × (told ≡ None → (tree : Tree) × Parses (spec_flags_of flags) (chars pattern.now) tree)) }
     {
+        Regex::diagnose_with_syntax(alloc, pattern, flags, Syntax::Profile)
+    }
+
+    /// Returns what is wrong with a pattern that `with_syntax` refuses, and where, as `diagnose` does
+    /// for `with_flags`.
+    ///
+    /// # Errors
+    ///
+    /// `AllocError` if an allocation for reading the pattern fails.
+    pub fn diagnose_with_syntax(
+        alloc: Global,
+        pattern: &str,
+        flags: Flags,
+        syntax: Syntax,
+    ) -> Result<Option<Diagnosis>, AllocError>
+        ensures place { IfOk result (λ told. IfSome told (λ d. d.at ≤ length (chars pattern.now))) }
+        ensures tells { let s = spec_syntax_of syntax in let flags = spec_flags_of flags in IfOk result (λ told.
+            IfSome told (λ d. IsTextRefusedIn s flags (chars pattern.now))
+            × (told ≡ None → (tree : Tree) × ParsesBy s flags (chars pattern.now) tree)) }
+    {
         let code_points = code_points(alloc, pattern)?;
-        diagnose(alloc, &code_points, flags.for_front())
+        diagnose_in(alloc, &code_points, flags.for_front(), syntax)
     }
 }

@@ -12,7 +12,7 @@ use std::fmt;
 /// optimizing.
 #[derive(Clone, Copy, Debug, Default, PartialEq, Eq)]
 pub struct Flags {
-    /// ASCII letters match regardless of case (`i`).
+    /// ASCII letters match regardless of case (`i`); with `Syntax::EcmaScript2018`, all letters do.
     pub icase: bool,
     /// `^` also matches after a line terminator, and `$` before one (`m`).
     pub multiline: bool,
@@ -21,9 +21,10 @@ pub struct Flags {
     /// The tree is compiled as it was parsed, without optimizing it.
     pub no_opt: bool,
     /// Patterns are read by code points, and with `i`, U+017F matches like `s` and U+212A like `k`
-    /// (`u`).
+    /// (`u`). With `Syntax::EcmaScript2018`, letters match by simple case folding.
     pub unicode: bool,
-    /// Classes with set operations or nested classes are refused (`v`).
+    /// Classes with set operations or nested classes are refused (`v`). `Syntax::EcmaScript2018`,
+    /// which is older than `v`, ignores it.
     pub unicode_sets: bool,
 }
 

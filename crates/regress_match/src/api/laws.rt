@@ -1,6 +1,7 @@
 //! Laws of searches that callers may cite. They are functions that do nothing.
 
-ghost use Rattle.regress_match.specs.{Laws.{MatchesStandInText, SearchesFollowThePattern}, SearchResults.{SearchesAnswerInTurn}};
+ghost use Rattle.regex_grammar.specs.EcmaGrammarWithAnnexB.{ecmascript};
+ghost use Rattle.regress_match.specs.{Laws.{MatchesStandInText, SearchesFollowThePattern, SearchesFollowThePatternWithSyntax}, SearchResults.{SearchesAnswerInTurn}};
 ghost use Rattle.regress_match.specs.WorkBounds.{SearchesAnswerInWork, WorkPerUnitLimitSuffices};
 
 /// States that a search yields the matches of the list one after another, and then `None` for good.
@@ -21,6 +22,11 @@ pub fn searches_answer_in_work()
 /// the unique tree that the grammar gives to the pattern.
 pub fn searches_follow_the_pattern()
     ensures { SearchesFollowThePattern }
+{}
+
+/// States the same of a pattern of `Syntax::EcmaScript2018`.
+pub fn searches_follow_the_ecmascript_pattern()
+    ensures { SearchesFollowThePatternWithSyntax ecmascript }
 {}
 
 /// States that the matches of a search lie in the text, in order, and do not overlap.

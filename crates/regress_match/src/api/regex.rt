@@ -2,17 +2,19 @@
 
 ghost use Rattle.std.specs.Prelude.{◌≡◌, ◌<◌, ◌⊎◌, IfErr, IfOk, IfSome, IsAscii, IsCharBoundary, chars, false, length, nat_le, not, option_map, slice_get, []};
 ghost use Rattle.regex_meaning.specs.FlagLettersAndEscaping.{flags_from_letters};
+ghost use Rattle.regex_parser.specs.SyntaxDialects.{spec_syntax_of};
 ghost use Rattle.regex_pattern_front.specs.AstToSpecTree.{tree_of};
 ghost use Rattle.regress_exec.specs.MatchesAsSpecAnswers.{answer_of};
-ghost use Rattle.regress_match.specs.{CompileErrors.{IsOutOfMemory, IsPatternRefusedWith}, ExpansionsAndMatchRanges.{MatchFitsText, MatchesFitTextInOrderFrom}};
+ghost use Rattle.regress_match.specs.CompileErrors.{IsOutOfMemory, IsPatternRefusedWith, IsPatternRefusedWithSyntax};
+ghost use Rattle.regress_match.specs.ExpansionsAndMatchRanges.{MatchFitsText, MatchesFitTextInOrderFrom};
 ghost use Rattle.regress_match.specs.SearchResults.{YieldsMatches};
 
 use crate::api::diagnosis::code_points;
-use crate::api::{Error, Flags};
+use crate::api::{Error, Flags, Syntax};
 use crate::executor_aliases_per_encoding::{
     DefaultAsciiExecutor, DefaultExecutor, LimitedExecutor, search_with_executor_from,
 };
-use regex_pattern_front::parse::try_parse;
+use regex_parser::parse::try_parse_in;
 use regress_exec::exec;
 use regress_exec::exec::{Match, MatchProducer, SearchError};
 use regress_program::emit::emit_both;
@@ -40,7 +42,8 @@ pub struct Regex {
 
 impl Regex {
     ghost use Rattle.regress_match.specs.PublicFlagsAsSpecFlags.{spec_flags_of};
-    ghost use Rattle.regress_match.specs.ProgramTreesAndAnswers.{IsCompiledWith, bytes_as_ascii_text, bytes_as_utf8_text, ascii_answers, tree_for_byte_units};
+    ghost use Rattle.regress_match.specs.ProgramTreesAndAnswers.{IsCompiledWith, IsCompiledWithSyntax, bytes_as_ascii_text, bytes_as_utf8_text, ascii_answers};
+    ghost use Rattle.regress_match.specs.ProgramTreesAndAnswers.{tree_for_byte_units};
     ghost use Rattle.regress_match.specs.ProgramTreesAndAnswers.{steps_suffice_for_whole_utf8_search};
     ghost use Rattle.regress_match.specs.ProgramTreesAndAnswers.{tree_for_16_bit_units, utf8_answers, utf8_answers_within_steps};
 
@@ -85,8 +88,7 @@ impl Regex {
         ensures compiled { IfOk result (IsCompiledWith (spec_flags_of flags) (chars pattern.now)) }
         ensures refused { IfErr result (IsPatternRefusedWith (spec_flags_of flags) (chars pattern.now)) }
     {
-        let code_points = code_points(alloc, pattern)?;
-        Regex::from_unicode(alloc, &code_points, flags)
+        Regex::with_syntax(alloc, pattern, flags, Syntax::Profile)
     }
 
     /// Compiles a pattern that is given as code points, like `with_flags`.
@@ -98,7 +100,50 @@ impl Regex {
         ensures compiled { IfOk result (IsCompiledWith (spec_flags_of flags) pattern.now) }
         ensures refused { IfErr result (IsPatternRefusedWith (spec_flags_of flags) pattern.now) }
     {
-        let parsed = try_parse(alloc, pattern, flags.for_front())?;
+        Regex::from_unicode_with_syntax(alloc, pattern, flags, Syntax::Profile)
+    }
+
+    /// Compiles a pattern of a syntax with the given flags.
+    ///
+    /// `Syntax::Profile` is the language of `with_flags`. `Syntax::EcmaScript2018` is the whole
+    /// language of ECMAScript 2018 with annex B, and a pattern of the profile may mean something
+    /// else in it: with `i`, letters beyond ASCII fold too.
+    ///
+    /// # Errors
+    ///
+    /// The same as `with_flags`, where `Parse` means that the text is not a pattern of the syntax.
+    pub fn with_syntax(
+        alloc: Global,
+        pattern: &str,
+        flags: Flags,
+        syntax: Syntax,
+    ) -> Result<Regex, Error>
+        ensures compiled { IfOk result (IsCompiledWithSyntax (spec_syntax_of syntax) (spec_flags_of flags)
+            (chars pattern.now)) }
+        ensures refused { IfErr result (IsPatternRefusedWithSyntax (spec_syntax_of syntax) (spec_flags_of flags)
+            (chars pattern.now)) }
+    {
+        let code_points = code_points(alloc, pattern)?;
+        Regex::from_unicode_with_syntax(alloc, &code_points, flags, syntax)
+    }
+
+    /// Compiles a pattern that is given as code points, like `with_syntax`.
+    ///
+    /// # Errors
+    ///
+    /// The same as `with_syntax`.
+    pub fn from_unicode_with_syntax(
+        alloc: Global,
+        pattern: &[u32],
+        flags: Flags,
+        syntax: Syntax,
+    ) -> Result<Regex, Error>
+        ensures compiled { IfOk result (IsCompiledWithSyntax (spec_syntax_of syntax) (spec_flags_of flags)
+            pattern.now) }
+        ensures refused { IfErr result (IsPatternRefusedWithSyntax (spec_syntax_of syntax) (spec_flags_of flags)
+            pattern.now) }
+    {
+        let parsed = try_parse_in(alloc, pattern, flags.for_front(), syntax)?;
         let (cr, units) = emit_both(alloc, parsed)?;
         Ok(Regex { cr, units })
     }

@@ -2,7 +2,7 @@
 
 ghost use Rattle.std.specs.Prelude.{◌≡◌, ◌<◌, ◌≤◌, ◌^◌, ◌+◌, IfOk, IsTrue, Some, map, [], ◌∷◌, length};
 ghost use Rattle.regex_meaning.specs.CodeUnitOffsets.{units};
-ghost use Rattle.regex_pattern_front.specs.AstToSpecTree.{tree_of};
+ghost use Rattle.regex_pattern_front.specs.AstToSpecTree.{sameness_of, tree_of};
 ghost use Rattle.regress_input.specs.CharAndByteReadsFromOffset.{direction_of_forward_flag};
 ghost use Rattle.regress_program.specs.{CompilationOfTreesAsFunction.{compiled}, InsnsAndStartPredicatesAsSpec.{insn_as_spec_insn, loop_fields_as_spec}};
 ghost use Rattle.regress_machine.specs.Machine.{running, waiting, goes, asks, state_with_ip, state_at_next_ip, range_swapped_if_leftwards, iterate_or_leave_at_loop_head};
@@ -17,7 +17,7 @@ use super::read_or_assertion_insn_matchers;
 use super::states::{LoopData, NextStates, State, copy_state};
 use regress_exec::program_and_input::ProgramAndInput;
 use regress_input::cursor::Direction;
-use regress_input::front::{CaptureGroupID, LoopID};
+use regress_input::front::{CaptureGroupID, LoopID, Sameness};
 use regress_input::indexing::InputIndexer;
 use regress_input::position::PositionType;
 use regress_program::insn::{Insn, LoopFields};
@@ -85,7 +85,7 @@ fn perform<Input: InputIndexer, Dir: Direction>(
         Insn::BeginCaptureGroup(id) => Ok(open_group(id, state)),
         Insn::EndCaptureGroup(id) => Ok(close_group(id, dir, state)),
         Insn::ResetCaptureGroup(id) => Ok(reset_group(id, state)),
-        Insn::BackRef { group, icase } => Ok(execute_backref(group, icase, searched, dir, state)),
+        Insn::BackRef { group, same } => Ok(execute_backref(group, same, searched, dir, state)),
         Insn::Lookahead {
             negate,
             continuation,
@@ -222,41 +222,42 @@ fn reset_group<P: PositionType>(id: CaptureGroupID, mut state: State<P>) -> Next
 // Matches the characters of a group again.
 fn execute_backref<Input: InputIndexer, Dir: Direction>(
     group: u32,
-    icase: bool,
+    same: Sameness,
     searched: &ProgramAndInput<'_, Input>,
     dir: Dir,
     state: State<Input::Position>,
 ) -> NextStates<Input::Position>
     requires can { IsNotStuck (effect_of_backref Input.Position.offset
-        (Input.text searched.now.input) Dir.FORWARD icase group state) }
+        (Input.text searched.now.input) Dir.FORWARD (sameness_of same) group state) }
     requires within { state.ip + 1 < 2 ^ 64 }
     ensures { let at = Input.Position.offset in
-        next_threads at result ≡ effect_of_backref at (Input.text searched.now.input) Dir.FORWARD icase group state }
+        next_threads at result ≡ effect_of_backref at (Input.text searched.now.input) Dir.FORWARD (sameness_of same)
+        group state }
 {
     let range = state.groups[group as usize];
-    match_range_again(range, icase, searched, dir, state)
+    match_range_again(range, same, searched, dir, state)
 }
 
 // Matches the characters of a range again. Without a range it matches the empty string.
 fn match_range_again<Input: InputIndexer, Dir: Direction>(
     range: Option<(Input::Position, Input::Position)>,
-    icase: bool,
+    same: Sameness,
     searched: &ProgramAndInput<'_, Input>,
     dir: Dir,
     mut state: State<Input::Position>,
 ) -> NextStates<Input::Position>
     requires can { IsNotStuck (effect_of_range_backref Input.Position.offset
-        (Input.text searched.now.input) Dir.FORWARD icase range state) }
+        (Input.text searched.now.input) Dir.FORWARD (sameness_of same) range state) }
     requires within { state.ip + 1 < 2 ^ 64 }
     ensures { let at = Input.Position.offset in
-        next_threads at result ≡ effect_of_range_backref at (Input.text searched.now.input) Dir.FORWARD icase
-        range state }
+        next_threads at result ≡ effect_of_range_backref at (Input.text searched.now.input) Dir.FORWARD
+        (sameness_of same) range state }
 {
     let Some(span) = range else {
         state.ip += 1;
         return NextStates::Continue(state);
     };
-    if backref_matches(span.0, span.1, icase, &searched.input, dir, &mut state.pos) {
+    if backref_matches(span.0, span.1, same, &searched.input, dir, &mut state.pos) {
         state.ip += 1;
         NextStates::Continue(state)
     } else {

@@ -5,7 +5,9 @@ ghost use Rattle.std.specs.Int.{is_in_range};
 ghost use Rattle.std.specs.List.{list_all};
 ghost use Rattle.regex_meaning.specs.{NumberListHelpers.{contains}, Tree.{bracket}, CompilationRelation.{is_uninverted_ascii_class}, Outcomes.{in_intervals}};
 ghost use Rattle.regex_meaning.specs.StartPredicate.{bytes_that_pass};
-ghost use Rattle.regex_pattern_front.specs.{AstToSpecTree.{class_as_spec}, ByteSetMembers.{member_bytes_of_ascii_bitmap}, Intervals.{interval_of}};
+ghost use Rattle.regex_pattern_front.specs.AstToSpecTree.{class_as_spec};
+ghost use Rattle.regex_pattern_front.specs.ByteSetMembers.{member_bytes_of_ascii_bitmap};
+ghost use Rattle.regex_pattern_front.specs.Intervals.{interval_of};
 ghost use Rattle.regress_program.specs.EmitterStateAndAppendedCode.{IsEmitted, emitter_state, with_bracket_table_entry};
 
 use crate::emit::emitter::{Emitter, FoldingCharLoopLookbehindMode};

@@ -4,7 +4,8 @@
 ghost use Rattle.std.specs.Prelude.{◌≡◌, not, true};
 ghost use Rattle.std.proofs.Common.{refl};
 ghost use Rattle.regex_meaning.specs.CompilationRelation.{is_byte_node, tree_contains_byte_nodes as node_reads_bytes};
-ghost use Rattle.regex_pattern_front.specs.{OptimizedTrees.{optimized}, AstToSpecTree.{node_of}};
+ghost use Rattle.regex_pattern_front.specs.OptimizedTrees.{optimized};
+ghost use Rattle.regex_pattern_front.specs.AstToSpecTree.{node_of};
 ghost use Rattle.regress_program.specs.{LeafNodesAndOptimizableLoops.{becomes_char_loop}, TryFoldOverTreeNodes.{step_of_test}};
 
 use crate::emit::tree_walk_with_visitor::{PreorderNodeVisitor, walk};

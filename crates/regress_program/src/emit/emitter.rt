@@ -4,7 +4,8 @@
 ghost use Rattle.std.specs.Prelude.{◌≡◌, ◌&&◌, ◌+◌, ◌-◌, ◌<◌, ◌^◌, true, length, map, IfOk, OnOk, IsTrue, if◌then◌else◌};
 ghost use Rattle.regex_meaning.specs.{Tree.{every_node_passes}, WellFormedTrees.{set_sizes_and_characters_fit_instructions}};
 ghost use Rattle.regex_meaning.specs.CompilationRelation.{EnterLoop, lookaround_insn};
-ghost use Rattle.regex_pattern_front.specs.{OptimizedTrees.{reads_one_character as is_one_character}, AstToSpecTree.{class_as_spec, node_of}};
+ghost use Rattle.regex_pattern_front.specs.OptimizedTrees.{reads_one_character as is_one_character};
+ghost use Rattle.regex_pattern_front.specs.AstToSpecTree.{class_as_spec, node_of};
 ghost use Rattle.regress_plan.specs.InsnsAsSpecInsns.{loop_fields_as_spec};
 ghost use Rattle.regress_program.specs.{InsnsAndStartPredicatesAsSpec.{insn_as_spec_insn}, CompilationOfTreesAsFunction.{group_reset_insns}};
 ghost use Rattle.regress_program.specs.LeafNodesAndOptimizableLoops.{is_leaf};
@@ -17,6 +18,7 @@ use crate::emit::small_set_and_assertion_insns::{
     anchor_insn, byte_set_insn, char_set_insn, word_boundary_insn,
 };
 use crate::insn::EmittedCode;
+use regex_pattern_front::canonical::Sameness;
 use regex_pattern_front::ir::Node;
 use regex_pattern_front::optimizer::reads_one_character;
 use regex_pattern_front::types::{BracketContents, CaptureGroupID, LoopID};
@@ -185,7 +187,11 @@ impl Emitter {
             } => self.append_insn(word_boundary_insn(*invert, *unicode_icase)),
             Node::BackRef { group, icase } => self.append_insn(Insn::BackRef {
                 group: group.saturating_sub(1),
-                icase: *icase,
+                same: Sameness::by_case(*icase),
+            }),
+            Node::CanonicalBackRef { group, unicode } => self.append_insn(Insn::BackRef {
+                group: group.saturating_sub(1),
+                same: Sameness::Alike { unicode: *unicode },
             }),
             Node::Cat(_) => unreachable!(),
             Node::Alt(..) => unreachable!(),

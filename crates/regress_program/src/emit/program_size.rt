@@ -90,6 +90,7 @@ fn own_size(node: &Node) -> usize
         | Node::Anchor { .. }
         | Node::WordBoundary { .. }
         | Node::BackRef { .. }
+        | Node::CanonicalBackRef { .. }
         | Node::Loop1CharBody { .. } => 1,
         Node::Alt(..) | Node::CaptureGroup { .. } | Node::LookaroundAssertion { .. } => 2,
         Node::ByteSequence(bytes) => chunk_count(bytes),

@@ -126,7 +126,9 @@ impl PreorderNodeVisitor for WellFormedNodeCheck {
             Node::ByteSet(members) => members.len() <= 4 && bytes_are_ascii(members),
             Node::ByteSequence(bytes) => is_nonempty_utf8(bytes),
             Node::StringSet { alternatives, .. } => are_code_points(alternatives),
-            Node::BackRef { group, .. } => 1 <= *group && *group as usize <= self.groups,
+            Node::BackRef { group, .. } | Node::CanonicalBackRef { group, .. } => {
+                1 <= *group && *group as usize <= self.groups
+            }
             Node::Loop { quant, .. } => is_min_at_most_max(quant),
             Node::Loop1CharBody { loopee, quant } => is_min_at_most_max(quant)
                 && is_one_character(loopee),
@@ -206,6 +208,7 @@ fn is_one_character(node: &Node) -> bool
         | Node::WordBoundary { .. }
         | Node::CaptureGroup { .. }
         | Node::BackRef { .. }
+        | Node::CanonicalBackRef { .. }
         | Node::LookaroundAssertion { .. }
         | Node::Loop { .. }
         | Node::Loop1CharBody { .. } => false,

@@ -180,7 +180,8 @@ fn leaf_start(node: &Node) -> Result<AbstractStartPredicate<'_>, AllocError>
         | Node::MatchAnyExceptLineTerminator
         | Node::Anchor { .. }
         | Node::WordBoundary { .. }
-        | Node::BackRef { .. } => Ok(AbstractStartPredicate::Anything),
+        | Node::BackRef { .. }
+        | Node::CanonicalBackRef { .. } => Ok(AbstractStartPredicate::Anything),
         Node::Cat(_) => unreachable!(),
         Node::Alt(..)
         | Node::CaptureGroup { .. }

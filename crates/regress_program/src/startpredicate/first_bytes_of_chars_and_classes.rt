@@ -3,7 +3,9 @@
 ghost use Rattle.std.specs.Prelude.{◌≡◌, ◌+◌, ◌≤◌, [], ◌∷◌, false, map, IfOk, IsOk, MatchOption};
 ghost use Rattle.regex_meaning.specs.NumberListHelpers.{contains};
 ghost use Rattle.regex_meaning.specs.StartPredicate.{bytes_that_pass, union_of_byte_sets, first_byte_as_set, first_bytes, code_points_of_class};
-ghost use Rattle.regex_pattern_front.specs.{ByteSetMembers.{member_bytes_of_byte_bitmap}, Intervals.{interval_of}, AstToSpecTree.{class_as_spec}};
+ghost use Rattle.regex_pattern_front.specs.ByteSetMembers.{member_bytes_of_byte_bitmap};
+ghost use Rattle.regex_pattern_front.specs.Intervals.{interval_of};
+ghost use Rattle.regex_pattern_front.specs.AstToSpecTree.{class_as_spec};
 ghost use Rattle.regress_program.specs.JoinedStartPredicatesOfAlternatives.{set_bytes_from};
 
 use regex_pattern_front::bytesearch::{ByteBitmap, ByteSet};

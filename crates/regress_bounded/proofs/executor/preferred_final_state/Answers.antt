@@ -1,5 +1,6 @@
 use Rattle.regex_pattern_front.specs.AstToSpecTree.{tree_of}
 use Rattle.regress_exec.proofs.Searchable.{can-search}
+use Rattle.regress_program.specs.CompilationOfTreesAsFunction.{compiled}
 use Rattle.regress_bounded.proofs.Ending.{begins-stands, attempt-stands, found-all}
 use Rattle.regress_bounded.proofs.Stopping.{runs-handed}
 use Rattle.regress_bounded.proofs.executor.preferred_final_state.Goals as goal
@@ -14,7 +15,7 @@ run-requires g c =
 pub returns-in_err-end-clause-runs : goal.returns-in_err-end-clause-runs
 returns-in_err-end-clause-runs g c = λ b h.
     let stands = begins-stands {offset = g.Input.Position.PositionType.offset} c.in_ok-start.start (g.met.Input.InputIndexer.is_text c.args.searched.now.input) c.requires.at c.in_ok-start.ensures h in
-    runs-handed stands c.run.new.course c.from_residual-in_err-end.result c.in_err-end.field-0.0 c.from_residual-in_err-end.ensures.1 (c.in_err-end.ensures.runs b stands)
+    runs-handed g.Input.Position.PositionType.offset (compiled (tree_of c.args.searched.now.program.now)) (g.Input.InputIndexer.text c.args.searched.now.input) b c.run.new.course c.from_residual-in_err-end.result c.in_err-end.field-0.0 c.from_residual-in_err-end.ensures.1 (c.in_err-end.ensures.runs b stands)
 
 pub returns-clause-runs : goal.returns-clause-runs
 returns-clause-runs g c = λ b h.

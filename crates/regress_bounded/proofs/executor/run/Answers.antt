@@ -2,7 +2,7 @@ use Rattle.std.proofs.Common.{Some, ap, sym, refl, ◌∙◌, arith}
 use Rattle.regress_memo.specs.MemoContractView.{MemoView}
 use Rattle.regress_pikevm.proofs.Remains.{popped-none}
 use Rattle.regress_bounded.proofs.Standing.{knows, still-knows, standing-on, less-on, stands-as, standing-as}
-use Rattle.regress_bounded.proofs.Stopping.{runs-handed, came-on, came-end}
+use Rattle.regress_bounded.proofs.Stopping.{runs-stopped, comes-less, came-on, came-end}
 use Rattle.regress_bounded.proofs.executor.run.Goals as goal
 
 pub search-init : goal.search-init
@@ -27,7 +27,8 @@ returns-in_err-next-in-Some-clause-memo_analysis g c = ap (λ (m : MemoView). m.
 pub returns-in_err-next-in-Some-clause-runs : goal.returns-in_err-next-in-Some-clause-runs
 returns-in_err-next-in-Some-clause-runs g c = λ b h.
     let stops = c.in_err-next-in-Some.ensures.goes b (stands-as c.in-Some.is refl (c.search.invariant.from b h)) in
-    runs-handed h c.execute_thread_step.new.course c.from_residual.result c.in_err-next-in-Some.field-0.0 c.from_residual.ensures.1 stops
+    runs-stopped (stands-as c.in-Some.is refl (c.search.invariant.from b h)) c.execute_thread_step.new.course (ap (λ (m : MemoView). m.memo_analysis) c.execute_thread_step.ensures.memo)
+    c.from_residual.result c.in_err-next-in-Some.field-0.0 c.from_residual.ensures.1 stops
 
 pub returns-in-End-clause-right : goal.returns-in-End-clause-right
 returns-in-End-clause-right g c = still-knows c.search.invariant.stands c.execute_thread_step.ensures.memo
@@ -43,7 +44,7 @@ returns-in-End-clause-runs g c = λ b h.
 pub search-smaller-in-On : goal.search-smaller-in-On
 search-smaller-in-On g c =
     let there = standing-as c.in-Some.is refl c.search.invariant.stands in
-    less-on there (λ b h. (came-on there c.execute_thread_step.new.stack.items c.execute_thread_step.new.course c.in-On.is c.in_ok-next-in-Some.ensures.goes b h).less)
+    less-on there (λ b h. comes-less h (came-on there c.execute_thread_step.new.stack.items c.execute_thread_step.new.course c.in-On.is c.in_ok-next-in-Some.ensures.goes b h))
 
 pub search-preserved-in-On : goal.search-preserved-in-On
 search-preserved-in-On g c =
@@ -67,11 +68,12 @@ returns-in_err-next-in-Some-pop-clause-memo_analysis g c = c.resume_entry_or_rec
 pub returns-in_err-next-in-Some-pop-clause-runs : goal.returns-in_err-next-in-Some-pop-clause-runs
 returns-in_err-next-in-Some-pop-clause-runs g c = λ b h.
     let stops = c.in_err-next-in-Some-pop.ensures.goes b (stands-as c.in-None.is c.in-Some-pop.ensures.items (c.search.invariant.from b h)) in
-    runs-handed h c.resume_entry_or_record_failure.new.course c.from_residual-in_err-next-in-Some-pop.result c.in_err-next-in-Some-pop.field-0.0 c.from_residual-in_err-next-in-Some-pop.ensures.1 stops
+    runs-stopped (stands-as c.in-None.is c.in-Some-pop.ensures.items (c.search.invariant.from b h)) c.resume_entry_or_record_failure.new.course c.resume_entry_or_record_failure.ensures.memo_analysis
+    c.from_residual-in_err-next-in-Some-pop.result c.in_err-next-in-Some-pop.field-0.0 c.from_residual-in_err-next-in-Some-pop.ensures.1 stops
 
 pub search-smaller : goal.search-smaller
 search-smaller g c =
-    less-on (standing-as c.in-None.is c.in-Some-pop.ensures.items c.search.invariant.stands) (λ b h. (c.in_ok-next-in-Some-pop.ensures.goes b h).less)
+    less-on (standing-as c.in-None.is c.in-Some-pop.ensures.items c.search.invariant.stands) (λ b h. comes-less h (c.in_ok-next-in-Some-pop.ensures.goes b h))
 
 pub search-preserved : goal.search-preserved
 search-preserved g c = record {

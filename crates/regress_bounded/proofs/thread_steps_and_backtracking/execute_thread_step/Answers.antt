@@ -4,7 +4,7 @@ use Rattle.regress_program.specs.InsnsAndStartPredicatesAsSpec.{insn_as_spec_ins
 use Rattle.regress_pikevm.specs.States.{state_of}
 use Rattle.regress_bounded.specs.SearchStateAsMemoSearchEntries.{unbounded_char_loop_min_and_greed}
 use Rattle.regress_bounded.proofs.Bodies.{body-spelled}
-use Rattle.regress_bounded.proofs.Stopping.{went-on, over-stops, turns-handed, some-key}
+use Rattle.regress_bounded.proofs.Stopping.{turns-handed, turns-short, some-key}
 use Rattle.regress_bounded.proofs.Turning.{standing-place, known-over, known-goes, has-maximum, RunAt, here-below, here-insn, run-at}
 use Rattle.regress_bounded.proofs.thread_steps_and_backtracking.execute_thread_step.Goals.{In-Some}
 use Rattle.regress_bounded.proofs.thread_steps_and_backtracking.execute_thread_step.Given.{Over}
@@ -17,14 +17,12 @@ is_known-requires g c = c.key_at-key.ensures.bit (standing-place c.requires.stan
 
 pub returns-in_err-spend-clause-goes : goal.returns-in_err-spend-clause-goes
 returns-in_err-spend-clause-goes g c = λ b h.
-    let over = known-over h c.key_at-key.result c.key_at-key.ensures.key (sym c.is_known.ensures ∙ c.if-is_known.true) c.spend.new.self c.spend.ensures.memo c.in_err-spend.ensures.over.1 in
-    turns-handed h c.args.course.now.left c.args.stack.now.items c.spend.new.self c.from_residual.result c.in_err-spend.field-0.0 c.from_residual.ensures.1
-    (over-stops h c.in_err-spend.field-0.0 c.spend.new.self c.in_err-spend.ensures.over.0 over)
+    turns-short h c.args.stack.now.items c.spend.new.self c.from_residual.result c.in_err-spend.field-0.0 c.from_residual.ensures.1
+    (λ out. known-over h c.key_at-key.result c.key_at-key.ensures.key (sym c.is_known.ensures ∙ c.if-is_known.true) c.spend.new.self c.in_err-spend.ensures.over.1)
 
 pub returns-then-is_known-clause-goes : goal.returns-then-is_known-clause-goes
 returns-then-is_known-clause-goes g c = λ b h.
-    let spent = c.in_ok-spend.ensures.spent in
-    went-on 1 (omega arith) spent (known-goes h c.key_at-key.result c.key_at-key.ensures.key (sym c.is_known.ensures ∙ c.if-is_known.true) c.spend.new.self c.spend.ensures.memo spent)
+    known-goes h c.key_at-key.result c.key_at-key.ensures.key (sym c.is_known.ensures ∙ c.if-is_known.true) c.spend.new.self c.spend.ensures.memo c.in_ok-spend.ensures.spent
 
 -- ---- A run without a maximum
 
@@ -68,6 +66,11 @@ execute_unbounded_char_loop_with_memo-requires-clause-bytes g c =
 
 pub execute_unbounded_char_loop_with_memo-requires-clause-within : goal.execute_unbounded_char_loop_with_memo-requires-clause-within
 execute_unbounded_char_loop_with_memo-requires-clause-within g c = fits g (goal.at.execute_unbounded_char_loop_with_memo-requires-clause-within g c).In-Some
+
+pub returns-in_err-next-clause-goes : goal.returns-in_err-next-clause-goes
+returns-in_err-next-clause-goes g c = λ b h.
+    turns-handed h c.execute_unbounded_char_loop_with_memo.new.stack.items c.execute_unbounded_char_loop_with_memo.new.course c.from_residual-in_err-next.result c.in_err-next.field-0.0
+    c.from_residual-in_err-next.ensures.1 (c.in_err-next.ensures.goes b h)
 
 -- ---- None
 

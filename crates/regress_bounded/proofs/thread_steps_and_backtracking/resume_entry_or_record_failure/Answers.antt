@@ -1,4 +1,7 @@
-use Rattle.std.proofs.Common.{sym, subst, arith}
+use Rattle.std.proofs.Common.{◌∷◌, ◌++◌, [], sym, subst}
+use Rattle.regex_pattern_front.specs.AstToSpecTree.{tree_of}
+use Rattle.regress_program.specs.CompilationOfTreesAsFunction.{compiled}
+use Rattle.regress_bounded.specs.SearchStateAsMemoSearchEntries.{GoesFrom}
 use Rattle.std.proofs.Math.Logic.{∥∥₁_map, ∥∥₁_elim}
 use Rattle.std.proofs.Props.{props}
 use Rattle.regress_memo_analysis.specs.CheckedAnalysis.{IsRecordableMemoKey}
@@ -6,7 +9,7 @@ use Rattle.regress_memo.specs.MemoContents.{memo_key_as_spec}
 use Rattle.regress_memo.specs.MemoContractView.{MemoView}
 use Rattle.regress_bounded.specs.declared.memo_and_work_budget.MemoAndWorkBudget.{MemoAndWorkBudget}
 use Rattle.regress_bounded.proofs.Standing.{still-knows, thread-goes, thread-over, record-bit, record-right, record-goes, record-over}
-use Rattle.regress_bounded.proofs.Stopping.{went-on, goes-over}
+use Rattle.regress_bounded.proofs.Stopping.{goes-short}
 use Rattle.regress_bounded.proofs.thread_steps_and_backtracking.resume_entry_or_record_failure.Goals as goal
 
 -- ---- To a thread
@@ -16,21 +19,25 @@ returns-in_err-spend-in-Thread-clause-right g c = still-knows c.requires.stands 
 
 pub returns-in_err-spend-in-Thread-clause-goes : goal.returns-in_err-spend-in-Thread-clause-goes
 returns-in_err-spend-in-Thread-clause-goes g c = λ b h.
-    let over = thread-over c.args.stack.now.items c.args.waiting h c.in-Thread.state c.in-Thread.is c.spend.new.self c.spend.ensures.memo c.in_err-spend-in-Thread.ensures.over.1 in
-    goes-over h c.args.course.now.left c.args.stack.now.items c.from_residual.result c.in_err-spend-in-Thread.field-0.0 c.from_residual.ensures.1 c.in_err-spend-in-Thread.ensures.over.0 over
+    goes-short h c.args.stack.now.items c.spend.new.self c.from_residual.result c.in_err-spend-in-Thread.field-0.0 c.from_residual.ensures.1 c.in_err-spend-in-Thread.ensures.over.0
+    (thread-over c.args.stack.now.items c.args.waiting h c.in-Thread.state c.in-Thread.is c.spend.new.self c.in_err-spend-in-Thread.ensures.over.1)
 
 pub returns-in_ok-spend-in-Thread-clause-right : goal.returns-in_ok-spend-in-Thread-clause-right
 returns-in_ok-spend-in-Thread-clause-right g c = still-knows c.requires.stands c.spend.ensures.memo
 
 pub returns-in_ok-spend-in-Thread-clause-goes : goal.returns-in_ok-spend-in-Thread-clause-goes
 returns-in_ok-spend-in-Thread-clause-goes g c = λ b h.
-    let spent = c.in_ok-spend-in-Thread.ensures.spent in
-    went-on 1 (omega arith) spent (thread-goes c.args.stack.now.items c.args.waiting h c.in-Thread.state c.in-Thread.is c.spend.new.self c.spend.ensures.memo spent)
+    thread-goes c.args.stack.now.items c.args.waiting h c.in-Thread.state c.in-Thread.is c.spend.new.self c.spend.ensures.memo c.in_ok-spend-in-Thread.ensures.spent
 
 -- ---- To a run
 
 pub returns-in-Run-clause-right : goal.returns-in-Run-clause-right
 returns-in-Run-clause-right g c = still-knows c.requires.stands c.resume_pending_lazy_char_loop.ensures.memo
+
+pub returns-in-Run-clause-goes : goal.returns-in-Run-clause-goes
+returns-in-Run-clause-goes g c =
+    subst (λ w. GoesFrom g.Input.Position.PositionType.offset (compiled (tree_of c.args.searched.now.program.now)) (g.Input.InputIndexer.text c.args.searched.now.input) [] (c.args.stack.now.items ++ w ∷ [])
+    c.args.course.now c.resume_pending_lazy_char_loop.result c.resume_pending_lazy_char_loop.new.stack.items c.resume_pending_lazy_char_loop.new.course) (sym c.in-Run.is) c.resume_pending_lazy_char_loop.ensures.goes
 
 -- ---- To a record
 
@@ -46,16 +53,15 @@ returns-in_ok-spend-in-Record-clause-right g c =
 
 pub returns-in_ok-spend-in-Record-clause-goes : goal.returns-in_ok-spend-in-Record-clause-goes
 returns-in_ok-spend-in-Record-clause-goes g c = λ b h.
-    let spent = c.in_ok-spend-in-Record.ensures.spent in
     let course : MemoAndWorkBudget = record { memo = c.record_failure.new.self; left = c.spend-in-Record.new.self.left } in
-    went-on 1 (omega arith) spent
-    (record-goes c.args.stack.now.items c.args.waiting h c.in-Record.key c.in-Record.is c.spend-in-Record.new.self.memo course c.spend-in-Record.ensures.memo c.record_failure.ensures spent)
+    record-goes c.args.stack.now.items c.args.waiting h c.in-Record.key c.in-Record.is c.spend-in-Record.new.self.memo course c.spend-in-Record.ensures.memo c.record_failure.ensures
+    c.in_ok-spend-in-Record.ensures.spent
 
 pub returns-in_err-spend-in-Record-clause-goes : goal.returns-in_err-spend-in-Record-clause-goes
 returns-in_err-spend-in-Record-clause-goes g c = λ b h.
-    goes-over h c.args.course.now.left c.args.stack.now.items c.from_residual-in_err-spend-in-Record.result c.in_err-spend-in-Record.field-0.0 c.from_residual-in_err-spend-in-Record.ensures.1
+    goes-short h c.args.stack.now.items c.spend-in-Record.new.self c.from_residual-in_err-spend-in-Record.result c.in_err-spend-in-Record.field-0.0 c.from_residual-in_err-spend-in-Record.ensures.1
     c.in_err-spend-in-Record.ensures.over.0
-    (record-over c.args.stack.now.items c.args.waiting h c.in-Record.key c.in-Record.is c.spend-in-Record.new.self c.spend-in-Record.ensures.memo c.in_err-spend-in-Record.ensures.over.1)
+    (record-over c.args.stack.now.items c.args.waiting h c.in-Record.key c.in-Record.is c.spend-in-Record.new.self c.in_err-spend-in-Record.ensures.over.1)
 
 pub returns-in_err-spend-in-Record-clause-right : goal.returns-in_err-spend-in-Record-clause-right
 returns-in_err-spend-in-Record-clause-right g c = still-knows c.requires.stands c.spend-in-Record.ensures.memo

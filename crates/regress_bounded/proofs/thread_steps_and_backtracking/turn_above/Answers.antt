@@ -1,50 +1,59 @@
-use Rattle.std.proofs.Common.{arith}
-use Rattle.regress_bounded.proofs.Turning.{standing-can, standing-inside, never-asks, arm-few, arm-turn, arm-leaves, arm-stops, one-waits, one-taken}
+use Rattle.std.proofs.Common.{◌≡◌, ◌<◌, length, sym, ◌∙◌, rules}
+use Rattle.std.specs.Prelude.{IfErr}
+use Rattle.regress_bounded.specs.declared.memo_and_work_budget.AttemptAbortReason.TheVariants.{Work}
+use Rattle.regress_bounded.proofs.Stopping.{handed-on, turns-short}
+use Rattle.regress_bounded.proofs.Turning.{standing-can, standing-inside, here-below, here-insn, goal-ends, leads-on, turn-over, turn-goes}
 use Rattle.regress_bounded.proofs.thread_steps_and_backtracking.turn_above.Goals as goal
 
-pub execute_insn-requires-clause-can : goal.execute_insn-requires-clause-can
-execute_insn-requires-clause-can g c = standing-can c.requires.stands
+pub bounds-insns-state : goal.bounds-insns-state
+bounds-insns-state g c = here-below c.args.searched.now.program.now c.args.insns.now c.requires.code c.requires.stands
 
-pub execute_insn-requires-clause-inside : goal.execute_insn-requires-clause-inside
-execute_insn-requires-clause-inside g c = standing-inside c.requires.stands
+pub offset_bounds-insns-state : goal.offset_bounds-insns-state
+offset_bounds-insns-state g c =
+    let below : c.args.state.ip < length c.args.insns.now = here-below c.args.searched.now.program.now c.args.insns.now c.requires.code c.requires.stands in
+    search rules
 
-pub unreachable-requires : goal.unreachable-requires
-unreachable-requires g c = never-asks c.requires.stands c.in_ok-execute_insn.ensures c.in-Lookaround.is
+-- ---- The search ends
 
--- ---- One thread goes on, or none
+pub returns-then-is_goal-clause-goes : goal.returns-then-is_goal-clause-goes
+returns-then-is_goal-clause-goes g c = λ b h. record {
+  stack = c.args.stack.now.items;
+  from = _;
+  stands = h;
+  ends =
+      goal-ends c.args.searched.now.program.now (g.Input.InputIndexer.text c.args.searched.now.input) _ c.index-insns-state.result
+      (here-insn c.args.searched.now.program.now c.args.insns.now c.requires.code c.requires.stands c.index-insns-state.result c.index-insns-state.is)
+      (sym c.if-is_goal.true ∙ c.is_goal.ensures);
+}
 
-pub returns-in-Dead-clause-goes : goal.returns-in-Dead-clause-goes
-returns-in-Dead-clause-goes g c = λ b h. c.complete_step.ensures.goes _ _ _ c.requires.key (arm-turn h c.requires.limited c.in_ok-execute_insn.ensures c.in-Dead.is tt) b h
+-- ---- It goes on
 
-pub returns-in-Continue-clause-goes : goal.returns-in-Continue-clause-goes
-returns-in-Continue-clause-goes g c = λ b h. c.complete_step-in-Continue.ensures.goes _ _ _ c.requires.key (arm-turn h c.requires.limited c.in_ok-execute_insn.ensures c.in-Continue.is tt) b h
+pub work_of_step-work-requires-clause-can : goal.work_of_step-work-requires-clause-can
+work_of_step-work-requires-clause-can g c = standing-can c.requires.stands
 
--- ---- Another one waits
+pub push_threads_of_step-requires-clause-inside : goal.push_threads_of_step-requires-clause-inside
+push_threads_of_step-requires-clause-inside g c = standing-inside c.requires.stands
 
-pub returns-in_err-spend_and_push_record-in-Fork-clause-goes : goal.returns-in_err-spend_and_push_record-in-Fork-clause-goes
-returns-in_err-spend_and_push_record-in-Fork-clause-goes g c = λ b h.
-    arm-stops h c.requires.limited c.in_ok-execute_insn.ensures c.in-Fork.is tt c.requires.key c.spend_and_push_record.new.stack.items c.spend_and_push_record.new.course
-    c.from_residual-in_err-spend_and_push_record-in-Fork.result c.in_err-spend_and_push_record-in-Fork.field-0.0 c.from_residual-in_err-spend_and_push_record-in-Fork.ensures.1 c.in_err-spend_and_push_record-in-Fork.ensures.leaves
+pub push_threads_of_step-requires-clause-leads : goal.push_threads_of_step-requires-clause-leads
+push_threads_of_step-requires-clause-leads g c =
+    leads-on c.requires.stands _ (here-insn c.args.searched.now.program.now c.args.insns.now c.requires.code c.requires.stands c.index-insns-state.result c.index-insns-state.is)
+    (sym c.if-is_goal.false ∙ c.is_goal.ensures)
 
-pub returns-in_ok-push_entry-in-Fork-clause-goes : goal.returns-in_ok-push_entry-in-Fork-clause-goes
-returns-in_ok-push_entry-in-Fork-clause-goes g c = λ b h.
-    let left = arm-leaves h c.requires.limited c.in_ok-execute_insn.ensures c.in-Fork.is tt c.requires.key c.spend_and_push_record.new.stack.items c.spend_and_push_record.new.course c.in_ok-spend_and_push_record-in-Fork.ensures.leaves in
-    record { stands = one-waits c.in-Fork.other left.0 c.in_ok-push_entry-in-Fork.ensures; less = left.1 }
+pub returns-in_err-spend_and_push_record-clause-goes : goal.returns-in_err-spend_and_push_record-clause-goes
+returns-in_err-spend_and_push_record-clause-goes g c = λ b h.
+    let leads = leads-on c.requires.stands _ (here-insn c.args.searched.now.program.now c.args.insns.now c.requires.code c.requires.stands c.index-insns-state.result c.index-insns-state.is)
+    (sym c.if-is_goal.false ∙ c.is_goal.ensures) in
+    turns-short h c.spend_and_push_record.new.stack.items c.spend_and_push_record.new.course c.from_residual.result c.in_err-spend_and_push_record.field-0.0 c.from_residual.ensures.1
+    (λ out. turn-over h c.requires.limited c.requires.key leads c.work_of_step-work.result c.work_of_step-work.ensures c.spend_and_push_record.new.course (c.in_err-spend_and_push_record.ensures.over out).0)
 
--- ---- Characters were tried
+pub returns-in_err-spend_and_push_record-clause-refused : goal.returns-in_err-spend_and_push_record-clause-refused
+returns-in_err-spend_and_push_record-clause-refused g c =
+    handed-on (λ r. IfErr r (λ e. e ≡ Work → c.spend_and_push_record.new.stack.items ≡ c.args.stack.now.items)) c.from_residual.result c.in_err-spend_and_push_record.field-0.0 c.from_residual.ensures.1
+    (λ out. (c.in_err-spend_and_push_record.ensures.over out).1)
 
-pub overflow_add-tries : goal.overflow_add-tries
-overflow_add-tries g c =
-    let few = arm-few c.requires.stands c.in_ok-execute_insn.ensures c.in-CharLoopExits.is (g.met.Input.InputIndexer.is_text c.args.searched.now.input) in
-    let short = g.met.Input.InputIndexer.offsets_fit c.args.searched.now.input in
-    omega (arith, few, short)
-
-pub returns-in_err-spend_and_push_record-in-CharLoopExits-clause-goes : goal.returns-in_err-spend_and_push_record-in-CharLoopExits-clause-goes
-returns-in_err-spend_and_push_record-in-CharLoopExits-clause-goes g c = λ b h.
-    arm-stops h c.requires.limited c.in_ok-execute_insn.ensures c.in-CharLoopExits.is tt c.requires.key c.spend_and_push_record-in-CharLoopExits.new.stack.items c.spend_and_push_record-in-CharLoopExits.new.course
-    c.from_residual-in_err-spend_and_push_record-in-CharLoopExits.result c.in_err-spend_and_push_record-in-CharLoopExits.field-0.0 c.from_residual-in_err-spend_and_push_record-in-CharLoopExits.ensures.1 c.in_err-spend_and_push_record-in-CharLoopExits.ensures.leaves
-
-pub returns-in_ok-next-in-CharLoopExits-clause-goes : goal.returns-in_ok-next-in-CharLoopExits-clause-goes
-returns-in_ok-next-in-CharLoopExits-clause-goes g c = λ b h.
-    let left = arm-leaves h c.requires.limited c.in_ok-execute_insn.ensures c.in-CharLoopExits.is tt c.requires.key c.spend_and_push_record-in-CharLoopExits.new.stack.items c.spend_and_push_record-in-CharLoopExits.new.course c.in_ok-spend_and_push_record-in-CharLoopExits.ensures.leaves in
-    record { stands = one-taken c.in-CharLoopExits.states.items c.in_ok-next-in-CharLoopExits.next left.0 c.in_ok-next-in-CharLoopExits.ensures; less = left.1 }
+pub returns-clause-goes : goal.returns-clause-goes
+returns-clause-goes g c = λ b h.
+    let leads = leads-on c.requires.stands _ (here-insn c.args.searched.now.program.now c.args.insns.now c.requires.code c.requires.stands c.index-insns-state.result c.index-insns-state.is)
+    (sym c.if-is_goal.false ∙ c.is_goal.ensures) in
+    turn-goes h c.requires.limited c.requires.key leads c.work_of_step-work.result c.work_of_step-work.ensures c.spend_and_push_record.new.stack.items c.push_threads_of_step.new.stack.items
+    c.in_ok-spend_and_push_record.ensures.pushed c.in_ok-next.next c.in_ok-next.ensures c.spend_and_push_record.new.course c.spend_and_push_record.ensures.memo c.in_ok-spend_and_push_record.ensures.spent

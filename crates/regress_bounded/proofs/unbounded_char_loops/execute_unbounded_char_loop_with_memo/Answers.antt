@@ -1,46 +1,52 @@
-use Rattle.std.proofs.Common.{◌<◌, ◌^◌, ◌+◌, arith}
+use Rattle.std.proofs.Common.{◌<◌, ◌^◌, ◌+◌, ◌-◌, ◌≤◌, min, arith}
 use Rattle.regress_pikevm.specs.States.{state_of}
 use Rattle.regress_program.specs.CompilationOfTreesAsFunction.{compiled}
 use Rattle.regex_pattern_front.specs.AstToSpecTree.{tree_of}
 use Rattle.regress_bounded.proofs.Furthest.{past-few}
 use Rattle.regress_bounded.proofs.GreedyMet.{all-passed, met-few, met-over, met-goes}
-use Rattle.regress_bounded.proofs.Lazily.{PassesOver, reads-here, passes-over, passed-fits, run-which, short-over, short-goes, lazy-over, lazy-goes}
-use Rattle.regress_bounded.proofs.Standing.{knows}
-use Rattle.regress_bounded.proofs.Stopping.{went-on, goes-over}
-use Rattle.regress_bounded.proofs.unbounded_char_loops.execute_unbounded_char_loop_with_memo.Goals.{After-read_minimum_chars-passed}
+use Rattle.regress_bounded.proofs.Lazily.{PassesOver, reads-here, passes-over, passed-fits, run-which, at-least, short-goes, lazy-goes}
+use Rattle.regress_bounded.proofs.Standing.{knows, falls-short}
+use Rattle.regress_bounded.proofs.Stopping.{goes-short}
+use Rattle.regress_bounded.proofs.unbounded_char_loops.execute_unbounded_char_loop_with_memo.Goals.{After-read_chars_within_budget-passed}
 use Rattle.regress_bounded.proofs.unbounded_char_loops.execute_unbounded_char_loop_with_memo.Given.{Over}
 use Rattle.regress_bounded.proofs.unbounded_char_loops.execute_unbounded_char_loop_with_memo.Goals as goal
 
-pub read_minimum_chars-passed-requires-clause-test : goal.read_minimum_chars-passed-requires-clause-test
-read_minimum_chars-passed-requires-clause-test g c = (reads-here c.requires.run c.requires.stands).test
+pub read_chars_within_budget-passed-requires-clause-test : goal.read_chars_within_budget-passed-requires-clause-test
+read_chars_within_budget-passed-requires-clause-test g c = (reads-here c.requires.run c.requires.stands).test
 
-pub read_minimum_chars-passed-requires-clause-at : goal.read_minimum_chars-passed-requires-clause-at
-read_minimum_chars-passed-requires-clause-at g c = (reads-here c.requires.run c.requires.stands).at
+pub read_chars_within_budget-passed-requires-clause-at : goal.read_chars_within_budget-passed-requires-clause-at
+read_chars_within_budget-passed-requires-clause-at g c = (reads-here c.requires.run c.requires.stands).at
 
 -- what is passed over
-passes : (g : Over) (c : After-read_minimum_chars-passed g)
+passes : (g : Over) (c : After-read_chars_within_budget-passed g)
     → PassesOver g.Input.Position.PositionType.offset (compiled (tree_of c.args.searched.now.program.now)) (g.Input.InputIndexer.text c.args.searched.now.input) c.args.run
-    (state_of g.Input.Position.PositionType.offset c.args.state) c.read_minimum_chars-passed.result c.read_minimum_chars-passed.new.pos
+    (min c.args.run.least (c.args.course.now.left - 1)) (state_of g.Input.Position.PositionType.offset c.args.state) c.read_chars_within_budget-passed.result c.read_chars_within_budget-passed.new.pos
 passes g c =
-    passes-over c.requires.run c.requires.stands (g.met.Input.InputIndexer.is_text c.args.searched.now.input) c.read_minimum_chars-passed.result c.read_minimum_chars-passed.new.pos c.read_minimum_chars-passed.ensures.passed
+    passes-over c.requires.run c.requires.stands (g.met.Input.InputIndexer.is_text c.args.searched.now.input) (min c.args.run.least (c.args.course.now.left - 1)) c.read_chars_within_budget-passed.result
+    c.read_chars_within_budget-passed.new.pos c.read_chars_within_budget-passed.ensures.passed
 
-fits : (g : Over) (c : After-read_minimum_chars-passed g) → c.read_minimum_chars-passed.result + 2 < 2 ^ 64
+few : (g : Over) (c : After-read_chars_within_budget-passed g) → min c.args.run.least (c.args.course.now.left - 1) ≤ c.args.run.least
+few g c = omega arith
+
+fits : (g : Over) (c : After-read_chars_within_budget-passed g) → c.read_chars_within_budget-passed.result + 2 < 2 ^ 64
 fits g c = passed-fits (passes g c) (g.met.Input.InputIndexer.is_text c.args.searched.now.input) (g.met.Input.InputIndexer.offsets_fit c.args.searched.now.input)
 
 -- ---- There are too few characters
 
 pub overflow_add-passed : goal.overflow_add-passed
-overflow_add-passed g c = let few = fits g (goal.at.overflow_add-passed g c).After-read_minimum_chars-passed in omega (arith, few)
+overflow_add-passed g c = let few = fits g (goal.at.overflow_add-passed g c).After-read_chars_within_budget-passed in omega (arith, few)
 
 pub returns-in_err-spend-clause-goes : goal.returns-in_err-spend-clause-goes
 returns-in_err-spend-clause-goes g c = λ b h.
-    goes-over h c.args.course.now.left c.args.stack.now.items c.from_residual.result c.in_err-spend.field-0.0 c.from_residual.ensures.1 c.in_err-spend.ensures.over.0
-    (short-over h (passes g (goal.at.returns-in_err-spend-clause-goes g c).After-read_minimum_chars-passed) c.requires.run c.if-passed-run.true c.spend.new.self c.spend.ensures.memo c.in_err-spend.ensures.over.1)
+    let p = passes g (goal.at.returns-in_err-spend-clause-goes g c).After-read_chars_within_budget-passed in
+    goes-short h c.args.stack.now.items c.spend.new.self c.from_residual.result c.in_err-spend.field-0.0 c.from_residual.ensures.1 c.in_err-spend.ensures.over.0
+    (falls-short g.Input.Position.PositionType.offset (compiled (tree_of c.args.searched.now.program.now)) (g.Input.InputIndexer.text c.args.searched.now.input) b h
+    (c.read_chars_within_budget-passed.result + 2) c.spend.new.self (at-least h p c.requires.run) c.in_err-spend.ensures.over.1)
 
 pub returns-then-passed-run-clause-goes : goal.returns-then-passed-run-clause-goes
 returns-then-passed-run-clause-goes g c = λ b h.
-    let spent = c.in_ok-spend.ensures.spent in
-    went-on (c.read_minimum_chars-passed.result + 2) (omega arith) spent (short-goes h (passes g (goal.at.returns-then-passed-run-clause-goes g c).After-read_minimum_chars-passed) c.requires.run c.if-passed-run.true c.spend.new.self c.spend.ensures.memo spent)
+    short-goes h (passes g (goal.at.returns-then-passed-run-clause-goes g c).After-read_chars_within_budget-passed) c.requires.run c.if-passed-run.true c.spend.new.self c.spend.ensures.memo
+    c.in_ok-spend.ensures.spent
 
 -- ---- A greedy one
 
@@ -55,47 +61,55 @@ scan_with_memo-requires-clause-test g c = (reads-here c.requires.run c.requires.
 
 pub scan_with_memo-requires-clause-few : goal.scan_with_memo-requires-clause-few
 scan_with_memo-requires-clause-few g c =
-    let p = passes g (goal.at.scan_with_memo-requires-clause-few g c).After-read_minimum_chars-passed in
+    let before = (goal.at.scan_with_memo-requires-clause-few g c).After-read_chars_within_budget-passed in
+    let p = passes g before in
     past-few g.Input.Position.PositionType.offset (g.Input.InputIndexer.text c.args.searched.now.input) (g.met.Input.InputIndexer.is_text c.args.searched.now.input) p.test p.place c.args.run.least
-    c.read_minimum_chars-passed.new.pos (all-passed p c.if-passed-run.false)
+    c.read_chars_within_budget-passed.new.pos (all-passed p (few g before) c.if-passed-run.false)
+
+pub scan_with_memo-requires-clause-paid : goal.scan_with_memo-requires-clause-paid
+scan_with_memo-requires-clause-paid g c =
+    let most = (passes g (goal.at.scan_with_memo-requires-clause-paid g c).After-read_chars_within_budget-passed).over.few in
+    let le = c.if-passed-run.false in
+    omega (arith, most, le)
 
 pub overflow_add-count : goal.overflow_add-count
 overflow_add-count g c =
-    let few = met-few (passes g (goal.at.overflow_add-count g c).After-read_minimum_chars-passed) c.if-passed-run.false c.args.course.now c.args.stack.now.items c.scan_with_memo.new.stack.items c.in_ok-next.next c.in_ok-next.count
-    (g.met.Input.InputIndexer.is_text c.args.searched.now.input) c.in_ok-next.ensures in
+    let before = (goal.at.overflow_add-count g c).After-read_chars_within_budget-passed in
+    let n = met-few (passes g before) (few g before) c.if-passed-run.false c.args.course.now c.args.stack.now.items c.scan_with_memo.new.stack.items c.in_ok-next.next c.in_ok-next.count
+    (g.met.Input.InputIndexer.is_text c.args.searched.now.input) c.in_ok-next.ensures.scans in
     let short = g.met.Input.InputIndexer.offsets_fit c.args.searched.now.input in
-    omega (arith, few, short)
+    omega (arith, n, short)
 
 pub returns-in_err-spend-2-clause-goes : goal.returns-in_err-spend-2-clause-goes
 returns-in_err-spend-2-clause-goes g c = λ b h.
-    let over = met-over h (run-which c.requires.run c.if-run.true) (passes g (goal.at.returns-in_err-spend-2-clause-goes g c).After-read_minimum_chars-passed) c.if-passed-run.false c.scan_with_memo.new.stack.items c.in_ok-next.next c.in_ok-next.count c.in_ok-next.ensures
-    c.spend-then-run.new.self c.spend-then-run.ensures.memo c.in_err-spend-2.ensures.over.1 in
-    goes-over h c.args.course.now.left c.scan_with_memo.new.stack.items c.from_residual-in_err-spend-2.result c.in_err-spend-2.field-0.0 c.from_residual-in_err-spend-2.ensures.1
-    c.in_err-spend-2.ensures.over.0 over
+    let before = (goal.at.returns-in_err-spend-2-clause-goes g c).After-read_chars_within_budget-passed in
+    goes-short h c.scan_with_memo.new.stack.items c.spend-then-run.new.self c.from_residual-in_err-spend-2.result c.in_err-spend-2.field-0.0 c.from_residual-in_err-spend-2.ensures.1
+    c.in_err-spend-2.ensures.over.0
+    (met-over h (run-which c.requires.run c.if-run.true) (passes g before) (few g before) c.if-passed-run.false c.scan_with_memo.new.stack.items c.in_ok-next.next c.in_ok-next.count c.in_ok-next.ensures.scans
+    c.spend-then-run.new.self c.in_err-spend-2.ensures.over.1)
 
 pub returns-then-run-clause-goes : goal.returns-then-run-clause-goes
 returns-then-run-clause-goes g c = λ b h.
-    let spent = c.in_ok-spend-2.ensures.spent in
-    went-on (c.in_ok-next.count + 2) (omega arith) spent
-    (met-goes h (run-which c.requires.run c.if-run.true) (passes g (goal.at.returns-then-run-clause-goes g c).After-read_minimum_chars-passed) c.if-passed-run.false c.scan_with_memo.new.stack.items c.in_ok-next.next c.in_ok-next.count c.in_ok-next.ensures
-    c.spend-then-run.new.self c.spend-then-run.ensures.memo spent)
+    let before = (goal.at.returns-then-run-clause-goes g c).After-read_chars_within_budget-passed in
+    met-goes h (run-which c.requires.run c.if-run.true) (passes g before) (few g before) c.if-passed-run.false c.scan_with_memo.new.stack.items c.in_ok-next.next c.in_ok-next.count c.in_ok-next.ensures.scans
+    c.spend-then-run.new.self c.spend-then-run.ensures.memo c.in_ok-spend-2.ensures.spent
 
 -- ---- A lazy one
 
 pub overflow_add-passed-2 : goal.overflow_add-passed-2
-overflow_add-passed-2 g c = let few = fits g (goal.at.overflow_add-passed-2 g c).After-read_minimum_chars-passed in omega (arith, few)
+overflow_add-passed-2 g c = let few = fits g (goal.at.overflow_add-passed-2 g c).After-read_chars_within_budget-passed in omega (arith, few)
 
 pub returns-in_err-spend-3-clause-goes : goal.returns-in_err-spend-3-clause-goes
 returns-in_err-spend-3-clause-goes g c = λ b h.
-    let over = lazy-over c.args.state h (run-which c.requires.run c.if-run.false) (passes g (goal.at.returns-in_err-spend-3-clause-goes g c).After-read_minimum_chars-passed) c.if-passed-run.false c.spend-2.new.self c.spend-2.ensures.memo c.in_err-spend-3.ensures.over.1 in
-    goes-over h c.args.course.now.left c.args.stack.now.items c.from_residual-in_err-spend-3.result c.in_err-spend-3.field-0.0 c.from_residual-in_err-spend-3.ensures.1 c.in_err-spend-3.ensures.over.0 over
+    let p = passes g (goal.at.returns-in_err-spend-3-clause-goes g c).After-read_chars_within_budget-passed in
+    goes-short h c.args.stack.now.items c.spend-2.new.self c.from_residual-in_err-spend-3.result c.in_err-spend-3.field-0.0 c.from_residual-in_err-spend-3.ensures.1 c.in_err-spend-3.ensures.over.0
+    (falls-short g.Input.Position.PositionType.offset (compiled (tree_of c.args.searched.now.program.now)) (g.Input.InputIndexer.text c.args.searched.now.input) b h
+    (c.read_chars_within_budget-passed.result + 2) c.spend-2.new.self (at-least h p c.requires.run) c.in_err-spend-3.ensures.over.1)
 
 pub nearest-requires-clause-test : goal.nearest-requires-clause-test
 nearest-requires-clause-test g c = (reads-here c.requires.run c.requires.stands).test
 
 pub returns-clause-goes : goal.returns-clause-goes
 returns-clause-goes g c = λ b h.
-    let spent = c.in_ok-spend-3.ensures.spent in
-    went-on (c.read_minimum_chars-passed.result + 2) (omega arith) spent
-    (lazy-goes c.args.state h (run-which c.requires.run c.if-run.false) (passes g (goal.at.returns-clause-goes g c).After-read_minimum_chars-passed) c.if-passed-run.false c.in_ok-next-2.next c.nearest.new.stack.items c.in_ok-next-2.ensures c.spend-2.new.self
-    c.spend-2.ensures.memo spent)
+    lazy-goes c.args.state h (run-which c.requires.run c.if-run.false) (passes g (goal.at.returns-clause-goes g c).After-read_chars_within_budget-passed) c.if-passed-run.false c.in_ok-next-2.next
+    c.nearest.new.stack.items c.in_ok-next-2.ensures c.spend-2.new.self c.spend-2.ensures.memo c.in_ok-spend-3.ensures.spent

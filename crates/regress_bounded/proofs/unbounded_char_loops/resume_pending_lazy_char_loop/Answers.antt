@@ -9,7 +9,7 @@ use Rattle.regress_memo.specs.MemoContents.{memo_key_as_spec}
 use Rattle.regress_bounded.proofs.Lazily.{rest-of, back-known-over, back-known-goes, back-over, back-goes, back-place, back-boundary, back-tested}
 use Rattle.regress_bounded.proofs.Lazily.{back-keyed}
 use Rattle.regress_bounded.proofs.Bodies.{body-insn, body-below, body-fits, body-spelled}
-use Rattle.regress_bounded.proofs.Stopping.{went-on, goes-over}
+use Rattle.regress_bounded.proofs.Stopping.{goes-short}
 use Rattle.regress_bounded.proofs.unbounded_char_loops.resume_pending_lazy_char_loop.Given.{Over}
 use Rattle.regress_bounded.proofs.unbounded_char_loops.resume_pending_lazy_char_loop.Goals.{After-index-insns-state}
 use Rattle.regress_bounded.proofs.unbounded_char_loops.resume_pending_lazy_char_loop.Goals as goal
@@ -28,14 +28,12 @@ fails-requires g c =
 
 pub returns-in_err-spend-clause-goes : goal.returns-in_err-spend-clause-goes
 returns-in_err-spend-clause-goes g c = λ b h.
-    goes-over h c.args.course.now.left c.args.stack.now.items c.from_residual.result c.in_err-spend.field-0.0 c.from_residual.ensures.1 c.in_err-spend.ensures.over.0
-    (back-known-over c.args.stack.now.items c.args.state h c.in-Some.is c.key_at.ensures.key (sym c.fails.ensures ∙ c.if-fails.true) c.spend.new.self c.spend.ensures.memo c.in_err-spend.ensures.over.1)
+    goes-short h c.args.stack.now.items c.spend.new.self c.from_residual.result c.in_err-spend.field-0.0 c.from_residual.ensures.1 c.in_err-spend.ensures.over.0
+    (back-known-over c.args.stack.now.items c.args.state h c.in-Some.is c.key_at.ensures.key (sym c.fails.ensures ∙ c.if-fails.true) c.spend.new.self c.in_err-spend.ensures.over.1)
 
 pub returns-then-fails-clause-goes : goal.returns-then-fails-clause-goes
 returns-then-fails-clause-goes g c = λ b h.
-    let spent = c.in_ok-spend.ensures.spent in
-    went-on 1 (omega arith) spent
-    (back-known-goes c.args.stack.now.items c.args.state h c.in-Some.is c.key_at.ensures.key (sym c.fails.ensures ∙ c.if-fails.true) c.spend.new.self c.spend.ensures.memo spent)
+    back-known-goes c.args.stack.now.items c.args.state h c.in-Some.is c.key_at.ensures.key (sym c.fails.ensures ∙ c.if-fails.true) c.spend.new.self c.spend.ensures.memo c.in_ok-spend.ensures.spent
 
 -- ---- What it reads
 
@@ -90,16 +88,12 @@ nearest-requires-clause-bytes g c =
 
 pub returns-in_err-spend-2-clause-goes : goal.returns-in_err-spend-2-clause-goes
 returns-in_err-spend-2-clause-goes g c = λ b h.
-    let over = back-over c.args.stack.now.items c.args.state h c.in-Some.is c.key_at.ensures.key (sym c.fails.ensures ∙ c.if-fails.false) c.spend-2.new.self c.spend-2.ensures.memo
-    c.in_err-spend-2.ensures.over.1 in
-    goes-over h c.args.course.now.left c.args.stack.now.items c.from_residual-in_err-spend-2.result c.in_err-spend-2.field-0.0 c.from_residual-in_err-spend-2.ensures.1
-    c.in_err-spend-2.ensures.over.0 over
+    goes-short h c.args.stack.now.items c.spend-2.new.self c.from_residual-in_err-spend-2.result c.in_err-spend-2.field-0.0 c.from_residual-in_err-spend-2.ensures.1 c.in_err-spend-2.ensures.over.0
+    (back-over c.args.stack.now.items c.args.state h c.in-Some.is c.key_at.ensures.key (sym c.fails.ensures ∙ c.if-fails.false) c.spend-2.new.self c.in_err-spend-2.ensures.over.1)
 
 pub returns-clause-goes : goal.returns-clause-goes
 returns-clause-goes g c = λ b h.
     let rest = rest-of c.args.stack.now.items c.args.state h in
     let near = c.in_ok-next.ensures rest.test rest.place (sym (ap (test_of (compiled (tree_of c.args.searched.now.program.now))) (body g (goal.at.returns-clause-goes g c).After-index-insns-state)) ∙ rest.run.body) rest.at in
-    let spent = c.in_ok-spend-2.ensures.spent in
-    went-on 2 (omega arith) spent
-    (back-goes c.args.stack.now.items c.args.state h c.in-Some.is c.key_at.ensures.key (sym c.fails.ensures ∙ c.if-fails.false) c.in_ok-next.next c.push_entry.new.stack.items c.nearest.new.stack.items
-    c.in_ok-push_entry.ensures near c.spend-2.new.self c.spend-2.ensures.memo spent)
+    back-goes c.args.stack.now.items c.args.state h c.in-Some.is c.key_at.ensures.key (sym c.fails.ensures ∙ c.if-fails.false) c.in_ok-next.next c.push_entry.new.stack.items c.nearest.new.stack.items
+    c.in_ok-push_entry.ensures near c.spend-2.new.self c.spend-2.ensures.memo c.in_ok-spend-2.ensures.spent

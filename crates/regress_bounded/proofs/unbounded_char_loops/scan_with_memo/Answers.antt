@@ -1,4 +1,4 @@
-use Rattle.std.proofs.Common.{◌∷◌, ◌++◌, [], sym, ap, ◌∙◌, subst, arith}
+use Rattle.std.proofs.Common.{◌∷◌, ◌++◌, [], sym, ap, ◌∙◌, subst, arith, inr}
 use Rattle.std.specs.Prelude.{IfSome}
 use Rattle.regress_input.proofs.Places.{boundary_inside}
 use Rattle.regress_memo_analysis.specs.CheckedAnalysis.{IsRecordableMemoKey}
@@ -14,9 +14,26 @@ places-init g c =
     record {
       boundary = c.requires.at;
       few = c.requires.few;
+      paid = c.requires.paid;
       going = λ test place e h.
           furthest-none c.args.state.now c.requires.run c.requires.right test place c.args.stack.now.items c.args.from h;
     }
+
+pub overflow_add-count : goal.overflow_add-count
+overflow_add-count g c =
+    let text = g.Input.InputIndexer.text c.args.searched.now.input in
+    let is = g.met.Input.InputIndexer.is_text c.args.searched.now.input in
+    let fits = g.met.Input.InputIndexer.offsets_fit c.args.searched.now.input in
+    let inside = boundary_inside text is (g.Input.Position.PositionType.offset c.places.at) c.places.invariant.boundary in
+    let few = c.places.invariant.few in
+    omega (arith, few, inside, fits)
+
+-- the work left does not suffice
+pub returns-then-course-count-clause-paid : goal.returns-then-course-count-clause-paid
+returns-then-course-count-clause-paid g c = c.places.invariant.paid
+
+pub returns-then-course-count-clause-scans : goal.returns-then-course-count-clause-scans
+returns-then-course-count-clause-scans g c = λ test place e h. ((c.places.invariant.going test place e h).wait, inr c.if-course-count.true)
 
 pub unreachable-requires : goal.unreachable-requires
 unreachable-requires g c =
@@ -36,24 +53,24 @@ fails-requires g c =
     subst (λ found. IfSome found (λ k. IsRecordableMemoKey m.memo_analysis m.places (memo_key_as_spec k))) c.in-Some.is
     (c.key_at.ensures.bit (place-kept c.args.state.now c.requires.run c.requires.right (offset c.places.at) inside))
 
-pub returns-then-fails : goal.returns-then-fails
-returns-then-fails g c = λ test place e h.
+pub returns-then-fails-clause-scans : goal.returns-then-fails-clause-scans
+returns-then-fails-clause-scans g c = λ test place e h.
     furthest-known c.args.state.now c.requires.run c.requires.right test e place c.args.stack.now.items c.places.stack.items c.places.at
-    c.places.count c.key_at.result c.in-Some.key c.in-Some.is c.key_at.ensures.key (c.places.invariant.going test place e h) (sym c.fails.ensures ∙ c.if-fails.true)
+    c.places.count c.key_at.result c.in-Some.key c.in-Some.is c.key_at.ensures.key (c.places.invariant.going test place e h) (sym c.fails.ensures ∙ c.if-fails.true) c.args.course.now.left
 
 pub insn_accepts_next_char-requires-clause-at : goal.insn_accepts_next_char-requires-clause-at
 insn_accepts_next_char-requires-clause-at g c = c.places.invariant.boundary
 
-pub returns-then-not-insn_accepts_next_char : goal.returns-then-not-insn_accepts_next_char
-returns-then-not-insn_accepts_next_char g c = λ test place e h.
+pub returns-then-not-insn_accepts_next_char-clause-scans : goal.returns-then-not-insn_accepts_next_char-clause-scans
+returns-then-not-insn_accepts_next_char-clause-scans g c = λ test place e h.
     let is = g.met.Input.InputIndexer.is_text c.args.searched.now.input in
     furthest-all c.args.state.now c.requires.run c.requires.right test e place c.args.stack.now.items c.places.stack.items c.places.at
     c.places.count c.key_at.result c.in-Some.key c.in-Some.is c.key_at.ensures.key (c.places.invariant.going test place e h) (sym c.fails.ensures ∙ c.if-fails.false)
     c.in_ok-here.here c.in_ok-here.ensures c.insn_accepts_next_char.new.pos c.insn_accepts_next_char.result is c.if-not-insn_accepts_next_char.true (c.insn_accepts_next_char.ensures test e) c.push_entry.new.stack.items
-    c.in_ok-push_entry.ensures
+    c.in_ok-push_entry.ensures c.args.course.now.left
 
-pub overflow_add-count : goal.overflow_add-count
-overflow_add-count g c =
+pub overflow_add-count-in-places : goal.overflow_add-count-in-places
+overflow_add-count-in-places g c =
     let text = g.Input.InputIndexer.text c.args.searched.now.input in
     let is = g.met.Input.InputIndexer.is_text c.args.searched.now.input in
     let fits = g.met.Input.InputIndexer.offsets_fit c.args.searched.now.input in
@@ -81,6 +98,7 @@ places-preserved g c =
     record {
       boundary = on.boundary;
       few = omega (arith, few, more);
+      paid = (let enough = c.if-course-count.false in omega (arith, enough));
       going = λ test place e h.
           furthest-more c.args.state.now c.requires.run c.requires.right test e place c.args.stack.now.items c.places.stack.items c.places.at
           c.places.count c.key_at.result c.in-Some.key c.in-Some.is c.key_at.ensures.key (c.places.invariant.going test place e h) (sym c.fails.ensures ∙ c.if-fails.false)

@@ -9,7 +9,7 @@ use Rattle.regress_program.proofs.emit.well_formedness_check.WellFormedNodeCheck
 other : (c : goal.In_default) → is_well_formed_node c.args.self.now.groups (node_of c.args.node.now) ≡ true
 other c =
     let d = c.in_default in
-    sound-other c.args.self.now.groups c.args.node.now d.not-CharSet d.not-ByteSet d.not-ByteSequence d.not-StringSet d.not-BackRef d.not-Loop d.not-Loop1CharBody
+    sound-other c.args.self.now.groups c.args.node.now d.not-CharSet d.not-ByteSet d.not-ByteSequence d.not-StringSet d.not-BackRef d.not-CanonicalBackRef d.not-Loop d.not-Loop1CharBody
 
 pub returns-in_default-clause-goes_on : goal.returns-in_default-clause-goes_on
 returns-in_default-clause-goes_on c = ap (λ b. is_some (step_of_test b c.args.self.now)) (sym (other c))

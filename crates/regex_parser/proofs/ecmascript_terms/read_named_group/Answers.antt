@@ -1,0 +1,11 @@
+use Rattle.std.proofs.Common.{◌∙◌, ap}
+use Rattle.std.specs.Prelude.{string_bytes}
+use Rattle.std.specs.BTreeMap.{get_by_text}
+use Rattle.regex_parser.proofs.EcmaTermLemmas.{ecma-named}
+use Rattle.regex_parser.proofs.ecmascript_terms.read_named_group.Goals as goal
+
+pub returns-clause-text : goal.returns-clause-text
+returns-clause-text c =
+    ecma-named (λ x. get_by_text c.args.numbers.now x) _ c.eat.new.self.rest.now c.read_group_name.new.reader.rest.now (string_bytes c.in_ok-name.name) c.copied-number.result c.nonzero_group_number.result
+    c.if-not-eat.ensures.text c.in_ok-name.ensures.text
+    (c.copied-number.ensures ∙ c.get.ensures.value ∙ ap (λ x. get_by_text c.args.numbers.now x) c.as_str.ensures.value) c.nonzero_group_number.ensures.counts

@@ -1,0 +1,8 @@
+use Rattle.regex_grammar.specs.EcmaGrammarWithAnnexB.{ecmascript}
+use Rattle.regex_grammar.proofs.EcmaMembers.{ecmascript-reads}
+use Rattle.regex_grammar.proofs.EcmaTrees.{groups-are-found}
+use Rattle.regex_parser.proofs.ScannedGroups.{scanned-opened}
+use Rattle.regex_parser.proofs.scan_law.ecmascript_scan_finds_groups.Goals as goal
+
+pub returns : goal.returns
+returns c = λ w pattern groups names n d h. scanned-opened ecmascript ecmascript-reads (groups-are-found w pattern groups n d) h

@@ -1,0 +1,41 @@
+-- What the functions on case variants over all of Unicode ensure.
+use Rattle.std.specs.Prelude.{◌≡◌, ◌⊎◌, ℕ, Bool, ◌==◌, ◌&&◌, not, nat_lt, List, map, filter, IsTrue}
+use Rattle.std.specs.Bool.{beq}
+use Rattle.std.specs.Int.{is_in_range}
+use Rattle.regex_meaning.specs.NumberListHelpers.{contains}
+use Rattle.regex_meaning.specs.Canonical.{canonicalize, AreIncreasing}
+use Rattle.regex_parser.specs.ClassReaderContracts.{is_in_any_interval}
+use Rattle.regex_pattern_front.specs.declared.codepointset.Interval.{Interval}
+
+-- whether the two characters match each other where case is ignored
+abbrev pub match_each_other : (unicode : Bool) → ℕ → ℕ → Bool
+match_each_other unicode c d = canonicalize unicode c == canonicalize unicode d
+
+-- the list has the characters other than c that match it, in increasing order
+pub record AreOtherVariants (unicode : Bool) (c : ℕ) (others : List ℕ) : Type 0 where
+  pub increasing : AreIncreasing others
+  pub same : (d : ℕ) → contains others d ≡ (not (c == d) && match_each_other unicode c d)
+
+-- the second characters of the pairs whose characters match each other
+abbrev pub matching_seconds : (unicode : Bool) → List (ℕ × ℕ) → List ℕ
+matching_seconds unicode pairs = map (λ p. p.1) (filter (λ p. match_each_other unicode p.0 p.1) pairs)
+
+-- whether the number is between these two, both included
+abbrev pub is_between : (first last : ℕ) → ℕ → Bool
+is_between first last c = is_in_range first last c
+
+-- whether the number is below c or, without `is_below`, is not
+abbrev pub is_on_side : (c : ℕ) (is_below : Bool) → ℕ → Bool
+is_on_side c is_below d = beq (nat_lt d c) is_below
+
+-- a character that passes the test matches this one
+abbrev pub MatchesSome : (unicode : Bool) (test : ℕ → Bool) → ℕ → Type 0
+MatchesSome unicode test d = (c : ℕ) × IsTrue (test c) × IsTrue (match_each_other unicode c d)
+
+-- the new intervals have the numbers of the old ones; each other number of theirs matches one that passes
+-- the test; and each number that matches one that passes either passes the test itself or is in the new
+-- intervals
+pub record AddsMatching (unicode : Bool) (test : ℕ → Bool) (old new : List Interval) : Type 0 where
+  pub sound : (d : ℕ) → IsTrue (is_in_any_interval new d) → IsTrue (is_in_any_interval old d) ⊎ MatchesSome unicode test d
+  pub kept : (d : ℕ) → IsTrue (is_in_any_interval old d) → IsTrue (is_in_any_interval new d)
+  pub complete : (d : ℕ) → MatchesSome unicode test d → IsTrue (test d) ⊎ IsTrue (is_in_any_interval new d)

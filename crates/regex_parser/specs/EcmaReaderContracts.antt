@@ -1,0 +1,47 @@
+-- What the readers of the whole language of ECMAScript ensure, in terms of the grammar: `here` is the
+-- text before what is read, and `there` the text after it.
+use Rattle.std.specs.Prelude.{◌≡◌, ℕ, ◌%◌, Bool, true, false, ◌∷◌, Option, Some, None, Result, Ok, Err, IsTrue}
+use Rattle.std.specs.Char.{is_ascii_alphabetic}
+use Rattle.regex_grammar.specs.ReadingStatesAndDigits.{RemainingCodePoints}
+use Rattle.regex_grammar.specs.EcmaEscapesAndNames.{GrammarParameters as SpecParameters, NameCharacter, is_identifier_start, is_identifier_part}
+use Rattle.regex_parser.specs.declared.ecmascript_single_character_escapes.GrammarParameters.{GrammarParameters}
+use Rattle.regex_parser.specs.declared.parser_error.ParseStopReason.{ParseStopReason}
+
+-- the parameters of the grammar as those of the definitions
+abbrev pub spec_parameters_of : GrammarParameters → SpecParameters
+spec_parameters_of p = record { unicode = p.unicode; named_groups = p.named_groups }
+
+-- the control character of a letter is read, or no ASCII letter is here
+abbrev pub IsControlLetterRead : (here : RemainingCodePoints) → Option ℕ → (there : RemainingCodePoints) → Type 0
+IsControlLetterRead here (Some c) there =
+    (letter : ℕ) × (here ≡ letter ∷ there) × IsTrue (is_ascii_alphabetic letter) × (c ≡ letter % 32)
+IsControlLetterRead here None there =
+    (there ≡ here) × ((letter : ℕ) (rest : RemainingCodePoints) → here ≡ letter ∷ rest → is_ascii_alphabetic letter ≡ true → ⊥)
+
+-- ---- Names
+
+-- whether the character may be the first character of a name, or a later one
+abbrev pub passes_in_name : (is_first : Bool) → ℕ → Bool
+passes_in_name true c = is_identifier_start c
+passes_in_name false c = is_identifier_part c
+
+-- a character of a name, the first one or a later one
+abbrev pub NameCharacterAt : (is_first : Bool) → (here there : RemainingCodePoints) → ℕ → Type 0
+NameCharacterAt is_first here there c = NameCharacter (passes_in_name is_first) here there c
+
+-- no character of a name is here
+abbrev pub NoNameCharacter : (is_first : Bool) → (here : RemainingCodePoints) → Type 0
+NoNameCharacter is_first here = (end : RemainingCodePoints) (c : ℕ) → NameCharacterAt is_first here end c → ⊥
+
+-- a character of a name is read, or none is here
+abbrev pub IsNameCharacterRead : (is_first : Bool) → (here : RemainingCodePoints) → Result ℕ ParseStopReason → (there : RemainingCodePoints) → Type 0
+IsNameCharacterRead is_first here (Ok c) there = NameCharacterAt is_first here there c
+IsNameCharacterRead is_first here (Err e) there = NoNameCharacter is_first here
+
+-- If a code point is read and may be in a name, it is a character of a name from here to there. If it may
+-- not, or if none is read, no character of a name is here.
+abbrev pub IsNameCodePointRead : (is_first : Bool) → (here : RemainingCodePoints) → Option ℕ → (there : RemainingCodePoints) → Type 0
+IsNameCodePointRead is_first here None there = NoNameCharacter is_first here
+IsNameCodePointRead is_first here (Some c) there =
+    (passes_in_name is_first c ≡ true → NameCharacterAt is_first here there c)
+    × (passes_in_name is_first c ≡ false → NoNameCharacter is_first here)

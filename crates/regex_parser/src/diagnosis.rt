@@ -1,0 +1,265 @@
+//! Diagnoses: what is wrong with a text that is refused, and where.
+
+ghost use Rattle.std.specs.Prelude.{◌≡◌, IsCharBoundary, chars, drop};
+
+use std::fmt;
+use thiserror::Error;
+
+/// What is wrong with a text that is refused.
+#[derive(Clone, Copy, Debug, PartialEq, Eq, Error)]
+pub enum Cause {
+    /// A parenthesis that is not closed.
+    #[error("unclosed group")]
+    UnclosedGroup,
+    /// A closing parenthesis without an opening one.
+    #[error("unopened group")]
+    UnopenedGroup,
+    /// `(?` followed by what begins no kind of group and no feature that has a cause of its own.
+    #[error("unknown kind of group")]
+    InvalidGroup,
+    /// `(?i)`, `(?i:`, `(?-i:` and the like: `(?` before one of `i m s u x -`.
+    #[error("modifiers are not supported")]
+    Modifiers,
+    /// `(?>`.
+    #[error("atomic groups are not supported")]
+    AtomicGroup,
+    /// `(?#`.
+    #[error("comments are not supported")]
+    Comment,
+    /// `(?P`, as in `(?P<n>a)` and `(?P=n)`.
+    #[error("(?P is not supported, write (?<n> or \\k<n>")]
+    PythonGroup,
+    /// More capturing groups than the limit of 65,535; `groups` is their number, and `u32::MAX` also
+    /// stands for more. It is reported whatever else is wrong with the text.
+    #[error("too many groups ({groups} of at most 65535)")]
+    TooManyGroups { groups: u32 },
+    /// A quantifier with no term before it, or after another quantifier.
+    #[error("nothing to repeat")]
+    NothingToRepeat,
+    /// A quantifier after an anchor, a word boundary or a lookaround.
+    #[error("an assertion is not repeated")]
+    RepeatedAssertion,
+    /// `{n,m}` with `m` below `n`.
+    #[error("quantifier out of order")]
+    QuantifierOutOfOrder,
+    /// A class that is not closed.
+    #[error("unclosed class")]
+    UnclosedClass,
+    /// A range in a class whose end is below its start.
+    #[error("range out of order")]
+    RangeOutOfOrder,
+    /// With `unicode_sets`, a nested class, `&&` or `--`.
+    #[error("set operations are not supported")]
+    SetOperation,
+    /// A backslash before an ASCII letter or digit with which no escape begins. Escapes begin with
+    /// `b B d D f k n r s S t u v w W x` and with digits; in a class `B` and `k` begin none.
+    #[error("unknown escape")]
+    UnknownEscape,
+    /// `\A`, `\z` or `\Z`.
+    #[error("text anchors are not supported, write ^ or $")]
+    TextAnchor,
+    /// `\p` or `\P`.
+    #[error("property escapes are not supported")]
+    PropertyEscape,
+    /// `\c`.
+    #[error("control escapes are not supported")]
+    ControlEscape,
+    /// `\0` before a digit, or `\1` to `\7` in a class.
+    #[error("octal escapes are not supported")]
+    OctalEscape,
+    /// In the whole language with `unicode`, `\c` without an ASCII letter after it.
+    #[error("control escape without a letter")]
+    ControlEscapeWithoutLetter,
+    /// In the whole language with `unicode`, `\0` before a digit, or `\1` to `\7` in a class.
+    #[error("octal escapes are not allowed with u")]
+    OctalEscapeWithUnicode,
+    /// In the whole language with `unicode`, `\p` or `\P` without a `{` after it.
+    #[error("property escape without a name")]
+    PropertyWithoutName,
+    /// In the whole language with `unicode`, `\p{..}` or `\P{..}` with a name or a value that names no
+    /// property of Unicode.
+    #[error("unknown property")]
+    UnknownProperty,
+    /// In the whole language with `unicode`, a range in a class that begins or ends with a class escape.
+    #[error("a class escape is no end of a range")]
+    RangeOfClasses,
+    /// `\x` without two hexadecimal digits.
+    #[error("incomplete hexadecimal escape")]
+    HexEscape,
+    /// `\u` without four hexadecimal digits; with `unicode`, also `\u{` without hexadecimal digits
+    /// and a `}` after it.
+    #[error("incomplete Unicode escape")]
+    UnicodeEscape,
+    /// With `unicode`, `\u{..}` past U+10FFFF.
+    #[error("no code point is so great")]
+    CodePointTooGreat,
+    /// A backslash at the end of the text.
+    #[error("nothing to escape")]
+    NothingToEscape,
+    /// A reference to a group number that the pattern does not have.
+    #[error("no such group")]
+    NoSuchGroup,
+    /// A reference to a name that no group of the pattern has.
+    #[error("no group has this name")]
+    NoSuchName,
+    /// `\k` without a `<` after it.
+    #[error("reference without a name")]
+    MissingName,
+    /// An ASCII character that is not allowed in a name, or not at this position of it.
+    #[error("invalid name")]
+    InvalidName,
+    /// A code point past U+007F in a name.
+    #[error("names beyond ASCII are not supported")]
+    NameBeyondAscii,
+    /// A name that is not closed.
+    #[error("unclosed name")]
+    UnclosedName,
+    /// The name of an earlier group.
+    #[error("duplicate name")]
+    DuplicateName,
+    /// With `unicode`, a `{` with which no quantifier begins.
+    #[error("incomplete quantifier")]
+    IncompleteQuantifier,
+    /// With `unicode`, a `]` or `}` without its partner.
+    #[error("lone bracket")]
+    LoneBracket,
+}
+
+/// What is wrong with a text that is refused, and where. It displays as `unclosed group at 3`.
+#[derive(Clone, Copy, Debug, PartialEq, Eq, Error)]
+#[error("{cause} at {at}")]
+pub struct Diagnosis {
+    /// What is wrong.
+    pub cause: Cause,
+    /// Index of the code point with which the error begins. For an unclosed name this is the `<`,
+    /// for an invalid name the code point that is not allowed, for a duplicate name its first
+    /// letter, and for too many groups the parenthesis of the first group past the limit.
+    pub at: usize,
+}
+
+impl Diagnosis {
+    /// Returns the byte offset of the error in a pattern that is a `str`. It is the length of the
+    /// pattern if that has fewer than `at` code points.
+    pub fn offset_in(self, pattern: &str) -> usize
+        ensures boundary { IsCharBoundary pattern.now result }
+        ensures place { chars (drop result pattern.now) ≡ drop self.at (chars pattern.now) }
+    {
+        let mut rest = pattern.chars();
+        let mut left = self.at;
+        while left > 0 && rest.next().is_some() {
+            left -= 1;
+        }
+        pattern.len() - rest.as_str().len()
+    }
+
+    /// Returns the diagnosis to display below a pattern on a terminal: the line of the pattern that
+    /// contains the error, a line with `^` below the error, and the cause. Each code point takes
+    /// one column. A control character is shown as a blank, and a number that is no `char` as
+    /// U+FFFD.
+    pub fn below(self, pattern: &[u32]) -> CaretDiagnosis<'_> {
+        let (before, behind) = pattern.split_at(self.at.min(pattern.len()));
+        CaretDiagnosis {
+            before: PatternLinePartForDiagnosis::CodePoints(last_line(before)),
+            behind: PatternLinePartForDiagnosis::CodePoints(first_line(behind)),
+            cause: self.cause,
+        }
+    }
+
+    /// Returns the diagnosis to display below a pattern that is a `str`, as `below` does.
+    pub fn below_text(self, pattern: &str) -> CaretDiagnosis<'_> {
+        let (before, behind) = pattern.split_at(self.offset_in(pattern));
+        CaretDiagnosis {
+            before: PatternLinePartForDiagnosis::Text(
+                before.rsplit_once('\n').map_or(before, |(_, line)| line),
+            ),
+            behind: PatternLinePartForDiagnosis::Text(
+                behind.split_once('\n').map_or(behind, |(line, _)| line),
+            ),
+            cause: self.cause,
+        }
+    }
+}
+
+/// A line of a pattern, and what is wrong in it.
+#[derive(Clone, Copy, Debug)]
+pub struct CaretDiagnosis<'p> {
+    // The line before the error, and from the error on.
+    before: PatternLinePartForDiagnosis<'p>,
+    behind: PatternLinePartForDiagnosis<'p>,
+    cause: Cause,
+}
+
+impl fmt::Display for CaretDiagnosis<'_> {
+    fn fmt<W: fmt::Write>(&self, f: &mut fmt::Formatter<W>) -> fmt::Result {
+        self.before.write(f)?;
+        self.behind.write(f)?;
+        f.write_str("\n")?;
+        for _ in 0..self.before.columns() {
+            f.write_str(" ")?;
+        }
+        write!(f, "^ {}", self.cause)
+    }
+}
+
+// A piece of a line of a pattern.
+#[derive(Clone, Copy, Debug)]
+enum PatternLinePartForDiagnosis<'p> {
+    CodePoints(&'p [u32]),
+    Text(&'p str),
+}
+
+impl PatternLinePartForDiagnosis<'_> {
+    fn columns(self) -> usize {
+        match self {
+            PatternLinePartForDiagnosis::CodePoints(points) => points.len(),
+            PatternLinePartForDiagnosis::Text(text) => text.chars().count(),
+        }
+    }
+
+    fn write<W: fmt::Write>(self, f: &mut fmt::Formatter<W>) -> fmt::Result {
+        match self {
+            PatternLinePartForDiagnosis::CodePoints(points) => {
+                for c in points {
+                    write!(f, "{}", shown(*c))?;
+                }
+            }
+            PatternLinePartForDiagnosis::Text(text) => {
+                for c in text.chars() {
+                    write!(f, "{}", shown(u32::from(c)))?;
+                }
+            }
+        }
+        Ok(())
+    }
+}
+
+// Returns the character that shows a code point in one column.
+fn shown(c: u32) -> char {
+    match char::from_u32(c) {
+        Some('\0'..='\x1F' | '\x7F') => ' ',
+        Some(c) => c,
+        None => '\u{FFFD}',
+    }
+}
+
+fn is_line_break(c: u32) -> bool {
+    c == '\n' as u32
+}
+
+// Returns the text after the last line break.
+fn last_line(text: &[u32]) -> &[u32] {
+    let mut start = text.len();
+    while start > 0 && !is_line_break(text[start - 1]) {
+        start -= 1;
+    }
+    &text[start..]
+}
+
+// Returns the text before the first line break.
+fn first_line(text: &[u32]) -> &[u32] {
+    let mut end = 0;
+    while end < text.len() && !is_line_break(text[end]) {
+        end += 1;
+    }
+    &text[..end]
+}

@@ -1,0 +1,32 @@
+//! The error type of the parser.
+
+ghost use Rattle.std.specs.Prelude.{◌≡◌, false};
+ghost use Rattle.regex_parser.specs.CodePointAndQuantifierReaderContracts.{is_syntax_error};
+
+use crate::diagnosis::Cause;
+use std::alloc::{AllocError, AllocFailed};
+
+/// Why parsing stops.
+#[derive(Clone, Copy)]
+pub(crate) enum ParseStopReason {
+    /// The text is no pattern; `left` code points are left from the error on.
+    Refused { cause: Cause, left: usize },
+    /// Allocation failure.
+    Memory(AllocError),
+}
+
+impl From<AllocError> for ParseStopReason {
+    ghost from_gives = { λ _ e. is_syntax_error e ≡ false };
+
+    fn from(refused: AllocError) -> Self {
+        ParseStopReason::Memory(refused)
+    }
+}
+
+impl<T: Drop> From<AllocFailed<T>> for ParseStopReason {
+    ghost from_gives = { λ _ e. is_syntax_error e ≡ false };
+
+    fn from(refused: AllocFailed<T>) -> Self {
+        ParseStopReason::Memory(AllocError::from(refused))
+    }
+}

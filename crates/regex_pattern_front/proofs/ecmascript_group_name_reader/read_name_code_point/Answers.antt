@@ -1,6 +1,0 @@
-use Rattle.std.proofs.Common.{sym, ◌∙◌}
-use Rattle.regex_pattern_front.proofs.EcmaNameLemmas.{itself-read}
-use Rattle.regex_pattern_front.proofs.ecmascript_group_name_reader.read_name_code_point.Goals as goal
-
-pub returns-clause-text : goal.returns-clause-text
-returns-clause-text c = λ is_first. itself-read is_first c.in_ok-c.ensures.text c.if-c.false (sym c.is_lead_surrogate.ensures ∙ c.if-is_lead_surrogate.false)

@@ -1,9 +1,0 @@
-use Rattle.regex_pattern_front.proofs.LeafLemmas.{leaf-Anchor}
-use Rattle.regex_pattern_front.proofs.TermLemmas.{anchored}
-use Rattle.regex_pattern_front.proofs.groupless_terms.GrouplessTermReader.anchor.Goals as goal
-
-pub returns-clause-leaf : goal.returns-clause-leaf
-returns-clause-leaf c = λ greatest. leaf-Anchor greatest _ _
-
-pub returns-clause-text : goal.returns-clause-text
-returns-clause-text c = λ groups there. anchored c.args.self.now.flags groups there c.args.anchor_type

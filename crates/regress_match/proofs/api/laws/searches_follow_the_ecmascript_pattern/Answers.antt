@@ -1,0 +1,5 @@
+use Rattle.regress_match.proofs.PatternLemmas.{ecmascript-searches-follow}
+use Rattle.regress_match.proofs.api.laws.searches_follow_the_ecmascript_pattern.Goals as goal
+
+pub returns : goal.returns
+returns c = ecmascript-searches-follow

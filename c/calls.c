@@ -109,7 +109,7 @@ static void bounds(void)
 /* A pattern that no language has, one that the profile lacks, and one that means another thing in it. */
 static void syntaxes(void)
 {
-    static const char *const texts[] = {"(", "\\101|(?=a)*b", "[^\xE9]"};
+    static const char *const texts[] = {"(", "\\101|(?=a)*b", "[^\\xE9]"};
     static const uint16_t units[] = {'\\', '1', '0', '1'};
     regress_c_bounds all = REGRESS_C_NO_BOUNDS;
     regress_c_bounds three = {3, 0};

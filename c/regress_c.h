@@ -283,8 +283,8 @@ regress_c_reply regress_c_match_at_ucs2(regress_c_pattern *pattern, const uint16
  * NO_BOUND if no bound is known, as with a lookaround or a backreference (docs/LINEAR.md), and then `per_unit` is
  * unchanged.
  *
- * A unit of work is one step of a thread, one way back to a waiting thread, one character that a loop over characters
- * examines, or one record of a failure.
+ * A unit of work is one step of a thread, one character that a loop over characters examines, one way back to a waiting
+ * thread, one thread that is dropped since it is known to fail, or one record of a failure that is reached.
  */
 uint32_t regress_c_work_per_unit(regress_c_pattern *pattern, uint64_t *per_unit);
 
@@ -296,8 +296,8 @@ uint32_t regress_c_work_per_unit(regress_c_pattern *pattern, uint64_t *per_unit)
  * then no work is left. (That this is the bound of regress_c_work_per_unit is tested.) Returns NO_BOUND if no bound is
  * known. NO_BOUND and refusals of the handle, the text or the start take no work.
  *
- * A loop over characters pays for them after it has examined them, so the call that reaches the limit may examine more
- * characters than it had work for: at most those up to the end of the text. How much work a call did is not proved.
+ * A loop over characters examines no more of them than the work that is left pays for. The clauses of this call do not
+ * say how much work it did, only that the work left never rises; of the executor below, exact costs are proved.
  *
  * Each call computes the bound again and takes memory for the failures that it records: some bits for each byte of the
  * text.

@@ -5,6 +5,8 @@ const [flags, pairsFile, answersFile] = process.argv.slice(2);
 const last = flags === "iu" ? 0x10ffff : 0xffff;
 const isHalf = (c) => c >= 0xd800 && c <= 0xdfff;
 const isTried = (c) => c >= 0 && c <= last && !(flags === "iu" && isHalf(c));
+// V8 cannot judge characters that its version of Unicode lacks.
+const isKnown = (c) => isHalf(c) || !/\p{Cn}/u.test(String.fromCodePoint(c));
 const single = (text) => ([...text].length === 1 ? text.codePointAt(0) : -1);
 const mapped = (text) => {
     const [lower, upper] = [text.toLowerCase(), text.toUpperCase()];
@@ -29,7 +31,10 @@ const partners = (c) => {
     return [...found].sort((a, b) => a - b);
 };
 const pairs = [];
-for (let c = 0; c <= last; c++) if (isTried(c)) for (const d of partners(c)) pairs.push(c, d);
+for (let c = 0; c <= last; c++) {
+    if (!isTried(c) || !isKnown(c)) continue;
+    for (const d of partners(c)) if (isKnown(d)) pairs.push(c, d);
+}
 fs.writeFileSync(pairsFile, Buffer.from(Uint32Array.from(pairs).buffer));
 const re = new RegExp("^([^])\\1$", flags);
 const answers = Buffer.alloc(pairs.length / 2);

@@ -25,7 +25,8 @@ int main(int count, char **words)
     regress_c_bounds bounds = REGRESS_C_NO_BOUNDS;
     regress_c_pattern re = REGRESS_C_PATTERN_INIT;
     uint32_t code = regress_c_compile_utf8_with_syntax(&re, (const uint8_t *)pattern, sizeof pattern - 1,
-                                                       (const uint8_t *)flags, strlen(flags), REGRESS_C_ES2018, &bounds);
+                                                       (const uint8_t *)flags, strlen(flags), REGRESS_C_ES2018,
+                                                       &bounds);
     if (code != REGRESS_C_DONE) {
         fprintf(stderr, "canonicalize: the pattern is refused: %u\n", (unsigned)code);
         return 2;

@@ -1,5 +1,6 @@
-// V8's answers for `canonicalize`: writes pairs of code points into the file of the second word, and whether the two match where
-// case is ignored into that of the third. The first word is `i`, for 16-bit units, or `iu`, for code points.
+// V8's answers for `canonicalize`: writes pairs of code points into the file of the second word, and whether the two
+// match where case is ignored into that of the third. The first word is `i`, for 16-bit units, or `iu`, for code
+// points.
 const fs = require("fs");
 const [flags, pairsFile, answersFile] = process.argv.slice(2);
 const last = flags === "iu" ? 0x10ffff : 0xffff;
@@ -38,5 +39,7 @@ for (let c = 0; c <= last; c++) {
 fs.writeFileSync(pairsFile, Buffer.from(Uint32Array.from(pairs).buffer));
 const re = new RegExp("^([^])\\1$", flags);
 const answers = Buffer.alloc(pairs.length / 2);
-for (let i = 0; i < answers.length; i++) answers[i] = re.test(String.fromCodePoint(pairs[2 * i], pairs[2 * i + 1])) ? 1 : 0;
+for (let i = 0; i < answers.length; i++) {
+    answers[i] = re.test(String.fromCodePoint(pairs[2 * i], pairs[2 * i + 1])) ? 1 : 0;
+}
 fs.writeFileSync(answersFile, answers);

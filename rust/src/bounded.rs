@@ -14,8 +14,9 @@ const GROWTH: usize = 8;
 
 /// A pattern with a known work bound: all matches in a text of n bytes take at most `work_per_unit` × (n + 1) work.
 ///
-/// A unit of work is one step of a thread, one backtrack to a pending thread, one character that a loop examines, or one record of a
-/// failure. On most texts these searches take longer than those of `Regex`, but no text makes them take exponential time.
+/// A unit of work is one step of a thread, one backtrack to a pending thread, one thread that is dropped because it is known to fail,
+/// one character that a loop examines, or one record of a failure that is reached. On most texts these searches take longer than
+/// those of `Regex`, but no text makes them take exponential time.
 #[derive(Clone, Debug)]
 pub struct BoundedRegex<'r> {
     re: &'r Regex,
@@ -35,7 +36,7 @@ impl<'r> BoundedRegex<'r> {
     /// Returns an iterator over the matches in `text` from byte offset `start` on, with at most `work` work for all of them together.
     ///
     /// The items are the list of matches, or a beginning of it followed by an error. The error is `WorkLimit` if more work is needed.
-    /// It never occurs if `work` is at least `work_per_unit` × (n + 1) for a text of n bytes.
+    /// It never occurs if `work` is at least `work_per_unit` × (n + 1) for a text of n bytes (tested, not proved).
     ///
     /// This call searches the whole text; the iterator only reads the result. The first search has room for 32 matches. If there are
     /// more, the text is searched again with room for eight times as many, and so on. Each of these searches has the full limit.

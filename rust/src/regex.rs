@@ -550,7 +550,7 @@ fn units_of(pattern: impl Iterator<Item = u32>) -> Result<(Vec<u16>, Vec<usize>)
             (Ok(unit), _) => units.push(unit),
             (Err(_), Some(c)) => units.extend_from_slice(c.encode_utf16(&mut [0; 2])),
             (Err(_), None) => {
-                let reason = "no code point is so great".to_string();
+                let reason = "code point past U+10FFFF".to_string();
                 let place = place_in_units(&units, &lengths, before);
                 return Err(Error::new(Cause::Syntax, reason, Some(place)));
             }

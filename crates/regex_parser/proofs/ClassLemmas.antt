@@ -302,7 +302,7 @@ sets-by here there c next told b read ne peek is test =
     sets-next here there c read ne
     ∙ ap (λ t. if t then true else has_set_operation there) (ap (begins_nested_class_or_operation c) (sym peek) ∙ sym is ∙ test)
 
--- ---- Answers that tell of one another
+-- ---- Answers that follow from one another
 
 pub err-member : {flags : Flags} {here : RemainingCodePoints} (old new : List Interval) (there : RemainingCodePoints) (r : Result (Unit {0}) ParseStopReason) → IsErr r
     → ((end : RemainingCodePoints) (ms : List ClassMember) → ClassMembers flags here end ms → ⊥) → IsClassMemberRead flags here old r new there

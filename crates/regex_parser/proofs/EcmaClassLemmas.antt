@@ -186,7 +186,7 @@ member-nothing e = member-none (λ end m a. let h = atom_starts a in by (sym h.2
 
 -- ---- Escapes of one letter
 
--- what a class of the profile tells of its escape
+-- the length of the set of an escape of the profile, and whether it is inverted
 abbrev tag : Option Profile.ClassMember → ℕ × Bool
 tag (Some (Profile.class set invert)) = (length set, invert)
 tag _ = (0, false)
@@ -383,7 +383,7 @@ no-dash u no_b no_dash end c (backspace e) = no_b _ e
 no-dash u no_b no_dash end c (dash v e) = no_dash _ e
 no-dash u no_b no_dash end c (class_control_letter v e k) = true≢false (sym u ∙ v)
 
--- ---- Answers that tell of one another
+-- ---- Answers that follow from one another
 
 pub err-member : {flags : Flags} {named : Bool} {here : RemainingCodePoints} (old new : List Interval) (there : RemainingCodePoints) (r : Result (Unit {0}) ParseStopReason) (e : ParseStopReason) {P : ParseStopReason → Type 0}
     → IsErrAnd r P → ((x : ParseStopReason) → P x → x ≡ e)

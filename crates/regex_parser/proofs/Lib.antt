@@ -22,6 +22,7 @@ pub mod EcmaEscapeLemmas
 pub mod EcmaNameLemmas
 pub mod CaseVariantLemmas
 pub mod VariantClosureLemmas
+pub mod GapLemmas
 pub mod EcmaClassLemmas
 pub mod PropertyNameLemmas
 pub mod PropertySetLemmas

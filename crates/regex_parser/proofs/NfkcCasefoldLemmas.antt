@@ -1,5 +1,5 @@
 -- The property Changes_When_NFKC_Casefolded.
-use Rattle.std.proofs.Common.{◌≡◌, ◌⊎◌, ℕ, ◌+◌, ◌≤◌, Bool, true, false, not, ◌&&◌, ◌||◌, nat_le, nat_lt, nat_eq, List, [], ◌∷◌, ◌++◌, refl, sym, ap, ap₂, subst}
+use Rattle.std.proofs.Common.{◌≡◌, ◌⊎◌, ℕ, ◌+◌, ◌≤◌, Bool, true, false, not, ◌&&◌, ◌||◌, nat_le, nat_lt, nat_eq, List, [], ◌∷◌, ◌++◌, length, refl, sym, ap, ap₂, subst}
 use Rattle.std.proofs.Common.{◌∙◌, arith}
 use Rattle.std.proofs.Common.{bytes_eq, eqb-true, encode_utf8_all, append-nil, inl, inr}
 use Rattle.std.specs.Prelude.{if◌then◌else◌, encode_utf8, flat_map}
@@ -111,9 +111,23 @@ itself-decomposed : (c : ℕ) → any_mapping c ≡ [] → is_syllable c ≡ fal
 unfolding decompose
 itself-decomposed c e f = ap (λ b. if b then decompose_hangul c else or_itself c (compatibility_decomposition c)) f ∙ ap (or_itself c) (none-decomposed c e)
 
-not-mapped : (c : ℕ) → any_mapping c ≡ [] → is_syllable c ≡ false → nfkc (c ∷ []) ≡ c ∷ []
+decomposed-alone : (c : ℕ) → decompose Nfkc c ≡ c ∷ [] → nfkc (c ∷ []) ≡ c ∷ []
 unfolding normalize decomposed canonical_order sink
-not-mapped c e f = ap (λ x. compose (canonical_order (x ++ []))) (itself-decomposed c e f) ∙ alone-composed c
+decomposed-alone c e = ap (λ x. compose (canonical_order (x ++ []))) e ∙ alone-composed c
+
+not-mapped : (c : ℕ) → any_mapping c ≡ [] → is_syllable c ≡ false → nfkc (c ∷ []) ≡ c ∷ []
+not-mapped c e f = decomposed-alone c (itself-decomposed c e f)
+
+none-left : (xs : List ℕ) → length xs ≡ 0 → xs ≡ []
+none-left [] e = refl
+none-left (x ∷ xs) e = absurd (omega (arith, e))
+
+pub mapped-to-itself : (c : ℕ) (folding : List ℕ) → folding ≡ full_folding c → length folding ≡ 0 → decompose Nfkc c ≡ c ∷ [] → nfkc (full_fold c) ≡ c ∷ []
+mapped-to-itself c folding is e f = ap (λ x. nfkc (or_itself c x)) (sym is ∙ none-left folding e) ∙ decomposed-alone c f
+
+pub itself-unchanged : (c : ℕ) → is_default_ignorable_code_point c ≡ false → nfkc (full_fold c) ≡ c ∷ [] → false ≡ not (is_nfkc_casefolded c)
+unfolding is_nfkc_casefolded
+itself-unchanged c e f = sym (ap₂ (λ b d. not (not b && d)) e ((bytes_decides (nfkc (full_fold c)) (c ∷ [])).1 f))
 
 unchanged : (low high c : ℕ) → AreApart low high → low ≤ c → c ≤ high → is_syllable c ≡ false → false ≡ not (is_nfkc_casefolded c)
 unfolding is_nfkc_casefolded is_default_ignorable_code_point full_folding decomposition

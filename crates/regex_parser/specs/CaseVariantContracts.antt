@@ -20,6 +20,10 @@ pub record AreOtherVariants (unicode : Bool) (c : ℕ) (others : List ℕ) : Typ
 abbrev pub matching_seconds : (unicode : Bool) → List (ℕ × ℕ) → List ℕ
 matching_seconds unicode pairs = map (λ p. p.1) (filter (λ p. match_each_other unicode p.0 p.1) pairs)
 
+-- the first characters of the pairs whose second one passes the test and matches the first
+abbrev pub firsts_that_match : (unicode : Bool) (test : ℕ → Bool) → List (ℕ × ℕ) → List ℕ
+firsts_that_match unicode test pairs = map (λ p. p.0) (filter (λ p. test p.1 && match_each_other unicode p.0 p.1) pairs)
+
 -- whether the number is between these two, both included
 abbrev pub is_between : (first last : ℕ) → ℕ → Bool
 is_between first last c = is_in_range first last c
@@ -39,3 +43,9 @@ pub record AddsMatching (unicode : Bool) (test : ℕ → Bool) (old new : List I
   pub sound : (d : ℕ) → IsTrue (is_in_any_interval new d) → IsTrue (is_in_any_interval old d) ⊎ MatchesSome unicode test d
   pub kept : (d : ℕ) → IsTrue (is_in_any_interval old d) → IsTrue (is_in_any_interval new d)
   pub complete : (d : ℕ) → MatchesSome unicode test d → IsTrue (test d) ⊎ IsTrue (is_in_any_interval new d)
+
+-- `AddsMatching`, where the new intervals have, of the numbers that match one that passes the test, all `inside`
+pub record AddsMatchingWithin (unicode : Bool) (test inside : ℕ → Bool) (old new : List Interval) : Type 0 where
+  pub sound : (d : ℕ) → IsTrue (is_in_any_interval new d) → IsTrue (is_in_any_interval old d) ⊎ MatchesSome unicode test d
+  pub kept : (d : ℕ) → IsTrue (is_in_any_interval old d) → IsTrue (is_in_any_interval new d)
+  pub complete : (d : ℕ) → IsTrue (inside d) → MatchesSome unicode test d → IsTrue (test d) ⊎ IsTrue (is_in_any_interval new d)

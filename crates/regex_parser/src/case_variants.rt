@@ -6,7 +6,7 @@ ghost use Rattle.std.specs.List.Sorted.{IsNonDecreasingBy};
 ghost use Rattle.ucd_case.specs.CaseFolding.{fold_pairs};
 ghost use Rattle.regex_meaning.specs.Canonical.{AreCaseVariants};
 ghost use Rattle.regex_meaning.specs.Outcomes.{in_intervals};
-ghost use Rattle.regex_parser.specs.CaseVariantContracts.{AreOtherVariants, AddsMatching, matching_seconds, is_between, is_on_side};
+ghost use Rattle.regex_parser.specs.CaseVariantContracts.{AreOtherVariants, AddsMatching, AddsMatchingWithin, matching_seconds, firsts_that_match, is_between, is_on_side};
 
 use crate::character_class_parser::add_each;
 use regex_pattern_front::canonical::are_alike;
@@ -117,6 +117,79 @@ fn count_below(pairs: &[(u32, u32)], bound: u64) -> usize
 ///
 /// Returns an error on allocation failure.
 pub(crate) fn add_canonical_variants(
+    intervals: &mut Vec<Interval>,
+    set: &CodePointSet,
+    unicode: bool,
+) -> Result<(), AllocError>
+    ensures { OnOk result (AddsMatching unicode (in_intervals set.now) intervals.old.items intervals.new.items) }
+{
+    if begins_most_pairs(set) {
+        add_nonmembers_that_match(intervals, set, unicode)
+    } else {
+        add_variants_of_members(intervals, set, unicode)
+    }
+}
+
+// Checks whether more than half of the fold pairs begin with a member of the set. Then there are fewer
+// pairs to look at outside of the set.
+fn begins_most_pairs(set: &CodePointSet) -> bool {
+    let mut pairs = 0usize;
+    for interval in set.intervals() {
+        pairs = pairs.saturating_add(fold_pairs_between(interval.first, interval.last).len());
+    }
+    pairs > fold_pairs().len() / 2
+}
+
+// Adds the characters outside the set that match a member of it.
+fn add_nonmembers_that_match(
+    intervals: &mut Vec<Interval>,
+    set: &CodePointSet,
+    unicode: bool,
+) -> Result<(), AllocError>
+    ensures { OnOk result (AddsMatching unicode (in_intervals set.now) intervals.old.items intervals.new.items) }
+{
+    let outside = set.inverted()?;
+    for gap in outside.intervals() {
+        add_matching_of_gap(intervals, *gap, set, unicode)?;
+    }
+    Ok(())
+}
+
+// Adds the characters of the gap that match another one in the set.
+fn add_matching_of_gap(
+    intervals: &mut Vec<Interval>,
+    gap: Interval,
+    set: &CodePointSet,
+    unicode: bool,
+) -> Result<(), AllocError>
+    ensures { OnOk result (AddsMatchingWithin unicode (in_intervals set.now) (is_between gap.first gap.last)
+        intervals.old.items intervals.new.items) }
+{
+    let pairs = fold_pairs_between(gap.first, gap.last);
+    let matching = firsts_that_match(*intervals.allocator(), pairs, set, unicode)?;
+    add_each(intervals, &matching)
+}
+
+// Returns the first characters of the pairs whose second one is in the set and matches the first.
+fn firsts_that_match(
+    alloc: Global,
+    pairs: &[(u32, u32)],
+    set: &CodePointSet,
+    unicode: bool,
+) -> Result<Vec<u32>, AllocError>
+    ensures { IfOk result (λ firsts. firsts.items ≡ firsts_that_match unicode (in_intervals set.now) pairs.now) }
+{
+    let mut firsts = Vec::new(alloc);
+    for pair in pairs {
+        if set.contains(pair.1) && are_alike(pair.0, pair.1, unicode) {
+            firsts.push(pair.0)?;
+        }
+    }
+    Ok(firsts)
+}
+
+// Adds the characters that match another one in the set.
+fn add_variants_of_members(
     intervals: &mut Vec<Interval>,
     set: &CodePointSet,
     unicode: bool,

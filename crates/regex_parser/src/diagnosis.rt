@@ -36,8 +36,9 @@ pub enum Cause {
     /// A quantifier with no term before it, or after another quantifier.
     #[error("nothing to repeat")]
     NothingToRepeat,
-    /// A quantifier after an anchor, a word boundary or a lookaround.
-    #[error("an assertion is not repeated")]
+    /// A quantifier after an anchor, a word boundary or a lookaround. In the whole language without `unicode`
+    /// a lookahead may be repeated.
+    #[error("an assertion cannot be repeated")]
     RepeatedAssertion,
     /// `{n,m}` with `m` below `n`.
     #[error("quantifier out of order")]
@@ -58,14 +59,14 @@ pub enum Cause {
     /// `\A`, `\z` or `\Z`.
     #[error("text anchors are not supported, write ^ or $")]
     TextAnchor,
-    /// `\p` or `\P`.
-    #[error("property escapes are not supported")]
+    /// In the profile, `\p` or `\P`.
+    #[error("property escapes are supported only in EcmaScript2018")]
     PropertyEscape,
-    /// `\c`.
-    #[error("control escapes are not supported")]
+    /// In the profile, `\c`.
+    #[error("control escapes are supported only in EcmaScript2018")]
     ControlEscape,
-    /// `\0` before a digit, or `\1` to `\7` in a class.
-    #[error("octal escapes are not supported")]
+    /// In the profile, `\0` before a digit, or `\1` to `\7` in a class.
+    #[error("octal escapes are supported only in EcmaScript2018 without u")]
     OctalEscape,
     /// In the whole language with `unicode`, `\c` without an ASCII letter after it.
     #[error("control escape without a letter")]
@@ -81,7 +82,7 @@ pub enum Cause {
     #[error("unknown property")]
     UnknownProperty,
     /// In the whole language with `unicode`, a range in a class that begins or ends with a class escape.
-    #[error("a class escape is no end of a range")]
+    #[error("a class escape cannot be the end of a range")]
     RangeOfClasses,
     /// `\x` without two hexadecimal digits.
     #[error("incomplete hexadecimal escape")]
@@ -91,7 +92,7 @@ pub enum Cause {
     #[error("incomplete Unicode escape")]
     UnicodeEscape,
     /// With `unicode`, `\u{..}` past U+10FFFF.
-    #[error("no code point is so great")]
+    #[error("code point past U+10FFFF")]
     CodePointTooGreat,
     /// A backslash at the end of the text.
     #[error("nothing to escape")]
@@ -108,8 +109,8 @@ pub enum Cause {
     /// An ASCII character that is not allowed in a name, or not at this position of it.
     #[error("invalid name")]
     InvalidName,
-    /// A code point past U+007F in a name.
-    #[error("names beyond ASCII are not supported")]
+    /// In the profile, a code point past U+007F in a name.
+    #[error("names beyond ASCII are supported only in EcmaScript2018")]
     NameBeyondAscii,
     /// A name that is not closed.
     #[error("unclosed name")]

@@ -1,7 +1,8 @@
 //! The property `Changes_When_NFKC_Casefolded` (The Unicode Standard, section 3.13).
 
-ghost use Rattle.std.specs.Prelude.{◌≡◌, ℕ, not, string_bytes, encode_utf8_all, IfOk};
+ghost use Rattle.std.specs.Prelude.{◌≡◌, ℕ, not, [], ◌∷◌, string_bytes, encode_utf8_all, IfOk, IsTrue};
 ghost use Rattle.ucd_case.specs.CaseFolding.{full_fold};
+ghost use Rattle.unicode_normalization.specs.Forms.{nfkc};
 ghost use Rattle.regex_meaning.specs.Outcomes.{in_intervals};
 ghost use Rattle.regex_grammar.specs.UnicodeProperties.{has_property, changes_when_nfkc_casefolded, is_nfkc_casefolded};
 
@@ -9,7 +10,8 @@ use regex_pattern_front::codepointset::{CODE_POINT_MAX, CodePointSet, Interval};
 use std::alloc::{AllocError, Global};
 use ucd_case::full_folding;
 use ucd_derived::is_default_ignorable_code_point;
-use unicode_normalization::to_nfkc;
+use unicode_normalization::char::decomposition;
+use unicode_normalization::{Form, to_nfkc};
 
 /// Returns the code points that have the property. The database has no table of them, so each code
 /// point is folded and normalized.
@@ -47,11 +49,30 @@ fn is_changed(alloc: Global, c: char) -> Result<bool, AllocError>
     if is_default_ignorable_code_point(c) {
         return Ok(true);
     }
+    if is_mapped_to_itself(c) {
+        return Ok(false);
+    }
     let folded = folded(alloc, c)?;
     let normalized = to_nfkc(alloc, folded.as_str())?;
     let mut itself = String::new(alloc);
     itself.push(c)?;
     Ok(normalized.as_str() != itself.as_str())
+}
+
+// Checks whether the character has neither a case folding nor a decomposition. Most have none, and need
+// no text to be made.
+fn is_mapped_to_itself(c: char) -> bool
+    ensures { IsTrue result → nfkc (full_fold c) ≡ c ∷ [] }
+{
+    let mut room = [c; 3];
+    full_folding(c).is_empty() && is_only(decomposition(c, Form::Nfkc, &mut room), c)
+}
+
+// Checks whether the text is this one character.
+fn is_only(text: &[char], c: char) -> bool
+    ensures { IsTrue result → text.now ≡ c ∷ [] }
+{
+    matches!(text, [only] if *only == c)
 }
 
 // Returns the full case folding of the character.

@@ -27,13 +27,13 @@ u:a(?ms-i:b) → modifiers are not supported at 1
 :a{1}{2} → nothing to repeat at 4
 :{1,2} → nothing to repeat at 0
 u:{1} → nothing to repeat at 0
-:é^* → an assertion is not repeated at 2
-:$? → an assertion is not repeated at 1
-:\b+ → an assertion is not repeated at 2
-:\B{2} → an assertion is not repeated at 2
-:é(?=a)* → an assertion is not repeated at 6
-u:(?<!a)? → an assertion is not repeated at 6
-:^{2,1} → an assertion is not repeated at 1
+:é^* → an assertion cannot be repeated at 2
+:$? → an assertion cannot be repeated at 1
+:\b+ → an assertion cannot be repeated at 2
+:\B{2} → an assertion cannot be repeated at 2
+:é(?=a)* → an assertion cannot be repeated at 6
+u:(?<!a)? → an assertion cannot be repeated at 6
+:^{2,1} → an assertion cannot be repeated at 1
 :a{2,1} → quantifier out of order at 1
 :é😀{99999999999999999999,1} → quantifier out of order at 2
 :é[a → unclosed class at 1
@@ -56,19 +56,19 @@ u:😀b\Z → text anchors are not supported, write ^ or $ at 2
 :[\B] → unknown escape at 1
 :[\k] → unknown escape at 1
 :[\8] → unknown escape at 1
-u:é\p{L} → property escapes are not supported at 1
-:[\P] → property escapes are not supported at 1
-:é\cA → control escapes are not supported at 1
-:\08 → octal escapes are not supported at 0
-:(a)\01 → octal escapes are not supported at 3
-:[\1] → octal escapes are not supported at 1
+u:é\p{L} → property escapes are supported only in EcmaScript2018 at 1
+:[\P] → property escapes are supported only in EcmaScript2018 at 1
+:é\cA → control escapes are supported only in EcmaScript2018 at 1
+:\08 → octal escapes are supported only in EcmaScript2018 without u at 0
+:(a)\01 → octal escapes are supported only in EcmaScript2018 without u at 3
+:[\1] → octal escapes are supported only in EcmaScript2018 without u at 1
 :é\xg0 → incomplete hexadecimal escape at 1
 :\u004 → incomplete Unicode escape at 0
 :\u{41} → incomplete Unicode escape at 0
 u:é\u{} → incomplete Unicode escape at 1
 u:\u{41 → incomplete Unicode escape at 0
 u:\ud83d\u00 → incomplete Unicode escape at 6
-u:é\u{110000} → no code point is so great at 1
+u:é\u{110000} → code point past U+10FFFF at 1
 :é\ → nothing to escape at 1
 :[\ → nothing to escape at 1
 :é\1 → no such group at 1
@@ -85,10 +85,10 @@ u:\k<n>(b) → no group has this name at 0
 :(?<n>a)\kn → reference without a name at 7
 :é(?<1>a) → invalid name at 4
 :(?<>a) → invalid name at 3
-:(?<é>a) → names beyond ASCII are not supported at 3
-:b(?<aé>a) → names beyond ASCII are not supported at 5
-u:(?<😀>a) → names beyond ASCII are not supported at 3
-:(?<n>a)\k<é> → names beyond ASCII are not supported at 10
+:(?<é>a) → names beyond ASCII are supported only in EcmaScript2018 at 3
+:b(?<aé>a) → names beyond ASCII are supported only in EcmaScript2018 at 5
+u:(?<😀>a) → names beyond ASCII are supported only in EcmaScript2018 at 3
+:(?<n>a)\k<é> → names beyond ASCII are supported only in EcmaScript2018 at 10
 :(?<\u0061>a) → invalid name at 3
 :(?<a-b>a) → invalid name at 4
 :\k<> → invalid name at 3
@@ -122,8 +122,8 @@ u:[\pL] → property escape without a name at 1
 u:é\p{lu} → unknown property at 1
 u:é\P{Script=greek} → unknown property at 1
 u:[a\p{L] → unknown property at 2
-u:[\d-a] → a class escape is no end of a range at 1
-u:[ab-\s] → a class escape is no end of a range at 2
+u:[\d-a] → a class escape cannot be the end of a range at 1
+u:[ab-\s] → a class escape cannot be the end of a range at 2
 :é(?<a → unclosed name at 3
 :é(?<1>) → invalid name at 4
 :(?<é-b>) → invalid name at 4
@@ -132,12 +132,12 @@ u:[ab-\s] → a class escape is no end of a range at 2
 :\k<b>(?<a>c) → no group has this name at 0
 :(?<a>b)(?<\u0061>c) → duplicate name at 10
 :{1} → nothing to repeat at 0
-:(?<=a)* → an assertion is not repeated at 6
-u:(?=a)* → an assertion is not repeated at 5
-:^* → an assertion is not repeated at 1
+:(?<=a)* → an assertion cannot be repeated at 6
+u:(?=a)* → an assertion cannot be repeated at 5
+:^* → an assertion cannot be repeated at 1
 u:a{ → incomplete quantifier at 1
 u:} → lone bracket at 0
-u:\u{110000} → no code point is so great at 0
+u:\u{110000} → code point past U+10FFFF at 0
 u:\u → incomplete Unicode escape at 0
 u:\x → incomplete hexadecimal escape at 0
 u:é\a → unknown escape at 1

@@ -1,3 +1,6 @@
+pub mod SearchParts
+pub mod Surplus
+pub mod BodyOps
 pub mod Beside
 pub mod NextStarts
 pub mod Undoing
@@ -47,3 +50,4 @@ mod Waits
 pub mod MemoKeys
 pub mod RunKeys
 pub mod Rightness
+pub mod LeapStarts

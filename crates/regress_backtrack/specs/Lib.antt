@@ -24,4 +24,6 @@ pub mod FailuresInMemoTable
 pub mod MemoizedCharLoops
 pub mod BulkForcedCountedLoopIterations
 pub mod SkippableCountedLoopIterations
+pub mod SurplusRequiredIterations
 pub mod InsnsOfGroupActions
+pub mod LeapMemory

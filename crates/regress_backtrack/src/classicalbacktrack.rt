@@ -12,12 +12,14 @@ ghost use Rattle.regress_scan.specs.TreePlanAndText.{program_of};
 ghost use Rattle.regress_memo.specs.MemoContents.{has_failure};
 ghost use Rattle.regress_program.specs.CompilationOfTreesAsFunction.{compiled};
 ghost use Rattle.regress_backtrack.specs.{State.{current_thread_state_of}, FailuresInMemoTable.{scheme_of}, ProgramsAndPlans.{executed_tree_of}};
+ghost use Rattle.regress_backtrack.specs.LeapMemory.{IsLeapMemoryRight};
 ghost use Rattle.regress_backtrack.specs.FailureMemo.{AreFailuresRightIn, scheme_in, failed_in};
 
 use crate::attempts::{attempt, retry_with_memo};
 use crate::failure_memo::{NoMemo, StepsAndMemo};
 use crate::failures_in_memo_table::CounterAndMemoForRetries;
-use crate::next_candidate_start_by_plan::first_candidate_start_from;
+use crate::leap_memory::{LeapMemory, leaps_over_if_due};
+use crate::next_candidate_start_by_plan::{first_candidate_start_from, is_candidate_start};
 use crate::program_plan_and_text::{ProgramAndPlan, ProgramPlanAndText};
 use crate::state::BacktrackState;
 use crate::step_and_work_budgets::{Unlimited, WorkBounded};
@@ -53,10 +55,14 @@ pub struct BacktrackExecutor<'r, Input: InputIndexer> {
     // match begins), if that loop is scanned again after a failed start, so that none of its
     // positions is tried. Else 0.
     leads: usize,
+    // How far the last leap has led.
+    leap: LeapMemory,
     // The memo is right: each key that it holds as failed does fail.
     ghost right: { AreFailuresRightIn (compiled (executed_tree_of search.program)) (Input.text search.searched.input)
         (scheme_in (λ memo. scheme_of memo.value.memo_analysis) again.course.memo)
         (failed_in (λ memo. has_failure memo.value) again.course.memo) } by { Prim.hlevel props },
+    // No match begins between the two offsets of the last leap.
+    ghost leapt: { IsLeapMemoryRight (executed_tree_of search.program) (Input.text search.searched.input) leap } by { Prim.hlevel props },
 }
 
 // The work allowed for each offset of a text, which is more than most searches do, and for each
@@ -90,6 +96,7 @@ impl<'r, Input: InputIndexer> BacktrackExecutor<'r, Input> {
         let units = search.searched.input.unit_count();
         let work = work_at_first(units, search.program.insns().len());
         let leads = leading_loop_max_char_units(search.program.plan());
+        let leap = LeapMemory::new(&search.program.plan().leap);
         BacktrackExecutor {
             search,
             memory: BacktrackState::new(alloc),
@@ -108,6 +115,7 @@ impl<'r, Input: InputIndexer> BacktrackExecutor<'r, Input> {
             },
             came: None,
             leads,
+            leap,
         }
     }
 
@@ -142,6 +150,42 @@ fn next_candidate_start<W: SearchContext>(planned: &W, from: PositionOf<W>) -> O
         Some(at) => Some(position_in_searched_text(planned, at)),
         None => None,
     }
+}
+
+// Returns the first candidate start at or after `from` that is not before the end of the last leap.
+#[inline(always)]
+fn next_candidate_past_leap<W: SearchContext>(
+    planned: &W,
+    leap: &LeapMemory,
+    from: PositionOf<W>,
+) -> Option<PositionOf<W>>
+    requires at { IsBoundary (W.searching planned.now).text (W.Input.Position.offset from) }
+    requires can { let w = W.searching planned.now in TreeProgramCanSearchText (program_of w) w.tree w.text }
+    requires leapt { let w = W.searching planned.now in IsLeapMemoryRight w.tree w.text leap.now }
+    ensures { let w = W.searching planned.now in let at = W.Input.Position.offset in
+        NextStartSkipsNoMatch w.tree w.text (at from) (option_map at result) }
+{
+    if leap.is_past(offset_in_searched_text(planned, from)) {
+        return next_candidate_start(planned, from);
+    }
+    next_candidate_behind_leap(planned, leap, from)
+}
+
+// Returns that start where the last leap may tell of `from`. Not inlined, since this is rare.
+#[inline(never)]
+fn next_candidate_behind_leap<W: SearchContext>(
+    planned: &W,
+    leap: &LeapMemory,
+    from: PositionOf<W>,
+) -> Option<PositionOf<W>>
+    requires at { IsBoundary (W.searching planned.now).text (W.Input.Position.offset from) }
+    requires can { let w = W.searching planned.now in TreeProgramCanSearchText (program_of w) w.tree w.text }
+    requires leapt { let w = W.searching planned.now in IsLeapMemoryRight w.tree w.text leap.now }
+    ensures { let w = W.searching planned.now in let at = W.Input.Position.offset in
+        NextStartSkipsNoMatch w.tree w.text (at from) (option_map at result) }
+{
+    let past = leap.past(offset_in_searched_text(planned, from))?;
+    next_candidate_start(planned, position_in_searched_text(planned, past))
 }
 
 // Returns the first candidate start at or after `from`, where each match begins with a char loop
@@ -191,6 +235,10 @@ impl<'r, Input: InputIndexer> SingleAttemptExecutor for BacktrackExecutor<'r, In
 
     #[inline(always)]
     fn attempt(&mut self, pos: Input::Position) -> Result<Option<Input::Position>, SearchError> {
+        let at = self.search.searched.input.pos_to_offset(pos);
+        if leaps_over_if_due(&self.search, &mut self.leap, at) {
+            return Ok(None);
+        }
         if self.free.steps.is_work_limit_exceeded() {
             let insns = self.search.program.insns();
             return retry_with_memo(
@@ -231,15 +279,20 @@ impl<'r, Input: InputIndexer> SingleAttemptExecutor for BacktrackExecutor<'r, In
     }
 
     fn first_start_to_try_from(&self, pos: Input::Position) -> Option<Input::Position> {
-        if self.search.searched.is_anchored() {
-            return Some(pos);
+        let searched = &self.search.searched;
+        if !searched.is_anchored() {
+            return next_candidate_start(&self.search, pos);
         }
-        next_candidate_start(&self.search, pos)
+        if is_candidate_start(&self.search, searched.input.pos_to_offset(pos)) {
+            Some(pos)
+        } else {
+            searched.position_after_failed_attempt(pos)
+        }
     }
 
     fn next_start_after_failed_attempt(&self, tried: Input::Position) -> Option<Input::Position> {
         let next = self.search.searched.position_after_failed_attempt(tried)?;
-        let to = next_candidate_start(&self.search, next)?;
+        let to = next_candidate_past_leap(&self.search, &self.leap, next)?;
         if self.goes_over(tried, to) {
             return next_start_past_loop(&self.search, tried, to);
         }

@@ -1,12 +1,13 @@
 //! The next candidate start of a search.
 
+ghost use Rattle.std.specs.Prelude.{◌≡◌, false};
 ghost use Rattle.regex_meaning.specs.CodeUnitOffsets.{IsBoundary};
-ghost use Rattle.regress_exec.specs.AttemptResultsAndStartsToTry.{NextStartSkipsNoMatch};
+ghost use Rattle.regress_exec.specs.AttemptResultsAndStartsToTry.{NextStartSkipsNoMatch, NoMatchAt};
 ghost use Rattle.regress_machine.specs.SearchFindsFirstOutcomeAtPlace.{TreeProgramCanSearchText};
 ghost use Rattle.regress_scan.specs.{TreePlanAndText.{program_of}, StartSearch.{IsFirstCandidate}};
 
 use regress_scan::search_context::SearchContext;
-use regress_scan::start_search::first_candidate;
+use regress_scan::start_search::{first_candidate, is_candidate};
 
 /// Returns the first candidate start at or after an offset, by the plan; `None` if no match begins
 /// from there on.
@@ -22,4 +23,15 @@ pub(crate) fn first_candidate_start_from<W: SearchContext>(
 {
     planned.lemma_plan_fits_program();
     first_candidate(planned, from)
+}
+
+/// Checks whether an offset is a candidate start, by the plan. If it is not, no match begins there.
+#[inline(always)]
+pub(crate) fn is_candidate_start<W: SearchContext>(planned: &W, at: usize) -> bool
+    requires at { IsBoundary (W.searching planned.now).text at }
+    requires can { let w = W.searching planned.now in TreeProgramCanSearchText (program_of w) w.tree w.text }
+    ensures { let w = W.searching planned.now in result ≡ false → NoMatchAt w.tree w.text at }
+{
+    planned.lemma_plan_fits_program();
+    is_candidate(planned, at)
 }

@@ -1,6 +1,6 @@
 -- Attempts in so much work: how one begins, what it finds, and that the next ones may be made.
-use Rattle.std.proofs.Common.{◌≡◌, ◌≤◌, ◌<◌, ◌^◌, ℕ, ◌+◌, ◌*◌, Bool, false, List, [], ◌∷◌, ◌++◌, Option, Some, None, refl, sym, ap, ◌∙◌, subst, arith}
-use Rattle.std.specs.Prelude.{option_map, Result, Ok, Err, IsSome}
+use Rattle.std.proofs.Common.{◌≡◌, ◌≤◌, ◌<◌, ◌^◌, ℕ, ◌+◌, ◌-◌, ◌*◌, Bool, false, List, [], ◌∷◌, ◌++◌, Option, Some, None, refl, sym, ap, ◌∙◌, subst, arith}
+use Rattle.std.specs.Prelude.{option_map, Result, Ok, Err, IfSome, IsSome}
 use Rattle.std.proofs.Math.Logic.{∥∥₁_map, ∥∥₁_elim, ∥∥₁_prop}
 use Rattle.std.proofs.Props.{props}
 use Rattle.regex_meaning.specs.Text.{Text, rightwards}
@@ -35,7 +35,10 @@ use Rattle.regress_pikevm.proofs.Remains.{map-end}
 use Rattle.regress_pikevm.specs.declared.pikevm.states.State.{State}
 use Rattle.regress_bounded.specs.ProgramWorkBoundForAllMatches.{HasBound, work_per_unit}
 use Rattle.regress_bounded.specs.SearchStateAsMemoSearchEntries.{IsPaid, IsRight, IsMemoRight, AttemptStartMemoBudgetAndResult, AttemptBeginsWithMemoAndBudget, Stands}
-use Rattle.regress_bounded.specs.CostsOfSearchEvents.{Costs, nothing_yet}
+use Rattle.regress_bounded.specs.CostsOfSearchEvents.{Costs, nothing_yet, then_happens}
+use Rattle.regress_bounded.specs.CostsOfAttempts.{AttemptCosts, EventsOfAttempt, HasFinished, ListsFailures, failures_of, is_end, no_entry}
+use Rattle.regress_bounded.specs.declared.stack_of_pending_threads_and_records.StackEntry.{StackEntry}
+use Rattle.regress_exec.specs.CostsOfSearches.{CostsMoreThanLeft, Failures, TakesExactCost}
 use Rattle.regress_bounded.specs.SearchStateAsMemoSearchEntries.{IsStanding, IsOver, EndsAt, Runs, front_of}
 use Rattle.regress_bounded.specs.WorkOfCharLoopsAndAttempts.{HasWalked, IsWalked, IsTrying}
 use Rattle.regress_pikevm.specs.States.{state_of}
@@ -288,3 +291,70 @@ module _ {P : Type 0} (offset : P → ℕ) {tree : Tree} {text : Text} (can : Tr
           ∥∥₁_elim knows (Prim.hlevel props) (λ right. ∥∥₁_elim walked (Prim.hlevel props) (λ w.
           let over = subst (λ e. Runs offset (compiled tree) text (from w) (Err e) new) is (runs (from w) (from-begins w right)) in
           never-over offset (compiled tree) text at ahead old new same w le inside (answered-at tree text can at on) (subst (IsPaid (compiled tree) text) (sym same) right.paid) over))
+
+-- ---- Its exact cost
+
+-- What an attempt costs, by all that begin so.
+module _ {P : Type 0} (offset : P → ℕ) {tree : Tree} {text : Text} (can : TreeProgramCanSearchText (compiled tree) tree text) (at : ℕ) (on : IsBoundary text at) (old new : MemoAndWorkBudget)
+    (knows : IsMemoRight (compiled tree) text old.memo) where
+  abbrev Spends : (cost : ℕ) → (after : Option Failures) → Type 0
+  Spends = AttemptCosts tree text (failures_of old.memo) at
+
+  module _ (b : AttemptStartMemoBudgetAndResult) (begun : AttemptBeginsWithMemoAndBudget (compiled tree) text at old b) where
+    -- events that led to a state
+    events-of : {front : List Entry} {stack : List (StackEntry P)} {c : MemoAndWorkBudget} → Stands offset (compiled tree) text b front stack c → (cost : ℕ) (now : List Key) (row : List Entry)
+        → Costs (compiled tree) text c.memo.memo_analysis rightwards b.memory (tries (first_row (compiled tree) b.at)) cost now row
+        → (after : Option Failures) → IfSome after (λ failures. HasFinished (compiled tree) text row × ListsFailures failures now)
+        → EventsOfAttempt tree text (failures_of old.memo) at cost after
+    events-of {c = c} h cost now row costs after over = record {
+      memo_analysis = c.memo.memo_analysis;
+      is_analysis = h.right.paid.memo_analysis;
+      memory = b.memory;
+      lists = record { only = λ k is. begun.holds.only k is; all = λ k known. begun.holds.all k known };
+      now = now;
+      row = row;
+      costs = subst (λ n. Costs (compiled tree) text c.memo.memo_analysis rightwards b.memory (tries (first_row (compiled tree) n)) cost now row) begun.at costs;
+      over = over;
+    }
+
+    -- one that is over took exactly its cost
+    finished : {front : List Entry} {stack : List (StackEntry P)} → (h : Stands offset (compiled tree) text b front stack new) → HasFinished (compiled tree) text (front ++ h.row)
+        → TakesExactCost Spends old.left new.left (failures_of new.memo)
+    finished {front} h over = (
+      h.work,
+      ∣ events-of h h.work h.now (front ++ h.row) h.costs (Some (failures_of new.memo)) (over, record { only = λ k is. h.holds.only k is; all = λ k known. h.holds.all k known }) ∣₁,
+      (let total = begun.total in let spent = h.spent in omega (arith, total, spent)),
+    )
+
+    -- no entry is left, or the current one ends the search
+    its-cost : (found : Option (State P)) → Runs offset (compiled tree) text b (Ok found) new → TakesExactCost Spends old.left new.left (failures_of new.memo)
+    its-cost None h = finished h (subst (HasFinished (compiled tree) text) (sym (row-none offset (compiled tree) text h.row h.is)) no_entry)
+    its-cost (Some end) h = finished h.stands (is_end h.from (state_of offset end) h.stands.row h.ends)
+
+    -- it was given up before an event that costs more than was left
+    its-cost-more : IsOver offset (compiled tree) text b new → CostsMoreThanLeft Spends old.left
+    its-cost-more h =
+        let s = h.stands in
+        let x = h.short in ∣ (
+          s.work + x.cost,
+          ∣ events-of s (s.work + x.cost) x.now x.row (then_happens s.work x.cost s.now x.now (h.front ++ s.row) x.row s.costs x.happens) None tt ∣₁,
+          (let total = begun.total in let spent = s.spent in let over = x.over in omega (arith, total, spent, over)),
+        ) ∣₁
+
+  -- It found an end, or none.
+  pub exact-cost : new.left ≤ old.left → (found : Option (State P)) → ByRuns offset can at on old new (Ok found) → TakesExactCost Spends old.left new.left (failures_of new.memo)
+  exact-cost less found runs = (
+    old.left - new.left,
+    ∥∥₁_elim knows ∥∥₁_prop (λ right.
+        let x = first offset can at on old right in
+        let t = its-cost x.begin x.begins found (runs x.begin x.begins) in
+        let is : t.0 ≡ old.left - new.left = let l = t.2 in omega (arith, l) in
+        subst (λ n. Spends n (Some (failures_of new.memo))) is t.1),
+    omega (arith, less),
+  )
+
+  -- It was given up for lack of work.
+  pub more-than-left : (e : AttemptAbortReason) → ByRuns offset can at on old new (Err e) → e ≡ Work → CostsMoreThanLeft Spends old.left
+  more-than-left e runs is = ∥∥₁_elim knows ∥∥₁_prop (λ right.
+      let x = first offset can at on old right in
+      its-cost-more x.begin x.begins (subst (λ e. Runs offset (compiled tree) text x.begin (Err e) new) is (runs x.begin x.begins)))

@@ -4,3 +4,4 @@ pub mod SearchStateAsMemoSearchEntries
 pub mod WorkOfCharLoopsAndAttempts
 pub mod BudgetSpending
 pub mod WorkOfSuccessiveAttempts
+pub mod CostsOfAttempts

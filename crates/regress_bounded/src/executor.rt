@@ -14,6 +14,7 @@ ghost use Rattle.regress_bounded.specs.ProgramWorkBoundForAllMatches.{YieldsMatc
 ghost use Rattle.regress_bounded.specs.SearchStateAsMemoSearchEntries.{AttemptStartMemoBudgetAndResult, AttemptBeginsWithMemoAndBudget, IsMemoRightForRegex, Stands};
 ghost use Rattle.regress_bounded.specs.SearchStateAsMemoSearchEntries.{IsStanding, Runs, front_of};
 ghost use Rattle.regress_bounded.specs.WorkOfSuccessiveAttempts.{HasWalked};
+ghost use Rattle.regress_bounded.specs.CostsOfAttempts.{AttemptCosts, failures_of};
 
 use crate::memo_and_work_budget::{AttemptAbortReason, MemoAndWorkBudget};
 use crate::stack_of_pending_threads_and_records::StackEntry;
@@ -32,8 +33,9 @@ use regress_program::insn::{CompiledRegex, CompiledRegexFor16BitUnits, Program};
 /// Searches a text with a program that has a bound, in a limited amount of work for all matches
 /// together.
 ///
-/// A unit of work is a step of a thread, a backtrack to a pending entry, a character that a char
-/// loop tests, or a record of a failure. Copying states and passing over positions is not counted.
+/// A unit of work is a step of a thread, a backtrack to a pending entry, a thread that is dropped
+/// because it is known to fail, a character that a char loop tests, or a record of a failure that is
+/// reached (`CostsOfSearchEvents`). Copying states and passing over positions is not counted.
 ///
 /// Only a `WorkMatches` holds such an executor, and it reports an exhausted budget as `WorkLimit`.
 /// No function returns the executor itself, because a `SearchError` cannot report this.
@@ -137,6 +139,12 @@ impl<'r, Input: InputIndexer> SingleAttemptExecutor for BoundedExecutor<'r, Inpu
     ghost out_of_work = { λ e. e.out };
 
     ghost left = { λ e. e.course.left };
+
+    ghost counts_work = { true };
+
+    ghost failures = { λ e. failures_of e.course.memo };
+
+    ghost attempt_costs = { AttemptCosts };
 
     fn program(&self) -> &Program {
         self.searched.program

@@ -1,4 +1,4 @@
-//! Which patterns have programs that are tried at the left end alone.
+//! Patterns whose programs are tried at the left end only.
 
 use crate::rows::{Row, compare};
 use regex_parser::parse::try_parse;
@@ -18,7 +18,7 @@ pub const ANCHORED: &str = "\
 (?:^a)+~~false
 (^a)b~~true";
 
-// Returns whether the programs of a tree for bytes and for 16-bit units are anchored, or that only one is.
+// Returns whether the programs of a tree for bytes and for 16-bit units are anchored, or that only one of them is.
 fn anchored(alloc: Global, tree: &Regex) -> &'static str {
     let (Ok(bytes), Ok(units)) = (emit(alloc, tree), emit_units(alloc, tree)) else {
         return "no program";

@@ -1,4 +1,4 @@
-//! Searches by an executor that is named.
+//! Searches by a named executor.
 
 ghost use Rattle.std.specs.Prelude.{IsAscii};
 

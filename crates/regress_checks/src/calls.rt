@@ -1,6 +1,6 @@
-//! What rows ask of a search.
+//! The call of a search that a row names.
 
-// Which matches are wanted.
+// The call of a search.
 #[derive(Clone, Copy)]
 pub enum Asked {
     First,
@@ -10,7 +10,8 @@ pub enum Asked {
 }
 
 impl Asked {
-    // `first`, `all`, the offset from which on all are wanted, or `at` and the offset at which one is.
+    // Reads `first`, `all`, the offset from which all matches are searched for, or `at` and the offset of one
+    // match.
     pub fn of(call: &str) -> Asked {
         if let Some(offset) = call.strip_prefix("at ") {
             return Asked::At(offset.parse::<usize>().unwrap_or(0));

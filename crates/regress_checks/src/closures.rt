@@ -1,4 +1,4 @@
-//! Texts with what closures answer in place of matches.
+//! Replacements by closures.
 
 use crate::patterns::{refusal, regex_of};
 use crate::rows::{Row, compare};
@@ -6,9 +6,9 @@ use regress_match::{Match, Regex, ReplaceError};
 use std::alloc::{AllocError, Global};
 use std::cell::Cell;
 
-// Rows of five fields: a pattern, a text, which matches are replaced, what the closure answers, and how often it is called
-// and the text that is made. The closure answers for the number that is matched: `twice`, `tenfold` in brackets, or `x`
-// `below ten` while any other one is refused. `which call` it is, in order, it answers for any number.
+// Rows of five fields: a pattern, a text, which matches are replaced, the kind of closure, and the number of its
+// calls with the new text. The closure returns for a matched number: `twice` the number; `tenfold` the number in
+// brackets; with `below ten`, `x` for those and an error for others; with `which call`, the number of the call.
 pub const CLOSURES: &str = r#"\d+~Price: $123~first~twice~1 Price: $246
 \d+~1, or 4~first~twice~1 2, or 4
 \d+~none~first~twice~0 none
@@ -25,7 +25,7 @@ pub const CLOSURES: &str = r#"\d+~Price: $123~first~twice~1 Price: $246
 \d+~12, 13~all~below ten~1 refused 12
 "#;
 
-// The number that is matched in a text; 0 where none is.
+// Returns the number that a text is; 0 if it is none.
 fn number_of(text: &str, found: &Match) -> u32 {
     let (start, end) = (found.start(), found.end());
     if start <= end && text.is_char_boundary(start) && text.is_char_boundary(end) {
@@ -35,7 +35,7 @@ fn number_of(text: &str, found: &Match) -> u32 {
     }
 }
 
-// What the closure answers for a number, at this call.
+// Returns what the closure returns for a number at this call.
 fn answer_to(alloc: Global, call: u32, number: u32, answers: &str) -> Result<String, u32> {
     let answer = match answers {
         "twice" => format!(in alloc; "{}", number.wrapping_mul(2)),
@@ -47,7 +47,7 @@ fn answer_to(alloc: Global, call: u32, number: u32, answers: &str) -> Result<Str
     answer.map_err(|_| number)
 }
 
-// What replacing the first match makes, or each one if it is `all`, and how often it called the closure.
+// Returns the result of replacing the first match, or each one for `all`, and the number of calls of the closure.
 fn replaced(
     alloc: Global,
     re: &Regex,
@@ -80,7 +80,7 @@ fn write_made(
     }
 }
 
-// Writes what replacing makes by a pattern that is optimized, or by one that is not.
+// Writes the result for an optimized pattern, or for one that is not optimized.
 fn write_replaced(
     alloc: Global,
     line: &mut String,

@@ -1,12 +1,13 @@
-//! Wide and deep patterns are searched, on texts with a match and without one, or refused.
+//! Searches for wide and deep patterns in texts with and without a match.
 
 use crate::rows::{Row, compare};
 use regress_match::Regex;
 use std::alloc::{AllocError, Global};
 
-// Rows of four fields: a count, so many openings and as many closings round what is inside, a text, and whether there is a
-// match, or why the pattern is refused. A loop over one character counts as a loop where it is not optimized, as in the
-// program for 16-bit units. Two rows have more ways through than anybody could walk, each of them.
+// Rows of four fields: a count, a pattern in which the part before the first `…` and the part after the last are
+// repeated as often, a text, and whether there is a match, or the error of the pattern. A loop over one character
+// counts as a loop if it is not optimized, as in the program for 16-bit units. A search of the last two rows that
+// tried all paths would not end.
 pub const NESTS: &str = "\
 100000~a|…b…~xb~found
 100000~a|…b…~xc~none
@@ -29,12 +30,12 @@ pub const NESTS: &str = "\
 5000~(?<!…a…)~xa~found
 5000~(?<!…a…)~xb~none
 65535~a*……~xa~found
-65536~a*……~xa~too many loops
-65536~(……~xa~too many groups
+65536~a*……~xa~too many loops (at most 65535)
+65536~(……~xa~too many groups (at most 65535)
 40~(?:\\b|^|\\B)…a…~a~found
 40~(?:a|b|\\b)…c…~abc~found";
 
-// Adds a piece of a pattern so many times.
+// Appends a piece of a pattern `count` times.
 fn add(pattern: &mut String, piece: &str, count: usize) -> Result<(), AllocError> {
     for _ in 0..count {
         pattern.push_str(piece)?;
@@ -42,7 +43,7 @@ fn add(pattern: &mut String, piece: &str, count: usize) -> Result<(), AllocError
     Ok(())
 }
 
-// The pattern of a nest, which has `…` before and behind what is inside.
+// Returns the pattern of a row.
 fn pattern_of(alloc: Global, nest: &str, count: usize) -> Result<String, AllocError> {
     let mut pattern = String::new(alloc);
     let (opening, rest) = nest.split_once('…').unwrap_or((nest, ""));
@@ -53,7 +54,7 @@ fn pattern_of(alloc: Global, nest: &str, count: usize) -> Result<String, AllocEr
     Ok(pattern)
 }
 
-// What comes of a search.
+// Returns the result of a search.
 fn found(alloc: Global, re: &Regex, text: &str) -> Result<String, AllocError> {
     let found = match re.find(text) {
         Ok(Some(_)) => "found",
@@ -63,7 +64,7 @@ fn found(alloc: Global, re: &Regex, text: &str) -> Result<String, AllocError> {
     String::from_str(alloc, found)
 }
 
-// What comes of a search, or of the pattern where it is refused.
+// Returns the result of a search, or the error of the pattern.
 fn outcome(alloc: Global, pattern: &str, text: &str) -> Result<String, AllocError> {
     match Regex::new(alloc, pattern) {
         Ok(re) => found(alloc, &re, text),

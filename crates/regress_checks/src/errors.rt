@@ -1,4 +1,4 @@
-//! The texts of errors, and the diagnoses of patterns that are refused.
+//! The texts of errors, and the diagnoses of malformed patterns.
 
 use regress_match::emit::EmitError;
 use regress_match::{Error, Flags, Regex, ReplaceError, SearchError, Syntax};
@@ -10,11 +10,14 @@ const EMIT_ERRORS: [(EmitError, &str); 6] = [
     (EmitError::NotWellFormed, "the tree is not well formed"),
     (
         EmitError::BytesInUnits,
-        "bytes stand in a tree for 16-bit units",
+        "a tree for 16-bit units contains bytes",
     ),
-    (EmitError::TooManyGroups, "too many groups"),
-    (EmitError::TooManyLoops, "too many loops"),
-    (EmitError::TooManyInstructions, "too many instructions"),
+    (EmitError::TooManyGroups, "too many groups (at most 65535)"),
+    (EmitError::TooManyLoops, "too many loops (at most 65535)"),
+    (
+        EmitError::TooManyInstructions,
+        "too many instructions (at most 4294967295)",
+    ),
     (EmitError::Memory, "out of memory"),
 ];
 
@@ -71,7 +74,7 @@ fn write_told(text: &mut String, pattern: &str, flags: &str) -> Result<(), Alloc
     }
 }
 
-// A pattern, its flags, behind a `+` if it is one of the whole language, and the text of its diagnosis.
+// Patterns, flags (after `+` for the whole language), and the texts of their diagnoses.
 const TOLD: [(&str, &str, &str); 8] = [
     (
         r"a\p{x}",
@@ -92,7 +95,7 @@ const TOLD: [(&str, &str, &str); 8] = [
     (
         r"\p{L}",
         "u",
-        "property escapes are not supported at 0, byte 0\n\\p{L}\n^ property escapes are not supported",
+        "property escapes are supported only in EcmaScript2018 at 0, byte 0\n\\p{L}\n^ property escapes are supported only in EcmaScript2018",
     ),
     (
         "(?<n>a)|(?<n>b)",

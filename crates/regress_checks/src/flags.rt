@@ -4,9 +4,9 @@ use crate::rows::{Row, compare};
 use regress_match::{Error, Flags, Regex, escape};
 use std::alloc::{AllocError, Global};
 
-// Rows of three fields: what is asked, of what, and the answer. Flags are made of `letters`, of the code points of letters, or
-// of letters and then of `no_opt`; they are told as text and, one by one, by the names of those that are set. A text is
-// escaped, and `itself` is what its escaped form finds in it.
+// Rows of three fields: a kind, its argument, and the result. Flags are made of `letters`, of the code `points` of
+// letters, or of letters with `no_opt` set; the result is their text and the names of the flags that are set.
+// `escape` returns an escaped text, and `itself` the match that the escaped text finds in the text.
 pub const FLAGS: &str = r"letters~gimuy~miu icase multiline unicode
 letters~vusim~misuv icase multiline dot_all unicode unicode_sets
 letters~~
@@ -53,7 +53,7 @@ fn write_flags(line: &mut String, flags: &Flags) -> Result<(), AllocError> {
     Ok(())
 }
 
-// The first match in a text of the pattern that it is when it is escaped.
+// Returns the first match of an escaped text in the text.
 fn write_itself(alloc: Global, line: &mut String, text: &str) -> Result<(), Error> {
     let re = Regex::from_str(alloc, escape(alloc, text)?.as_str())?;
     match re.find(text) {

@@ -1,4 +1,4 @@
-//! What a match answers: by number, in turn and by name, also once it was changed or cloned.
+//! The calls of a match: groups by number, in order and by name, also after it was changed or cloned.
 
 ghost use Rattle.std.specs.Prelude.{IsAscii};
 
@@ -8,10 +8,10 @@ use regress_match::{Match, Regex, SearchError, is_unit_boundary};
 use std::alloc::{AllocError, Global};
 use std::ops::Range;
 
-// Rows of five fields: a pattern, the letters of its flags, or `tree` where it is a tree in words, a text, what is done to
-// the first match in it, by each call that can read it, and what that answers then. These are the groups of the first four numbers, what five calls of
-// `groups` yield, and what four of `named_groups` do, with the number of those that are left before each, its range, and
-// the text there.
+// Rows of five fields: a pattern, the letters of its flags, or `tree` if it is a tree in words, a text, a change of
+// the first match, and the results of its calls afterwards, for each search call that can read the text. The results
+// are the groups 0 to 3; the items of five calls of `groups`, each after the number of items left; those of four
+// calls of `named_groups`; and the range with the text there.
 pub const MATCHES: &str = "\
 (a)(b)?~~a~nothing~ 0..1 0..1 - - | 3 0..1 2 0..1 1 - 0 end 0 end | 0 end 0 end 0 end 0 end | 0..1 a
 (a)(b)?~~a~push~ 0..1 0..1 - - | 4 0..1 3 0..1 2 - 1 - 0 end | 0 end 0 end 0 end 0 end | 0..1 a
@@ -58,7 +58,7 @@ fn write_in_turn(line: &mut String, found: &Match) -> Result<(), AllocError> {
     Ok(())
 }
 
-// By a clone that is taken before each call. A name that is asked for stands for the same range.
+// Calls a clone that is made before each call. A name stands for the same range.
 fn write_names(line: &mut String, found: &Match) -> Result<(), AllocError> {
     let mut names = found.named_groups();
     for _ in 0..4 {
@@ -88,7 +88,7 @@ fn write_named(
     }
 }
 
-// The text of its range, `-` where that is none of the text.
+// Writes the text of the range, or `-` if the text has no such range.
 fn write_text(line: &mut String, found: &Match, text: &str) -> Result<(), AllocError> {
     write_group(line, &Some(found.range()))?;
     let (start, end) = (found.start(), found.end());
@@ -99,7 +99,7 @@ fn write_text(line: &mut String, found: &Match, text: &str) -> Result<(), AllocE
     }
 }
 
-// A match of two groups, of which the first one has a name and matched.
+// Returns a match of two groups, of which the first has a name and a range.
 fn match_of_parts(alloc: Global) -> Result<Match, AllocError> {
     let captures = vec![in alloc; Some(1..2), None]?;
     let names = vec![in alloc; String::from_str(alloc, "year")?, String::new(alloc)]?;
@@ -128,7 +128,7 @@ fn write_answers(line: &mut String, found: &Match, text: &str) -> Result<(), All
     write_text(line, found, text)
 }
 
-// How the first match is looked for.
+// The call that finds the first match.
 #[derive(Clone, Copy)]
 enum Call {
     Utf8,
@@ -151,7 +151,7 @@ fn first_in_ucs2(re: &Regex, units: &[u16]) -> Result<Option<Match>, SearchError
     re.find_from_ucs2(units, 0)?.next().transpose()
 }
 
-// The first match in a text of ASCII, whose offsets are the same in units.
+// Returns the first match in an ASCII text, whose offsets are the same in units.
 fn first_in_ascii(
     alloc: Global,
     re: &Regex,
@@ -169,7 +169,7 @@ fn first_in_ascii(
     }
 }
 
-// Writes what the first match in a text answers once it was changed.
+// Writes the results of the first match after it was changed.
 fn write_found(
     alloc: Global,
     line: &mut String,

@@ -1,5 +1,5 @@
-//! Tests of searches, by every call and executor, of what is made of matches, and of the program. It has no code that
-//! others use.
+//! Tests of searches by every call and executor, of matches, of replacements, and of the program. The crate has no
+//! code that others use.
 #![tactic(auto)]
 
 #[cfg(test)]
@@ -17,31 +17,31 @@ mod deep;
 #[cfg(test)]
 mod errors;
 #[cfg(test)]
-mod face;
-#[cfg(test)]
 mod flags;
 #[cfg(test)]
 mod groups;
 #[cfg(test)]
-mod limits;
-#[cfg(test)]
 mod lines;
+#[cfg(test)]
+mod memoization;
+#[cfg(test)]
+mod padded_texts;
 #[cfg(test)]
 mod patterns;
 #[cfg(test)]
-mod placed;
-#[cfg(test)]
 mod profile;
-#[cfg(test)]
-mod remembered;
 #[cfg(test)]
 mod replace;
 #[cfg(test)]
 mod rows;
 #[cfg(test)]
+mod search_methods;
+#[cfg(test)]
 mod searches;
 #[cfg(test)]
 mod starts;
+#[cfg(test)]
+mod step_limits;
 #[cfg(test)]
 mod table;
 #[cfg(test)]
@@ -51,6 +51,4 @@ mod tool;
 #[cfg(test)]
 mod units;
 #[cfg(test)]
-mod ways;
-#[cfg(test)]
-mod worked;
+mod work_limits;

@@ -1,5 +1,5 @@
-//! Matches as they are written in rows: the range, and behind it those of the groups, `-` for a group that did not
-//! match; `; ` stands between matches.
+//! How rows write matches: the range and those of the groups, with `-` for a group that did not match; `; ` separates
+//! matches.
 
 use regress_input::indexing::{AsciiInput, Utf8Input};
 use regress_match::api;
@@ -26,7 +26,7 @@ fn write_match(line: &mut String, found: &Match) -> Result<(), AllocError> {
     Ok(())
 }
 
-// Writes a match behind others.
+// Appends a match.
 pub fn write_found(line: &mut String, found: &Match) -> Result<(), AllocError> {
     if !line.is_empty() {
         line.push_str("; ")?;
@@ -38,7 +38,7 @@ fn write_item(line: &mut String, item: Result<Match, SearchError>) -> Result<(),
     Ok(write_found(line, &item?)?)
 }
 
-// Writes the first match that is to come, or else all. Behind their end there is none for good.
+// Writes the next match, or all that are left. After the end the iterator returns `None` for good.
 fn write_items<P: MatchProducer + Drop>(
     line: &mut String,
     matches: &mut Matches<P>,
@@ -56,7 +56,7 @@ fn write_items<P: MatchProducer + Drop>(
     }
 }
 
-// Each input is named once, since a call of a generic function at it is costly to prove.
+// Each input is named once, since a call of a generic function at it is slow to prove.
 
 pub fn write_utf8<'r, 't>(
     line: &mut String,
@@ -106,7 +106,7 @@ pub fn write_copied_of_ascii<'r, 't>(
     write_items(line, matches, first)
 }
 
-// Writes what comes before the end or a limit, and the limit. Behind it there is none for good.
+// Writes the matches before the end or the limit, and the limit. After it the iterator returns `None` for good.
 pub fn write_limited<'r, 't>(
     line: &mut String,
     matches: &mut api::LimitedMatches<'r, 't>,

@@ -1,4 +1,4 @@
-//! Patterns of rows, and those of trees made by hand, of which some are no pattern's.
+//! The patterns of rows: texts, and trees in words that no text may have.
 
 use regress_match::backends::{emit, emit_units, optimize};
 use regress_match::{Error, Flags, Regex, Syntax};
@@ -7,8 +7,8 @@ use regress_program::insn::CompiledRegexFor16BitUnits;
 use regress_trees::tree_of;
 use std::alloc::Global;
 
-// The program for 16-bit units of a tree in words. A tree with bytes has none, and is not to be searched for in them; it
-// gets that of the tree that has an empty match everywhere.
+// Returns the program of a tree in words for 16-bit units. A tree with bytes has none and gets that of the empty
+// pattern; rows do not search for it in units.
 fn units_of(alloc: Global, words: &str) -> Result<CompiledRegexFor16BitUnits, Error> {
     let tree = tree_of(alloc, words).ok_or(Error::Memory)?;
     match emit_units(alloc, &tree) {
@@ -20,7 +20,7 @@ fn units_of(alloc: Global, words: &str) -> Result<CompiledRegexFor16BitUnits, Er
     }
 }
 
-// The pattern of two trees in words, of which the second one is that for 16-bit units.
+// Returns the pattern of two trees in words, the second of which is for 16-bit units.
 fn regex_of_trees(alloc: Global, bytes: &str, units: &str, no_opt: bool) -> Result<Regex, Error> {
     let units = units_of(alloc, units)?;
     let mut tree = tree_of(alloc, bytes).ok_or(Error::Memory)?;
@@ -30,7 +30,7 @@ fn regex_of_trees(alloc: Global, bytes: &str, units: &str, no_opt: bool) -> Resu
     Ok(Regex::from_programs(emit(alloc, &tree)?, units))
 }
 
-// A clone of the pattern of two trees, with `/` between their words.
+// Returns a clone of the pattern of two trees, whose words `/` separates.
 fn regex_of_pair(alloc: Global, words: &str, no_opt: bool) -> Result<Regex, Error> {
     let (bytes, units) = words.split_once('/').unwrap_or((words, words));
     Ok(regex_of_trees(alloc, bytes, units, no_opt)?.clone()?)
@@ -45,7 +45,7 @@ fn regex_of_points(alloc: Global, pattern: &str, no_opt: bool) -> Result<Regex, 
     Regex::from_unicode(alloc, &points, flags)
 }
 
-// A pattern with the flags of these letters. Behind a `+` it is one of the whole language.
+// Compiles a pattern with the flags of these letters. After a `+` it is one of the whole language.
 fn regex_of_letters(
     alloc: Global,
     pattern: &str,
@@ -63,8 +63,8 @@ fn regex_of_letters(
     }
 }
 
-// A pattern with the flags of these letters. In place of letters stand the constructors that take none, `new` and
-// `from_str`; `points` for that of code points; `tree`, where the pattern is a tree in words, and `pair`, where it is two.
+// Compiles a pattern with the flags of these letters. Other words in place of letters are: `new` and `from_str`, the
+// constructors without flags; `points`, that of code points; `tree` for a tree in words; `pair` for two.
 pub fn regex_of(alloc: Global, pattern: &str, flags: &str, no_opt: bool) -> Result<Regex, Error> {
     match flags {
         "new" => Regex::new(alloc, pattern),
@@ -76,7 +76,7 @@ pub fn regex_of(alloc: Global, pattern: &str, flags: &str, no_opt: bool) -> Resu
     }
 }
 
-// Why there is no pattern.
+// Returns why there is no pattern.
 pub fn refusal(error: &Error) -> &'static str {
     match error {
         Error::Parse(_) => "no pattern",

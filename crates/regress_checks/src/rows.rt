@@ -1,4 +1,4 @@
-//! Rows of tables, with `~` between their fields. The last field is what is to be answered to the others.
+//! Rows of tables. Their fields are separated by `~`, and the last field is the expected answer.
 
 use std::alloc::AllocError;
 
@@ -13,16 +13,17 @@ pub fn row_of(line: &str) -> Row<'_> {
     Row { asked, wanted }
 }
 
-// Notes an answer that is not the one that is wanted, and in which way it came.
+// Adds a line to `differing` if an answer is not the expected one. The line has the row, the method of the search,
+// and the answer.
 pub fn compare(
     differing: &mut String,
     row: Row<'_>,
     found: &str,
-    way: &str,
+    method: &str,
 ) -> Result<(), AllocError> {
     if found == row.wanted {
         return Ok(());
     }
     let Row { asked, wanted } = row;
-    write!(differing, "{found} {way} at {asked}~{wanted}\n")
+    write!(differing, "{asked}~{wanted}: {found} {method}\n")
 }

@@ -1,13 +1,13 @@
-//! Patterns, texts and what the searches find.
+//! Searches in each encoding, by each call and executor.
 
 use crate::calls::Asked;
 use crate::patterns::{refusal, regex_of};
 use crate::rows::{Row, compare};
-use crate::ways::{WAYS, Way, write_found};
+use crate::search_methods::{ALL_METHODS, SearchMethod, write_found};
 use regress_match::{Regex, SearchError};
 use std::alloc::{AllocError, Global};
 
-// What is searched for, and how.
+// A pattern, a text, and the call that searches.
 #[derive(Clone, Copy)]
 pub struct Search<'a> {
     pub pattern: &'a str,
@@ -16,7 +16,7 @@ pub struct Search<'a> {
     pub asked: Asked,
 }
 
-// Adds what is written to a text, with its line feeds.
+// Appends a text of a row, in which `␤` stands for a line feed.
 pub fn push_text(text: &mut String, written: &str) -> Result<(), AllocError> {
     for c in written.chars() {
         text.push(if c == '␤' { '\n' } else { c })?;
@@ -24,33 +24,36 @@ pub fn push_text(text: &mut String, written: &str) -> Result<(), AllocError> {
     Ok(())
 }
 
-// Whether a row is searched in this way. Only what is ASCII is read as such; and it is read in 16-bit units too, since its
-// offsets are the same there. Trees with bytes have no program for units, and of a pair of trees the second one has it. At one
-// place search the calls of each encoding.
-fn is_for(search: &Search<'_>, way: Way) -> bool {
+// Returns whether a row is searched by a method. ASCII texts are searched as ASCII and in 16-bit units too, since
+// offsets are the same there. Trees with bytes have no program for units, unless the second tree of a pair gives
+// it. A search at one offset is a call of each encoding, and of no named executor.
+fn is_for(search: &Search<'_>, method: SearchMethod) -> bool {
     let is_of_bytes = search.flags == "pair"
         || search.flags == "tree" && search.pattern.contains("byte");
-    match way {
-        Way::Utf8 => true,
-        Way::Ascii => search.text.is_ascii(),
-        Way::Named | Way::Limited | Way::Copying => !search.asked.is_at(),
-        Way::AsciiNamed | Way::AsciiCopying => search.text.is_ascii() && !search.asked.is_at(),
-        Way::Utf16 | Way::Ucs2 => search.text.is_ascii() && !is_of_bytes,
+    match method {
+        SearchMethod::Utf8 => true,
+        SearchMethod::Ascii => search.text.is_ascii(),
+        SearchMethod::Named | SearchMethod::Limited | SearchMethod::Copying => !search
+            .asked
+            .is_at(),
+        SearchMethod::AsciiNamed | SearchMethod::AsciiCopying => search.text.is_ascii()
+            && !search.asked.is_at(),
+        SearchMethod::Utf16 | SearchMethod::Ucs2 => search.text.is_ascii() && !is_of_bytes,
     }
 }
 
-pub fn check_ways(
+pub fn check_methods(
     alloc: Global,
     differing: &mut String,
     row: Row<'_>,
     re: &Regex,
     search: &Search<'_>,
-    ways: &[(Way, &str)],
+    methods: &[(SearchMethod, &str)],
 ) -> Result<(), SearchError> {
-    for (way, name) in ways {
-        if is_for(search, *way) {
+    for (method, name) in methods {
+        if is_for(search, *method) {
             let mut found = String::new(alloc);
-            write_found(alloc, &mut found, re, search.text, search.asked, *way)?;
+            write_found(alloc, &mut found, re, search.text, search.asked, *method)?;
             compare(differing, row, &found, name)?;
         }
     }
@@ -65,7 +68,7 @@ fn check_pattern(
     no_opt: bool,
 ) -> Result<(), SearchError> {
     match regex_of(alloc, search.pattern, search.flags, no_opt) {
-        Ok(re) => check_ways(alloc, differing, row, &re, search, &WAYS),
+        Ok(re) => check_methods(alloc, differing, row, &re, search, &ALL_METHODS),
         Err(error) => Ok(compare(differing, row, refusal(&error), "")?),
     }
 }

@@ -1,8 +1,8 @@
-//! Where searches may start.
+//! Offsets at which searches may start.
 
 ghost use Rattle.std.specs.Prelude.{◌<◌, ◌⊎◌, IsCharBoundary, IsTrue, length};
 
-// Whether an offset is a boundary of the text's characters, or past the end.
+// Returns whether an offset is a character boundary of the text, or past the end.
 pub fn is_start(text: &str, offset: usize) -> bool
     ensures { IsTrue result → IsCharBoundary text.now offset ⊎ (length text.now < offset) }
 {

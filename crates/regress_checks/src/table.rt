@@ -1,8 +1,8 @@
 //! The table of searches.
 
-// Rows of five fields: a pattern, the letters of its flags, a text in which `␤` stands for a line feed, a call, and what the
-// call finds. The calls are `all`, `first`, an offset for all matches from there, or `at` and an offset for the match there. In place of flags stand those of
-// `regex_of`, as `tree` where the first field is a tree in words, which may be no pattern's.
+// Rows of five fields: a pattern, the letters of its flags, a text in which `␤` stands for a line feed, a call, and
+// its result. The calls are `all`, `first`, an offset for all matches from there, or `at` and an offset for the match
+// there. `regex_of` lists the words that may stand in place of letters, such as `tree`.
 pub const SEARCHES: &str = r#"a|ab~~abc~all~0..1
 ((a)|(ab))((c)|(bc))~~abc~all~0..3 0..1 0..1 - 1..3 - 1..3
 (?<=x)y~~yxy~all~2..3
@@ -13,6 +13,8 @@ pub const SEARCHES: &str = r#"a|ab~~abc~all~0..1
 (?<\u0061>a)\k<a>~+~aa~all~0..2 0..1
 \k<n>{~+~k<n>{~all~0..5
 [^é]~+i~Éa~all~2..3
+\P{Ll}~+iu~a~all~0..1
+[\u0080-\uffffA-Z]~+i~a~all~0..1
 ß~+i~ẞ~all~
 ß~+iu~ẞ~all~0..3
 (ß)\1~+iu~ßẞ~all~0..5 0..2
@@ -156,6 +158,16 @@ a*a~~aa~all~0..2
 [a-c](?=[x-z])~~axbyc~all~0..1; 2..3
 [a-c](?![x-z])~~axbyc~all~4..5
 \w+(?=,|$)~~ab, cd ef~all~0..2; 7..9
+\w+@~~a b c@ d e@ f~all~4..6; 9..11
+\w+(?=,)~~aa bb, cc dd, e~all~3..5; 10..12
+\w+@~~@ a @ b@~all~6..8
+\w+@~~a b c d~all~
+(?<=@\w)\w+;~~ab; @cd; ef; @gh;~all~6..8; 15..17
+(?:a|b@)+;~~a b a@ b@a; ab@;~all~7..11; 12..16
+\b(?:\d{1,3}\.){2}\d~~1 2 33.4 5.66.7 8~all~9..15
+(?!b)\w+@~~a b b@ ab@~all~7..10
+[^,]+,x~~a,b c,x d~all~2..7
+[à-ü]+@~~é é éü@ é@ ü~all~6..11; 12..15
 (?:(?!,)[^])+~~ab,é,,c~all~0..2; 3..5; 7..8
 (?=(?!a)[ab])\w~~abcb~all~1..2; 3..4
 (?!(?!a)[ab])\w~~abcb~all~0..1; 2..3

@@ -1,4 +1,4 @@
-//! What the program prints and answers.
+//! Runs of the program.
 
 use crate::rows::{Row, compare};
 use regress_match::program::run;
@@ -6,8 +6,8 @@ use std::alloc::{AllocError, Global};
 use std::io;
 use std::io::Write;
 
-// How many writes of output and of errors are good, the words that the program is given, each a field, and what it then
-// answers, prints and tells. `-` stands for any number of writes, `␀` for a word that is not UTF-8.
+// Rows: the number of writes to the output and to the errors that succeed, the arguments, each a field, and the exit
+// status with the texts written. `-` stands for any number of writes, `␀` for an argument that is not UTF-8.
 pub const RUNS: &str = r#"-- a|ab~~abc~0 "0..1\n" ""
 -- ab|a~~aab~0 "0..1\n1..3\n" ""
 -- ~~ab~0 "0..0\n1..1\n2..2\n" ""
@@ -32,7 +32,7 @@ pub const RUNS: &str = r#"-- a|ab~~abc~0 "0..1\n" ""
 -0 (~~~2 "" "cut"
 "#;
 
-// Takes so many writes, fails the next one, and counts all that are tried.
+// A writer whose first writes succeed. It counts all writes.
 #[derive(Drop)]
 struct Taker {
     taken: Vec<u8>,
@@ -52,7 +52,7 @@ impl Taker {
         }
     }
 
-    // The text, which a failed write cuts off.
+    // Returns the text, which a failed write cuts off.
     fn text(&self) -> &str {
         if self.tried <= self.good {
             return str::from_utf8(&self.taken).unwrap_or("no UTF-8");
@@ -80,7 +80,7 @@ impl Write for Taker {
     }
 }
 
-// The words as the program is given them.
+// Returns the arguments as the program takes them.
 fn words_of(alloc: Global, texts: &str) -> Result<Vec<Option<String>>, AllocError> {
     let mut words = Vec::new(alloc);
     for text in texts.split('~') {
@@ -94,7 +94,7 @@ fn words_of(alloc: Global, texts: &str) -> Result<Vec<Option<String>>, AllocErro
     Ok(words)
 }
 
-// What the program answers, prints and tells.
+// Returns the exit status and the texts that the program writes.
 fn ran(alloc: Global, goods: &str, words: &str) -> Result<String, AllocError> {
     let [good_out, good_err] = *goods.as_bytes() else {
         return String::from_str(alloc, "not two numbers");

@@ -1,4 +1,4 @@
-//! Searches over 16-bit units.
+//! Searches in texts of 16-bit units.
 
 use crate::calls::Asked;
 use crate::lines::{write_one, write_ucs2, write_utf16};
@@ -7,9 +7,9 @@ use crate::rows::{Row, compare};
 use regress_match::{Regex, SearchError, is_unit_boundary};
 use std::alloc::{AllocError, Global};
 
-// Rows of six fields: a pattern, the letters of its flags, or `tree` where the pattern is a tree in words, the units in
-// hexadecimal, their encoding, or `both`, where the search starts, and all matches from there. In `utf16` or `ucs2` alone
-// stand those in which the two differ.
+// Rows of six fields: a pattern, the letters of its flags, or `tree` if it is a tree in words, the units in
+// hexadecimal, their encoding or `both`, a start, and all matches from there. Rows with one encoding are those in
+// which the two differ.
 pub const UNITS: &str = r#".~~61 D83D DE00 61~utf16~0~0..1; 1..3; 3..4
 .~~61 D83D DE00 61~ucs2~0~0..1; 1..2; 2..3; 3..4
 .~~D83D DE00~utf16~0~0..2
@@ -19,6 +19,17 @@ pub const UNITS: &str = r#".~~61 D83D DE00 61~utf16~0~0..1; 1..3; 3..4
 (.)\1~~D83D D83D DE00~ucs2~0~0..2 0..1
 (?<=(.))$~~D83D DE00~utf16~0~2..2 0..2
 (?<=(.))$~~D83D DE00~ucs2~0~2..2 1..2
+k~~D83D DE00 D83D DE00 D83D DE00 D83D DE00 D83D DE00 D83D DE00 D83D DE00 D83D DE00 D83D DE00 D83D DE00 D83D DE00 D83D DE00 D83D DE00 D83D DE00 D83D DE00 D83D DE00 D83D DE00 D83D DE00 D83D DE00 D83D DE00 6B~both~0~40..41
+x~~178 178 178 178 178 178 178 178 178 178 178 178 178 178 178 178 178 178 178 178 178 178 178 178 178 178 178 178 178 178 178 178 178 178 178 178 178 178 178 178 78~both~0~40..41
+^k~m~2019 2019 2019 2019 2019 2019 2019 2019 2019 2019 2019 2019 2019 2019 2019 2019 2019 2019 2019 2019 2019 2019 2019 2019 2019 2019 2019 2019 2019 2019 2019 2019 2019 2019 2019 2019 2019 2019 2019 2019 A 6B~both~0~41..42
+j.*k~~6A 2019 2019 2019 2019 2019 2019 2019 2019 2019 2019 2019 2019 2019 2019 2019 2019 2019 2019 2019 2019 2019 2019 2019 2019 2019 2019 2019 2019 2019 2019 2019 2019 2019 2019 2019 2019 2019 2019 2019 2019 6B~both~0~0..42
+j[^k]*k~~6A D83D DE00 D83D DE00 D83D DE00 D83D DE00 D83D DE00 D83D DE00 D83D DE00 D83D DE00 D83D DE00 D83D DE00 D83D DE00 D83D DE00 D83D DE00 D83D DE00 D83D DE00 D83D DE00 D83D DE00 D83D DE00 D83D DE00 D83D DE00 6B~both~0~0..42
+j[^k]*k~~6A DE00 DE00 DE00 DE00 DE00 DE00 DE00 DE00 DE00 DE00 DE00 DE00 DE00 DE00 DE00 DE00 DE00 DE00 DE00 DE00 DE00 DE00 DE00 DE00 DE00 DE00 DE00 DE00 DE00 DE00 DE00 DE00 DE00 DE00 DE00 DE00 DE00 DE00 DE00 DE00 6B~both~0~0..42
+j[^é]*k~~6A 61 61 61 61 61 61 61 61 61 61 61 61 61 61 61 61 61 61 61 61 61 61 61 61 61 61 61 61 61 61 61 61 61 61 61 61 61 61 61 61 6B~both~0~0..42
+Qab~~7A 7A 7A 7A 7A 7A 7A 7A 7A 7A 7A 7A 7A 7A 7A 7A 7A 7A 7A 7A 7A 7A 7A 7A 7A 7A 7A 7A 7A 7A 7A 7A 51 61 62 7A 7A 7A 7A 7A 7A 7A 7A 7A 7A 7A 7A 7A 7A 7A 7A 7A 7A 7A 7A 7A 7A 7A 7A 7A 7A 7A 7A 7A 7A 7A 7A 7A 7A 7A 7A 7A 7A 7A 7A~both~0~32..35
+Qab~~51 51 51 51 51 51 51 51 51 51 51 51 51 51 51 51 51 51 51 51 51 51 51 51 51 51 51 51 51 51 51 51 51 51 51 51 51 51 51 51 51 51 51 51 51 51 51 51 51 51 51 51 51 51 51 51 51 51 51 51 51 51 51 51 51 51 51 51 51 51 61 62~both~0~69..72
+Qab~~7A 7A 7A 7A 7A 7A 7A 7A 7A 7A 7A 7A 7A 7A 7A 7A 7A 7A 7A 7A 7A 7A 7A 7A 7A 7A 7A 7A 7A 7A 7A 7A 51 7A 62 51 7A 62 51 7A 62 51 7A 62 51 7A 62 51 7A 62 51 7A 62 51 7A 62 51 7A 62 51 7A 62 51 7A 62 51 7A 62 51 61 62~both~0~68..71
+Qab~~151 151 151 151 151 151 151 151 151 151 151 151 151 151 151 151 151 151 151 151 151 151 151 151 151 151 151 151 151 151 151 151 151 151 151 151 151 151 151 151 161 161 161 161 161 161 161 161 161 161 161 161 161 161 161 161 161 161 161 161 162 162 162 162 162 162 162 162 162 162 162 162 162 162 162 162 162 162 162 162~both~0~
 [a-z]~~161~both~0~
 .~~D83D DE00~ucs2~1~1..2
 .~~D83D DE00~utf16~1~no start
@@ -72,12 +83,12 @@ $~~DE00~both~at 1~1..1
 a~~61~both~at 18446744073709551615~
 "#;
 
-// Rows of two fields: units in hexadecimal, and of each offset from 0 to 3 whether it is a boundary.
+// Rows of two fields: units in hexadecimal, and for each offset from 0 to 3 whether it is a boundary.
 pub const BOUNDARIES: &str = "\
 D83D DE00~true false true false
 DE00~true true false false";
 
-// Units that are read in an encoding, from where on, and how many matches are wanted.
+// A text of units with its encoding, a start, and the call that searches.
 #[derive(Clone, Copy)]
 struct Search<'a> {
     units: &'a [u16],

@@ -11,3 +11,4 @@ pub mod Budget
 pub mod Walking
 pub mod OnePlace
 pub mod InWork
+pub mod Costing

@@ -6,3 +6,4 @@ pub mod OffsetRangeOfPositions
 pub mod StepBudgetAndContinuationAfterSearch
 pub mod AttemptsAndMatchesWithinWork
 pub mod NewExecutorsAndAsciiTexts
+pub mod CostsOfSearches

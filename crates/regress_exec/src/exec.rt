@@ -1,6 +1,6 @@
 //! Finding matches one after another.
 
-ghost use Rattle.std.specs.Prelude.{◌≡◌, ◌<◌, ◌≤◌, ◌⊎◌, ℕ, Bool, true, false, Option, map, option_map, IfOk, IfErr, OnErr, OnSome, IfNone, if◌then◌else◌, nat_le, not};
+ghost use Rattle.std.specs.Prelude.{◌≡◌, ◌<◌, ◌≤◌, ◌⊎◌, ℕ, ⊤, Bool, true, false, Option, map, option_map, IfOk, IfErr, OnErr, OnSome, IfNone, if◌then◌else◌, nat_le, not};
 ghost use Rattle.std.specs.Prelude.{Some, None, string_bytes};
 ghost use Rattle.std.specs.Iterator.{at_most};
 ghost use Rattle.std.specs.Option.{ForSome};
@@ -10,6 +10,7 @@ ghost use Rattle.regex_pattern_front.specs.AstToSpecTree.{tree_of};
 ghost use Rattle.regress_exec.specs.StepBudgetAndContinuationAfterSearch.{IsNextStartAfterFirstMatch, SpendsNeedOrReachesLimit, step_limit_error_else_memory_error};
 ghost use Rattle.regress_exec.specs.RemainingAnswers.{RemainingView, remaining_answers_from, NextYields, EndsAfterMatchStartingAtTextEnd, items_left};
 ghost use Rattle.regress_exec.specs.AttemptsAndMatchesWithinWork.{CallKeepsWorkEnough, OrderedSearchKeepsWorkEnough, is_work_enough};
+ghost use Rattle.regress_exec.specs.CostsOfSearches.{Failures, IfCounted, SearchCosts, SpendsExactCost};
 
 use regress_input::position::PositionType;
 use regress_program::insn::{CompiledRegex, GroupNames};
@@ -122,6 +123,15 @@ pub trait MatchProducer {
     // the amount of work that may still be done, where work is counted
     ghost left: { Self → ℕ } = { λ _. 0 };
 
+    // whether work is counted
+    ghost counts_work: { Bool } = { false };
+
+    // the failures that are known, on which the costs of attempts depend
+    ghost failures: { Self → Failures } = { λ _ _ _ _. false };
+
+    // what an attempt costs (`CostsOfSearches`), where work is counted
+    ghost attempt_costs: { Tree → Text → Failures → (at cost : ℕ) → Option Failures → Type 0 } = { λ _ _ _ _ _ _. ⊤ };
+
     /// Returns the position of an offset in code units, which is a boundary or past the end.
     /// Returns `None` if it is past the end.
     fn initial_position(&self, offset: usize) -> Option<Self::Position>
@@ -156,6 +166,9 @@ pub trait MatchProducer {
             (ahead self.old) (at pos)
             result (enough self.new) (ahead self.new) (option_map at next_start.new) (out_of_work self.new) }
         ensures left { left self.new ≤ left self.old }
+        ensures cost { IfCounted counts_work (SpendsExactCost (SearchCosts attempt_costs (tree self.old)
+            (text self.old) (failures self.old) (Some (Self.Position.offset pos)))
+            (left self.old) result (out_of_work self.new) (left self.new) (failures self.new)) }
         ensures same { (tree self.new ≡ tree self.old) × (text self.new ≡ text self.old) };
 
     ghost is_text: { (it : Self) → HasRisingPlaceOffsets (text it) };

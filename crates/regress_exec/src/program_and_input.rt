@@ -6,6 +6,7 @@ ghost use Rattle.regex_pattern_front.specs.AstToSpecTree.{tree_of};
 ghost use Rattle.regress_program.specs.{StartPredicatesAndWhenTheyAllocate.{is_anchored_tree}, TextsSearchableByBytePrograms.{IsByteText}};
 ghost use Rattle.regress_machine.specs.TextsForBytePrograms.{tree_contains_byte_nodes};
 ghost use Rattle.regress_exec.specs.AttemptResultsAndStartsToTry.{NextStartSkipsNoMatch, offset_after_failed_attempt};
+ghost use Rattle.regress_exec.specs.CostsOfSearches.{next_attempt_offset};
 
 use regress_input::indexing::{AsciiInput, InputIndexer, Ucs2Input, Utf8Input, Utf16Input};
 use regress_program::insn::{CompiledRegex, CompiledRegexFor16BitUnits, Program};
@@ -41,9 +42,11 @@ impl<'r, Input: InputIndexer> ProgramAndInput<'r, Input> {
     #[inline(always)]
     pub fn position_after_failed_attempt(&self, tried: Input::Position) -> Option<Input::Position>
         requires { IsBoundary (Input.text self.now.input) (Input.Position.offset tried) }
-        ensures { let at = Input.Position.offset in
+        ensures next { let at = Input.Position.offset in
             NextStartSkipsNoMatch (tree_of self.now.program.now)
             (Input.text self.now.input) (at tried + 1) (option_map at result) }
+        ensures each { let at = Input.Position.offset in option_map at result
+            ≡ next_attempt_offset (tree_of self.now.program.now) (Input.text self.now.input) (at tried) }
     {
         position_after_failed(&self.input, self.is_anchored(), tried)
     }

@@ -1,6 +1,6 @@
 //! The search loop over the candidate starts of a text, shared by all executors.
 
-ghost use Rattle.std.specs.Prelude.{◌≡◌, ◌+◌, ◌<◌, ◌≤◌, ◌⊎◌, ℕ, ⊤, Bool, true, false, IfErr, IfOk, IsSome, None, Option, map, option_map, length};
+ghost use Rattle.std.specs.Prelude.{◌≡◌, ◌+◌, ◌<◌, ◌≤◌, ◌⊎◌, ℕ, ⊤, Bool, true, false, IfErr, IfOk, IsSome, None, Some, Option, map, option_map, length};
 ghost use Rattle.regex_meaning.specs.{Tree.{Tree}, Text.{Text}, CodeUnitOffsets.{HasRisingPlaceOffsets, IsBoundary, units}, SearchAnswers.{answer_at}};
 ghost use Rattle.regex_meaning.specs.{Outcomes.{Groups, group_range}, MatchGroupsByNumberAndName.{group_names_by_id}};
 ghost use Rattle.regex_pattern_front.specs.AstToSpecTree.{tree_of};
@@ -12,6 +12,7 @@ ghost use Rattle.regress_exec.specs.OffsetRangeOfPositions.{offset_range_of_posi
 ghost use Rattle.regress_exec.specs.StepBudgetAndContinuationAfterSearch.{SpendsNeedOrReachesLimit, AllocFailureCostsAtLeastOneStep, ResultTellsIfStepLimitReached};
 ghost use Rattle.regress_exec.specs.StepBudgetAndContinuationAfterSearch.{step_limit_error_else_memory_error};
 ghost use Rattle.regress_exec.specs.AttemptsAndMatchesWithinWork.{OrderedAttemptKeepsWorkEnough};
+ghost use Rattle.regress_exec.specs.CostsOfSearches.{Failures, IfCounted, SpendsExactCost, next_attempt_offset};
 
 use crate::exec::{Match, MatchProducer, SearchError};
 use regress_input::indexing::InputIndexer;
@@ -24,10 +25,12 @@ use std::ops::Range;
 /// runs, the text, the steps that it may still take where they are counted, and whether the last
 /// attempt reached the step limit. They also see whether the last attempt had begun, which also
 /// allocates memory, and the groups of the last attempt that found an end. Where work is counted,
-/// they see whether it is enough for attempts in ascending order of offsets, the least offset of
-/// the next such attempt, and whether the last attempt reached the work limit.
+/// they see how much is left, what an attempt costs, whether the work left is enough for attempts in
+/// ascending order of offsets, the least offset of the next such attempt, and whether the last
+/// attempt reached the work limit.
 ///
 /// Where steps are counted, the positions that are tried are those that the start predicate admits.
+/// Where work is counted, each position is tried.
 pub trait SingleAttemptExecutor {
     /// The text that is searched.
     type Input: InputIndexer;
@@ -51,6 +54,15 @@ pub trait SingleAttemptExecutor {
 
     // the amount of work that may still be done, where work is counted
     ghost left: { Self → ℕ } = { λ _. 0 };
+
+    // whether work is counted
+    ghost counts_work: { Bool } = { false };
+
+    // the failures that are known, on which the costs of attempts depend
+    ghost failures: { Self → Failures } = { λ _ _ _ _. false };
+
+    // what an attempt costs (`CostsOfSearches`), where work is counted
+    ghost attempt_costs: { Tree → Text → Failures → (at cost : ℕ) → Option Failures → Type 0 } = { λ _ _ _ _ _ _. ⊤ };
 
     ghost groups: { Self → Groups };
 
@@ -88,6 +100,10 @@ pub trait SingleAttemptExecutor {
             (ahead self.old)
             (at pos) result (enough self.new) (ahead self.new) (out_of_work self.new) }
         ensures left { left self.new ≤ left self.old }
+        ensures within { IfCounted counts_work (IfOk result (λ _. out_of_work self.new ≡ false)) }
+        ensures cost { IfCounted counts_work (SpendsExactCost (attempt_costs (tree self.old) (text self.old)
+            (failures self.old) (Self.Input.Position.offset pos))
+            (left self.old) result (out_of_work self.new) (left self.new) (failures self.new)) }
         ensures same { (tree self.new ≡ tree self.old) × (text self.new ≡ text self.old) };
 
     /// Returns the number of groups of the last attempt that found an end.
@@ -118,7 +134,9 @@ pub trait SingleAttemptExecutor {
         ensures next { let at = Self.Input.Position.offset in
             NextStartSkipsNoMatch (tree self.now) (text self.now) (at pos) (option_map at result) }
         ensures counted { let at = Self.Input.Position.offset in IsSome (budget self.now)
-            → option_map at result ≡ first_filtered_start (tree self.now) (text self.now) (at pos) };
+            → option_map at result ≡ first_filtered_start (tree self.now) (text self.now) (at pos) }
+        ensures at_work { let at = Self.Input.Position.offset in
+            IfCounted counts_work (option_map at result ≡ Some (at pos)) };
 
     /// Returns the first position to try after one where no match begins. No match begins between
     /// them. Returns `None` if no match begins after it.
@@ -131,7 +149,9 @@ pub trait SingleAttemptExecutor {
         ensures next { let at = Self.Input.Position.offset in
             NextStartSkipsNoMatch (tree self.now) (text self.now) (at tried + 1) (option_map at result) }
         ensures counted { let at = Self.Input.Position.offset in IsSome (budget self.now)
-            → option_map at result ≡ next_filtered_start (tree self.now) (text self.now) (at tried) };
+            → option_map at result ≡ next_filtered_start (tree self.now) (text self.now) (at tried) }
+        ensures at_work { let at = Self.Input.Position.offset in IfCounted counts_work (option_map at result
+            ≡ next_attempt_offset (tree self.now) (text self.now) (at tried)) };
 
     ghost is_text: { (it : Self) → HasRisingPlaceOffsets (text it) };
 }
@@ -229,6 +249,12 @@ impl<A: SingleAttemptExecutor> MatchProducer for A {
     ghost out_of_work = { A.out_of_work };
 
     ghost left = { A.left };
+
+    ghost counts_work = { A.counts_work };
+
+    ghost failures = { A.failures };
+
+    ghost attempt_costs = { A.attempt_costs };
 
     ghost is_text = { A.is_text };
 

@@ -14,3 +14,4 @@ pub mod AsciiSets
 pub mod Utf16Reads
 pub mod Utf16Slices
 pub mod HeldUnits
+pub mod Marks

@@ -1,5 +1,6 @@
 -- Texts and the code units that store them.
-use Rattle.std.specs.Prelude.{◌≡◌, ℕ, ◌≤◌, List, slice_range, Bool, Option, Some, None, map, if◌then◌else◌}
+use Rattle.std.specs.Prelude.{◌≡◌, ℕ, ◌+◌, ◌<◌, ◌≤◌, ◌==◌, bit_and, slice_index, List, slice_range, Bool, Option, Some, None, map, if◌then◌else◌}
+use Rattle.std.specs.Int.{bit_at}
 use Rattle.regex_meaning.specs.Text.{Text, Direction}
 use Rattle.regex_meaning.specs.CodeUnitOffsets.{IsBoundary}
 use Rattle.regex_meaning.specs.CodeUnits.{Encoding, utf8, utf16, ucs2}
@@ -20,3 +21,12 @@ UnitsOccurWhereCharactersDo e us text = (d : Direction) (at a b : ℕ) → IsBou
 -- The units as bytes if they are bytes, else `None`.
 abbrev pub as_bytes : {Unit : Type 0} → (are_bytes : Bool) → (number : Unit → ℕ) → List Unit → Option (List ℕ)
 as_bytes are_bytes number us = if are_bytes then Some (map number us) else None
+
+-- Whether a unit has, of the bits in `mask`, exactly those in `bits`.
+abbrev pub has_bits : (mask bits unit : ℕ) → Bool
+has_bits mask bits unit = bit_and unit mask == bits
+
+-- Of the 32 units from `at` on, bit `i` marks unit `at + i` if it has these bits. No other bit is set.
+pub record MarksUnitsWithBits (us : List ℕ) (at mask bits marks : ℕ) : Type 0 where
+  pub each : (i : ℕ) → i < 32 → has_bits mask bits (slice_index us (at + i)) ≡ (bit_at marks i == 1)
+  pub within : (i : ℕ) → bit_at marks i ≡ 1 → i < 32

@@ -1,12 +1,16 @@
 //! Code units, in which offsets are counted.
 
-ghost use Rattle.std.specs.Prelude.{◌≡◌, ◌==◌, ℕ, Bool, true, false, refl, map, option_map};
+ghost use Rattle.std.specs.Prelude.{◌≡◌, ◌==◌, ◌+◌, ◌≤◌, ℕ, Bool, true, false, refl, map, length, option_map};
 ghost use Rattle.std.proofs.Common.{rules};
 ghost use Rattle.regex_meaning.specs.CodeUnits.{Encoding, utf8, utf16, ucs2};
 ghost use Rattle.regress_input.specs.CharAndByteReadsFromOffset.{is_byte_encoding};
-ghost use Rattle.regress_input.specs.TextCodeUnits.{unless_splitting_pair as is_if_whole, as_bytes as as_bytes_if};
+ghost use Rattle.regress_input.specs.TextCodeUnits.{unless_splitting_pair as is_if_whole, as_bytes as as_bytes_if, MarksUnitsWithBits};
 
 use crate::utf16_decoding;
+use std::simd::prelude::*;
+
+/// The number of code units that are tested together.
+pub const LANES: usize = 32;
 
 /// A code unit as texts store it: a byte or a 16-bit number.
 pub trait CodeUnit: Copy + PartialEq {
@@ -21,6 +25,12 @@ pub trait CodeUnit: Copy + PartialEq {
     /// Returns the units as bytes, or `None` if they are not bytes.
     fn as_bytes(all: &[Self]) -> Option<&[u8]>
         ensures { option_map (λ bytes. bytes.now) result ≡ as_bytes_if is_byte number all.now };
+
+    /// Tests 32 units from `at` on: bit `i` of the result is set if and only if unit `at + i` has, of
+    /// the bits in `mask`, exactly those in `bits`.
+    fn units_with_bits(all: &[Self], at: usize, mask: u16, bits: u16) -> u64
+        requires { at + 32 ≤ length all.now }
+        ensures { MarksUnitsWithBits (map number all.now) at mask bits result };
 
     ghost equal: { (a b : Self) → Self.eq a b ≡ (number a == number b) };
 }
@@ -41,6 +51,17 @@ impl CodeUnit for u8 {
     fn as_bytes(all: &[u8]) -> Option<&[u8]> {
         Some(all)
     }
+
+    #[inline(always)]
+    fn units_with_bits(all: &[u8], at: usize, mask: u16, bits: u16) -> u64 {
+        if bits > 255 {
+            return 0;
+        }
+        let units = u8x32::from_slice(&all[at..]);
+        (units & u8x32::splat((mask % 256) as u8))
+            .simd_eq(u8x32::splat(bits as u8))
+            .to_bitmask()
+    }
 }
 
 impl CodeUnit for u16 {
@@ -58,6 +79,14 @@ impl CodeUnit for u16 {
     #[inline(always)]
     fn as_bytes(_all: &[u16]) -> Option<&[u8]> {
         None
+    }
+
+    #[inline(always)]
+    fn units_with_bits(all: &[u16], at: usize, mask: u16, bits: u16) -> u64 {
+        let units = u16x32::from_slice(&all[at..]);
+        (units & u16x32::splat(mask))
+            .simd_eq(u16x32::splat(bits))
+            .to_bitmask()
     }
 }
 

@@ -23,7 +23,7 @@ pub use crate::characters_and_properties::{CharProperties, ElementType};
 use crate::code_unit_slices;
 pub use crate::code_units::{
     ByteCodeUnitEncoding, CodeUnit, CodeUnitEncoding, DeclaresWhetherUnitsAreBytes, HasUnitType,
-    Ucs2CodeUnitEncoding, Utf16CodeUnitEncoding,
+    LANES, Ucs2CodeUnitEncoding, Utf16CodeUnitEncoding,
 };
 use crate::front::ByteSearcher;
 use crate::position::{Direction, PositionType};

@@ -258,7 +258,7 @@ none-prefix : (wide : Bool) (program : Program) (ip : ℕ) (allowed : Allowed) �
 none-prefix wide program ip allowed = λ e same. prefix-none e (key wide) program ip allowed
 
 -- less is known of fewer units
-less-prefix : (wide : Bool) (program : Program) (ip len most : ℕ) (a b : Allowed) → PrefixAt wide program ip most a → len ≤ most
+pub less-prefix : (wide : Bool) (program : Program) (ip len most : ℕ) (a b : Allowed) → PrefixAt wide program ip most a → len ≤ most
     → ((ahead k : ℕ) → ahead < len → a ahead k ≡ true → b ahead k ≡ true) → PrefixAt wide program ip len b
 less-prefix wide program ip len most a b prefix le within = λ e same. prefix-less e (key wide) program ip len most a b (prefix e same) le within
 
@@ -298,7 +298,7 @@ path-then wide program from ip len prefix next allowed path room there is =
     (let l = is.len in omega (arith, l)) (λ ahead k less h. is.within ahead k less h)
 
 -- the units of an operation
-units-there : (wide : Bool) (program : Program) (ip count : ℕ) (units : Allowed) (to : Option ℕ) → PrefixBeginsWith wide program ip units count to
+pub units-there : (wide : Bool) (program : Program) (ip count : ℕ) (units : Allowed) (to : Option ℕ) → PrefixBeginsWith wide program ip units count to
     → PrefixAt wide program ip count units
 units-there wide program ip count units to leads =
     less-prefix wide program ip count (count + 0) (then_allowed count units units) units (leads 0 units (nothing to))

@@ -16,3 +16,7 @@ pub mod LookaheadAndExitTables
 pub mod LookaheadAndExitChecks
 pub mod LoopIterationsForcedByNextUnit
 pub mod MustIterateChecks
+pub mod LeapsToGoals
+pub mod LeapCertificates
+pub mod Leaps
+pub mod LeapOps

@@ -1,5 +1,5 @@
 -- Required prefixes: which units may occur where a match begins, and what is searched for first.
-use Rattle.std.specs.Prelude.{◌≡◌, ◌<◌, ◌≤◌, ℕ, ◌==◌, ◌%◌, Bool, true, false, ◌&&◌, List, Some, bit_and, slice_get, slice_index, ◌+◌, zero, suc}
+use Rattle.std.specs.Prelude.{◌≡◌, ◌<◌, ◌≤◌, ℕ, ◌==◌, ◌%◌, Bool, true, false, ◌&&◌, List, length, Some, bit_and, slice_get, slice_index, ◌+◌, zero, suc}
 use Rattle.std.specs.Prelude.{IfSome}
 use Rattle.std.specs.Int.{bit_at}
 use Rattle.regex_meaning.specs.CodeUnits.{Encoding}
@@ -67,9 +67,10 @@ pub record ProbePassesAllUnitsPrefixAllows (prefix : Prefix) (probe : MaskedUnit
   pub low : AllowsOnlyAsciiAt prefix probe.ahead
   pub only : (k : ℕ) → k < 256 → units_allowed_by_prefix prefix probe.ahead k ≡ true → unit_passes_probe probe k ≡ true
 
--- Each of the probes is right for the prefix.
-abbrev pub ProbesPassAllUnitsPrefixAllows : Prefix → List MaskedUnitProbe → Type 0
-ProbesPassAllUnitsPrefixAllows prefix probes = (i : ℕ) (probe : MaskedUnitProbe) → slice_get probes i ≡ Some probe → ProbePassesAllUnitsPrefixAllows prefix probe
+-- There are four probes, and each of them is right for the prefix.
+pub record ProbesPassAllUnitsPrefixAllows (prefix : Prefix) (probes : List MaskedUnitProbe) : Type 0 where
+  pub four : length probes ≡ 4
+  pub each : (i : ℕ) (probe : MaskedUnitProbe) → slice_get probes i ≡ Some probe → ProbePassesAllUnitsPrefixAllows prefix probe
 
 -- The literal is right for the prefix, and so are the rare unit and the probes, if any.
 pub record IsLiteralPrefilterOfPrefix (prefix : Prefix) (known : LiteralPrefilter) : Type 0 where

@@ -26,7 +26,7 @@ const STEPS: usize = 64;
 
 /// What an operation says about the units from its position on.
 #[derive(Clone, Copy)]
-enum OpPrefixContribution {
+pub(crate) enum OpPrefixContribution {
     Unknown,
     /// What the operation with this index says.
     SameAs(usize),
@@ -207,10 +207,10 @@ fn prefix_at(plan: &Plan, from: usize, steps: usize) -> Prefix
     prefix
 }
 
-// Returns what the operation at `ip` says. Inlined into its only caller, since the result has room
-// for a set, which each call would clear and copy.
+/// Returns what the operation at `ip` says. Inlined into its callers, since the result has room for
+/// a set, which each call would clear and copy.
 #[inline(always)]
-fn said_at(plan: &Plan, ip: usize) -> OpPrefixContribution
+pub(crate) fn said_at(plan: &Plan, ip: usize) -> OpPrefixContribution
     ensures { (wide : Bool) (program : Program)
         → AreOpsOfProgram wide program plan.now → PrefixFollowsFromSuccessorPrefixes wide program ip result }
 {

@@ -55,31 +55,8 @@ const OFTEN: u32 = 15;
 /// The maximum frequency of a unit, in a thousand.
 const ALWAYS: u32 = 1000;
 
-/// How rare the bits of probes have to be.
-#[derive(Clone, Copy)]
-struct ProbeRarityLimits {
-    /// The maximum frequency of the rarest probe, in a thousand.
-    most: u32,
-    /// The maximum number of positions, in a million, that pass all probes.
-    pass: u32,
-}
-
-impl ProbeRarityLimits {
-    // Returns the limits. In bytes, a search by masks is fast. In 16-bit units, each position would
-    // be tested.
-    fn of(units: UnitWidth) -> ProbeRarityLimits {
-        match units {
-            UnitWidth::Bytes => ProbeRarityLimits {
-                most: 50,
-                pass: 40_000,
-            },
-            UnitWidth::Wide => ProbeRarityLimits {
-                most: ALWAYS,
-                pass: 100_000,
-            },
-        }
-    }
-}
+/// The maximum number of positions, in a million, that may pass all probes.
+const MOST_THAT_PASS: u32 = 100_000;
 
 /// What the units that may occur at a position have in common: the bits that all of them have, and
 /// the bits that some have. Also their number, and how often they occur in texts.
@@ -147,7 +124,7 @@ impl Prefix {
         ensures { IfSome result (IsPrefilterOfPrefix (is_16_bit_width units) self.now) }
     {
         let commons = self.commons();
-        let probes = self.probes(&commons, ProbeRarityLimits::of(units));
+        let probes = self.probes(&commons);
         if let UnitWidth::Bytes = units {
             if let Some(literal) = self.literal(&commons) {
                 let rare = self.rare(&commons);
@@ -265,14 +242,10 @@ impl Prefix {
     }
 
     // Returns the probes to search for, if they are rare.
-    fn probes(
-        &self,
-        commons: &[CommonBitsOfUnits; 16],
-        limits: ProbeRarityLimits,
-    ) -> Option<[MaskedUnitProbe; 4]>
+    fn probes(&self, commons: &[CommonBitsOfUnits; 16]) -> Option<[MaskedUnitProbe; 4]>
         ensures { IfSome result (λ probes. ProbesPassAllUnitsPrefixAllows self.now probes) }
     {
-        let [a, b, c, d] = seldom(commons, limits)?;
+        let [a, b, c, d] = seldom(commons)?;
         if self.has_probe(a) && self.has_probe(b) && self.has_probe(c) && self.has_probe(d) {
             Some([a, b, c, d])
         } else {
@@ -339,16 +312,10 @@ fn add_key(commons: &mut [CommonBitsOfUnits; 16], len: usize, mask: u16, key: u8
 }
 
 // Returns the four rarest probes, the rarest one first, if they are rare enough.
-fn seldom(
-    commons: &[CommonBitsOfUnits; 16],
-    limits: ProbeRarityLimits,
-) -> Option<[MaskedUnitProbe; 4]> {
+fn seldom(commons: &[CommonBitsOfUnits; 16]) -> Option<[MaskedUnitProbe; 4]> {
     let mut often = [ALWAYS; 16];
     for ahead in 0..16 {
         often[ahead] = commons[ahead].frequency().min(ALWAYS);
-    }
-    if often[least(&often)] > limits.most {
-        return None;
     }
     let mut probes = [commons[0].probe(0); 4];
     let mut pass = 1_000_000u32;
@@ -358,7 +325,7 @@ fn seldom(
         probes[i] = commons[ahead].probe(ahead);
         often[ahead] = ALWAYS;
     }
-    if pass > limits.pass {
+    if pass > MOST_THAT_PASS {
         None
     } else {
         Some(probes)
@@ -378,8 +345,8 @@ fn least(numbers: &[u32; 16]) -> usize
     at
 }
 
-// Estimates how often a unit occurs in texts, in a thousand.
-fn frequency(unit: u8) -> u8 {
+/// Estimates how often a unit occurs in texts, in a thousand.
+pub(crate) fn frequency(unit: u8) -> u8 {
     match unit {
         b' ' => 150,
         b'e' | b't' | b'a' | b'o' | b'i' | b'n' | b's' | b'r' | b'h' | b'l' | b'd' | b'u' => 50,

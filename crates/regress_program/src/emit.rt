@@ -50,16 +50,16 @@ pub enum EmitError {
     #[error("the tree is not well formed")]
     NotWellFormed,
     /// A tree for 16-bit code units contains a byte set or a byte sequence.
-    #[error("bytes stand in a tree for 16-bit units")]
+    #[error("a tree for 16-bit units contains bytes")]
     BytesInUnits,
     /// There are more than `MAX_CAPTURE_GROUPS` groups.
-    #[error("too many groups")]
+    #[error("too many groups (at most 65535)")]
     TooManyGroups,
     /// There are more than `LoopID::MAX` loops.
-    #[error("too many loops")]
+    #[error("too many loops (at most 65535)")]
     TooManyLoops,
     /// There are more than `u32::MAX` instructions.
-    #[error("too many instructions")]
+    #[error("too many instructions (at most 4294967295)")]
     TooManyInstructions,
     /// An allocation failed.
     #[error("out of memory")]

@@ -1,20 +1,31 @@
-//! What is asked for trees, and what is answered: a question, the tree in words, or a pattern between strokes and the
-//! letters of its flags, an arrow and the answer.
+//! The rows: a question, the tree in words, or a pattern between slashes and its flags, an arrow, and the answer.
 
-// The refused trees have goals that are not last, groups with wrong ids, groups that are not inside, references to no
-// group, minima above the maximum, bodies that are not one character, bytes that are no text, sets that fit no
-// instruction, and more groups or loops than there may be. For 16-bit units a tree that is not well formed is refused as such,
-// whatever stands in it. In the parts, the groups inside a lookbehind have the later one first. Plans say where a search
-// has to try, and what may stand behind each loop over one character: the keys at which rows of keys begin and end; what is
-// looked for first, and what must stand before. Choices have the operation at which an alternation begins, and behind the
-// first of each row of keys, and behind the end, the operations at which the arms begin that may match there; verdicts so whether
-// a lookahead lets a thread go on; rounds, behind the operation at which a loop's body ends, the keys of units over which it goes. Classes have behind
-// the first of each row of keys the step of them all: how many units the character has, 0 where none is accepted, and 5 where the
-// character decides; and the bytes at which a run ends. Programs for 16-bit units are those of the tree as it is, and so are
-// those for bytes, of which `optimized` asks for that of the optimized tree. Memo analyses have each instruction that records with how many codes it has, and what a
-// place pays for all of them; codes are those behind none to four iterations of each loop, the last of which has read a
-// character, or has not, with a mark where that is not sound at the end of a text of one unit. Memories of three places have as many keys as codes in all those places, which are noted one by one; one of all places that
-// can be counted has more than can be counted, or no room, if it has keys at all.
+// The kinds of rows, by their question. `unit_` before a question asks it of the program for 16-bit units.
+//
+// - `program`, `units`: the program of the tree, or the error. The malformed trees have goals that are not last,
+//   wrong or missing group ids, references to no group, minima above the maximum, loop bodies of other than one
+//   character, bytes that are not UTF-8, or sets of too many members. A malformed tree with bytes is `NotWellFormed`
+//   for 16-bit units too.
+// - `optimized`: the program of the optimized tree.
+// - `predicate`: the start predicate.
+// - `parts`, `names`: what the readers of a program return. In a lookbehind, the group with the higher id is first.
+// - `plan`: where a search tries to match (anywhere, at one of a few keys, at the keys of a table, behind keys, at a
+//   required prefix with its prefilters); for each loop over one character, the first key of each run of keys that
+//   may follow.
+// - `choices`: the instruction of each alternation and, for the first key of each run and the end of the text, the
+//   instructions of the arms that may match there.
+// - `verdicts`: the same for lookaheads, with whether a thread continues: `yes`, `no`, or `ask` if the contents
+//   decide.
+// - `rounds`: the instruction at the end of a loop's body, and the runs of keys over which the loop iterates at once.
+// - `classes`: for the first key of each run, the number of units of a character (0 if none is accepted, 5 if the
+//   character decides); the bytes at which a scan stops.
+// - `memo_analysis`: each memoized instruction with its number of codes, and the work that an offset pays for all of
+//   them.
+// - `codes`: the codes after zero to four iterations of each loop whose last one read a character, and of each whose
+//   last one did not. `!` marks states that are not sound at the end of a text of one unit.
+// - `memo`: the number of keys of three offsets that are recorded, one by one, as failing and as finding an end; and
+//   whether there is a table for as many offsets as can be counted (`in all places`), its allocation fails
+//   (`refused`), or it would have too many keys.
 pub(crate) const ROWS: &str = "\
 program goal → Goal
 program cat:3 empty any goal → MatchAny, Goal
@@ -164,7 +175,7 @@ plan cat:2 alt cat:2 a b cat:2 b b goal → prefix 97 99 / 98 99 bits 98 of 255 
 plan cat:2 alt cat:2 a b b goal → few 2 [97, 98, 0]
 plan cat:3 loop1:2,2 a b goal → prefix 97 98 / 97 98 / 98 99 row 3 of [97, 97, 98, 0, 0, 0, 0, 0, 0, 0, 0, 0, 0, 0, 0] at 0 bits 98 of 255 at 2 bits 97 of 255 at 0 bits 97 of 255 at 1 bits 97 of 255 at 0, apart 98 99
 plan cat:3 loop1:2,3 a b goal → prefix 97 98 / 97 98 row 2 of [97, 97, 0, 0, 0, 0, 0, 0, 0, 0, 0, 0, 0, 0, 0] at 0 bits 97 of 255 at 0 bits 97 of 255 at 1 bits 97 of 255 at 0 bits 97 of 255 at 0, apart 98 99
-plan cat:3 loop1:2,3 set:61,65 b goal → prefix 97 98 101 102 / 97 98 101 102, apart 98 99
+plan cat:3 loop1:2,3 set:61,65 b goal → prefix 97 98 101 102 / 97 98 101 102 bits 97 of 251 at 0 bits 97 of 251 at 1 bits 97 of 251 at 0 bits 97 of 251 at 0, apart 98 99
 plan cat:4 loop:0,0,1 a b any goal → few 1 [97, 0, 0]
 unit_plan cat:3 a b goal → prefix 97 98 / 98 99 bits 98 of 255 at 1 bits 97 of 255 at 0 bits 97 of 255 at 0 bits 97 of 255 at 0
 unit_plan cat:3 loop1:0 a b goal → few 2 [97, 98, 0], apart 98 99
@@ -174,8 +185,8 @@ plan cat:3 line a goal → behind 3 [10, 13, 226] edge
 unit_plan cat:3 line any goal → behind 3 [10, 13, 144] edge
 plan cat:3 behind:0,0 a b goal → behind 1 [97, 0, 0]
 plan cat:3 behind:0,0 set:20AC,E9 b goal → behind 2 [195, 226, 0]
-unit_plan cat:3 behind:0,0 set:20AC,E9 b goal → prefix 98 99 bits 98 of 255 at 0 bits 98 of 255 at 0 bits 98 of 255 at 0 bits 98 of 255 at 0
-plan cat:6 set:30,31,32,33 set:30,31,32,33 set:30,31,32,33 set:30,31,32,33 set:30,31,32,33 goal → prefix 48 52 / 48 52 / 48 52 / 48 52 / 48 52
+unit_plan cat:3 behind:0,0 set:20AC,E9 b goal → behind 2 [128, 144, 0]
+plan cat:6 set:30,31,32,33 set:30,31,32,33 set:30,31,32,33 set:30,31,32,33 set:30,31,32,33 goal → prefix 48 52 / 48 52 / 48 52 / 48 52 / 48 52 bits 48 of 252 at 0 bits 48 of 252 at 1 bits 48 of 252 at 2 bits 48 of 252 at 3
 unit_plan cat:5 a b c d goal → prefix 97 98 / 98 99 / 99 100 / 100 101 bits 98 of 255 at 1 bits 99 of 255 at 2 bits 97 of 255 at 0 bits 100 of 255 at 3
 unit_plan cat:3 a k goal → prefix 97 98 / 107 108 bits 107 of 255 at 1 bits 97 of 255 at 0 bits 97 of 255 at 0 bits 97 of 255 at 0
 plan cat:5 J K L M goal → prefix 74 75 / 75 76 / 76 77 / 77 78 row 4 of [74, 75, 76, 77, 0, 0, 0, 0, 0, 0, 0, 0, 0, 0, 0] at 0 rare 74 at 0 bits 74 of 255 at 0 bits 75 of 255 at 1 bits 76 of 255 at 2 bits 77 of 255 at 3
@@ -233,9 +244,9 @@ classes /é*/ → wide 195:5 196:0
 classes /[а-я]*[^é]/ → wide 208:5 210:0; wide 0:1 128:0 194:2 195:5 196:2 224:3 240:4 245:0 stops [195]
 classes /[\\u0080-\\u07ff]/ → wide 194:2 224:0
 unit_classes /a*/ → single 97:1 98:0
-unit_classes /.*/ → wide 0:1 10:0 11:1 13:0 14:1 144:5 145:1 236:5 238:1
+unit_classes /.*/ → wide 0:1 10:0 11:1 13:0 14:1 144:5 145:1 236:5 238:1 stops [10, 13, 144]
 unit_classes /[\\u0400-\\u05ff]é*/ → single 130:1 131:0; wide 128:5 129:0
-unit_classes /[^]*/ → wide 0:1 236:5 238:1
+unit_classes /[^]*/ → wide 0:1 236:5 238:1 stops []
 units cat:2 loop:0,0,0 a goal → EnterLoop 0 0 18446744073709551615 true 3, Char 97, LoopAgain 0, Goal
 optimized cat:2 loop:0,0,0 a goal → Loop1CharBody 0 18446744073709551615 true, Char 97, Goal
 units cat:2 loop1:0 a goal → Loop1CharBody 0 18446744073709551615 true, Char 97, Goal

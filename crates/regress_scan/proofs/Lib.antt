@@ -28,3 +28,7 @@ pub mod ProbeLemmas
 pub mod Apart
 pub mod InPlace
 pub mod GoneOver
+pub mod Marked
+pub mod UnitRunLemmas
+pub mod WideLemmas
+pub mod Leaps

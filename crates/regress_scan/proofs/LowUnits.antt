@@ -25,12 +25,12 @@ use Rattle.regress_scan.proofs.NextUnits.{unit-fits}
 
 -- ---- Units below 128
 
--- such a unit is the first one of its character
-module _ (e : Encoding) (later : (c i u : ℕ) → slice_get (spelled_in e c) (suc i) ≡ Some u → u < 128 → ⊥) where
+-- a unit of a kind of which none is a later one of a character is the first one of its character
+module _ (e : Encoding) (Kind : ℕ → Type 0) (later : (c i u : ℕ) → slice_get (spelled_in e c) (suc i) ≡ Some u → Kind u → ⊥) where
   abbrev spell : List ℕ → List ℕ
   spell = flat_map (spelled_in e)
 
-  located : (cs : List ℕ) (i u : ℕ) → slice_get (spell cs) i ≡ Some u → u < 128 → (p : ℕ) × (p ≤ length cs) × (length (spell (take p cs)) ≡ i)
+  located : (cs : List ℕ) (i u : ℕ) → slice_get (spell cs) i ≡ Some u → Kind u → (p : ℕ) × (p ≤ length cs) × (length (spell (take p cs)) ≡ i)
   located [] i u there low = cc
   located (c ∷ cs) i u there low = by (cases_lt i (length (spelled_in e c))) (λ j rest. located cs j u rest low)
     where
@@ -51,14 +51,14 @@ module _ (e : Encoding) (later : (c i u : ℕ) → slice_get (spelled_in e c) (s
           let both = length-append (spelled_in e c) (spell (take rest.0 cs)) in
           (suc rest.0, omega (arith, inside), omega (arith, both, same, back))
 
-  located-boundary : (text : Text) → HasUnitsForTables e text → (at u : ℕ) → slice_get (text_units_in_encoding e text) at ≡ Some u → u < 128 → IsBoundary text at
+  located-boundary : (text : Text) → HasUnitsForTables e text → (at u : ℕ) → slice_get (text_units_in_encoding e text) at ≡ Some u → Kind u → IsBoundary text at
   located-boundary text has at u there low =
       let p = located text.characters at u there low in
       subst (IsBoundary text) (offset-units e text has.spelled p.0 p.1 ∙ p.2) (offset-IsBoundary text p.0 has.is_text p.1)
 
 pub low-boundary : (e : Encoding) (text : Text) → HasUnitsForTables e text → (at u : ℕ) → slice_get (text_units_in_encoding e text) at ≡ Some u → u < 128 → IsBoundary text at
 low-boundary utf8 text has at u there low = boundary-byte text has.spelled at u there ∙ ap (λ (b : Bool). not (b && nat_le u 0xBF)) (lt-leb 0x80 u low)
-low-boundary utf16 text has at u there low = located-boundary utf16 later text has at u there low
+low-boundary utf16 text has at u there low = located-boundary utf16 (λ u. u < 128) later text has at u there low
   where
     later : (c i u : ℕ) → slice_get (spelled_in utf16 c) (suc i) ≡ Some u → u < 128 → ⊥
     later c i u there low = by (nat_lt c 0x1_0000) there
@@ -70,19 +70,43 @@ low-boundary utf16 text has at u there low = located-boundary utf16 later text h
             second : (i : ℕ) → slice_get (surrogate_pair c) (suc i) ≡ Some u → ⊥
             second zero at = let e : 0xDC00 + (c - 0x1_0000) % 0x400 ≡ u = some-same _ u at in omega (arith, e, low)
             second (suc i) at = cc
-low-boundary ucs2 text has at u there low = located-boundary ucs2 (λ c i u there low. cc there) text has at u there low
+low-boundary ucs2 text has at u there low = located-boundary ucs2 (λ u. u < 128) (λ c i u there low. cc there) text has at u there low
+
+-- in 16-bit units, one that ends no pair
+abbrev pub EndsNoPair : ℕ → Type 0
+EndsNoPair u = (u < 0xDC00) ⊎ (0xE000 ≤ u)
+
+pub beside-boundary : (e : Encoding) → is_16_bit_encoding e ≡ true → (text : Text) → HasUnitsForTables e text → (at u : ℕ) → slice_get (text_units_in_encoding e text) at ≡ Some u → EndsNoPair u → IsBoundary text at
+beside-boundary utf8 wide text has at u there beside = cc
+beside-boundary utf16 wide text has at u there beside = located-boundary utf16 EndsNoPair later text has at u there beside
+  where
+    apart : (x u : ℕ) → 0xDC00 + x % 0x400 ≡ u → EndsNoPair u → ⊥
+    apart x u same (inl less) = omega (arith, same, less)
+    apart x u same (inr more) = omega (arith, same, more)
+
+    later : (c i u : ℕ) → slice_get (spelled_in utf16 c) (suc i) ≡ Some u → EndsNoPair u → ⊥
+    later c i u there beside = by (nat_lt c 0x1_0000) there
+      where
+        by : (b : Bool) → slice_get (if b then c ∷ [] else surrogate_pair c) (suc i) ≡ Some u → ⊥
+        by true at = cc
+        by false at = second i at
+          where
+            second : (i : ℕ) → slice_get (surrogate_pair c) (suc i) ≡ Some u → ⊥
+            second zero at = apart (c - 0x1_0000) u (some-same _ u at) beside
+            second (suc i) at = cc
+beside-boundary ucs2 wide text has at u there beside = located-boundary ucs2 EndsNoPair (λ c i u there beside. cc there) text has at u there beside
 
 -- ---- Keys
 
 -- the key of a unit is small, and one below 128 is that of the unit itself
-key-small : (wide : Bool) (u : ℕ) → u < (if wide then 0x1_0000 else 0x100) → key wide u < 256
+pub key-small : (wide : Bool) (u : ℕ) → u < (if wide then 0x1_0000 else 0x100) → key wide u < 256
 key-small false u less = less
 key-small true u less = elim (cases_lt u 128) [
   | inl low ↦ subst (λ (b : Bool). (if b then u else 128 + u / 512) < 256) (sym (lt-ltb u 128 low)) (omega (arith, low))
   | inr high ↦ subst (λ (b : Bool). (if b then u else 128 + u / 512) < 256) (sym (le-ltb u 128 high)) (omega (arith, less))
 ]
 
-key-own : (wide : Bool) (u : ℕ) → key wide u < 128 → u ≡ key wide u
+pub key-own : (wide : Bool) (u : ℕ) → key wide u < 128 → u ≡ key wide u
 key-own false u low = refl
 key-own true u low = elim (cases_lt u 128) [
   | inl less ↦ sym (ap (λ (b : Bool). if b then u else 128 + u / 512) (lt-ltb u 128 less))

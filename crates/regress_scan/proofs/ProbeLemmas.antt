@@ -1,13 +1,16 @@
 -- Where the first units of a match may stand: their keys, bits of them, and places in a row.
-use Rattle.std.proofs.Common.{◌≡◌, ℕ, suc, ◌+◌, ◌-◌, ◌<◌, ◌≤◌, Bool, true, false, List, length, take, Option, Some, None, ap, sym, ◌∙◌, subst, arith}
+use Rattle.std.proofs.Common.{◌≡◌, ℕ, suc, ◌+◌, ◌-◌, ◌%◌, ◌<◌, ◌≤◌, Bool, true, false, List, length, take, Option, Some, None, ap, sym, ◌∙◌, subst, arith}
 use Rattle.std.proofs.Common.{slice_get}
-use Rattle.std.proofs.lemmas.Bool.{cases_lt}
+use Rattle.std.specs.Prelude.{slice_index}
+use Rattle.std.specs.Int.{bit_at}
+use Rattle.std.proofs.lemmas.Bool.{cases_lt, eqb-true}
 use Rattle.std.proofs.lemmas.Option.{slice_get-map, slice_get_within, slice_get-get_or, get_or_from_slice_get}
 use Rattle.std.proofs.lemmas.List.{length-map, length-take, get_or-take}
 use mathlib.Core.Logic.{inl, inr}
 use Rattle.regex_meaning.specs.CodeUnitOffsets.{units}
 use Rattle.regex_meaning.specs.CodeUnits.{text_units_in_encoding}
 use Rattle.regex_meaning.proofs.Options.{some-same}
+use Rattle.regress_input.specs.TextCodeUnits.{has_bits, MarksUnitsWithBits}
 use Rattle.regress_input.proofs.Boundaries.{units-length}
 use Rattle.regress_simulation.specs.FirstSetTables.{HasUnitsForTables, unit_key_at}
 use Rattle.regress_simulation.specs.RequiredPrefixes.{unit_is_allowed}
@@ -18,7 +21,8 @@ use Rattle.regress_plan.specs.PrefixesAndPrefilters.{PrefixAllowsOnlyAsciiFirst}
 use Rattle.regress_plan.specs.TableKeysOfUnits.{key, is_16_bit_encoding}
 use Rattle.regress_scan.specs.TreePlanAndText.{SearchInput}
 use Rattle.regress_scan.specs.StartSearch.{keys_in, prefix_fits_at, IsFirstBoundaryWhere}
-use Rattle.regress_scan.specs.PrefixCandidatesInRange.{NoPrefixFitsBetween, IsFirstPrefixFitInRange}
+use Rattle.regress_scan.specs.MarkedOffsets.{MarksAllPassing}
+use Rattle.regress_scan.specs.PrefixCandidatesInRange.{IsFirstPrefixFitInRange}
 use Rattle.regress_scan.proofs.FirstUnits.{fits-fails, fits-past, fits-more}
 use Rattle.regress_scan.proofs.LowUnits.{fit-unit, fit-boundary}
 
@@ -53,41 +57,26 @@ probe-passes w has prefix at fit probe is u there =
     let same : one.0 ≡ u = some-same one.0 u (sym one.1 ∙ there) in
     ap (unit_passes_probe probe) (sym same) ∙ is.only one.0 (omega (arith, small)) one.3
 
--- of the first so many of them each is one of them
-pub taken-got : {A : Type 0} (n : ℕ) (xs : List A) (i : ℕ) (x : A) → slice_get (take n xs) i ≡ Some x → slice_get xs i ≡ Some x
-taken-got n xs i x got =
-    let within = slice_get_within (take n xs) i x got in
-    let short = length-take n xs in
-    slice_get-get_or xs i x (omega (arith, within, short))
-    ∙ ap Some (sym (get_or-take n xs i x (omega (arith, within, short))) ∙ get_or_from_slice_get (take n xs) i x x got)
+-- it passes at each of the offsets that are marked
+pub probe-marks : (w : SearchInput) → HasUnitsForTables w.encoding w.text → (prefix : Prefix) (probe : MaskedUnitProbe) → ProbePassesAllUnitsPrefixAllows prefix probe → (at marks : ℕ)
+    → at + probe.ahead + 32 ≤ units w.text → MarksUnitsWithBits (text_units_in_encoding w.encoding w.text) (at + probe.ahead) probe.mask probe.bits marks
+    → MarksAllPassing (prefix_fits_at w prefix) at marks
+probe-marks w has prefix probe is at marks room are = record {
+  each = λ i less fit.
+      let us = text_units_in_encoding w.encoding w.text in
+      let one = fit-unit w has prefix (at + i) fit probe.ahead is.inside is.low in
+      let small = one.2 in
+      let place : at + i + probe.ahead ≡ at + probe.ahead + i = omega arith in
+      let same : slice_index us (at + probe.ahead + i) ≡ one.0 = get_or_from_slice_get us (at + probe.ahead + i) one.0 0 (sym (ap (slice_get us) place) ∙ one.1) in
+      let low : one.0 % 256 ≡ one.0 = omega (arith, small) in
+      let passes : has_bits probe.mask probe.bits one.0 ≡ true = ap (has_bits probe.mask probe.bits) (sym low) ∙ is.only one.0 (omega (arith, small)) one.3 in
+      eqb-true (bit_at marks i) 1 (sym (are.each i less) ∙ ap (has_bits probe.mask probe.bits) same ∙ passes);
+  within = are.within;
+}
 
 -- ---- Places in a row
 
 module _ (w : SearchInput) (prefix : Prefix) where
-  pub none-here : (at : ℕ) → NoPrefixFitsBetween w prefix at at
-  none-here at x le less = absurd (omega (arith, le, less))
-
-  pub none-one : (from to : ℕ) → NoPrefixFitsBetween w prefix from to → prefix_fits_at w prefix to ≡ false → NoPrefixFitsBetween w prefix from (to + 1)
-  none-one from to none not x le less = elim (cases_lt x to) [
-    | inl before ↦ none x le before
-    | inr after ↦ subst (λ x. prefix_fits_at w prefix x ≡ false) (let z : to ≡ x = omega (arith, after, less) in z) not
-  ]
-
-  pub none-then : (from mid to : ℕ) → NoPrefixFitsBetween w prefix from mid → NoPrefixFitsBetween w prefix mid to → NoPrefixFitsBetween w prefix from to
-  none-then from mid to first second x le less = elim (cases_lt x mid) [
-    | inl before ↦ first x le before
-    | inr after ↦ second x after less
-  ]
-
-  -- the first one behind places at which they do not fit
-  pub first-behind : (from mid to : ℕ) (found : Option ℕ) → from ≤ mid → NoPrefixFitsBetween w prefix from mid → IsFirstPrefixFitInRange w prefix mid to found → IsFirstPrefixFitInRange w prefix from to found
-  first-behind from mid to None le none first = none-then from mid to none first
-  first-behind from mid to (Some at) le none first =
-      let more = first.0 in (omega (arith, le, more), first.1, first.2, none-then from mid at none first.3)
-
-  pub first-wider : (from mid to at : ℕ) → mid ≤ to → IsFirstPrefixFitInRange w prefix from mid (Some at) → IsFirstPrefixFitInRange w prefix from to (Some at)
-  first-wider from mid to at le first = let less = first.1 in (first.0, omega (arith, le, less), first.2, first.3)
-
   -- it is a place to try
   pub found-where : HasUnitsForTables w.encoding w.text → 0 < prefix.len → PrefixAllowsOnlyAsciiFirst prefix → (from to at : ℕ) → IsFirstPrefixFitInRange w prefix from to (Some at)
       → IsFirstBoundaryWhere w (prefix_fits_at w prefix) from (Some at)

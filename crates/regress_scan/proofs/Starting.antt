@@ -2,7 +2,7 @@
 use Rattle.std.proofs.Common.{map, ◌≡◌, ℕ, zero, suc, ◌+◌, ◌-◌, ◌<◌, ◌≤◌, Bool, true, false, not, List, [], ◌∷◌, length, drop, take, get_or, Option}
 use Rattle.std.proofs.Common.{Some, None, refl, ap, sym, ◌∙◌, subst, arith, slice_get, le_refl}
 use Rattle.std.specs.Prelude.{option_map, slice_index, nat_lt, nat_le, nat_eq, ◌&&◌, ◌||◌}
-use Rattle.std.proofs.lemmas.Bool.{cases_lt, lt-ltb, le-ltb, lt-leb, leb-true, eqb-true}
+use Rattle.std.proofs.lemmas.Bool.{cases_lt, lt-ltb, le-ltb, lt-leb, leb-true, ltb-true, eqb-true}
 use Rattle.std.proofs.lemmas.Option.{slice_get-get_or}
 use Rattle.std.proofs.lemmas.List.{get_or-drop, length-drop, map-id}
 use Rattle.std.proofs.Math.Bool.{and-false}
@@ -192,6 +192,10 @@ few-pass p (x ∷ us) (suc len) u each h = by (nat_eq u x) refl (λ rest. few-pa
     by : (b : Bool) → nat_eq u x ≡ b → (contains (take len us) u ≡ true → p u ≡ true) → (b || contains (take len us) u) ≡ true → p u ≡ true
     by true e rest h = ap p (eqb-true u x e) ∙ each 0 (omega arith)
     by false e rest h = rest h
+
+-- units that are below 128
+pub low-listed : (us : List ℕ) (len u : ℕ) → ((k : ℕ) → k < len → get_or us k 0 < 128) → contains (take len us) u ≡ true → u < 128
+low-listed us len u low listed = ltb-true u 128 (few-pass (λ u. nat_lt u 128) us len u (λ k less. lt-ltb (get_or us k 0) 128 (low k less)) listed)
 
 pub few-leads : (us : List ℕ) (len : ℕ) (wide : Bool) → ((k : ℕ) → k < len → begins_utf8_character (get_or us k 0) ≡ true) → AllowsOnlyLeadBytes wide (table_of_listed_units us len)
 few-leads us len wide each single_unit k small allowed = few-pass begins_utf8_character us len k each allowed

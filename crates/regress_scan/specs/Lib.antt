@@ -11,3 +11,7 @@ pub mod LookaheadAndExitVerdicts
 pub mod LazyCharLoopExits
 pub mod PrefixSearch
 pub mod ConsecutiveMustIterateUnits
+pub mod MarkedOffsets
+pub mod UnitRuns
+pub mod WideUnits
+pub mod Leaping

@@ -1,9 +1,9 @@
 //! Search for candidate starts: no match begins at any other offset.
 
-ghost use Rattle.std.specs.Prelude.{◌≡◌, ◌<◌, false, IfSome};
+ghost use Rattle.std.specs.Prelude.{◌≡◌, ◌<◌, true, false, IfSome};
 ghost use Rattle.regex_meaning.specs.CodeUnitOffsets.{IsBoundary, units};
 ghost use Rattle.regress_input.specs.CharAndByteReadsFromOffset.{is_byte_encoding};
-ghost use Rattle.regress_plan.specs.LookbehindFilter.{LookbehindFilterKeysAreLeadBytes};
+ghost use Rattle.regress_plan.specs.LookbehindFilter.{LookbehindFilterKeysAreLeadBytes, allows_start};
 ghost use Rattle.regress_plan.specs.PrefixesAndPrefilters.{PrefixAllowsOnlyAsciiFirst, IsLiteralForcedByPrefix, IsOnlyUnitAllowedAtPosition, IsLiteralPrefilterOfPrefix};
 ghost use Rattle.regress_plan.specs.PrefixesAndPrefilters.{IsPrefilterOfPrefix};
 ghost use Rattle.regress_plan.specs.TableKeysOfUnits.{is_16_bit_encoding};
@@ -12,14 +12,15 @@ ghost use Rattle.regress_simulation.specs.FirstSetTables.{AllowedNextKeys};
 ghost use Rattle.regress_scan.specs.StartSearch.{IsFirstAllowedBoundary, IsFirstBoundaryWhere, IsFirstBoundaryWherePrefixFits, IsFirstCandidate, IsFirstByteSearchHit};
 ghost use Rattle.regress_scan.specs.StartSearch.{AllowsOnlyLeadBytes, SkipsNoBoundary, IsPastFirstAllowedChar, table_of_listed_units, may_start_at};
 
-use crate::class_char_and_table_lookups::unit_key_at_offset;
+use crate::class_char_and_table_lookups::{set_allows_next_unit, unit_key_at_offset};
 use crate::few_units_finder::FewUnitsFinder;
+use crate::few_wide_units::{are_told_by_bits, next_wide};
 use crate::literal_finder::LONG;
 use crate::prefix_search::{PrefixAndItsRequiredUnit, PrefixAndLiteralFinder};
 use crate::search_context::{
     SearchContext, offset_in_searched_text, position_in_searched_text, text_end,
 };
-use crate::start_search_by_bit_probes::{PrefixAndBitProbes, next_by_bit_probes};
+use crate::start_search_by_bit_probes::{PrefixAndBitProbes, next_by_bit_probes, prefix_fits};
 use regress_input::front::ByteSearcher;
 use regress_input::indexing::{CodeUnitEncoding, HasUnitType, InputIndexer};
 use regress_plan::first_set_type::FirstSet;
@@ -155,9 +156,28 @@ pub(crate) fn next_of_few_units<W: SearchContext>(
         AllowsOnlyLeadBytes wide (table_of_listed_units few.units few.len) }
     ensures { IsFirstAllowedBoundary (W.searching planned.now) (table_of_listed_units few.units few.len) from result }
 {
-    match planned.input().as_bytes() {
-        Some(_) => find(planned, &few, from),
-        None => first_place(planned, &few, from),
+    if <<W::Input as HasUnitType>::Units as CodeUnitEncoding>::ARE_BYTES {
+        find(planned, &few, from)
+    } else {
+        next_of_few_wide_units(planned, few, from)
+    }
+}
+
+// Returns that offset in 16-bit units, by vectors if bits tell the units.
+#[inline(always)]
+fn next_of_few_wide_units<W: SearchContext>(
+    planned: &W,
+    few: FewUnitsFinder,
+    from: usize,
+) -> Option<usize>
+    requires wide { is_16_bit_encoding (W.searching planned.now).encoding ≡ true }
+    requires at { IsBoundary (W.searching planned.now).text from }
+    ensures { IsFirstAllowedBoundary (W.searching planned.now) (table_of_listed_units few.units few.len) from result }
+{
+    if are_told_by_bits(few) {
+        next_wide(planned, few, from)
+    } else {
+        first_place(planned, &few, from)
     }
 }
 
@@ -219,6 +239,11 @@ fn next_known<W: SearchContext>(
     requires known { IsLiteralPrefilterOfPrefix prefix.now known.now }
     ensures { IsFirstBoundaryWherePrefixFits (W.searching planned.now) prefix.now from result }
 {
+    if known.literal.len < 3 && known.literal.len < prefix.len {
+        if let Some(probes) = &known.probes {
+            return next_by_bit_probes(planned, PrefixAndBitProbes { prefix, probes }, from);
+        }
+    }
     if text_end(planned).saturating_sub(from) > LONG {
         return next_literal(planned, prefix, &known.literal, from);
     }
@@ -324,6 +349,50 @@ fn next_by_lookbehind<W: SearchContext>(
 }
 
 // ---- By the plan
+
+/// Checks whether an offset is a candidate start, by the plan.
+#[inline(always)]
+pub fn is_candidate<W: SearchContext>(planned: &W, at: usize) -> bool
+    requires { IsBoundary (W.searching planned.now).text at }
+    ensures { let w = W.searching planned.now in result ≡ may_start_at w w.plan.start at }
+{
+    match planned.candidate_start_filter_of_plan() {
+        CandidateStarts::Anywhere => true,
+        CandidateStarts::InSet { set } => match planned.first_set_with_number(*set) {
+            Some(set) => set_allows_next_unit(planned, set, at),
+            None => true,
+        },
+        CandidateStarts::FewUnits { units, len } => {
+            let few = FewUnitsFinder {
+                units: *units,
+                len: *len,
+            };
+            at < text_end(planned) && few.has(unit_key_at_offset(planned, at))
+        }
+        CandidateStarts::Behind(before) => is_behind(planned, *before, at),
+        CandidateStarts::Prefix { prefix, .. } => prefix_fits(planned, prefix, at),
+    }
+}
+
+// Checks whether the character before an offset lets a match begin there.
+#[inline(never)]
+fn is_behind<W: SearchContext>(planned: &W, before: PrecedingCharFilter, at: usize) -> bool
+    requires { IsBoundary (W.searching planned.now).text at }
+    ensures { let w = W.searching planned.now in result ≡ allows_start w.encoding before w.text at }
+{
+    let PrecedingCharFilter { keys, len, edge } = before;
+    let few = FewUnitsFinder { units: keys, len };
+    match planned
+        .input()
+        .next_left_pos(position_in_searched_text(planned, at))
+    {
+        Some(start) => few.has(unit_key_at_offset(
+            planned,
+            offset_in_searched_text(planned, start),
+        )),
+        None => edge,
+    }
+}
 
 /// Returns the first candidate start from `from` on, by the plan.
 #[inline(always)]

@@ -1,27 +1,19 @@
 //! Start search by bit probes: finds offsets where a prefix may occur by testing bits of some of
 //! its units.
 
-ghost use Rattle.std.specs.Prelude.{◌≡◌, ◌≤◌, ◌<◌, ◌+◌, ◌-◌, ◌^◌, true, false};
+ghost use Rattle.std.specs.Prelude.{◌≡◌, ◌≤◌, ◌<◌, ◌+◌, ◌-◌, ◌^◌};
 ghost use Rattle.std.proofs.Props.{props};
 ghost use Rattle.regex_meaning.specs.CodeUnitOffsets.{IsBoundary, units};
-ghost use Rattle.regress_plan.specs.PrefixesAndPrefilters.{ProbesPassAllUnitsPrefixAllows, PrefixAllowsOnlyAsciiFirst};
+ghost use Rattle.regress_plan.specs.PrefixesAndPrefilters.{ProbePassesAllUnitsPrefixAllows, ProbesPassAllUnitsPrefixAllows, PrefixAllowsOnlyAsciiFirst};
 ghost use Rattle.regress_plan.specs.declared.required_prefix_types.Prefix as prefix;
-ghost use Rattle.regress_scan.specs.PrefixCandidatesInRange.{NoPrefixFitsBetween, IsFirstPrefixFitInRange, ProbesAreInRange};
+ghost use Rattle.regress_scan.specs.MarkedOffsets.{MarksAllPassing};
 ghost use Rattle.regress_scan.specs.StartSearch.{prefix_fits_at, IsFirstBoundaryWherePrefixFits};
 
-use crate::class_char_and_table_lookups::{unit_at_offset, unit_key_at_offset};
+use crate::class_char_and_table_lookups::unit_key_at_offset;
+use crate::search_by_marks::{OffsetTest, first_by_marks, units_with_bits};
 use crate::search_context::{SearchContext, text_end};
 use regress_plan::required_prefix_prefilters::MaskedUnitProbe;
 use regress_plan::required_prefix_types::Prefix;
-
-/// The number of offsets that are probed together.
-const BLOCK: usize = 32;
-
-/// The number of offsets probed together in a block where some offset passes.
-const PART: usize = 8;
-
-/// The number of probes tested alone on a block first. The rarest ones come first.
-const SELDOM: usize = 2;
 
 /// A prefix of matches, and probes that test bits of some of its units.
 #[derive(Clone, Copy)]
@@ -49,135 +41,101 @@ fn fits_here<W: SearchContext>(planned: &W, prefix: &Prefix, at: usize) -> bool
     true
 }
 
-// Checks whether all probes pass at an offset, as they do where the prefix may occur.
-#[inline(always)]
-fn all_pass<W: SearchContext>(planned: &W, probes: &[MaskedUnitProbe], at: usize) -> bool
-    requires { ProbesAreInRange probes.now (at + 1) (units (W.searching planned.now).text) }
-    ensures { (f : prefix.Prefix) → ProbesPassAllUnitsPrefixAllows f probes.now
-        → prefix_fits_at (W.searching planned.now) f at ≡ true → result ≡ true }
-{
-    let mut all = true;
-    let mut i = 0;
-    'probes: while i < probes.len() {
-        let probe = probes[i];
-        all &= probe.passes_bit_probe(unit_at_offset(planned, at + probe.ahead));
-        i += 1;
-    }
-    all
-}
-
-// Checks whether all probes pass at one of the `count` offsets from `from` on.
-#[inline(always)]
-fn some_pass<W: SearchContext>(
-    planned: &W,
-    probes: &[MaskedUnitProbe],
-    from: usize,
-    count: usize,
-) -> bool
-    requires room { ProbesAreInRange probes.now (from + count) (units (W.searching planned.now).text) }
-    requires inside { from + count ≤ units (W.searching planned.now).text }
-    ensures { (f : prefix.Prefix) → ProbesPassAllUnitsPrefixAllows f probes.now → result ≡ false
-        → NoPrefixFitsBetween (W.searching planned.now) f from (from + count) }
-{
-    let mut some = false;
-    let mut i = 0;
-    'places: while i < count {
-        some |= all_pass(planned, probes, from + i);
-        i += 1;
-    }
-    some
-}
-
-// Returns the first of the `count` offsets from `from` on where the prefix may occur.
-#[inline(always)]
-fn first_fitting<W: SearchContext>(
-    planned: &W,
-    prefix: &Prefix,
-    from: usize,
-    count: usize,
-) -> Option<usize>
-    requires some { 0 < prefix.now.len }
-    requires room { 0 < count
-        → from + count + prefix.now.len ≤ units (W.searching planned.now).text + 1 }
-    ensures { IsFirstPrefixFitInRange (W.searching planned.now) prefix.now from (from + count) result }
-{
-    let mut i = 0;
-    'places: while i < count {
-        let at = from + i;
-        if fits_here(planned, prefix, at) {
-            return Some(at);
-        }
-        i += 1;
-    }
-    None
-}
-
-// Returns the first offset of a part where the prefix may occur; the part is probed first.
-#[inline(always)]
-fn first_in_part<W: SearchContext>(
-    planned: &W,
-    probed: PrefixAndBitProbes<'_>,
-    from: usize,
-) -> Option<usize>
-    requires room { from + PART + probed.prefix.now.len ≤ units (W.searching planned.now).text }
-    ensures { IsFirstPrefixFitInRange (W.searching planned.now) probed.entry.prefix.now from (from + PART) result }
-{
-    let probes = probed.probes;
-    if some_pass(planned, probes, from, PART) {
-        first_fitting(planned, probed.prefix, from, PART)
-    } else {
-        None
-    }
-}
-
-// Returns the first offset of a block where the prefix may occur, part by part. It is separate from
-// the loop over blocks, because no offset passes in most blocks.
+/// Checks whether the prefix may occur at an offset.
 #[inline(never)]
-fn first_in_parts<W: SearchContext>(
-    planned: &W,
-    probed: PrefixAndBitProbes<'_>,
-    from: usize,
-) -> Option<usize>
-    requires room { from + BLOCK + probed.prefix.now.len ≤ units (W.searching planned.now).text }
-    ensures { IsFirstPrefixFitInRange (W.searching planned.now) probed.entry.prefix.now from (from + BLOCK) result }
+pub(crate) fn prefix_fits<W: SearchContext>(planned: &W, prefix: &Prefix, at: usize) -> bool
+    requires { IsBoundary (W.searching planned.now).text at }
+    ensures { result ≡ prefix_fits_at (W.searching planned.now) prefix.now at }
 {
-    let mut behind = 0;
-    'parts: while behind < BLOCK {
-        let at = from + behind;
-        if let Some(found) = first_in_part(planned, probed, at) {
-            return Some(found);
-        }
-        behind += PART;
+    text_end(planned) - at >= prefix.len && fits_here(planned, prefix, at)
+}
+
+// Marks the 32 offsets from `at` on where a probe passes.
+#[inline(always)]
+fn marks_of_probe<W: SearchContext>(planned: &W, at: usize, probe: MaskedUnitProbe) -> u64
+    requires { at + probe.ahead + 32 ≤ units (W.searching planned.now).text }
+    ensures { (f : prefix.Prefix) → ProbePassesAllUnitsPrefixAllows f probe
+        → MarksAllPassing (prefix_fits_at (W.searching planned.now) f) at result }
+{
+    units_with_bits(
+        planned,
+        at + probe.ahead,
+        u16::from(probe.mask),
+        u16::from(probe.bits),
+    )
+}
+
+impl<W: SearchContext> OffsetTest<W> for PrefixAndBitProbes<'_> {
+    ghost passes_at = { λ probed w at. prefix_fits_at w probed.prefix.now at };
+
+    ghost reach = { λ probed. probed.prefix.now.len };
+
+    // Tests the rarest two probes.
+    #[inline(always)]
+    fn marks(&self, planned: &W, at: usize) -> u64 {
+        let [a, b, _, _] = *self.probes;
+        marks_of_probe(planned, at, a) & marks_of_probe(planned, at, b)
     }
-    None
+
+    // Tests all probes.
+    #[inline(always)]
+    fn strict_marks(&self, planned: &W, at: usize) -> u64 {
+        let [_, _, c, d] = *self.probes;
+        let seldom = self.marks(planned, at);
+        seldom & marks_of_probe(planned, at, c) & marks_of_probe(planned, at, d)
+    }
+
+    #[inline(always)]
+    fn passes(&self, planned: &W, at: usize) -> bool {
+        fits_here(planned, self.prefix, at)
+    }
 }
 
-// Checks whether the probes pass at an offset of a block: the rarest probes alone first, then all.
-#[inline(always)]
-fn block_passes<W: SearchContext>(planned: &W, probes: &[MaskedUnitProbe; 4], from: usize) -> bool
-    requires room { ProbesAreInRange probes.now (from + BLOCK) (units (W.searching planned.now).text) }
-    requires inside { from + BLOCK ≤ units (W.searching planned.now).text }
-    ensures { (f : prefix.Prefix) → ProbesPassAllUnitsPrefixAllows f probes.now → result ≡ false
-        → NoPrefixFitsBetween (W.searching planned.now) f from (from + BLOCK) }
-{
-    let seldom = &probes[..SELDOM];
-    some_pass(planned, seldom, from, BLOCK) && some_pass(planned, probes, from, BLOCK)
+/// A test by the same probes, in which the rarest one is asked first, and the others where it passes.
+#[derive(Clone, Copy)]
+struct RarestProbeFirst<'p> {
+    probed: PrefixAndBitProbes<'p>,
 }
 
-// Returns the first offset of a block where the prefix may occur; the whole block is probed first.
-#[inline(always)]
-fn first_in_block<W: SearchContext>(
-    planned: &W,
-    probed: PrefixAndBitProbes<'_>,
-    from: usize,
-) -> Option<usize>
-    requires room { from + BLOCK + probed.prefix.now.len ≤ units (W.searching planned.now).text }
-    ensures { IsFirstPrefixFitInRange (W.searching planned.now) probed.entry.prefix.now from (from + BLOCK) result }
-{
-    if block_passes(planned, probed.probes, from) {
-        first_in_parts(planned, probed, from)
-    } else {
-        None
+impl<W: SearchContext> OffsetTest<W> for RarestProbeFirst<'_> {
+    ghost passes_at = { λ first w at. prefix_fits_at w first.probed.prefix.now at };
+
+    ghost reach = { λ first. first.probed.prefix.now.len };
+
+    #[inline(always)]
+    fn marks(&self, planned: &W, at: usize) -> u64 {
+        let [a, _, _, _] = *self.probed.probes;
+        marks_of_probe(planned, at, a)
+    }
+
+    #[inline(always)]
+    fn strict_marks(&self, planned: &W, at: usize) -> u64 {
+        self.probed.strict_marks(planned, at)
+    }
+
+    // The marks of the rarest probe are not asked for, so that no vector is kept from one block of
+    // instructions to the next.
+    #[inline(always)]
+    fn rejects(&self, planned: &W, at: usize) -> bool {
+        let [_, b, c, d] = *self.probed.probes;
+        let second = marks_of_probe(planned, at, b);
+        second & marks_of_probe(planned, at, c) & marks_of_probe(planned, at, d) == 0
+    }
+
+    #[inline(always)]
+    fn passes(&self, planned: &W, at: usize) -> bool {
+        fits_here(planned, self.probed.prefix, at)
+    }
+}
+
+// Checks whether a probe passes for a rare letter alone: a capital letter, or in both cases one of
+// those that are rare in words. Few blocks have one. Other rare units are frequent in logs and programs.
+fn is_of_rare_letter(probe: MaskedUnitProbe) -> bool {
+    let is_rare = matches!(probe.bits | 0x20, b'j' | b'k' | b'q' | b'v' | b'x' | b'z');
+    match probe.mask {
+        0xFF => is_rare || probe.bits.is_ascii_uppercase(),
+        0xDF => is_rare,
+        _ => false,
     }
 }
 
@@ -201,14 +159,10 @@ pub(crate) fn next_by_bit_probes<W: SearchContext>(
     requires ascii { PrefixAllowsOnlyAsciiFirst probed.prefix.now }
     ensures { IsFirstBoundaryWherePrefixFits (W.searching planned.now) probed.entry.prefix.now from result }
 {
-    let mut left = places_left(text_end(planned), from, probed.prefix.len);
-    let mut at = from;
-    'blocks: while left > BLOCK {
-        if let Some(found) = first_in_block(planned, probed, at) {
-            return Some(found);
-        }
-        at += BLOCK;
-        left -= BLOCK;
+    let to = from + places_left(text_end(planned), from, probed.prefix.len);
+    if is_of_rare_letter(probed.probes[0]) {
+        first_by_marks(planned, &RarestProbeFirst { probed }, from, to)
+    } else {
+        first_by_marks(planned, &probed, from, to)
     }
-    first_fitting(planned, probed.prefix, at, left)
 }

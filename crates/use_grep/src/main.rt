@@ -24,7 +24,7 @@ use crate::failure::Failure;
 use crate::joining::joined;
 use crate::options::{LINE, Options, Output};
 use crate::pattern::{check_alone, compile, say_refused};
-use crate::patterns::{given_patterns, has_posix_class, may_refer};
+use crate::patterns::{given_patterns, has_posix_class, has_property_escape, may_refer};
 use crate::search::{Search, Tally};
 use anyhow::{Result, bail};
 use std::fs;
@@ -118,11 +118,7 @@ fn run_checked(rt: &HostRuntime, options: &Options<'_>, patterns: &[String]) -> 
 // Checks the patterns, and reports what is wrong. Each of several has to be a pattern by itself that refers to no
 // group, since groups have other numbers in the pattern that is made of them.
 fn are_patterns(rt: &HostRuntime, options: &Options<'_>, patterns: &[String]) -> Result<bool> {
-    if has_posix_class(options.pattern) {
-        eprintln!(rt;
-            "use_grep: note: POSIX classes such as [[:alpha:]] do not exist in ECMAScript: write [A-Za-z]"
-        )?;
-    }
+    print_notes(rt, options.pattern)?;
     if patterns.len() < 2 {
         return Ok(true);
     }
@@ -137,6 +133,21 @@ fn are_patterns(rt: &HostRuntime, options: &Options<'_>, patterns: &[String]) ->
         }
     }
     Ok(true)
+}
+
+// Reports what a pattern of grep means here, where that is something else.
+fn print_notes(rt: &HostRuntime, pattern: &str) -> Result<()> {
+    if has_posix_class(pattern) {
+        eprintln!(rt;
+            "use_grep: note: POSIX classes such as [[:alpha:]] do not exist in ECMAScript: write [A-Za-z]"
+        )?;
+    }
+    if has_property_escape(pattern) {
+        eprintln!(rt;
+            "use_grep: note: \\p and a brace match themselves, since a pattern here has no flag u: write ranges such as [A-Z]"
+        )?;
+    }
+    Ok(())
 }
 
 fn search_files(rt: &HostRuntime, options: &Options<'_>) -> Result<u8> {

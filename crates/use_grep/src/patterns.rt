@@ -99,6 +99,20 @@ pub fn may_refer(pattern: &str) -> bool {
     false
 }
 
+/// Checks whether a pattern has `\p{` or `\P{`, which without the flag `u` is the letter and a brace.
+pub fn has_property_escape(pattern: &str) -> bool {
+    let mut is_escaped = false;
+    let mut is_letter_escaped = false;
+    for c in pattern.chars() {
+        if is_letter_escaped && c == '{' {
+            return true;
+        }
+        is_letter_escaped = is_escaped && (c == 'p' || c == 'P');
+        is_escaped = c == '\\' && !is_escaped;
+    }
+    false
+}
+
 /// Checks whether a pattern has a POSIX class, such as `[:alpha:]` or `[:^alpha:]`, which ECMAScript does not know.
 pub fn has_posix_class(pattern: &str) -> bool {
     for behind in pattern.split("[:").skip(1) {

@@ -23,12 +23,12 @@ pub type MatchesInWork<'r, Input> = WorkMatches<BoundedExecutor<'r, Input>>;
 /// A pattern with a known work bound: on a text of n units, all matches together take at most
 /// `work_per_unit` × (n + 1) work. A unit of a text is a byte or a 16-bit code unit.
 ///
-/// A unit of work is one step of a thread, one backtrack to a pending thread, one character that a
-/// char loop examines, or one record of a failure. Copies of states and the positions that are
-/// passed are not counted. The work therefore bounds the time, up to a factor that depends on the
-/// pattern. On most texts these searches take longer than those of `Regex` (`docs/LINEAR.md`). They
-/// remember failures in one bit for each position, each instruction that records, and each state of
-/// the loops around it.
+/// A unit of work is one step of a thread, one backtrack to a pending thread, one thread that is
+/// dropped because it is known to fail, one character that a char loop examines, or one record of a
+/// failure that is reached. Copies of states and the positions that are passed are not counted. The
+/// work therefore bounds the time, up to a factor that depends on the pattern. On most texts these
+/// searches take longer than those of `Regex` (`docs/LINEAR.md`). They remember failures in one bit
+/// for each position, each instruction that records, and each state of the loops around it.
 ///
 /// Contracts see the pattern, and the number that `work_per_unit` returns.
 #[derive(Drop)]

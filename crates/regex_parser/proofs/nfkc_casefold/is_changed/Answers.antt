@@ -1,10 +1,15 @@
 use Rattle.std.proofs.Common.{◌++◌, sym, ap, ◌∙◌}
 use Rattle.std.specs.Prelude.{encode_utf8}
-use Rattle.regex_parser.proofs.NfkcCasefoldLemmas.{ignorable-changes, changes-if_not_same}
+use Rattle.regex_parser.proofs.NfkcCasefoldLemmas.{ignorable-changes, itself-unchanged, changes-if_not_same}
 use Rattle.regex_parser.proofs.nfkc_casefold.is_changed.Goals as goal
 
 pub returns-then-is_default_ignorable_code_point : goal.returns-then-is_default_ignorable_code_point
 returns-then-is_default_ignorable_code_point c = ignorable-changes c.args.c (sym c.is_default_ignorable_code_point.ensures ∙ c.if-is_default_ignorable_code_point.true)
+
+pub returns-then-is_mapped_to_itself : goal.returns-then-is_mapped_to_itself
+returns-then-is_mapped_to_itself c =
+    itself-unchanged c.args.c (sym c.is_default_ignorable_code_point.ensures ∙ c.if-is_default_ignorable_code_point.false)
+    (c.is_mapped_to_itself.ensures c.if-is_mapped_to_itself.true)
 
 pub returns : goal.returns
 returns c =

@@ -1,8 +1,31 @@
+use Rattle.std.proofs.Common.{sym, ◌∙◌, subst, Ok, None}
+use Rattle.regress_exec.specs.AttemptResultsAndStartsToTry.{NoMatchAt}
+use Rattle.regress_exec.specs.declared.exec.SearchError.{SearchError}
+use Rattle.regress_backtrack.specs.ProgramsAndPlans.{executed_tree_of}
 use Rattle.regex_pattern_front.specs.AstToSpecTree.{tree_of}
 use Rattle.regress_backtrack.specs.State.{current_thread_state_of}
 use Rattle.regress_exec.proofs.InWork.{goes-on-free}
-use Rattle.regress_backtrack.proofs.InPlace.{can-be, can-run, ends-planned}
+use Rattle.regress_backtrack.proofs.InPlace.{can-be, can-run, end-planned, ends-planned, search-run}
 use Rattle.regress_backtrack.proofs.classicalbacktrack.BacktrackExecutorSingleAttemptExecutor.attempt.Goals as goal
+
+pub leaps_over_if_due-requires-clause-can : goal.leaps_over_if_due-requires-clause-can
+leaps_over_if_due-requires-clause-can g c =
+    let s = c.args.self.now.search in
+    search-run s.program.wide s.same s.searched.well_formed s.searched.unicode s.searched.bytes (g.met.Input.InputIndexer.is_text s.searched.input)
+
+pub returns-then-leaps_over_if_due-clause-found : goal.returns-then-leaps_over_if_due-clause-found
+returns-then-leaps_over_if_due-clause-found g c =
+    let s = c.args.self.now.search in
+    let can = can-be s.same s.searched.well_formed s.searched.unicode s.searched.bytes in
+    let offset = g.Input.Position.PositionType.offset in
+    let text = g.Input.InputIndexer.text s.searched.input in
+    let none = subst (NoMatchAt (executed_tree_of s.program) text) c.pos_to_offset-at.ensures (c.leaps_over_if_due.ensures.none c.if-leaps_over_if_due.true) in
+    sym none ∙ end-planned s.program.wide (tree_of s.program.regex) text can.well_formed (offset c.args.pos)
+
+pub returns-then-leaps_over_if_due-clause-work : goal.returns-then-leaps_over_if_due-clause-work
+returns-then-leaps_over_if_due-clause-work g c =
+    let offset = g.Input.Position.PositionType.offset in
+    goes-on-free {E = SearchError} offset (offset c.args.pos) (Ok None)
 
 pub retry_with_memo-requires-clause-can : goal.retry_with_memo-requires-clause-can
 retry_with_memo-requires-clause-can g c =

@@ -6,8 +6,11 @@ use Rattle.regress_backtrack.proofs.NextStarts.{next-further}
 use Rattle.regress_backtrack.proofs.InPlace.{can-be, search-run, end-planned, next-tree, next-planned}
 use Rattle.regress_backtrack.proofs.classicalbacktrack.BacktrackExecutorSingleAttemptExecutor.next_start_after_failed_attempt.Goals as goal
 
-pub next_candidate_start-requires-clause-can : goal.next_candidate_start-requires-clause-can
-next_candidate_start-requires-clause-can g c =
+pub next_candidate_past_leap-requires-clause-leapt : goal.next_candidate_past_leap-requires-clause-leapt
+next_candidate_past_leap-requires-clause-leapt g c = c.args.self.now.leapt
+
+pub next_candidate_past_leap-requires-clause-can : goal.next_candidate_past_leap-requires-clause-can
+next_candidate_past_leap-requires-clause-can g c =
     let s = c.args.self.now.search in
     search-run s.program.wide s.same s.searched.well_formed s.searched.unicode s.searched.bytes (g.met.Input.InputIndexer.is_text s.searched.input)
 
@@ -15,7 +18,7 @@ pub next_start_past_loop-requires-clause-at : goal.next_start_past_loop-requires
 next_start_past_loop-requires-clause-at g c = c.in_ok-to.ensures.0
 
 pub next_start_past_loop-requires-clause-ahead : goal.next_start_past_loop-requires-clause-ahead
-next_start_past_loop-requires-clause-ahead g c = omega (arith, c.in_ok-next.ensures.1, c.in_ok-to.ensures.1)
+next_start_past_loop-requires-clause-ahead g c = omega (arith, c.in_ok-next.ensures.next.1, c.in_ok-to.ensures.1)
 
 pub next_start_past_loop-requires-clause-can : goal.next_start_past_loop-requires-clause-can
 next_start_past_loop-requires-clause-can g c =
@@ -35,7 +38,7 @@ returns-in_err-to-clause-next g c =
     let text = g.Input.InputIndexer.text s.searched.input in
     let offset = g.Input.Position.PositionType.offset in
     subst (λ o. NextStartSkipsNoMatch (tree_of s.program.regex) text (offset c.args.tried + 1) (option_map offset o)) (sym c.from_residual-in_err-to.ensures)
-    (next-planned s.program.wide text s.same can.well_formed (offset c.args.tried + 1) (offset c.in_ok-next.next) None c.in_ok-next.ensures c.in_err-to.ensures)
+    (next-planned s.program.wide text s.same can.well_formed (offset c.args.tried + 1) (offset c.in_ok-next.next) None c.in_ok-next.ensures.next c.in_err-to.ensures)
 
 pub returns-then-goes_over-clause-next : goal.returns-then-goes_over-clause-next
 returns-then-goes_over-clause-next g c =
@@ -47,7 +50,7 @@ returns-then-goes_over-clause-next g c =
     let last = option_map offset c.next_start_past_loop.result in
     let text = g.Input.InputIndexer.text s.searched.input in
     next-further (tree_of s.program.regex) text behind to last
-    (next-planned s.program.wide text s.same can.well_formed behind (offset c.in_ok-next.next) (Some to) c.in_ok-next.ensures c.in_ok-to.ensures)
+    (next-planned s.program.wide text s.same can.well_formed behind (offset c.in_ok-next.next) (Some to) c.in_ok-next.ensures.next c.in_ok-to.ensures)
     (next-tree s.program.wide (tree_of s.program.regex) _ can.well_formed to last c.next_start_past_loop.ensures)
 
 pub returns-clause-next : goal.returns-clause-next
@@ -56,4 +59,4 @@ returns-clause-next g c =
     let can = can-be s.same s.searched.well_formed s.searched.unicode s.searched.bytes in
     let offset = g.Input.Position.PositionType.offset in
     next-planned s.program.wide (g.Input.InputIndexer.text s.searched.input) s.same can.well_formed (offset c.args.tried + 1) (offset c.in_ok-next.next) (Some (offset c.in_ok-to.to))
-    c.in_ok-next.ensures c.in_ok-to.ensures
+    c.in_ok-next.ensures.next c.in_ok-to.ensures

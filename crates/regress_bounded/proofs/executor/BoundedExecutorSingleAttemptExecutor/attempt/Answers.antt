@@ -6,8 +6,10 @@ use Rattle.regress_machine.specs.SearchFindsFirstOutcomeAtPlace.{TreeProgramCanS
 use Rattle.regress_program.specs.CompilationOfTreesAsFunction.{compiled}
 use Rattle.regress_exec.specs.AttemptsAndMatchesWithinWork.{least_offset_after_match}
 use Rattle.regress_exec.proofs.Searchable.{can-search}
+use Rattle.regress_bounded.specs.CostsOfAttempts.{AttemptCosts, failures_of}
 use Rattle.regress_bounded.specs.WorkOfSuccessiveAttempts.{HasWalked}
-use Rattle.regress_bounded.proofs.Ending.{found-inside, none-left, on-by-none, on-by-found, never-wanted}
+use Rattle.regress_exec.proofs.Costing.{stops-out, stops-without}
+use Rattle.regress_bounded.proofs.Ending.{exact-cost, found-inside, more-than-left, none-left, on-by-none, on-by-found, never-wanted}
 use Rattle.regress_bounded.proofs.executor.BoundedExecutorSingleAttemptExecutor.attempt.Goals.{then-self, else-self, in-Work, in_default, Start}
 use Rattle.regress_bounded.proofs.executor.BoundedExecutorSingleAttemptExecutor.attempt.Given.{Over}
 use Rattle.regress_bounded.proofs.executor.BoundedExecutorSingleAttemptExecutor.attempt.Goals as goal
@@ -98,4 +100,29 @@ returns-after-matches-clause-work g c =
       | in-Work w ↦ absurd (never-wanted g.Input.Position.PositionType.offset (can g (goal.at.returns-after-matches-clause-work g c).Start) (g.Input.Position.PositionType.offset c.args.pos) c.requires self.course c.preferred_final_state.new.course (g.met.Input.InputIndexer.is_text self.searched.input) self.right c.preferred_final_state.ensures.memo_analysis (self.walked turn.is) turn.past
           c.in-Err.refusal c.in-Err.ensures.runs w.in-Work.is)
       | in_default w ↦ (w.self-is, tt)
+    ]
+
+-- ---- Costs
+
+pub returns-in-Ok-Some-clause-cost : goal.returns-in-Ok-Some-clause-cost
+returns-in-Ok-Some-clause-cost g c =
+    exact-cost g.Input.Position.PositionType.offset (can g (goal.at.returns-in-Ok-Some-clause-cost g c).Start) (g.Input.Position.PositionType.offset c.args.pos) c.requires c.args.self.now.course
+    c.preferred_final_state.new.course c.args.self.now.right c.preferred_final_state.ensures.left _ c.in-Ok-Some.ensures.runs
+
+pub returns-in-Ok-None-clause-cost : goal.returns-in-Ok-None-clause-cost
+returns-in-Ok-None-clause-cost g c =
+    exact-cost g.Input.Position.PositionType.offset (can g (goal.at.returns-in-Ok-None-clause-cost g c).Start) (g.Input.Position.PositionType.offset c.args.pos) c.requires c.args.self.now.course
+    c.preferred_final_state.new.course c.args.self.now.right c.preferred_final_state.ensures.left _ c.in-Ok-None.ensures.runs
+
+pub returns-after-matches-clause-cost : goal.returns-after-matches-clause-cost
+returns-after-matches-clause-cost g c =
+    let self = c.args.self.now in
+    let at = g.Input.Position.PositionType.offset c.args.pos in
+    let costs = AttemptCosts (tree_of self.searched.program.now) (g.Input.InputIndexer.text self.searched.input) (failures_of self.course.memo) at in
+    let new = c.preferred_final_state.new.course in
+    elim c.match-matches.branch [
+      | in-Work w ↦ stops-out costs self.course.left _ new.left w.self-is
+          (more-than-left g.Input.Position.PositionType.offset (can g (goal.at.returns-after-matches-clause-cost g c).Start) at c.requires self.course new self.right
+          c.in-Err.refusal c.in-Err.ensures.runs w.in-Work.is)
+      | in_default w ↦ stops-without costs self.course.left _ new.left w.self-is c.preferred_final_state.ensures.left
     ]

@@ -5,11 +5,13 @@ use Rattle.regex_meaning.specs.MatchGroupsByNumberAndName.{group_names_by_id}
 use Rattle.regex_meaning.specs.StepBudget.{need_from}
 use Rattle.regress_exec.specs.MatchesAsSpecAnswers.{answer_from_parts}
 use Rattle.regress_exec.specs.AttemptResultsAndStartsToTry.{next_search_offset}
+use Rattle.regress_exec.specs.CostsOfSearches.{SearchCosts}
 use Rattle.regress_exec.specs.declared.exec.Match.{Match}
 use Rattle.regress_exec.specs.AttemptsAndMatchesWithinWork.{is_work_enough}
 use Rattle.regress_exec.specs.declared.exec.SearchError.TheVariants.{Memory}
 use Rattle.regress_exec.proofs.Budget.{handed, refused-last, spent-begins}
 use Rattle.regress_exec.proofs.Skips.{untried, walk-begins}
+use Rattle.regress_exec.proofs.Costing.{counted₁, counted₂, counted₃, failing-begins, failing-ends, failing-finds, failing-goes, failing-stops, handed-cost, stops-without}
 use Rattle.regress_exec.proofs.InWork.{enough-behind, enough-next, turn-behind}
 use Rattle.regress_exec.proofs.Walking.{walk-at, attempt-refused, found-there, goes-there}
 use Rattle.regress_exec.proofs.search_loop.AnyMatchProducer.next_match.Goals as goal
@@ -29,6 +31,13 @@ places-init g c = record {
       enough-next (a.enough self) (a.ahead self) (a.tree self) (a.text self) (offset c.args.pos) (option_map offset c.first_start_to_try_from-next.result) c.first_start_to_try_from-next.ensures.next;
   next_start = refl;
   left = omega arith;
+  course =
+      let a = g.A.SingleAttemptExecutor in
+      let offset = g.A.Input.Position.PositionType.offset in
+      let self = c.args.self.now in
+      counted₁ a.counts_work
+      (failing-begins a.attempt_costs (a.tree self) (a.text self) (a.failures self) (offset c.args.pos) (a.left self) (option_map offset c.first_start_to_try_from-next.result))
+      c.first_start_to_try_from-next.ensures.at_work;
 }
 
 pub next_search_pos-requires : goal.next_search_pos-requires
@@ -103,6 +112,16 @@ places-preserved g c =
           c.in-Some.is (invariant.turn begins) c.in_ok-end.ensures.work c.in_default-2.is);
       next_start = invariant.next_start;
       left = omega (arith, c.in_ok-end.ensures.left, invariant.left);
+      course =
+          let a = g.A.SingleAttemptExecutor in
+          let offset = g.A.Input.Position.PositionType.offset in
+          let old = c.places.self in
+          let new = c.attempt.new.self in
+          counted₃ a.counts_work
+          (λ f takes on. failing-goes a.attempt_costs offset c.places.next c.in-Some.start c.in-Some.is (a.tree old) (a.text old) invariant.same_tree invariant.same_text (a.failures old) (a.left old) f
+          (a.groups new) _ c.in_ok-end.ensures.found c.in_default-2.is (option_map offset c.next_start_after_failed_attempt-next.result) (a.tree new) (a.text new)
+          c.in_ok-end.ensures.same.0 c.in_ok-end.ensures.same.1 (a.failures new) (a.left new) takes on)
+          invariant.course c.in_ok-end.ensures.cost c.next_start_after_failed_attempt-next.ensures.at_work;
     }
 
 pub returns-in_err-end-clause-steps : goal.returns-in_err-end-clause-steps
@@ -121,3 +140,52 @@ returns-in_err-found-clause-steps g c =
     let need = need_from _ _ (g.A.Input.Position.PositionType.offset c.args.pos) in
     handed (Option Match) (Option Match) need (budget c.args.self.now) (budget c.attempt.new.self) Memory c.from_residual-in_err-found.result c.from_residual-in_err-found.ensures.1
     (refused-last (Option Match) need (budget c.args.self.now) (budget c.attempt.new.self) found.spends.1)
+
+-- ---- Costs
+
+pub returns-in-Some-2-clause-cost : goal.returns-in-Some-2-clause-cost
+returns-in-Some-2-clause-cost g c =
+    let a = g.A.SingleAttemptExecutor in
+    let invariant = c.places.invariant in
+    let old = c.places.self in
+    let new = c.attempt.new.self in
+    counted₂ a.counts_work
+    (λ f takes. failing-finds a.attempt_costs g.A.Input.Position.PositionType.offset c.places.next c.in-Some.start c.in-Some.is (a.tree old) (a.text old) invariant.same_tree invariant.same_text
+    (a.failures old) (a.left old) f (a.groups new) _ c.in_ok-end.ensures.found c.in-Some-2.end c.in-Some-2.is (a.failures new) (a.left new) takes)
+    invariant.course c.in_ok-end.ensures.cost
+
+pub returns-in_err-end-clause-cost : goal.returns-in_err-end-clause-cost
+returns-in_err-end-clause-cost g c =
+    let a = g.A.SingleAttemptExecutor in
+    let offset = g.A.Input.Position.PositionType.offset in
+    let invariant = c.places.invariant in
+    let self = c.args.self.now in
+    let old = c.places.self in
+    let new = c.attempt.new.self in
+    counted₂ a.counts_work
+    (λ f stops. handed-cost (SearchCosts a.attempt_costs (a.tree self) (a.text self) (a.failures self) (Some (offset c.args.pos))) (a.left self) c.from_residual.result c.in_err-end.field-0.0
+    (a.out_of_work new) (a.left new) (a.failures new) c.from_residual.ensures.1
+    (failing-stops a.attempt_costs offset c.places.next c.in-Some.start c.in-Some.is (a.tree old) (a.text old) invariant.same_tree invariant.same_text (a.failures old) (a.left old) f
+    (a.out_of_work new) (a.left new) stops))
+    invariant.course c.in_err-end.ensures.cost
+
+pub returns-in_err-found-clause-cost : goal.returns-in_err-found-clause-cost
+returns-in_err-found-clause-cost g c =
+    let a = g.A.SingleAttemptExecutor in
+    let offset = g.A.Input.Position.PositionType.offset in
+    let self = c.args.self.now in
+    let new = c.attempt.new.self in
+    let costs = SearchCosts a.attempt_costs (a.tree self) (a.text self) (a.failures self) (Some (offset c.args.pos)) in
+    counted₁ a.counts_work
+    (λ within. handed-cost costs (a.left self) c.from_residual-in_err-found.result Memory (a.out_of_work new) (a.left new) (a.failures new) c.from_residual-in_err-found.ensures.1
+    (stops-without costs (a.left self) (a.out_of_work new) (a.left new) within (omega (arith, c.in_ok-end.ensures.left, c.places.invariant.left))))
+    c.in_ok-end.ensures.within
+
+pub returns-clause-cost : goal.returns-clause-cost
+returns-clause-cost g c =
+    let a = g.A.SingleAttemptExecutor in
+    let last = c.places in
+    counted₁ a.counts_work
+    (failing-ends a.attempt_costs (a.failures last.self) (a.left last.self) (option_map g.A.Input.Position.PositionType.offset last.next)
+    (ap (option_map g.A.Input.Position.PositionType.offset) c.in_default.is))
+    last.invariant.course

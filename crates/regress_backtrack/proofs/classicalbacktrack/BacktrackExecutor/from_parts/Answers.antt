@@ -1,0 +1,11 @@
+use Rattle.std.proofs.Common.{rules}
+use Rattle.regress_backtrack.proofs.LeapStarts.{no-leap-yet}
+use Rattle.regress_backtrack.proofs.classicalbacktrack.BacktrackExecutor.from_parts.Goals as goal
+
+pub invariant_of-result : goal.invariant_of-result
+invariant_of-result g c =
+    let s = c.new-search.result in
+    record {
+      right = search rules;
+      leapt = no-leap-yet _ _ (g.met.Input.InputIndexer.is_text s.searched.input) _ _ c.new-leap.ensures.from c.new-leap.ensures.to;
+    }

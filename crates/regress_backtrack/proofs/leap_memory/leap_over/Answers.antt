@@ -1,0 +1,37 @@
+use Rattle.std.proofs.Common.{Some, None, arith}
+use Rattle.std.proofs.lemmas.Bool.{ltb-true}
+use Rattle.regress_input.proofs.Places.{boundary_inside}
+use Rattle.regress_backtrack.proofs.LeapStarts.{leap-excludes, leap-right}
+use Rattle.regress_backtrack.proofs.leap_memory.leap_over.Goals as goal
+
+pub leap_from-requires-clause-ascii : goal.leap_from-requires-clause-ascii
+leap_from-requires-clause-ascii g c = c.requires.leap.ascii
+
+pub leap_from-requires-clause-alike : goal.leap_from-requires-clause-alike
+leap_from-requires-clause-alike g c = c.requires.leap.alike
+
+pub returns-in-Some-clause-none : goal.returns-in-Some-clause-none
+returns-in-Some-clause-none g c = λ yes.
+    let w = g.W.SearchContext.searching c.args.planned.now in
+    let leads = leap-excludes w (g.met.W.SearchContext.has_units c.args.planned.now) c.requires.can c.args.leap.now c.requires.leap c.args.at (Some c.in-Some.target) c.in-Some.ensures in
+    leads.2 c.args.at c.requires.at (omega arith) (ltb-true c.args.at c.in-Some.target.to yes)
+
+pub returns-in-Some-clause-right : goal.returns-in-Some-clause-right
+returns-in-Some-clause-right g c =
+    let w = g.W.SearchContext.searching c.args.planned.now in
+    rw (c.schedule.ensures.from, c.schedule.ensures.to)
+    (leap-right w.tree w.text (g.met.W.SearchContext.is_text c.args.planned.now) c.args.at (Some c.in-Some.target.to)
+    (leap-excludes w (g.met.W.SearchContext.has_units c.args.planned.now) c.requires.can c.args.leap.now c.requires.leap c.args.at (Some c.in-Some.target) c.in-Some.ensures))
+
+pub returns-in-None-clause-none : goal.returns-in-None-clause-none
+returns-in-None-clause-none g c = λ yes.
+    let w = g.W.SearchContext.searching c.args.planned.now in
+    let leads = leap-excludes w (g.met.W.SearchContext.has_units c.args.planned.now) c.requires.can c.args.leap.now c.requires.leap c.args.at None c.in-None.ensures in
+    let inside = boundary_inside w.text (g.met.W.SearchContext.is_text c.args.planned.now) c.args.at c.requires.at in
+    leads c.args.at c.requires.at (omega arith) (omega (arith, inside))
+
+pub returns-in-None-clause-right : goal.returns-in-None-clause-right
+returns-in-None-clause-right g c =
+    let w = g.W.SearchContext.searching c.args.planned.now in
+    leap-right w.tree w.text (g.met.W.SearchContext.is_text c.args.planned.now) c.args.at None
+    (leap-excludes w (g.met.W.SearchContext.has_units c.args.planned.now) c.requires.can c.args.leap.now c.requires.leap c.args.at None c.in-None.ensures)

@@ -1,0 +1,15 @@
+use Rattle.std.proofs.Common.{Option, subst}
+use Rattle.std.specs.Prelude.{IfSome}
+use Rattle.regress_plan.specs.declared.leap.Leap.{Leap}
+use Rattle.regress_plan.specs.declared.plan.Plan.{Plan}
+use Rattle.regress_plan.specs.Leaps.{IsLeap}
+use Rattle.regress_plan.specs.TableKeysOfUnits.{is_16_bit_encoding}
+use Rattle.regress_plan.proofs.LookAheadLemmas.{some-has}
+use Rattle.regress_scan.specs.TreePlanAndText.{program_of}
+use Rattle.regress_backtrack.proofs.leap_memory.leaps_over.Goals as goal
+
+pub leap_over-requires-clause-leap : goal.leap_over-requires-clause-leap
+leap_over-requires-clause-leap g c =
+    let w = g.W.SearchContext.searching c.args.planned.now in
+    let P : Leap → Type 0 = IsLeap (is_16_bit_encoding w.encoding) (program_of w) in
+    some-has w.plan.leap P c.in-Some.leap (rw (← c.plan.ensures) c.in-Some.is) c.lemma_plan_fits_program.ensures.leap

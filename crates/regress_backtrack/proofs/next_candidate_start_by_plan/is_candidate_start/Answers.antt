@@ -1,0 +1,9 @@
+use Rattle.std.proofs.Common.{refl, sym, ◌∙◌}
+use Rattle.regress_backtrack.proofs.NextStarts.{prefix-excludes}
+use Rattle.regress_backtrack.proofs.next_candidate_start_by_plan.is_candidate_start.Goals as goal
+
+pub returns : goal.returns
+returns g c out =
+    let w = g.W.SearchContext.searching c.args.planned.now in
+    let is = c.lemma_plan_fits_program.ensures in
+    prefix-excludes w (g.met.W.SearchContext.has_units c.args.planned.now) is c.requires.can w.plan.start is.prefix refl c.args.at c.requires.at (sym c.is_candidate.ensures ∙ out)

@@ -1,0 +1,160 @@
+//! Leaps: attempts that are not made, by what each match comes to.
+
+ghost use Rattle.std.specs.Prelude.{◌≡◌, Some, true};
+ghost use Rattle.regex_meaning.specs.{Tree.{Tree}, Text.{Text}, CodeUnitOffsets.{IsBoundary}};
+ghost use Rattle.regress_exec.specs.AttemptResultsAndStartsToTry.{NextStartSkipsNoMatch, NoMatchAt};
+ghost use Rattle.regress_machine.specs.SearchFindsFirstOutcomeAtPlace.{TreeProgramCanSearchText};
+ghost use Rattle.regress_plan.specs.{Leaps.{IsLeap}, TableKeysOfUnits.{is_16_bit_encoding}};
+ghost use Rattle.regress_scan.specs.TreePlanAndText.{program_of};
+ghost use Rattle.regress_backtrack.specs.LeapMemory.{IsLeapMemoryRight};
+
+use regress_plan::leap::Leap;
+use regress_scan::leaping::{LeapTarget, leap_from};
+use regress_scan::search_context::SearchContext;
+
+/// What a search knows by its last leap.
+#[derive(Clone, Copy)]
+pub(crate) struct LeapMemory {
+    // No match begins from `from` on and before `to` or, without `to`, up to the end.
+    from: usize,
+    to: Option<usize>,
+    // `to`, or the greatest number without it, so that one comparison finds most offsets past it.
+    until: usize,
+    // From this offset on, an attempt is preceded by a leap.
+    due: usize,
+    // How many leaps led no further, at most `MOST_VAIN`; half as many after one that did.
+    vain: u32,
+    // Whether an attempt was made. Only one is made by a search at a given offset.
+    began: bool,
+}
+
+/// After so many leaps that led no further, none is made for `REST` offsets.
+const MOST_VAIN: u32 = 16;
+
+const REST: usize = 1024;
+
+impl LeapMemory {
+    /// Returns the memory of a search that has made no leap yet.
+    pub(crate) fn new(leap: &Option<Leap>) -> Self
+        ensures from { result.from ≡ 0 }
+        ensures to { result.to ≡ Some 0 }
+    {
+        let due = if leap.is_some() { 0 } else { usize::MAX };
+        LeapMemory {
+            from: 0,
+            to: Some(0),
+            until: 0,
+            due,
+            vain: 0,
+            began: false,
+        }
+    }
+
+    // Checks whether a leap precedes an attempt at an offset.
+    #[inline(always)]
+    fn is_due(&self, at: usize) -> bool {
+        at >= self.due
+    }
+
+    /// Checks whether the last leap tells nothing of an offset.
+    #[inline(always)]
+    pub(crate) fn is_past(&self, at: usize) -> bool {
+        at >= self.until
+    }
+
+    /// Returns the first offset from `at` on where a match may begin, as far as the last leap
+    /// tells; `None` if there is none.
+    pub(crate) fn past(&self, at: usize) -> Option<usize>
+        ensures { (tree : Tree) (text : Text) → IsBoundary text at → IsLeapMemoryRight tree text self.now
+            → NextStartSkipsNoMatch tree text at result }
+    {
+        if at < self.from {
+            return Some(at);
+        }
+        match self.to {
+            Some(to) => Some(at.max(to)),
+            None => None,
+        }
+    }
+
+    // Sets when the next leap is due, after one from `from` on that led to `target`.
+    fn schedule(&mut self, from: usize, target: LeapTarget)
+        ensures from { self.new.from ≡ self.old.from }
+        ensures to { self.new.to ≡ self.old.to }
+    {
+        self.due = target.goal.saturating_add(1);
+        if target.to > from {
+            self.vain /= 2;
+        } else if self.vain < MOST_VAIN {
+            self.vain += 1;
+        } else {
+            self.due = self.due.max(from.saturating_add(REST));
+        }
+    }
+}
+
+/// Makes a leap from an offset, if one is due. Returns whether no match begins there.
+#[inline(always)]
+pub(crate) fn leaps_over_if_due<W: SearchContext>(
+    planned: &W,
+    memory: &mut LeapMemory,
+    at: usize,
+) -> bool
+    requires at { IsBoundary (W.searching planned.now).text at }
+    requires can { let w = W.searching planned.now in TreeProgramCanSearchText (program_of w) w.tree w.text }
+    ensures none { let w = W.searching planned.now in result ≡ true → NoMatchAt w.tree w.text at }
+    ensures right { let w = W.searching planned.now in IsLeapMemoryRight w.tree w.text memory.old
+        → IsLeapMemoryRight w.tree w.text memory.new }
+{
+    if !memory.is_due(at) {
+        return false;
+    }
+    leaps_over(planned, memory, at)
+}
+
+// Makes a leap from an offset. Returns whether no match begins there. None is made before the first
+// attempt.
+#[inline(never)]
+fn leaps_over<W: SearchContext>(planned: &W, memory: &mut LeapMemory, at: usize) -> bool
+    requires at { IsBoundary (W.searching planned.now).text at }
+    requires can { let w = W.searching planned.now in TreeProgramCanSearchText (program_of w) w.tree w.text }
+    ensures none { let w = W.searching planned.now in result ≡ true → NoMatchAt w.tree w.text at }
+    ensures right { let w = W.searching planned.now in IsLeapMemoryRight w.tree w.text memory.old
+        → IsLeapMemoryRight w.tree w.text memory.new }
+{
+    planned.lemma_plan_fits_program();
+    let Some(leap) = &planned.plan().leap else {
+        return false;
+    };
+    if !memory.began {
+        memory.began = true;
+        return false;
+    }
+    leap_over(planned, leap, memory, at)
+}
+
+// Makes a leap from an offset, and keeps where it led. Returns whether no match begins there.
+#[inline(always)]
+fn leap_over<W: SearchContext>(planned: &W, leap: &Leap, memory: &mut LeapMemory, at: usize) -> bool
+    requires at { IsBoundary (W.searching planned.now).text at }
+    requires can { let w = W.searching planned.now in TreeProgramCanSearchText (program_of w) w.tree w.text }
+    requires leap { let w = W.searching planned.now in IsLeap (is_16_bit_encoding w.encoding) (program_of w) leap.now }
+    ensures none { let w = W.searching planned.now in result ≡ true → NoMatchAt w.tree w.text at }
+    ensures right { let w = W.searching planned.now in IsLeapMemoryRight w.tree w.text memory.new }
+{
+    memory.from = at;
+    match leap_from(planned, leap, at) {
+        Some(target) => {
+            memory.to = Some(target.to);
+            memory.until = target.to;
+            memory.schedule(at, target);
+            at < target.to
+        }
+        None => {
+            memory.to = None;
+            memory.until = usize::MAX;
+            memory.due = usize::MAX;
+            true
+        }
+    }
+}

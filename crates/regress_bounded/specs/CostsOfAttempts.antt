@@ -1,0 +1,48 @@
+-- What attempts cost that remember failures from the first one on: an attempt is a search from the
+-- first instruction on, whose events (`CostsOfSearchEvents`) cost the sum of their costs.
+use Rattle.std.specs.Prelude.{◌≡◌, ◌+◌, ℕ, List, [], ◌∷◌, Option, Some, None, IfSome}
+use Rattle.regex_meaning.specs.Text.{Text, rightwards}
+use Rattle.regex_meaning.specs.Tree.{Tree}
+use Rattle.regex_meaning.specs.CompilationRelation.{Program}
+use Rattle.regress_machine.specs.Machine.{State, running, ends, act}
+use Rattle.regress_memo_laws.specs.MemoSearch.{Key, Entry, tried, tries}
+use Rattle.regress_memo_analysis.specs.declared.analysis_result.MemoAnalysis.{MemoAnalysis}
+use Rattle.regress_memo_analysis.specs.CheckedAnalysis.{IsAnalysisOf}
+use Rattle.regress_memo_analysis.specs.WorkBound.{first_row}
+use Rattle.regress_memo.specs.Laws.{ListsExactlyKnownKeys}
+use Rattle.regress_memo.specs.MemoContents.{has_failure}
+use Rattle.regress_memo.specs.MemoContractView.{MemoView}
+use Rattle.regress_program.specs.CompilationOfTreesAsFunction.{compiled}
+use Rattle.regress_exec.specs.CostsOfSearches.{Failures}
+use Rattle.regress_bounded.specs.CostsOfSearchEvents.{Costs}
+
+-- The failures in a memo table.
+abbrev pub failures_of : MemoView → Failures
+failures_of m ip at code = has_failure m (record { ip = ip; at = at; code = code })
+
+-- The list contains exactly the keys that are known to fail.
+abbrev pub ListsFailures : Failures → List Key → Type 0
+ListsFailures failures memory = ListsExactlyKnownKeys (λ k. failures k.ip k.at k.code) memory
+
+-- A search is over: no entry is left, or the operation of the current thread ends it.
+pub data HasFinished (program : Program) (text : Text) : List Entry → Type 0 where
+  no_entry : HasFinished program text []
+  is_end : (s end : State) (rest : List Entry) → act program text rightwards s ≡ ends end
+      → HasFinished program text (tried (running s) ∷ rest)
+
+-- The events of an attempt at an offset, by a memo analysis of the tree's program. Their costs are
+-- `cost`, and the failures `before` are known at first. If the attempt is over, the failures `after`
+-- are known.
+pub record EventsOfAttempt (tree : Tree) (text : Text) (before : Failures) (at cost : ℕ) (after : Option Failures) : Type 0 where
+  pub memo_analysis : MemoAnalysis
+  pub is_analysis : IsAnalysisOf (compiled tree) memo_analysis
+  pub memory : List Key
+  pub lists : ListsFailures before memory
+  pub now : List Key
+  pub row : List Entry
+  pub costs : Costs (compiled tree) text memo_analysis rightwards memory (tries (first_row (compiled tree) at)) cost now row
+  pub over : IfSome after (λ failures. HasFinished (compiled tree) text row × ListsFailures failures now)
+
+-- The attempt, or a part of it from its beginning on, costs this (a proposition).
+abbrev pub AttemptCosts : (tree : Tree) (text : Text) (before : Failures) (at cost : ℕ) (after : Option Failures) → Type 0
+AttemptCosts tree text before at cost after = ∥ EventsOfAttempt tree text before at cost after ∥₁

@@ -1,0 +1,186 @@
+//! Searches within a work budget.
+
+ghost use Rattle.std.specs.Prelude.{IsAscii};
+
+use crate::lines::write_found;
+use crate::rows::{Row, compare};
+use crate::starts::is_start;
+use regress_match::{BoundedRegex, Regex, WorkError, is_unit_boundary};
+use regress_pikevm::exec::{SearchError, WorkLimitedProducer, WorkMatches};
+use std::alloc::Global;
+
+// Rows of six fields: a pattern, `bytes` or `units` for the texts to search, an ASCII text, a start, the work
+// budget, and the matches with the work that is left. `limit` follows the matches if the budget is used up, and the
+// answer is `no bound` if no bound is known. The costs of the rows up to `(a|b)*c` were calculated by hand,
+// operation by operation: an instruction whose failure is recorded costs one more where it fails.
+pub const WORK_LIMITS: &str = r"a~bytes~ba~0~0~limit, 0 left
+a~bytes~ba~0~1~limit, 0 left
+a~bytes~ba~0~2~1..2; limit, 0 left
+a~bytes~ba~0~3~1..2, 0 left
+a~bytes~ba~0~4~1..2, 1 left
+a~bytes~ba~0~18446744073709551615~1..2, 18446744073709551612 left
+a~bytes~ba~1~2~1..2, 0 left
+a~bytes~ba~2~1~, 0 left
+a~bytes~ba~3~0~, 0 left
+a~units~ba~0~2~1..2; limit, 0 left
+a~units~ba~0~3~1..2, 0 left
+a~units~ba~0~18446744073709551615~1..2, 18446744073709551612 left
+a~units~ba~1~2~1..2, 0 left
+a~units~ba~2~1~, 0 left
+a~units~ba~3~0~, 0 left
+a*b~bytes~aab~0~0~limit, 0 left
+a*b~bytes~aab~0~4~limit, 0 left
+a*b~bytes~aab~0~5~0..3; limit, 0 left
+a*b~bytes~aab~0~9~0..3; limit, 0 left
+a*b~bytes~aab~0~10~0..3, 0 left
+a*b~bytes~aab~0~18446744073709551615~0..3, 18446744073709551605 left
+a*b~bytes~aa~0~18~limit, 0 left
+a*b~bytes~aa~0~19~, 0 left
+.*?x~bytes~ax~0~6~limit, 0 left
+.*?x~bytes~ax~0~7~0..2; limit, 0 left
+.*?x~bytes~ax~0~10~0..2; limit, 0 left
+.*?x~bytes~ax~0~11~0..2, 0 left
+a|b~units~cb~0~11~1..2; limit, 0 left
+a|b~units~cb~0~12~1..2, 0 left
+a|b~bytes~cb~0~7~limit, 0 left
+a|b~bytes~cb~0~8~1..2; limit, 0 left
+a|b~bytes~cb~0~12~1..2, 0 left
+a{2,3}~bytes~aaaa~0~3~limit, 0 left
+a{2,3}~bytes~aaaa~0~4~0..3; limit, 0 left
+a{2,3}~bytes~aaaa~0~8~0..3; limit, 0 left
+a{2,3}~bytes~aaaa~0~9~0..3, 0 left
+a??b~bytes~ab~0~5~limit, 0 left
+a??b~bytes~ab~0~6~0..2; limit, 0 left
+a??b~bytes~ab~0~10~0..2, 0 left
+[b]c~bytes~aabbc~0~5~limit, 0 left
+[b]c~bytes~aabbc~0~6~3..5; limit, 0 left
+[b]c~bytes~aabbc~0~7~3..5, 0 left
+(a|b)*c~bytes~abc~0~35~0..3 1..2; limit, 0 left
+(a|b)*c~bytes~abc~0~36~0..3 1..2, 0 left
+(a|b)*c~units~abc~0~35~0..3 1..2; limit, 0 left
+(a|b)*c~units~abc~0~36~0..3 1..2, 0 left
+(a*)*b~bytes~aa~0~0~limit, 0 left
+(a*)*b~bytes~aa~0~58~limit, 0 left
+(a*)*b~bytes~aa~0~59~, 0 left
+(a*)*b~bytes~aa~0~18446744073709551615~, 18446744073709551556 left
+(a*)*b~units~aa~0~59~limit, 0 left
+(a*)*b~units~aa~0~60~, 0 left
+(?:a|a)*b~bytes~aa~0~40~limit, 0 left
+(?:a|a)*b~bytes~aa~0~41~, 0 left
+(?:a|a)*b~units~aa~0~40~limit, 0 left
+(?:a|a)*b~units~aa~0~41~, 0 left
+(?:a|a)*b~units~aa~0~18446744073709551615~, 18446744073709551574 left
+(?=a)b~bytes~b~0~9~no bound
+(?<!a)b~units~b~0~9~no bound
+(\w)\1~bytes~aa~0~9~no bound
+(?:(?:a{0,9}){0,9}b){0,9}~units~aa~0~9~no bound
+";
+
+// A search, and its work budget.
+#[derive(Clone, Copy)]
+struct Search<'a> {
+    text: &'a str,
+    start: usize,
+    work: u64,
+}
+
+// Writes the matches, and the work that is left.
+fn write_all<P: WorkLimitedProducer + Drop>(
+    line: &mut String,
+    mut matches: WorkMatches<P>,
+) -> Result<(), SearchError> {
+    for item in &mut matches {
+        match item {
+            Ok(found) => write_found(line, &found)?,
+            Err(WorkError::WorkLimit) => line.push_str(if line.is_empty() {
+                "limit"
+            } else {
+                "; limit"
+            })?,
+            Err(WorkError::Memory) => return Err(SearchError::Memory),
+        }
+    }
+    if matches.next().is_some() {
+        line.push_str("; and more behind the end")?;
+    }
+    let left = matches.work_left();
+    Ok(write!(line, ", {left} left")?)
+}
+
+fn check_bytes(
+    alloc: Global,
+    differing: &mut String,
+    row: Row<'_>,
+    bounded: &BoundedRegex<'_>,
+    search: Search<'_>,
+) -> Result<(), SearchError> {
+    let Search { text, start, work } = search;
+    if !is_start(text, start) {
+        return Ok(compare(differing, row, "no start", "")?);
+    }
+    if !text.is_ascii() {
+        return Ok(compare(differing, row, "no text of ASCII", "")?);
+    }
+    let mut found = String::new(alloc);
+    write_all(&mut found, bounded.find_from(text, start, work)?)?;
+    compare(differing, row, &found, "in UTF-8")?;
+    let mut found = String::new(alloc);
+    write_all(&mut found, bounded.find_from_ascii(text, start, work)?)?;
+    Ok(compare(differing, row, &found, "in ASCII")?)
+}
+
+fn check_units(
+    alloc: Global,
+    differing: &mut String,
+    row: Row<'_>,
+    bounded: &BoundedRegex<'_>,
+    search: Search<'_>,
+) -> Result<(), SearchError> {
+    let Search { text, start, work } = search;
+    let units: Vec<u16> = text.encode_utf16().collect(alloc)?;
+    if !is_unit_boundary(&units, start) && start <= units.len() {
+        return Ok(compare(differing, row, "no start", "")?);
+    }
+    let mut found = String::new(alloc);
+    write_all(&mut found, bounded.find_from_utf16(&units, start, work)?)?;
+    compare(differing, row, &found, "in UTF-16")?;
+    let mut found = String::new(alloc);
+    write_all(&mut found, bounded.find_from_ucs2(&units, start, work)?)?;
+    Ok(compare(differing, row, &found, "in UCS-2")?)
+}
+
+pub fn check_work_limit(
+    alloc: Global,
+    differing: &mut String,
+    row: Row<'_>,
+) -> Result<(), SearchError> {
+    let fields: Vec<&str> = row.asked.split('~').collect(alloc)?;
+    let [pattern, kind, text, start, work] = *fields.as_slice() else {
+        return Ok(compare(differing, row, "other than six fields", "")?);
+    };
+    let Ok(re) = Regex::new(alloc, pattern) else {
+        return Ok(compare(differing, row, "no pattern", "")?);
+    };
+    let number = re.work_per_unit()?;
+    let Some(bounded) = re.bounded()? else {
+        let found = if number.is_none() {
+            "no bound"
+        } else {
+            "a number without a bound"
+        };
+        return Ok(compare(differing, row, found, "")?);
+    };
+    if number != Some(bounded.work_per_unit()) {
+        return Ok(compare(differing, row, "another number", "")?);
+    }
+    let search = Search {
+        text,
+        start: start.parse::<usize>().unwrap_or(0),
+        work: work.parse::<u64>().unwrap_or(0),
+    };
+    if kind == "bytes" {
+        check_bytes(alloc, differing, row, &bounded, search)
+    } else {
+        check_units(alloc, differing, row, &bounded, search)
+    }
+}

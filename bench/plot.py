@@ -2,7 +2,7 @@
 import html
 import math
 
-COLOURS = {"here": "#1b6ca8", "V8": "#d1495b", "regex": "#3a8f4d"}
+COLOURS = {"here": "#1b6ca8", "V8": "#d1495b", "PCRE2": "#e09f3e", "regex": "#3a8f4d"}
 FONT = 'font-family="Helvetica, Arial, sans-serif"'
 
 
@@ -40,7 +40,7 @@ def legend(x, y, names):
 
 def ratios(rows):
     """The plot of rows (kind, name, {engine: ratio}), a row of dots for each; its axis counts in powers of ten."""
-    engines = [engine for engine in ("V8", "regex") if any(engine in row[2] for row in rows)]
+    engines = [engine for engine in ("V8", "PCRE2", "regex") if any(engine in row[2] for row in rows)]
     values = [ratio for row in rows for ratio in row[2].values()] or [1.0]
     low, high = math.floor(math.log10(min(values))), max(1, math.ceil(math.log10(max(values))))
     left, top, step, wide = 150, 64, 19, 560

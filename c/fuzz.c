@@ -372,7 +372,7 @@ static int search_by(regress_c_pattern *pattern, text t)
 static uint32_t compile(regress_c_pattern *pattern, text source, const char *flags)
 {
     const uint8_t *letters = (const uint8_t *)flags;
-    uint8_t cause[40];
+    uint8_t cause[80];
     size_t at = SIZE_MAX;
     uint32_t syntax = below(2) ? REGRESS_C_ES2018 : REGRESS_C_PROFILE;
     regress_c_bounds all = REGRESS_C_NO_BOUNDS;

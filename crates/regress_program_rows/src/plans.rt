@@ -53,7 +53,8 @@ fn write_sets(text: &mut String, plan: &Plan) -> Result<(), AllocError> {
             _ => {}
         }
     }
-    write_rows(text, plan)
+    write_rows(text, plan)?;
+    write_leap(text, plan)
 }
 
 // The rows of characters that the plan's classes know.
@@ -65,6 +66,17 @@ fn write_rows(text: &mut String, plan: &Plan) -> Result<(), AllocError> {
         }
     }
     Ok(())
+}
+
+// The units of the goal to which a search leaps, and the edges of what a match may read before it.
+fn write_leap(text: &mut String, plan: &Plan) -> Result<(), AllocError> {
+    match &plan.leap {
+        Some(leap) => {
+            write!(text, ", leap {} {:?} over", leap.len, leap.units)?;
+            write_key_edges(text, &leap.over)
+        }
+        None => Ok(()),
+    }
 }
 
 // The keys of which one must begin the character before, and whether the left end serves too.
@@ -140,16 +152,22 @@ fn write_set(text: &mut String, plan: &Plan, name: &str, number: u32) -> Result<
 
 // The first key of each row of keys that are in the set, or are not; and whether the end is in it.
 fn write_edges(text: &mut String, set: &FirstSet) -> Result<(), AllocError> {
-    let mut before = false;
-    for (key, here) in set.keys.iter().enumerate() {
-        if *here != before {
-            write!(text, " {key}")?;
-        }
-        before = *here;
-    }
+    write_key_edges(text, &set.keys)?;
     if set.end {
         text.push_str(" end")
     } else {
         Ok(())
     }
+}
+
+// The keys from which on a table has another value than for the key before.
+fn write_key_edges(text: &mut String, keys: &[bool; 256]) -> Result<(), AllocError> {
+    let mut before = false;
+    for (key, here) in keys.iter().enumerate() {
+        if *here != before {
+            write!(text, " {key}")?;
+        }
+        before = *here;
+    }
+    Ok(())
 }

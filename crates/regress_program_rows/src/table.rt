@@ -192,8 +192,15 @@ unit_plan cat:3 a k goal → prefix 97 98 / 107 108 bits 107 of 255 at 1 bits 97
 plan cat:5 J K L M goal → prefix 74 75 / 75 76 / 76 77 / 77 78 row 4 of [74, 75, 76, 77, 0, 0, 0, 0, 0, 0, 0, 0, 0, 0, 0] at 0 rare 74 at 0 bits 74 of 255 at 0 bits 75 of 255 at 1 bits 76 of 255 at 2 bits 77 of 255 at 3
 plan /a*?b/ → few 2 [97, 98, 0], lazy 98 99
 plan /[ab]+?c/ → few 2 [97, 98, 0], lazy 99 100
-plan /.*?x/ → among 0 10 11 13 14 128 194 245, lazy 120 121
+plan /.*?x/ → among 0 10 11 13 14 128 194 245, lazy 120 121, leap 1 [120, 0, 0] over 0 10 11 13 14
 plan /\"(.*?)\"/ → few 1 [34, 0, 0], lazy 34 35
+plan /\\w+@/ → among 48 58 65 91 95 96 97 123, apart 64 65, leap 1 [64, 0, 0] over 48 58 65 91 95 96 97 123
+plan /\\w+(?=,)/ → among 48 58 65 91 95 96 97 123, apart 44 45, leap 1 [44, 0, 0] over 48 58 65 91 95 96 97 123
+plan /\\w+(?!,)/ → among 48 58 65 91 95 96 97 123, run anything
+plan /(?:\\d+\\.){3}\\d+/ → among 48 58, apart 46 47, run anything, leap 1 [46, 0, 0] over 48 58
+plan /(a*)b\\1@/ → few 2 [97, 98, 0], apart 98 99
+plan /[^]+@|z{2}/ → among 0 128 194 245, run 64 65, run anything, leap 2 [122, 64, 0] over 0
+unit_plan /\\w+@/ → among 48 58 65 91 95 96 97 123, apart 64 65
 unit_plan /a*?b/ → few 2 [97, 98, 0], lazy 98 99
 choices cat:2 alt a alt b c goal → at 0 0: 97:1 98:4 99:6 100:
 choices cat:2 alt a cat:2 a b goal → at 0 0: 97:1,3 98:

@@ -30,7 +30,7 @@ static char *contents_of(const char *name, size_t *len) {
 
 static pcre2_code *compiled(const char *pattern, const char *flags) {
     uint32_t options = PCRE2_UTF | PCRE2_NO_UTF_CHECK | PCRE2_ALT_BSUX | PCRE2_ALLOW_EMPTY_CLASS | PCRE2_MATCH_UNSET_BACKREF
-        | PCRE2_DOLLAR_ENDONLY;
+        | PCRE2_DOLLAR_ENDONLY | PCRE2_ALT_CIRCUMFLEX;
     options |= strchr(flags, 'i') ? PCRE2_CASELESS : 0;
     options |= strchr(flags, 'm') ? PCRE2_MULTILINE : 0;
     options |= strchr(flags, 's') ? PCRE2_DOTALL : 0;
@@ -50,10 +50,10 @@ static size_t behind(const char *text, size_t len, size_t at) {
     return at;
 }
 
-static size_t count(const pcre2_code *code, pcre2_match_data *match, const char *text, size_t len) {
+static size_t count(const pcre2_code *code, pcre2_match_data *match, pcre2_match_context *context, const char *text, size_t len) {
     const size_t *range = pcre2_get_ovector_pointer(match);
     size_t matches = 0, at = 0;
-    while (at <= len && pcre2_jit_match(code, (PCRE2_SPTR)text, len, at, 0, match, NULL) > 0) {
+    while (at <= len && pcre2_jit_match(code, (PCRE2_SPTR)text, len, at, 0, match, context) > 0) {
         matches++;
         at = range[1] > range[0] ? range[1] : behind(text, len, range[1]);
     }
@@ -77,10 +77,12 @@ int main(int words, char **word) {
     char *text = contents_of(word[3], &len);
     pcre2_code *code = compiled(word[1], word[2]);
     pcre2_match_data *match = pcre2_match_data_create_from_pattern(code, NULL);
+    pcre2_match_context *context = pcre2_match_context_create(NULL);
+    pcre2_jit_stack_assign(context, NULL, pcre2_jit_stack_create(32 << 10, 256 << 20, NULL));
     double fastest = 1e18;
     for (int pass = 0; pass < PASSES; pass++) {
         double start = nanoseconds();
-        matches = count(code, match, text, len);
+        matches = count(code, match, context, text, len);
         double taken = nanoseconds() - start;
         fastest = taken < fastest ? taken : fastest;
     }

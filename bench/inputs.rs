@@ -1,4 +1,4 @@
-//! Times the loops of the static library `regress_input_bench` beside the same loops in Rust. For each it prints the
+//! Times the loops of the static library `bench_inputs` beside the same loops in Rust. For each it prints the
 //! least time of many runs of both, in nanoseconds for a unit of text, and their ratio. The runs alternate.
 
 use std::hint::black_box;
@@ -10,7 +10,7 @@ const RUNS: usize = 600;
 // A character that stands in none of the texts.
 const STOP: u32 = '#' as u32;
 
-#[link(name = "regress_input_bench", kind = "static")]
+#[link(name = "bench_inputs", kind = "static")]
 #[link(name = "libc_c", kind = "static")]
 unsafe extern "C" {
     fn regress_input_bench_utf8_right(bytes: *const u8, len: usize, stop: u32) -> usize;

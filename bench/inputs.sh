@@ -7,7 +7,7 @@ set -e
 shift_by=${SHIFT:-0}
 top=$(cd "$(dirname "$0")/.." && pwd)
 kit=$(dirname "$(dirname "$(readlink -f "$(command -v rt)")")")
-name=regress_input_bench
+name=bench_inputs
 room=$(mktemp -d)
 trap 'rm -rf "$room"' EXIT
 (cd "$top/crates/$name" && rt lib >"$room/log" 2>&1) || { cat "$room/log"; exit 1; }

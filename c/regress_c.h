@@ -297,7 +297,8 @@ uint32_t regress_c_work_per_unit(regress_c_pattern *pattern, uint64_t *per_unit)
  * known. NO_BOUND and refusals of the handle, the text or the start take no work.
  *
  * A loop over characters examines no more of them than the work that is left pays for. The clauses of this call do not
- * say how much work it did, only that the work left never rises; of the executor below, exact costs are proved.
+ * say how much work it did, only that the work left never rises; those of the iterator below say exactly what each
+ * search costs.
  *
  * Each call computes the bound again and takes memory for the failures that it records: some bits for each byte of the
  * text.

@@ -21,7 +21,7 @@ allowed='crates/regress_tool/src/main.rt
 crates/regress_backtrack/src/attempts.rt
 crates/regress_backtrack/src/interpreter.rt
 crates/regress_bounded/src/executor.rt
-crates/regress_exec/src/exec/work_matches.rt
+crates/regress_search/src/exec/work_matches.rt
 crates/regress_backtrack/src/step_and_work_budgets.rt
 crates/regex_parser/src/parse.rt
 crates/regress_c/src/refusal.rt'

@@ -1,5 +1,5 @@
 #!/bin/sh
-# refusals/run.sh [--every N] [PROGRAM]: refuses each request for memory of `regress_trials hostile` in turn, the first, the second
+# refusals/run.sh [--every N] [PROGRAM]: refuses each request for memory of `test_trials hostile` in turn, the first, the second
 # and so on until a run meets no refusal, and compares what is printed with what is printed with ample memory. With --every N
 # only one request in N is refused. It needs `rt`, unless a build of the program is named, and a C compiler and the GNU C library
 # for what refuses.
@@ -10,8 +10,8 @@ if [ "$1" = --every ]; then
     shift 2
 fi
 top=$(cd "$(dirname "$0")/.." && pwd)
-crate=$top/crates/regress_trials
-program=${1:-$crate/out/regress_trials} # another build of it may be named
+crate=$top/crates/test_trials
+program=${1:-$crate/out/test_trials} # another build of it may be named
 room=$(mktemp -d)
 trap 'rm -rf "$room"' EXIT
 ${CC:-cc} -shared -fPIC -O2 -o "$room/refuse.so" "$top/refusals/refuse.c"

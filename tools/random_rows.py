@@ -1,7 +1,7 @@
 #!/usr/bin/env python3
 """random_rows.py FILE [SEED] [ROWS]: writes a table of random rows of tokens (6000, seed 777), with the trees that `reading.py` gives.
 
-In the place of `crates/regex_pattern_rows/src/table.rt` it is what the test of that crate runs through the parser, and `compare/trees`
+In the place of `crates/test_patterns/src/table.rt` it is what the test of that crate runs through the parser, and `compare/trees`
 does that. It fails where a pattern has two trees.
 """
 import random

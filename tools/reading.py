@@ -1,10 +1,10 @@
 #!/usr/bin/env python3
 """reading.py TABLE: compares the rows of a table of patterns with the grammar.
 
-It is the relation of `crates/regex_grammar` once more, constructor by constructor: each function gives all ends and values, so every derivation is
+It is the relation of `crates/regex_meaning` once more, constructor by constructor: each function gives all ends and values, so every derivation is
 tried. It tells each row of which the tree is another (DIFF), and each pattern with two trees (TWO), and fails where there is one.
 
-  tools/reading.py crates/regex_pattern_rows/src/table.rt
+  tools/reading.py crates/test_patterns/src/table.rt
 """
 import sys
 sys.setrecursionlimit(10000)

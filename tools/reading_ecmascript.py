@@ -1,7 +1,7 @@
 #!/usr/bin/env python3
 """reading_ecmascript.py [SEED] [COUNT]: compares the grammar of the whole language with V8.
 
-It is `EcmaGrammarWithAnnexB`, `EcmaClasses` and `EcmaEscapesAndNames` of `crates/regex_grammar` once more, constructor
+It is `EcmaGrammarWithAnnexB`, `EcmaClasses` and `EcmaEscapesAndNames` of `crates/regex_meaning` once more, constructor
 by constructor, as `reading.py` is the profile's grammar: each function gives all ends and values, so every derivation
 is tried. It makes COUNT patterns of random tokens (20,000; seed 1), and prints each that only one of the two refuses,
 that has another number of groups (DIFF), other groups than the scan of `GroupOpeningScanWithoutParsing` finds (GROUPS)

@@ -20,7 +20,7 @@ from regress_match import PROFILE, I, M, S, U, V
 from regress_match._library import MEMORY, Handle, RawReply
 
 HERE = pathlib.Path(__file__).resolve().parent
-JUDGED = HERE.parent.parent / "crates" / "regress_trials" / "data"
+JUDGED = HERE.parent.parent / "crates" / "test_trials" / "data"
 LETTERS = {"i": I, "m": M, "s": S, "u": U, "v": V}
 
 

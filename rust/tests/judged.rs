@@ -1,11 +1,11 @@
-//! The cases that another engine judged (`crates/regress_trials/data`): all matches with their groups, in UTF-8, in UTF-16, and with
+//! The cases that another engine judged (`crates/test_trials/data`): all matches with their groups, in UTF-8, in UTF-16, and with
 //! ample steps.
 
 use regress_match::{Bounds, Match, Regex, Syntax};
 use std::fmt::Write;
 use std::fs;
 
-const CASES: &str = concat!(env!("CARGO_MANIFEST_DIR"), "/../crates/regress_trials/data/");
+const CASES: &str = concat!(env!("CARGO_MANIFEST_DIR"), "/../crates/test_trials/data/");
 
 /// The text of a field, or its number.
 fn field(line: &str, name: &str) -> String {

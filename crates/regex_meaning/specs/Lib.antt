@@ -17,3 +17,17 @@ pub mod SearchAnswers
 pub mod Replace
 pub mod FlagLettersAndEscaping
 pub mod StepBudget
+pub mod ReadingStatesAndDigits
+pub mod EscapesNamesQuantifiers
+pub mod CharacterClasses
+pub mod Grammar
+pub mod UnicodeProperties
+pub mod EcmaEscapesAndNames
+pub mod EcmaClasses
+pub mod EcmaGrammarWithAnnexB
+pub mod GroupNameScan
+pub mod GroupOpeningScanWithoutParsing
+pub mod GrammarLaws
+pub mod EcmaGrammarLaws
+pub mod SubtreeInvariants
+pub mod TreesWithoutCharLoops

@@ -13,6 +13,10 @@ ghost use Rattle.regex_meaning.specs.Laws.{ReplacingMatchesByThemselvesChangesNo
 ghost use Rattle.regex_meaning.specs.CaseLaws.{AlikeWithoutUnicodeIsAlikeWithUnicode, OnlyTwoCharactersFoldIntoAscii, ProfileFoldsTableAsUnicodeDoes};
 ghost use Rattle.regex_meaning.specs.CaseLaws.{WordCharacterIffAsciiWordFold};
 ghost use Rattle.regex_meaning.specs.CaseLaws.{EachCharacterHasCaseVariants, CaseVariantsAreFew};
+ghost use Rattle.regex_meaning.specs.GrammarLaws.{ScanFindsOpenedGroupNames, OneTree, ExampleIsParsed, EscapedBytesAreRead, EscapedTextsAreRead, ScanCountsPatternGroups};
+ghost use Rattle.regex_meaning.specs.GrammarLaws.{ScanFindsGroupNames, TreesAreWellFormed};
+ghost use Rattle.regex_meaning.specs.EcmaGrammarLaws.{EcmaScriptGroupsAreFound, EcmaScriptGroupsIndependentOfContext, EcmaScriptOneTree, EcmaScriptTreesAreWellFormed};
+ghost use Rattle.regex_meaning.specs.EcmaGrammarLaws.{EcmaScriptGroupsAgreeWithScan, EcmaScriptClassesAreClosed};
 
 /// Proves that the list of ticks and outcomes of a node contains exactly its outcomes, in order.
 pub fn ticks_change_nothing()
@@ -175,4 +179,80 @@ pub fn each_character_has_case_variants()
 /// Proves that a character has at most four case variants.
 pub fn case_variants_are_few()
     ensures { CaseVariantsAreFew }
+{}
+
+/// Proves that the pattern `a|ab` has its tree.
+pub fn row_is_parsed()
+    ensures { ExampleIsParsed }
+{}
+
+/// Proves that a pattern has at most one tree.
+pub fn one_tree()
+    ensures { OneTree }
+{}
+
+/// Proves that a scan of the text finds the names of a pattern's groups without parsing it.
+pub fn scan_finds_opened_group_names()
+    ensures { ScanFindsOpenedGroupNames }
+{}
+
+/// Proves that a scan of the text counts the groups of a pattern, and that their ids are numbered
+/// from 0.
+pub fn scan_counts_pattern_groups()
+    ensures { ScanCountsPatternGroups }
+{}
+
+/// Proves that the tree of a pattern is well formed.
+pub fn trees_are_well_formed()
+    ensures { TreesAreWellFormed }
+{}
+
+/// Proves that an escaped text is a pattern whose tree is the sequence of its characters.
+pub fn escaped_texts_are_read()
+    ensures { EscapedTextsAreRead }
+{}
+
+/// Proves that the names of a tree's groups are those that a scan of the text finds.
+pub fn scan_finds_group_names()
+    ensures { ScanFindsGroupNames }
+{}
+
+/// Proves that a UTF-8 text whose bytes were escaped is a pattern whose tree is the sequence of its
+/// characters.
+pub fn escaped_bytes_are_read()
+    ensures { EscapedBytesAreRead }
+{}
+
+/// Proves that a scan of the text finds the parentheses that open the groups of a pattern of the
+/// whole language of ECMAScript.
+pub fn ecmascript_groups_are_found()
+    ensures { EcmaScriptGroupsAreFound }
+{}
+
+/// Proves that the groups of a pattern of the whole language do not depend on the context in which it is
+/// read: neither on its flags nor on the groups assumed.
+pub fn ecmascript_groups_independent_of_context()
+    ensures { EcmaScriptGroupsIndependentOfContext }
+{}
+
+/// Proves that a pattern of the whole language has at most one tree.
+pub fn ecmascript_one_tree()
+    ensures { EcmaScriptOneTree }
+{}
+
+/// Proves that the tree of a pattern of the whole language is well formed.
+pub fn ecmascript_trees_are_well_formed()
+    ensures { EcmaScriptTreesAreWellFormed }
+{}
+
+/// Proves that the groups of a tree of the whole language are numbered from 0, and have the names
+/// that a scan of the text finds.
+pub fn ecmascript_groups_agree_with_scan()
+    ensures { EcmaScriptGroupsAgreeWithScan }
+{}
+
+/// Proves that a character that matches a digit is a digit, and so for spaces and word characters, also where
+/// case is ignored.
+pub fn ecmascript_classes_are_closed()
+    ensures { EcmaScriptClassesAreClosed }
 {}

@@ -11,15 +11,15 @@ use Rattle.std.proofs.lemmas.List.{map-append}
 use Rattle.regex_meaning.specs.Tree.{Intervals, Flags}
 use Rattle.regex_meaning.specs.Outcomes.{in_intervals}
 use Rattle.regex_meaning.specs.Text.{expand_code_point, is_scalar}
-use Rattle.regex_grammar.specs.ReadingStatesAndDigits.{RemainingCodePoints, ◌∈◌}
-use Rattle.regex_grammar.specs.EscapesNamesQuantifiers.{CharacterEscape}
-use Rattle.regex_grammar.specs.CharacterClasses.{ClassMember, character, range, class, class_escape, closed_under_case_folding, class_member_contains}
-use Rattle.regex_grammar.specs.CharacterClasses.{AreCanonicalIntervals, IsSetOf, ClassAtom, verbatim}
-use Rattle.regex_grammar.specs.CharacterClasses.{of_class, backspace, escaped, are_characters, IsRangeDash, ClassMembers, alone, from_to, no_range, ClassRanges}
-use Rattle.regex_grammar.specs.CharacterClasses.{no_more, more, CharacterClass, plain, inverted, has_set_operation}
-use Rattle.regex_grammar.proofs.OneTree.{first, rest_of}
-use Rattle.regex_grammar.proofs.Leaves.{behind}
-use Rattle.regex_grammar.proofs.Members.{class_letter, one_class_atom, atom_starts, is_range, atom_from, character_inj, one_member, member_starts}
+use Rattle.regex_meaning.specs.ReadingStatesAndDigits.{RemainingCodePoints, ◌∈◌}
+use Rattle.regex_meaning.specs.EscapesNamesQuantifiers.{CharacterEscape}
+use Rattle.regex_meaning.specs.CharacterClasses.{ClassMember, character, range, class, class_escape, closed_under_case_folding, class_member_contains}
+use Rattle.regex_meaning.specs.CharacterClasses.{AreCanonicalIntervals, IsSetOf, ClassAtom, verbatim}
+use Rattle.regex_meaning.specs.CharacterClasses.{of_class, backspace, escaped, are_characters, IsRangeDash, ClassMembers, alone, from_to, no_range, ClassRanges}
+use Rattle.regex_meaning.specs.CharacterClasses.{no_more, more, CharacterClass, plain, inverted, has_set_operation}
+use Rattle.regex_meaning.proofs.OneTree.{first, rest_of}
+use Rattle.regex_meaning.proofs.Leaves.{behind}
+use Rattle.regex_meaning.proofs.Members.{class_letter, one_class_atom, atom_starts, is_range, atom_from, character_inj, one_member, member_starts}
 use Rattle.regex_pattern_front.specs.declared.codepointset.Interval.{Interval}
 use Rattle.regex_pattern_front.specs.Intervals.{interval_of}
 use Rattle.regex_parser.specs.declared.parser_error.ParseStopReason.{ParseStopReason}

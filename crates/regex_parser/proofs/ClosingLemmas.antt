@@ -10,7 +10,7 @@ use Rattle.regex_meaning.specs.NumberListHelpers.{contains}
 use Rattle.regex_meaning.specs.Tree.{Intervals, Flags}
 use Rattle.regex_meaning.specs.Outcomes.{in_intervals}
 use Rattle.regex_meaning.specs.Text.{to_ascii_lowercase, to_ascii_uppercase, fold_code_point, nonascii_with_fold, code_points_with_fold, expand_code_point}
-use Rattle.regex_grammar.specs.CharacterClasses.{single_code_point_interval, closed_under_case_folding}
+use Rattle.regex_meaning.specs.CharacterClasses.{single_code_point_interval, closed_under_case_folding}
 use Rattle.regex_parser.specs.ClassReaderContracts.{letter_case_variants_if_any_passes, some_case_variant_passes}
 
 -- ---- Letters

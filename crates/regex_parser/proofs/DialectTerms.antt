@@ -3,16 +3,16 @@ use Rattle.std.proofs.Common.{◌≡◌, ℕ, ◌<◌, ◌≤◌, Bool, true, fa
 use Rattle.std.specs.Prelude.{Result, Ok, Err, IfOk, String, if◌then◌else◌}
 use Rattle.std.specs.BTreeMap.{BTreeMap}
 use Rattle.regex_meaning.specs.Tree.{Node, back_ref, char, char_set}
-use Rattle.regex_grammar.specs.ReadingStatesAndDigits.{RemainingCodePoints, ParseState, PatternContext}
-use Rattle.regex_grammar.specs.EscapesNamesQuantifiers.{group_name}
-use Rattle.regex_grammar.specs.Grammar.{PatternDialect, profile, Assertion, start, end, boundary, look}
-use Rattle.regex_grammar.specs.GroupOpeningScanWithoutParsing.{texts_after_parentheses}
-use Rattle.regex_grammar.specs.EcmaGrammarWithAnnexB.{ecmascript, AtomEscape, reference_node, group_number, decimal_escape, character_class_escape}
-use Rattle.regex_grammar.specs.EcmaGrammarWithAnnexB.{property_escape, character_escape, named_reference}
-use Rattle.regex_grammar.proofs.OneTree.{first}
-use Rattle.regex_grammar.proofs.References.{number_of-bounds}
-use Rattle.regex_grammar.proofs.Scan.{IsScanned, past, past_escape}
-use Rattle.regex_grammar.proofs.EcmaFound.{ecmascript-scanned}
+use Rattle.regex_meaning.specs.ReadingStatesAndDigits.{RemainingCodePoints, ParseState, PatternContext}
+use Rattle.regex_meaning.specs.EscapesNamesQuantifiers.{group_name}
+use Rattle.regex_meaning.specs.Grammar.{PatternDialect, profile, Assertion, start, end, boundary, look}
+use Rattle.regex_meaning.specs.GroupOpeningScanWithoutParsing.{texts_after_parentheses}
+use Rattle.regex_meaning.specs.EcmaGrammarWithAnnexB.{ecmascript, AtomEscape, reference_node, group_number, decimal_escape, character_class_escape}
+use Rattle.regex_meaning.specs.EcmaGrammarWithAnnexB.{property_escape, character_escape, named_reference}
+use Rattle.regex_meaning.proofs.OneTree.{first}
+use Rattle.regex_meaning.proofs.References.{number_of-bounds}
+use Rattle.regex_meaning.proofs.Scan.{IsScanned, past, past_escape}
+use Rattle.regex_meaning.proofs.EcmaFound.{ecmascript-scanned}
 use Rattle.regex_pattern_front.specs.declared.flags.Flags.{Flags}
 use Rattle.regex_parser.specs.declared.groupless_terms.GrouplessTerm.{GrouplessTerm}
 use Rattle.regex_parser.specs.declared.parser_error.ParseStopReason.{ParseStopReason}

@@ -10,25 +10,25 @@ use Rattle.std.proofs.lemmas.List.Folds.{list_any-append}
 use Rattle.regex_meaning.specs.Tree.{Flags, Intervals}
 use Rattle.regex_meaning.specs.Outcomes.{in_intervals}
 use Rattle.regex_meaning.specs.Canonical.{canonicalize, canonical_character}
-use Rattle.regex_grammar.specs.ReadingStatesAndDigits.{RemainingCodePoints, ◌∈◌, begins_with_characters}
-use Rattle.regex_grammar.specs.CharacterClasses.{AreCanonicalIntervals, IsRangeDash, digit_class, word_class, space_class}
-use Rattle.regex_grammar.specs.CharacterClasses as Profile
-use Rattle.regex_grammar.specs.EcmaClasses.{ClassMember, character, range, class, class_member_contains, are_characters, IsSetOf, ClassAtom, verbatim, ClassMembers}
-use Rattle.regex_grammar.specs.EcmaClasses.{alone, from_to, no_range, ClassRanges, no_more, more, escaped, backslash, InvertibleSet, is_in_invertible_set}
-use Rattle.regex_grammar.specs.EcmaClasses.{class_escape_set, word_characters}
-use Rattle.regex_grammar.specs.EcmaClasses.{CharacterClassEscape, by_letter, SimpleClassEscape, backspace, dash, class_control_letter}
-use Rattle.regex_grammar.specs.EcmaClasses.{ClassEscape, simple_escape, class_escape, character_escape, grammar_parameters, by_property}
-use Rattle.regex_grammar.specs.EcmaClasses.{CharacterClass, plain, inverted}
-use Rattle.regex_grammar.specs.UnicodeProperties.{Property as SpecProperty, has_property}
-use Rattle.regex_grammar.specs.EcmaEscapesAndNames.{CharacterEscape, non_identity_escape, identity_escape, is_identity_escape, PropertyExpression}
-use Rattle.regex_grammar.proofs.OneTree.{first, rest_of}
-use Rattle.regex_grammar.proofs.Members.{class_letter}
-use Rattle.regex_grammar.proofs.EcmaSets.{classes-are-closed}
-use Rattle.regex_grammar.proofs.Leaves.{behind, apart, firsts}
-use Rattle.regex_grammar.proofs.EcmaLeaves.{proper-kind, escape_kind}
-use Rattle.regex_grammar.proofs.EcmaMembers.{property-from}
-use Rattle.regex_grammar.proofs.EcmaMembers.{class_letter as ecma_class_letter}
-use Rattle.regex_grammar.proofs.EcmaMembers.{one_class_atom, atom_starts, is_range, atom_from, character_inj, one_member, member_starts}
+use Rattle.regex_meaning.specs.ReadingStatesAndDigits.{RemainingCodePoints, ◌∈◌, begins_with_characters}
+use Rattle.regex_meaning.specs.CharacterClasses.{AreCanonicalIntervals, IsRangeDash, digit_class, word_class, space_class}
+use Rattle.regex_meaning.specs.CharacterClasses as Profile
+use Rattle.regex_meaning.specs.EcmaClasses.{ClassMember, character, range, class, class_member_contains, are_characters, IsSetOf, ClassAtom, verbatim, ClassMembers}
+use Rattle.regex_meaning.specs.EcmaClasses.{alone, from_to, no_range, ClassRanges, no_more, more, escaped, backslash, InvertibleSet, is_in_invertible_set}
+use Rattle.regex_meaning.specs.EcmaClasses.{class_escape_set, word_characters}
+use Rattle.regex_meaning.specs.EcmaClasses.{CharacterClassEscape, by_letter, SimpleClassEscape, backspace, dash, class_control_letter}
+use Rattle.regex_meaning.specs.EcmaClasses.{ClassEscape, simple_escape, class_escape, character_escape, grammar_parameters, by_property}
+use Rattle.regex_meaning.specs.EcmaClasses.{CharacterClass, plain, inverted}
+use Rattle.regex_meaning.specs.UnicodeProperties.{Property as SpecProperty, has_property}
+use Rattle.regex_meaning.specs.EcmaEscapesAndNames.{CharacterEscape, non_identity_escape, identity_escape, is_identity_escape, PropertyExpression}
+use Rattle.regex_meaning.proofs.OneTree.{first, rest_of}
+use Rattle.regex_meaning.proofs.Members.{class_letter}
+use Rattle.regex_meaning.proofs.EcmaSets.{classes-are-closed}
+use Rattle.regex_meaning.proofs.Leaves.{behind, apart, firsts}
+use Rattle.regex_meaning.proofs.EcmaLeaves.{proper-kind, escape_kind}
+use Rattle.regex_meaning.proofs.EcmaMembers.{property-from}
+use Rattle.regex_meaning.proofs.EcmaMembers.{class_letter as ecma_class_letter}
+use Rattle.regex_meaning.proofs.EcmaMembers.{one_class_atom, atom_starts, is_range, atom_from, character_inj, one_member, member_starts}
 use Rattle.regex_pattern_front.specs.Intervals.{interval_of}
 use Rattle.regex_parser.specs.ClassReaderContracts.{is_in_any_interval}
 use Rattle.regex_parser.specs.CaseVariantContracts.{AddsMatching}

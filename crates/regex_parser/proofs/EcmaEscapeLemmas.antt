@@ -4,15 +4,15 @@ use Rattle.std.specs.Prelude.{Option, Result, if◌then◌else◌}
 use Rattle.std.specs.Option.{ok_or}
 use Rattle.std.specs.Char.{OutOfScalarRange, is_digit, digit_value, is_ascii_digit, is_ascii_alphabetic}
 use Rattle.std.proofs.lemmas.List.Sums.{take_while-cons}
-use Rattle.regex_grammar.specs.ReadingStatesAndDigits.{RemainingCodePoints, leading_digits, ◌∈◌}
-use Rattle.regex_grammar.specs.EscapesNamesQuantifiers.{FixedHexDigits, UnicodeEscape, control_escape_code_point}
-use Rattle.regex_grammar.specs.EcmaEscapesAndNames.{GrammarParameters, next_code_point_passes, is_octal_digit, is_zero_to_three, is_four_to_seven, LegacyOctalEscape}
-use Rattle.regex_grammar.specs.EcmaEscapesAndNames.{one_digit, two_digits, two_high_digits, three_digits}
-use Rattle.regex_grammar.specs.EcmaEscapesAndNames.{NonIdentityEscape, control_escape, control_letter, null, hex_escape, unicode_escape, legacy_octal_escape}
-use Rattle.regex_grammar.specs.EcmaEscapesAndNames.{CharacterEscape, non_identity_escape, identity_escape, is_identity_escape}
-use Rattle.regex_grammar.proofs.OneTree.{first as first_of, rest_of, unlike}
-use Rattle.regex_grammar.proofs.Leaves.{firsts}
-use Rattle.regex_grammar.proofs.EcmaLeaves.{escape_kind, tag, tagged}
+use Rattle.regex_meaning.specs.ReadingStatesAndDigits.{RemainingCodePoints, leading_digits, ◌∈◌}
+use Rattle.regex_meaning.specs.EscapesNamesQuantifiers.{FixedHexDigits, UnicodeEscape, control_escape_code_point}
+use Rattle.regex_meaning.specs.EcmaEscapesAndNames.{GrammarParameters, next_code_point_passes, is_octal_digit, is_zero_to_three, is_four_to_seven, LegacyOctalEscape}
+use Rattle.regex_meaning.specs.EcmaEscapesAndNames.{one_digit, two_digits, two_high_digits, three_digits}
+use Rattle.regex_meaning.specs.EcmaEscapesAndNames.{NonIdentityEscape, control_escape, control_letter, null, hex_escape, unicode_escape, legacy_octal_escape}
+use Rattle.regex_meaning.specs.EcmaEscapesAndNames.{CharacterEscape, non_identity_escape, identity_escape, is_identity_escape}
+use Rattle.regex_meaning.proofs.OneTree.{first as first_of, rest_of, unlike}
+use Rattle.regex_meaning.proofs.Leaves.{firsts}
+use Rattle.regex_meaning.proofs.EcmaLeaves.{escape_kind, tag, tagged}
 use Rattle.regex_parser.specs.CodePointAndQuantifierReaderContracts.{IsReadOrNothingCanBeRead, IsDigitRead}
 use Rattle.regex_parser.specs.EcmaReaderContracts.{IsControlLetterRead}
 

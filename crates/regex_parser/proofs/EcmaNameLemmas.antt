@@ -10,12 +10,12 @@ use Rattle.ucd_table.specs.Rows.{in_ranges, Range}
 use Rattle.ucd_derived.specs.Binary.{is_id_start, is_id_continue}
 use Rattle.ucd_derived.specs.IdStartRanges.{id_start_ranges}
 use Rattle.ucd_derived.specs.IdContinueRanges.{id_continue_ranges}
-use Rattle.regex_grammar.specs.ReadingStatesAndDigits.{RemainingCodePoints}
-use Rattle.regex_grammar.specs.EscapesNamesQuantifiers.{UnicodeEscape, is_lead_surrogate, is_trail_surrogate}
-use Rattle.regex_grammar.specs.EcmaEscapesAndNames.{verbatim, escaped, surrogates, NameRest, name_end, name_part}
-use Rattle.regex_grammar.specs.EcmaEscapesAndNames.{GroupName, group_name}
-use Rattle.regex_grammar.proofs.Leaves.{behind, firsts, apart, one_unicode}
-use Rattle.regex_grammar.proofs.EcmaLeaves.{TestsNames, start-tests, part-tests, no-sign, one_name_character}
+use Rattle.regex_meaning.specs.ReadingStatesAndDigits.{RemainingCodePoints}
+use Rattle.regex_meaning.specs.EscapesNamesQuantifiers.{UnicodeEscape, is_lead_surrogate, is_trail_surrogate}
+use Rattle.regex_meaning.specs.EcmaEscapesAndNames.{verbatim, escaped, surrogates, NameRest, name_end, name_part}
+use Rattle.regex_meaning.specs.EcmaEscapesAndNames.{GroupName, group_name}
+use Rattle.regex_meaning.proofs.Leaves.{behind, firsts, apart, one_unicode}
+use Rattle.regex_meaning.proofs.EcmaLeaves.{TestsNames, start-tests, part-tests, no-sign, one_name_character}
 use Rattle.regex_parser.specs.CodePointAndQuantifierReaderContracts.{IsReadOr}
 use Rattle.regex_parser.specs.declared.parser_error.ParseStopReason.{ParseStopReason}
 use Rattle.regex_parser.specs.EcmaReaderContracts.{passes_in_name, NameCharacterAt, NoNameCharacter, IsNameCodePointRead}

@@ -15,30 +15,30 @@ use Rattle.regex_meaning.specs.Text.{is_scalar}
 use Rattle.regex_meaning.specs.NumberListHelpers.{contains}
 use Rattle.regex_meaning.specs.Canonical.{AreCaseVariants}
 use Rattle.regex_meaning.proofs.CaseVariants.{few-case-variants}
-use Rattle.regex_grammar.specs.ReadingStatesAndDigits.{RemainingCodePoints, ParseState, PatternContext, ◌∈◌, begins_with_characters, group_number_of}
-use Rattle.regex_grammar.specs.EscapesNamesQuantifiers.{BeginsQuantifier}
-use Rattle.regex_grammar.specs.Grammar.{Term, Assertion, Atom, assertion, repeated_assertion, atom, quantified, start, end as line_end, boundary, look, leaf, group}
-use Rattle.regex_grammar.specs.Grammar.{named_group, plain_group}
-use Rattle.regex_grammar.specs.EcmaEscapesAndNames.{CharacterEscape, NonIdentityEscape, non_identity_escape, identity_escape, is_identity_escape, GroupName}
-use Rattle.regex_grammar.specs.EcmaEscapesAndNames.{GrammarParameters, PropertyExpression}
-use Rattle.regex_grammar.specs.EcmaClasses.{IsSetOf, class, is_in_invertible_set, CharacterClassEscape, by_letter, by_property, grammar_parameters}
-use Rattle.regex_grammar.specs.EcmaClasses.{CharacterClass}
-use Rattle.regex_grammar.specs.UnicodeProperties.{has_property, Property}
-use Rattle.regex_grammar.specs.EcmaGrammarWithAnnexB.{ecmascript, has_named_groups, grammar_parameters_of, group_number}
-use Rattle.regex_grammar.specs.EcmaGrammarWithAnnexB.{BeginsGroupNumber, reference_node}
-use Rattle.regex_grammar.specs.EcmaGrammarWithAnnexB.{AtomEscape}
-use Rattle.regex_grammar.specs.EcmaGrammarWithAnnexB.{decimal_escape, character_class_escape, property_escape, character_escape, named_reference}
-use Rattle.regex_grammar.specs.EcmaGrammarWithAnnexB.{SimpleAtom, pattern_character, extended_pattern_character, any_character, atom_escape, backslash, character_class}
-use Rattle.regex_grammar.proofs.OneTree.{first, rest_of, unlike}
-use Rattle.regex_grammar.proofs.Leaves.{behind, firsts, inside}
-use Rattle.regex_grammar.proofs.References.{number-positive, number_of-bounds}
-use Rattle.regex_grammar.proofs.EcmaMembers.{number-kind, letter-kind, property-kind, property-here, property-from, apart-kinds, kind, no-k, no-class}
-use Rattle.regex_grammar.proofs.EcmaMembers.{atom-tagged, atom_tag, atom_kind, c-first}
-use Rattle.regex_grammar.proofs.EcmaLeaves.{proper-kind, one_name}
-use Rattle.regex_grammar.proofs.Digits.{digit_begins}
-use Rattle.regex_grammar.proofs.Trees.{leaf-reference}
+use Rattle.regex_meaning.specs.ReadingStatesAndDigits.{RemainingCodePoints, ParseState, PatternContext, ◌∈◌, begins_with_characters, group_number_of}
+use Rattle.regex_meaning.specs.EscapesNamesQuantifiers.{BeginsQuantifier}
+use Rattle.regex_meaning.specs.Grammar.{Term, Assertion, Atom, assertion, repeated_assertion, atom, quantified, start, end as line_end, boundary, look, leaf, group}
+use Rattle.regex_meaning.specs.Grammar.{named_group, plain_group}
+use Rattle.regex_meaning.specs.EcmaEscapesAndNames.{CharacterEscape, NonIdentityEscape, non_identity_escape, identity_escape, is_identity_escape, GroupName}
+use Rattle.regex_meaning.specs.EcmaEscapesAndNames.{GrammarParameters, PropertyExpression}
+use Rattle.regex_meaning.specs.EcmaClasses.{IsSetOf, class, is_in_invertible_set, CharacterClassEscape, by_letter, by_property, grammar_parameters}
+use Rattle.regex_meaning.specs.EcmaClasses.{CharacterClass}
+use Rattle.regex_meaning.specs.UnicodeProperties.{has_property, Property}
+use Rattle.regex_meaning.specs.EcmaGrammarWithAnnexB.{ecmascript, has_named_groups, grammar_parameters_of, group_number}
+use Rattle.regex_meaning.specs.EcmaGrammarWithAnnexB.{BeginsGroupNumber, reference_node}
+use Rattle.regex_meaning.specs.EcmaGrammarWithAnnexB.{AtomEscape}
+use Rattle.regex_meaning.specs.EcmaGrammarWithAnnexB.{decimal_escape, character_class_escape, property_escape, character_escape, named_reference}
+use Rattle.regex_meaning.specs.EcmaGrammarWithAnnexB.{SimpleAtom, pattern_character, extended_pattern_character, any_character, atom_escape, backslash, character_class}
+use Rattle.regex_meaning.proofs.OneTree.{first, rest_of, unlike}
+use Rattle.regex_meaning.proofs.Leaves.{behind, firsts, inside}
+use Rattle.regex_meaning.proofs.References.{number-positive, number_of-bounds}
+use Rattle.regex_meaning.proofs.EcmaMembers.{number-kind, letter-kind, property-kind, property-here, property-from, apart-kinds, kind, no-k, no-class}
+use Rattle.regex_meaning.proofs.EcmaMembers.{atom-tagged, atom_tag, atom_kind, c-first}
+use Rattle.regex_meaning.proofs.EcmaLeaves.{proper-kind, one_name}
+use Rattle.regex_meaning.proofs.Digits.{digit_begins}
+use Rattle.regex_meaning.proofs.Trees.{leaf-reference}
 use Rattle.regex_pattern_front.specs.SubtreeListInvariants.{IsWellFormedGrouplessSubtree}
-use Rattle.regex_grammar.specs.CharacterClasses as Profile
+use Rattle.regex_meaning.specs.CharacterClasses as Profile
 use Rattle.regex_pattern_front.specs.declared.types.BracketContents.{BracketContents as TheContents}
 use Rattle.regex_pattern_front.specs.declared.flags.Flags.{Flags}
 use Rattle.regex_pattern_front.specs.declared.ir.AnchorType.{AnchorType}

@@ -4,13 +4,13 @@ use Rattle.std.specs.Prelude.{Option, Result, Ok, Err, IsTrue}
 use Rattle.std.specs.Option.{SomeIff, ok_or}
 use Rattle.std.specs.Char.{IsScalar, OutOfScalarRange, is_ascii_digit, is_ascii_alphanumeric}
 use Rattle.regex_meaning.specs.Text.{is_scalar}
-use Rattle.regex_grammar.specs.ReadingStatesAndDigits.{RemainingCodePoints, Digits}
-use Rattle.regex_grammar.specs.EscapesNamesQuantifiers.{FixedHexDigits, SurrogatePair, pair, is_lead_surrogate, is_trail_surrogate, UnicodeEscape, surrogates}
-use Rattle.regex_grammar.specs.EscapesNamesQuantifiers.{four_digits, code_point, CharacterEscape}
-use Rattle.regex_grammar.specs.EscapesNamesQuantifiers.{control_escape_code_point, control_escape, null, hex_escape, unicode_escape, identity_escape}
-use Rattle.regex_grammar.proofs.OneTree.{first, rest_of, unlike}
-use Rattle.regex_grammar.proofs.Leaves.{behind, one_hex, no_brace, no_brace_pair}
-use Rattle.regex_grammar.proofs.Members.{may_escape, escape_begins}
+use Rattle.regex_meaning.specs.ReadingStatesAndDigits.{RemainingCodePoints, Digits}
+use Rattle.regex_meaning.specs.EscapesNamesQuantifiers.{FixedHexDigits, SurrogatePair, pair, is_lead_surrogate, is_trail_surrogate, UnicodeEscape, surrogates}
+use Rattle.regex_meaning.specs.EscapesNamesQuantifiers.{four_digits, code_point, CharacterEscape}
+use Rattle.regex_meaning.specs.EscapesNamesQuantifiers.{control_escape_code_point, control_escape, null, hex_escape, unicode_escape, identity_escape}
+use Rattle.regex_meaning.proofs.OneTree.{first, rest_of, unlike}
+use Rattle.regex_meaning.proofs.Leaves.{behind, one_hex, no_brace, no_brace_pair}
+use Rattle.regex_meaning.proofs.Members.{may_escape, escape_begins}
 use Rattle.regex_parser.specs.CodePointAndQuantifierReaderContracts.{peeked, IsReadOrNothingCanBeRead, IsTrail, PairsWithTrailSurrogateIfAny}
 use Rattle.regex_parser.specs.CodePointAndQuantifierReaderContracts.{IsCodePointAndClosingBrace}
 

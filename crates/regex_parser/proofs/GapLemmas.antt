@@ -8,7 +8,7 @@ use Rattle.ucd_case.specs.FoldOtherRows.{fold_other_rows}
 use Rattle.ucd_case.proofs.FoldPairsLemmas.{IsFoldPairs-fold_pairs}
 use Rattle.regex_meaning.specs.NumberListHelpers.{contains}
 use Rattle.regex_meaning.specs.Outcomes.{in_intervals}
-use Rattle.regex_grammar.specs.CharacterClasses.{single_code_point_interval}
+use Rattle.regex_meaning.specs.CharacterClasses.{single_code_point_interval}
 use Rattle.regex_pattern_front.specs.Intervals.{interval_of}
 use Rattle.regex_parser.specs.ClassReaderContracts.{is_in_any_interval}
 use Rattle.regex_parser.specs.CaseVariantContracts.{match_each_other, firsts_that_match, MatchesSome, AddsMatching, AddsMatchingWithin}

@@ -2,7 +2,7 @@
 use Rattle.std.proofs.Common.{◌≡◌, List, [], ◌∷◌, ◌++◌, map, refl, sym, ap, ◌∙◌, append_assoc}
 use Rattle.std.proofs.lemmas.List.{map-append}
 use Rattle.regex_meaning.specs.Tree as tree
-use Rattle.regex_grammar.specs.ReadingStatesAndDigits as grammar
+use Rattle.regex_meaning.specs.ReadingStatesAndDigits as grammar
 use Rattle.regex_parser.specs.ParseStack.{nest_alternatives}
 use Rattle.regex_pattern_front.specs.declared.ir.Node.{Node}
 use Rattle.regex_pattern_front.specs.declared.ir.Node.TheVariants.{Empty}

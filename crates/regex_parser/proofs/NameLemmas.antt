@@ -6,10 +6,10 @@ use Rattle.std.specs.Char.{encode_utf8, OutOfScalarRange}
 use Rattle.std.specs.List.{list_all}
 use Rattle.std.proofs.lemmas.Bool.{and_parts, or_left, eq-eqb, eqb-true}
 use Rattle.std.proofs.lemmas.List.Folds.{list_all-append}
-use Rattle.regex_grammar.specs.ReadingStatesAndDigits.{RemainingCodePoints}
-use Rattle.regex_grammar.specs.EscapesNamesQuantifiers.{GroupName, group_name, is_ascii_identifier_start, is_ascii_identifier_part, is_name}
-use Rattle.regex_grammar.proofs.OneTree.{first, rest_of}
-use Rattle.regex_grammar.proofs.Leaves.{name_letters}
+use Rattle.regex_meaning.specs.ReadingStatesAndDigits.{RemainingCodePoints}
+use Rattle.regex_meaning.specs.EscapesNamesQuantifiers.{GroupName, group_name, is_ascii_identifier_start, is_ascii_identifier_part, is_name}
+use Rattle.regex_meaning.proofs.OneTree.{first, rest_of}
+use Rattle.regex_meaning.proofs.Leaves.{name_letters}
 
 -- nothing yet, or the beginning of a name
 abbrev pub may_begin : RemainingCodePoints → Bool

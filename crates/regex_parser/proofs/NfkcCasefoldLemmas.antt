@@ -26,7 +26,7 @@ use Rattle.unicode_normalization.specs.Order.{is_starter, canonical_order, sink}
 use Rattle.unicode_normalization.specs.Compose.{compose, compose_after}
 use Rattle.unicode_normalization.specs.Hangul.{is_syllable, decompose_hangul}
 use Rattle.regex_meaning.specs.Outcomes.{in_intervals}
-use Rattle.regex_grammar.specs.UnicodeProperties.{has_property, changes_when_nfkc_casefolded, is_nfkc_casefolded}
+use Rattle.regex_meaning.specs.UnicodeProperties.{has_property, changes_when_nfkc_casefolded, is_nfkc_casefolded}
 use Rattle.regex_parser.specs.ClassReaderContracts.{is_in_any_interval}
 use Rattle.regex_pattern_front.specs.declared.codepointset.Interval.{Interval}
 use Rattle.regex_pattern_front.proofs.CanonicalLemmas.{outside}

@@ -2,17 +2,17 @@
 use Rattle.std.specs.Prelude.{IsTrue}
 use Rattle.std.proofs.Common.{◌≡◌, ℕ, Bool, true, false, List, [], ◌∷◌, nat_eq, true≢false, refl, sym, ap, ap₂, subst, ◌∙◌, ◌↔◌}
 use Rattle.regex_meaning.specs.Tree.{Node, lookaround, loop, capture_group}
-use Rattle.regex_grammar.specs.ReadingStatesAndDigits.{RemainingCodePoints, ParseState, PatternContext, groups_at, ◌▸◌, state_with_text_left, with_opened_group}
-use Rattle.regex_grammar.specs.ReadingStatesAndDigits.{begins_with_characters, ◌∈◌}
-use Rattle.regex_grammar.specs.Grammar.{PatternDialect, Disjunction, Term, Assertion, Atom, lookaround_opener, assertion, repeated_assertion, atom, quantified, start}
-use Rattle.regex_grammar.specs.Grammar.{end}
-use Rattle.regex_grammar.specs.Grammar.{boundary, look, leaf}
-use Rattle.regex_grammar.specs.Grammar.{group, named_group, plain_group}
+use Rattle.regex_meaning.specs.ReadingStatesAndDigits.{RemainingCodePoints, ParseState, PatternContext, groups_at, ◌▸◌, state_with_text_left, with_opened_group}
+use Rattle.regex_meaning.specs.ReadingStatesAndDigits.{begins_with_characters, ◌∈◌}
+use Rattle.regex_meaning.specs.Grammar.{PatternDialect, Disjunction, Term, Assertion, Atom, lookaround_opener, assertion, repeated_assertion, atom, quantified, start}
+use Rattle.regex_meaning.specs.Grammar.{end}
+use Rattle.regex_meaning.specs.Grammar.{boundary, look, leaf}
+use Rattle.regex_meaning.specs.Grammar.{group, named_group, plain_group}
 use Rattle.regex_parser.specs.ParseStack.{PartialDisjunction, empty_disjunction, OpenGroup, OpenGroupKind, captures, plain, looks, IsTerm, once, repeated, ClosesGroup}
 use Rattle.regex_parser.specs.ParseStack.{looked, looked_repeatedly, captured}
 use Rattle.regex_parser.specs.ParseStack.{enclosed, CompletesAll, lookaround_up_to}
-use Rattle.regex_grammar.proofs.OneTree.{IsReadInOneWay, ends_here, behind_word, places_differ, unlike, first, third, rest_of, leaf_begins, name_from, of_look}
-use Rattle.regex_grammar.proofs.OneTree.{look_word, meant}
+use Rattle.regex_meaning.proofs.OneTree.{IsReadInOneWay, ends_here, behind_word, places_differ, unlike, first, third, rest_of, leaf_begins, name_from, of_look}
+use Rattle.regex_meaning.proofs.OneTree.{look_word, meant}
 use Rattle.regex_parser.proofs.Stack.{begin}
 use Rattle.regex_parser.proofs.Parentheses.{next_term, pushed_all, unpushed_all, make_term}
 

@@ -1,15 +1,15 @@
 -- The same where a parenthesis opens or closes, and at the end.
 use Rattle.std.proofs.Common.{◌≡◌, ℕ, Bool, true, false, List, [], ◌∷◌, ◌++◌, true≢false, nat_eq, refl, sym, ap, ap₂, subst, ◌∙◌, append-nil, ◌↔◌}
 use Rattle.regex_meaning.specs.Tree.{Node, capture_group}
-use Rattle.regex_grammar.specs.ReadingStatesAndDigits.{RemainingCodePoints, ParseState, PatternContext, groups_at, ◌▸◌, with_opened_group, begins_with_characters, arm}
-use Rattle.regex_grammar.specs.Grammar.{PatternDialect, Disjunction, Alternative, Term, Assertion, Atom, no_terms, terms, assertion, repeated_assertion, atom}
-use Rattle.regex_grammar.specs.Grammar.{quantified, start}
-use Rattle.regex_grammar.specs.Grammar.{end, boundary}
-use Rattle.regex_grammar.specs.Grammar.{look, leaf, group, named_group, plain_group}
+use Rattle.regex_meaning.specs.ReadingStatesAndDigits.{RemainingCodePoints, ParseState, PatternContext, groups_at, ◌▸◌, with_opened_group, begins_with_characters, arm}
+use Rattle.regex_meaning.specs.Grammar.{PatternDialect, Disjunction, Alternative, Term, Assertion, Atom, no_terms, terms, assertion, repeated_assertion, atom}
+use Rattle.regex_meaning.specs.Grammar.{quantified, start}
+use Rattle.regex_meaning.specs.Grammar.{end, boundary}
+use Rattle.regex_meaning.specs.Grammar.{look, leaf, group, named_group, plain_group}
 use Rattle.regex_parser.specs.ParseStack.{PartialDisjunction, empty_disjunction, push_term, nest_alternatives, Completes, last_arm, further_arms, OpenGroup}
 use Rattle.regex_parser.specs.ParseStack.{OpenGroupKind, captures, plain, looks}
 use Rattle.regex_parser.specs.ParseStack.{IsTerm, once, repeated, ClosesGroup, looked, looked_repeatedly, captured, enclosed, CompletesAll}
-use Rattle.regex_grammar.proofs.OneTree.{IsReadInOneWay, closes, closes_here, ends_here, close_ends, no_close, behind_word, unlike, first, rest_of, leaf_begins}
+use Rattle.regex_meaning.proofs.OneTree.{IsReadInOneWay, closes, closes_here, ends_here, close_ends, no_close, behind_word, unlike, first, rest_of, leaf_begins}
 use Rattle.regex_parser.proofs.Stack.{begin, no_term, pushed, unpushed}
 
 pub make_term : {S : PatternDialect} {w : PatternContext} {behind : Bool} {p r s : ParseState} {n m : Node} → Atom S w behind p r n → IsTerm (groups_at p) n r s m → Term S w behind p s m

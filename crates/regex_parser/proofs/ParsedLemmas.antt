@@ -6,16 +6,16 @@ use Rattle.std.specs.Option.{option_eq}
 use Rattle.std.specs.Result.{IsErrAnd, result_err}
 use Rattle.std.proofs.lemmas.Bool.{eqb-true, eq-eqb}
 use Rattle.regex_meaning.specs.Tree as tree
-use Rattle.regex_grammar.specs.ReadingStatesAndDigits.{RemainingCodePoints, ParseState, groups_at, begins_with_characters, group_number_of}
-use Rattle.regex_grammar.specs.EscapesNamesQuantifiers.{BeginsQuantifier, ValidQuantifier}
-use Rattle.regex_grammar.specs.Grammar.{PatternDialect}
+use Rattle.regex_meaning.specs.ReadingStatesAndDigits.{RemainingCodePoints, ParseState, groups_at, begins_with_characters, group_number_of}
+use Rattle.regex_meaning.specs.EscapesNamesQuantifiers.{BeginsQuantifier, ValidQuantifier}
+use Rattle.regex_meaning.specs.Grammar.{PatternDialect}
 use Rattle.regex_parser.specs.ParseStack.{IsTerm, once, repeated, push_term, empty_disjunction}
 use Rattle.regex_parser.specs.ParseStack as grammar
 use Rattle.regex_parser.specs.ParserInvariants.{HasNoTreeIn, AreWithinGroupLimit, FindsGroups, with_groups, parse_state, IsParserInvariant}
 use Rattle.regex_parser.specs.SyntaxDialects.{spec_syntax_of, AreGroupsKnownIn}
 use Rattle.std.specs.BTreeMap.{BTreeMap, btree_map_len}
-use Rattle.regex_grammar.proofs.OneTree.{ends_here, first}
-use Rattle.regex_grammar.proofs.Scan.{Ahead}
+use Rattle.regex_meaning.proofs.OneTree.{ends_here, first}
+use Rattle.regex_meaning.proofs.Scan.{Ahead}
 use Rattle.regex_parser.proofs.Readable.{IsReadable, readable}
 use Rattle.regex_parser.proofs.Standing.{stands-group, stands-named, stands-plain, stands-look, stands-leave, shape, may_have_quantifier, of_term, of_alone}
 use Rattle.regex_parser.proofs.Standing.{contents_of, wrong-name, group-repeated, not-repeated, stands-begin, still-open, no-opening}

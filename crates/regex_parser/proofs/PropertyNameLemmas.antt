@@ -11,7 +11,7 @@ use lib.Pointwise.{pointwise, bytes_decides}
 use Rattle.std.proofs.Common.{Fits, w8, subst, ⊎_elim}
 use Rattle.std.proofs.lemmas.Bool.Decides.{nat_tests}
 use Rattle.std.proofs.lemmas.List.Folds.{list_all-append}
-use Rattle.regex_grammar.specs.UnicodeProperties.{in_database}
+use Rattle.regex_meaning.specs.UnicodeProperties.{in_database}
 use Rattle.regex_meaning.specs.Text.{is_scalar}
 use Rattle.ucd_sets.specs.Loose.{normalize}
 use Rattle.ucd_sets.specs.Lookup.{by_name, by_value}

@@ -2,12 +2,12 @@
 use Rattle.std.proofs.Common.{◌≡◌, ℕ, true, false, [], ◌∷◌, ◌++◌, refl, sym, ap, ap₂, ◌∙◌, true≢false, Option, Some}
 use Rattle.std.specs.List.{list_all}
 use Rattle.std.proofs.lemmas.Bool.{and_parts}
-use Rattle.regex_grammar.specs.ReadingStatesAndDigits.{RemainingCodePoints}
-use Rattle.regex_grammar.specs.UnicodeProperties.{property_named, property_with_value, Property as SpecProperty}
-use Rattle.regex_grammar.specs.EcmaEscapesAndNames.{PropertyExpression, with_value, alone}
-use Rattle.regex_grammar.proofs.OneTree.{first, rest_of, unlike}
-use Rattle.regex_grammar.proofs.Leaves.{behind}
-use Rattle.regex_grammar.proofs.EcmaLeaves.{lone-good, property-good, value-good}
+use Rattle.regex_meaning.specs.ReadingStatesAndDigits.{RemainingCodePoints}
+use Rattle.regex_meaning.specs.UnicodeProperties.{property_named, property_with_value, Property as SpecProperty}
+use Rattle.regex_meaning.specs.EcmaEscapesAndNames.{PropertyExpression, with_value, alone}
+use Rattle.regex_meaning.proofs.OneTree.{first, rest_of, unlike}
+use Rattle.regex_meaning.proofs.Leaves.{behind}
+use Rattle.regex_meaning.proofs.EcmaLeaves.{lone-good, property-good, value-good}
 use Rattle.regex_parser.specs.PropertyContracts.{is_name_character, AreNameCharactersRead, IsPropertyNamed}
 
 -- a sign that no name has

@@ -7,7 +7,7 @@ use Rattle.ucd_table.specs.Rows.{in_ranges, HasExactly}
 use Rattle.ucd_sets.specs.Sets.{in_set}
 use Rattle.ucd_sets.specs.declared.set.Set.{Set}
 use Rattle.regex_meaning.specs.Outcomes.{in_intervals}
-use Rattle.regex_grammar.specs.UnicodeProperties.{has_property, in_database}
+use Rattle.regex_meaning.specs.UnicodeProperties.{has_property, in_database}
 use Rattle.regex_pattern_front.specs.Intervals.{interval_of}
 use Rattle.regex_pattern_front.specs.declared.codepointset.Interval.{Interval}
 

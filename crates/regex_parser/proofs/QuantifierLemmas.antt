@@ -4,12 +4,12 @@ use Rattle.std.proofs.Common.{Some, None}
 use Rattle.std.specs.Prelude.{Option, not}
 use Rattle.regex_meaning.specs.Tree.{Quantifier}
 use Rattle.regex_meaning.specs.WellFormedTrees.{is_min_at_most_max}
-use Rattle.regex_grammar.specs.ReadingStatesAndDigits.{RemainingCodePoints, Digits, digits_from, leading_digits}
-use Rattle.regex_grammar.specs.EscapesNamesQuantifiers.{saturated_count, QuantifierPrefix, star, plus, question, exactly, at_least, between, BeginsQuantifier}
-use Rattle.regex_grammar.specs.EscapesNamesQuantifiers.{ValidQuantifier}
-use Rattle.regex_grammar.specs.EscapesNamesQuantifiers.{greedy, lazy}
-use Rattle.regex_grammar.proofs.OneTree.{unlike}
-use Rattle.regex_grammar.proofs.Leaves.{behind, firsts, digits_on, one_prefix, no_digit}
+use Rattle.regex_meaning.specs.ReadingStatesAndDigits.{RemainingCodePoints, Digits, digits_from, leading_digits}
+use Rattle.regex_meaning.specs.EscapesNamesQuantifiers.{saturated_count, QuantifierPrefix, star, plus, question, exactly, at_least, between, BeginsQuantifier}
+use Rattle.regex_meaning.specs.EscapesNamesQuantifiers.{ValidQuantifier}
+use Rattle.regex_meaning.specs.EscapesNamesQuantifiers.{greedy, lazy}
+use Rattle.regex_meaning.proofs.OneTree.{unlike}
+use Rattle.regex_meaning.proofs.Leaves.{behind, firsts, digits_on, one_prefix, no_digit}
 use Rattle.regex_parser.specs.CodePointAndQuantifierReaderContracts.{IsEaten, IsNumberRead, IsQuantifierMaximumRead}
 use Rattle.regex_parser.proofs.ReadLemmas.{no_sign}
 

@@ -11,9 +11,9 @@ use Rattle.std.proofs.lemmas.Bool.{cases_lt, and_parts, ltb-true, eqb-true}
 use Rattle.std.proofs.Math.Nat.{mul-le-mul_left, mul-le-mul_right, mul_comm}
 use Rattle.std.proofs.Math.Seq.{drop-append_seam}
 use Rattle.std.proofs.lemmas.List.{length-append}
-use Rattle.regex_grammar.specs.ReadingStatesAndDigits.{RemainingCodePoints, Digits, digits_from, leading_digits, value_of_digits, begins_with_characters}
-use Rattle.regex_grammar.specs.EscapesNamesQuantifiers.{FixedHexDigits, hex}
-use Rattle.regex_grammar.proofs.OneTree.{rest_of}
+use Rattle.regex_meaning.specs.ReadingStatesAndDigits.{RemainingCodePoints, Digits, digits_from, leading_digits, value_of_digits, begins_with_characters}
+use Rattle.regex_meaning.specs.EscapesNamesQuantifiers.{FixedHexDigits, hex}
+use Rattle.regex_meaning.proofs.OneTree.{rest_of}
 use Rattle.regex_parser.specs.CodePointAndQuantifierReaderContracts.{IsDigitRead, IsNumberRead}
 
 -- the text begins with these digits

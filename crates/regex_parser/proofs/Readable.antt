@@ -2,18 +2,18 @@
 use Rattle.std.proofs.Common.{◌≡◌, List, [], ◌∷◌, ◌++◌, length, true≢false, refl, sym, ap, ◌∙◌, arith, length-append}
 use Rattle.std.specs.Prelude.{encode_utf8, encode_utf8_all}
 use Rattle.std.proofs.lemmas.Str.{length-encode, len_utf8_bounds}
-use Rattle.regex_grammar.specs.ReadingStatesAndDigits.{RemainingCodePoints}
-use Rattle.regex_grammar.specs.EscapesNamesQuantifiers as Escapes
-use Rattle.regex_grammar.specs.EscapesNamesQuantifiers.{is_name}
-use Rattle.regex_grammar.specs.EcmaEscapesAndNames as Ecma
-use Rattle.regex_grammar.specs.Grammar.{PatternDialect}
-use Rattle.regex_grammar.specs.GroupOpeningScanWithoutParsing.{OpensGroups}
-use Rattle.regex_grammar.proofs.OneTree.{IsReadInOneWay}
-use Rattle.regex_grammar.proofs.Scan.{IsScanned}
-use Rattle.regex_grammar.proofs.Found.{scanned}
-use Rattle.regex_grammar.proofs.Members.{reads}
-use Rattle.regex_grammar.proofs.EcmaMembers.{ecmascript-reads}
-use Rattle.regex_grammar.proofs.EcmaFound.{ecmascript-scanned}
+use Rattle.regex_meaning.specs.ReadingStatesAndDigits.{RemainingCodePoints}
+use Rattle.regex_meaning.specs.EscapesNamesQuantifiers as Escapes
+use Rattle.regex_meaning.specs.EscapesNamesQuantifiers.{is_name}
+use Rattle.regex_meaning.specs.EcmaEscapesAndNames as Ecma
+use Rattle.regex_meaning.specs.Grammar.{PatternDialect}
+use Rattle.regex_meaning.specs.GroupOpeningScanWithoutParsing.{OpensGroups}
+use Rattle.regex_meaning.proofs.OneTree.{IsReadInOneWay}
+use Rattle.regex_meaning.proofs.Scan.{IsScanned}
+use Rattle.regex_meaning.proofs.Found.{scanned}
+use Rattle.regex_meaning.proofs.Members.{reads}
+use Rattle.regex_meaning.proofs.EcmaMembers.{ecmascript-reads}
+use Rattle.regex_meaning.proofs.EcmaFound.{ecmascript-scanned}
 use Rattle.regex_parser.specs.declared.syntax.Syntax.{Syntax}
 use Rattle.regex_parser.specs.declared.syntax.Syntax.TheVariants.{Profile, EcmaScript2018}
 use Rattle.regex_parser.specs.SyntaxDialects.{spec_syntax_of}

@@ -12,18 +12,18 @@ use lib.Pointwise.{pointwise}
 use Rattle.regex_meaning.specs.Tree.{by_case}
 use Rattle.regex_meaning.specs.Text.{is_scalar}
 use Rattle.regex_meaning.specs.Tree.{Node, back_ref, bracket}
-use Rattle.regex_grammar.specs.ReadingStatesAndDigits.{RemainingCodePoints, PatternContext, ◌∈◌, begins_with_characters, Digits, digits_from, leading_digits}
-use Rattle.regex_grammar.specs.ReadingStatesAndDigits.{group_number_of}
-use Rattle.regex_grammar.specs.EscapesNamesQuantifiers.{CharacterEscape, GroupName, group_name}
-use Rattle.regex_grammar.specs.CharacterClasses.{ClassMember, class, class_escape, IsSetOf}
-use Rattle.regex_grammar.specs.Grammar.{SimpleAtom, pattern_character, extended_character, any_character, decimal_escape, named_reference}
-use Rattle.regex_grammar.specs.Grammar.{character_escape, character_class_escape, character_class}
-use Rattle.regex_grammar.specs.Laws.{no_flags}
-use Rattle.regex_grammar.proofs.OneTree.{first}
-use Rattle.regex_grammar.proofs.Leaves.{inside, firsts, behind, one_digits, one_name, Some_inj}
-use Rattle.regex_grammar.proofs.Members.{escape_begins, may_escape, class_letter, digit_begins}
-use Rattle.regex_grammar.proofs.Found.{scanned}
-use Rattle.regex_grammar.proofs.References.{number-positive, number_of-bounds}
+use Rattle.regex_meaning.specs.ReadingStatesAndDigits.{RemainingCodePoints, PatternContext, ◌∈◌, begins_with_characters, Digits, digits_from, leading_digits}
+use Rattle.regex_meaning.specs.ReadingStatesAndDigits.{group_number_of}
+use Rattle.regex_meaning.specs.EscapesNamesQuantifiers.{CharacterEscape, GroupName, group_name}
+use Rattle.regex_meaning.specs.CharacterClasses.{ClassMember, class, class_escape, IsSetOf}
+use Rattle.regex_meaning.specs.Grammar.{SimpleAtom, pattern_character, extended_character, any_character, decimal_escape, named_reference}
+use Rattle.regex_meaning.specs.Grammar.{character_escape, character_class_escape, character_class}
+use Rattle.regex_meaning.specs.GrammarLaws.{no_flags}
+use Rattle.regex_meaning.proofs.OneTree.{first}
+use Rattle.regex_meaning.proofs.Leaves.{inside, firsts, behind, one_digits, one_name, Some_inj}
+use Rattle.regex_meaning.proofs.Members.{escape_begins, may_escape, class_letter, digit_begins}
+use Rattle.regex_meaning.proofs.Found.{scanned}
+use Rattle.regex_meaning.proofs.References.{number-positive, number_of-bounds}
 use Rattle.regex_parser.specs.declared.character_class_parser.DigitWordOrSpaceEscape.{DigitWordOrSpaceEscape}
 use Rattle.regex_pattern_front.specs.declared.flags.Flags.{Flags}
 use Rattle.regex_parser.specs.declared.groupless_terms.GrouplessTerm.{GrouplessTerm as TheLeaf}

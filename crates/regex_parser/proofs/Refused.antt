@@ -1,13 +1,13 @@
 -- Where a reader with a stack finds what nothing completes.
 use Rattle.std.proofs.Common.{◌≡◌, ℕ, Bool, true, false, not, List, [], ◌∷◌, true≢false, nat_eq, refl, sym, ap, subst, ◌∙◌}
 use Rattle.regex_meaning.specs.Tree.{Node, Quantifier, lookaround}
-use Rattle.regex_grammar.specs.ReadingStatesAndDigits.{RemainingCodePoints, ParseState, PatternContext, ◌▸◌, ◌∈◌}
-use Rattle.regex_grammar.specs.EscapesNamesQuantifiers.{BeginsQuantifier, ValidQuantifier}
-use Rattle.regex_grammar.specs.Grammar.{PatternDialect, Term, Assertion, assertion, repeated_assertion, atom, quantified, start, end}
-use Rattle.regex_grammar.specs.Grammar.{boundary, look, leaf, group, named_group, plain_group}
+use Rattle.regex_meaning.specs.ReadingStatesAndDigits.{RemainingCodePoints, ParseState, PatternContext, ◌▸◌, ◌∈◌}
+use Rattle.regex_meaning.specs.EscapesNamesQuantifiers.{BeginsQuantifier, ValidQuantifier}
+use Rattle.regex_meaning.specs.Grammar.{PatternDialect, Term, Assertion, assertion, repeated_assertion, atom, quantified, start, end}
+use Rattle.regex_meaning.specs.Grammar.{boundary, look, leaf, group, named_group, plain_group}
 use Rattle.regex_parser.specs.ParseStack.{PartialDisjunction, OpenGroup, CompletesAll}
-use Rattle.regex_grammar.proofs.OneTree.{IsReadInOneWay, leaf_begins, ends_here, one_assertion, assertion_or_atom, first, unlike}
-use Rattle.regex_grammar.proofs.Leaves.{one_quantifier}
+use Rattle.regex_meaning.proofs.OneTree.{IsReadInOneWay, leaf_begins, ends_here, one_assertion, assertion_or_atom, first, unlike}
+use Rattle.regex_meaning.proofs.Leaves.{one_quantifier}
 use Rattle.regex_parser.proofs.Parentheses.{is_done, next_term}
 
 is_lookaround : Node → Bool

@@ -16,12 +16,12 @@ use Rattle.std.specs.String.{string_cmp}
 use Rattle.std.specs.Ordering.{nat_cmp}
 use Rattle.std.specs.Cmp.Lexicographic.{slice_cmp}
 use Rattle.std.proofs.lemmas.Map.Text.{btree_map_updates_text}
-use Rattle.regex_grammar.specs.ReadingStatesAndDigits.{RemainingCodePoints, group_number_of}
-use Rattle.regex_grammar.specs.EscapesNamesQuantifiers as Profile
-use Rattle.regex_grammar.specs.EcmaEscapesAndNames.{group_name}
-use Rattle.regex_grammar.specs.Grammar.{PatternDialect, lookaround_opener}
-use Rattle.regex_grammar.specs.GroupOpeningScanWithoutParsing.{texts_after_parentheses}
-use Rattle.regex_grammar.proofs.OneTree.{rest_of}
+use Rattle.regex_meaning.specs.ReadingStatesAndDigits.{RemainingCodePoints, group_number_of}
+use Rattle.regex_meaning.specs.EscapesNamesQuantifiers as Profile
+use Rattle.regex_meaning.specs.EcmaEscapesAndNames.{group_name}
+use Rattle.regex_meaning.specs.Grammar.{PatternDialect, lookaround_opener}
+use Rattle.regex_meaning.specs.GroupOpeningScanWithoutParsing.{texts_after_parentheses}
+use Rattle.regex_meaning.proofs.OneTree.{rest_of}
 use Rattle.regex_parser.specs.declared.syntax.Syntax.{Syntax}
 use Rattle.regex_parser.specs.declared.syntax.Syntax.TheVariants.{Profile as InProfile, EcmaScript2018}
 use Rattle.regex_parser.specs.declared.group_openings_and_names.GroupAndNameScanState.{GroupAndNameScanState}

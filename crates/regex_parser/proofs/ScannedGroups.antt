@@ -6,18 +6,18 @@ use Rattle.std.specs.Prelude.{if◌then◌else◌, String}
 use Rattle.std.specs.List.{flat_map}
 use Rattle.std.specs.BTreeMap.{BTreeMap}
 use Rattle.std.proofs.lemmas.List.{map-id, length-map, map-append}
-use Rattle.regex_grammar.specs.ReadingStatesAndDigits.{RemainingCodePoints, begins_with_characters, ◌∈◌}
-use Rattle.regex_grammar.specs.EscapesNamesQuantifiers.{is_name}
-use Rattle.regex_grammar.specs.Grammar.{PatternDialect, profile, lookaround_opener}
-use Rattle.regex_grammar.specs.GroupNameScan.{group_name_at, name_of_opened_group, scanned_names_per_capturing_group}
-use Rattle.regex_grammar.specs.GroupOpeningScanWithoutParsing.{texts_after_parentheses, OpensGroups, no_parenthesis, opens_plain_group, opens_lookaround, opens_group}
-use Rattle.regex_grammar.specs.GroupOpeningScanWithoutParsing.{opens_named_group}
+use Rattle.regex_meaning.specs.ReadingStatesAndDigits.{RemainingCodePoints, begins_with_characters, ◌∈◌}
+use Rattle.regex_meaning.specs.EscapesNamesQuantifiers.{is_name}
+use Rattle.regex_meaning.specs.Grammar.{PatternDialect, profile, lookaround_opener}
+use Rattle.regex_meaning.specs.GroupNameScan.{group_name_at, name_of_opened_group, scanned_names_per_capturing_group}
+use Rattle.regex_meaning.specs.GroupOpeningScanWithoutParsing.{texts_after_parentheses, OpensGroups, no_parenthesis, opens_plain_group, opens_lookaround, opens_group}
+use Rattle.regex_meaning.specs.GroupOpeningScanWithoutParsing.{opens_named_group}
 use Rattle.regex_parser.specs.ScannedGroups.{ScansGroups, NoGroupName, scans_nothing, scans_group, scans_named_group, scans_wrong_name, scans_other}
 use Rattle.regex_parser.specs.GroupReaderContracts.{NoneBegins, AreCountedAndNumbered, IsPatternScanned, count_of_groups}
-use Rattle.regex_grammar.proofs.OneTree.{IsReadInOneWay, second, rest_of, unlike}
-use Rattle.regex_grammar.proofs.Found.{name-found, none-found}
-use Rattle.regex_grammar.proofs.Members.{reads}
-use Rattle.regex_grammar.proofs.EcmaMembers.{ecmascript-reads}
+use Rattle.regex_meaning.proofs.OneTree.{IsReadInOneWay, second, rest_of, unlike}
+use Rattle.regex_meaning.proofs.Found.{name-found, none-found}
+use Rattle.regex_meaning.proofs.Members.{reads}
+use Rattle.regex_meaning.proofs.EcmaMembers.{ecmascript-reads}
 use Rattle.regex_parser.specs.declared.syntax.Syntax.{Syntax}
 use Rattle.regex_parser.specs.declared.syntax.Syntax.TheVariants.{Profile, EcmaScript2018}
 use Rattle.regex_parser.specs.SyntaxDialects.{spec_syntax_of}

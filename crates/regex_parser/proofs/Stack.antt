@@ -1,11 +1,11 @@
 -- What a step of a reader with a stack leaves as it is: to what the rest can complete what was read.
 use Rattle.std.proofs.Common.{◌≡◌, Bool, true, List, [], ◌∷◌, ◌++◌, refl, sym, ap, subst, ◌∙◌, append_assoc, append-nil, ◌↔◌}
 use Rattle.regex_meaning.specs.Tree.{Node, alt}
-use Rattle.regex_grammar.specs.ReadingStatesAndDigits.{ParseState, PatternContext, ◌▸◌, arm}
-use Rattle.regex_grammar.specs.Grammar.{PatternDialect, Disjunction, Alternative, Term, last_alternative, alternatives, no_terms, terms}
+use Rattle.regex_meaning.specs.ReadingStatesAndDigits.{ParseState, PatternContext, ◌▸◌, arm}
+use Rattle.regex_meaning.specs.Grammar.{PatternDialect, Disjunction, Alternative, Term, last_alternative, alternatives, no_terms, terms}
 use Rattle.regex_parser.specs.ParseStack.{PartialDisjunction, empty_disjunction, push_term, end_alternative, nest_alternatives, Completes, last_arm, further_arms}
-use Rattle.regex_grammar.proofs.OneTree.{Agree, IsReadInOneWay, closes_here, ends_here, no_close, close_ends, behind_word, one_term, term_begins}
-use Rattle.regex_grammar.proofs.Leaves.{one_quantifier}
+use Rattle.regex_meaning.proofs.OneTree.{Agree, IsReadInOneWay, closes_here, ends_here, no_close, close_ends, behind_word, one_term, term_begins}
+use Rattle.regex_meaning.proofs.Leaves.{one_quantifier}
 
 join-push : (ns : List Node) (x y : Node) → nest_alternatives (ns ++ x ∷ []) y ≡ nest_alternatives ns (alt x y)
 join-push [] x y = refl

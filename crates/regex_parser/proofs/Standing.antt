@@ -9,22 +9,22 @@ use Rattle.std.proofs.lemmas.List.{get_or_append_left}
 use Rattle.std.proofs.Math.Seq.{get_or-append_seam}
 use lib.Pointwise.{pointwise}
 use Rattle.regex_meaning.specs.Tree.{Node, Tree, Flags, Quantifier, goal, cat, end_of_cat, lookaround, loop, capture_group}
-use Rattle.regex_grammar.specs.ReadingStatesAndDigits.{RemainingCodePoints, ParseState, PatternContext, groups_at, state_with_text_left, begins_with_characters}
-use Rattle.regex_grammar.specs.ReadingStatesAndDigits.{group_number_of, arm}
-use Rattle.regex_grammar.specs.EscapesNamesQuantifiers.{BeginsQuantifier, ValidQuantifier}
-use Rattle.regex_grammar.specs.Grammar.{PatternDialect, Disjunction, Term, Assertion, Atom, assertion, repeated_assertion, atom, quantified, start, end, boundary, look}
-use Rattle.regex_grammar.specs.Grammar.{leaf}
-use Rattle.regex_grammar.specs.Grammar.{group, named_group}
-use Rattle.regex_grammar.specs.Grammar.{plain_group, ParsesBy, pattern_is, AreDistinct, lookaround_opener, no_terms}
-use Rattle.regex_grammar.specs.GroupOpeningScanWithoutParsing.{texts_after_parentheses, no_parenthesis}
+use Rattle.regex_meaning.specs.ReadingStatesAndDigits.{RemainingCodePoints, ParseState, PatternContext, groups_at, state_with_text_left, begins_with_characters}
+use Rattle.regex_meaning.specs.ReadingStatesAndDigits.{group_number_of, arm}
+use Rattle.regex_meaning.specs.EscapesNamesQuantifiers.{BeginsQuantifier, ValidQuantifier}
+use Rattle.regex_meaning.specs.Grammar.{PatternDialect, Disjunction, Term, Assertion, Atom, assertion, repeated_assertion, atom, quantified, start, end, boundary, look}
+use Rattle.regex_meaning.specs.Grammar.{leaf}
+use Rattle.regex_meaning.specs.Grammar.{group, named_group}
+use Rattle.regex_meaning.specs.Grammar.{plain_group, ParsesBy, pattern_is, AreDistinct, lookaround_opener, no_terms}
+use Rattle.regex_meaning.specs.GroupOpeningScanWithoutParsing.{texts_after_parentheses, no_parenthesis}
 use Rattle.regex_parser.specs.ParseStack.{PartialDisjunction, empty_disjunction, push_term, end_alternative, nest_alternatives, Completes, last_arm, OpenGroup}
 use Rattle.regex_parser.specs.ParseStack.{OpenGroupKind, captures, plain, looks, IsTerm}
 use Rattle.regex_parser.specs.ParseStack.{once, repeated, ClosesGroup, looked, looked_repeatedly, captured, enclosed}
 use Rattle.regex_parser.specs.ParserInvariants.{HasNoTreeIn, with_groups, parse_state, FindsGroups, CompletesTo, ParsesTo, AreNumbered, IsParserInvariant}
 use Rattle.regex_parser.specs.ScannedGroups.{ScansGroups, scans_nothing}
-use Rattle.regex_grammar.proofs.Leaves.{one_quantifier}
-use Rattle.regex_grammar.proofs.OneTree.{is_quantified, ends_here, places_differ, first, third, rest_of}
-use Rattle.regex_grammar.proofs.Scan.{Ahead, Opens, past, past_group, past_named, past_plain, past_opener, groups-found}
+use Rattle.regex_meaning.proofs.Leaves.{one_quantifier}
+use Rattle.regex_meaning.proofs.OneTree.{is_quantified, ends_here, places_differ, first, third, rest_of}
+use Rattle.regex_meaning.proofs.Scan.{Ahead, Opens, past, past_group, past_named, past_plain, past_opener, groups-found}
 use Rattle.regex_parser.proofs.Stack.{begin}
 use Rattle.regex_parser.proofs.Steps.{begin_all, bar_all, none_open}
 use Rattle.regex_parser.proofs.Parentheses.{leave, pushed_all, unpushed_all, enter}

@@ -1,11 +1,11 @@
 -- A reader with a stack, from the beginning of the pattern to its end.
 use Rattle.std.proofs.Common.{◌≡◌, Bool, true, false, List, [], ◌∷◌, ◌++◌, true≢false, refl, sym, ap, ◌∙◌, append-nil, ◌↔◌}
 use Rattle.regex_meaning.specs.Tree.{Node, Flags, goal, cat, end_of_cat}
-use Rattle.regex_grammar.specs.ReadingStatesAndDigits.{RemainingCodePoints, ParseState, PatternContext, ◌▸◌, arm}
-use Rattle.regex_grammar.specs.Grammar.{PatternDialect, Alternative, ParsesBy, pattern_is, AreDistinct, no_terms, terms}
+use Rattle.regex_meaning.specs.ReadingStatesAndDigits.{RemainingCodePoints, ParseState, PatternContext, ◌▸◌, arm}
+use Rattle.regex_meaning.specs.Grammar.{PatternDialect, Alternative, ParsesBy, pattern_is, AreDistinct, no_terms, terms}
 use Rattle.regex_parser.specs.ParseStack.{PartialDisjunction, empty_disjunction, end_alternative, nest_alternatives, Completes, last_arm, further_arms, OpenGroup}
 use Rattle.regex_parser.specs.ParseStack.{CompletesAll}
-use Rattle.regex_grammar.proofs.OneTree.{IsReadInOneWay, closes, no_close}
+use Rattle.regex_meaning.proofs.OneTree.{IsReadInOneWay, closes, no_close}
 use Rattle.regex_parser.proofs.Stack.{begin, no_term, barred, unbarred}
 
 abbrev pub whole : Flags → List RemainingCodePoints → PatternContext

@@ -9,19 +9,19 @@ use Rattle.regex_meaning.specs.Tree.{by_case}
 use Rattle.regex_meaning.specs.NumberListHelpers.{contains}
 use Rattle.regex_meaning.specs.Text.{expand_code_point}
 use Rattle.regex_meaning.specs.Tree.{Node, BracketContents, back_ref, bracket}
-use Rattle.regex_grammar.specs.ReadingStatesAndDigits.{RemainingCodePoints, ParseState, PatternContext, ◌∈◌}
-use Rattle.regex_grammar.specs.EscapesNamesQuantifiers.{BeginsQuantifier}
-use Rattle.regex_grammar.specs.CharacterClasses.{CharacterClass}
-use Rattle.regex_grammar.specs.Grammar.{character_node, SimpleAtom, pattern_character, extended_character, any_character, decimal_escape, named_reference}
-use Rattle.regex_grammar.specs.Grammar.{character_escape, character_class_escape, character_class, profile, Term, assertion, atom, quantified, Assertion}
-use Rattle.regex_grammar.specs.Grammar.{repeated_assertion}
-use Rattle.regex_grammar.specs.Grammar.{start, end, boundary, look, Atom, leaf, group, named_group, plain_group}
-use Rattle.regex_grammar.proofs.OneTree.{first, rest_of}
-use Rattle.regex_grammar.proofs.Leaves.{inside, firsts, behind}
-use Rattle.regex_grammar.specs.GroupOpeningScanWithoutParsing.{texts_after_parentheses}
-use Rattle.regex_grammar.proofs.Members.{leaf_apart}
-use Rattle.regex_grammar.proofs.Found.{scanned}
-use Rattle.regex_grammar.proofs.Scan.{past_escape}
+use Rattle.regex_meaning.specs.ReadingStatesAndDigits.{RemainingCodePoints, ParseState, PatternContext, ◌∈◌}
+use Rattle.regex_meaning.specs.EscapesNamesQuantifiers.{BeginsQuantifier}
+use Rattle.regex_meaning.specs.CharacterClasses.{CharacterClass}
+use Rattle.regex_meaning.specs.Grammar.{character_node, SimpleAtom, pattern_character, extended_character, any_character, decimal_escape, named_reference}
+use Rattle.regex_meaning.specs.Grammar.{character_escape, character_class_escape, character_class, profile, Term, assertion, atom, quantified, Assertion}
+use Rattle.regex_meaning.specs.Grammar.{repeated_assertion}
+use Rattle.regex_meaning.specs.Grammar.{start, end, boundary, look, Atom, leaf, group, named_group, plain_group}
+use Rattle.regex_meaning.proofs.OneTree.{first, rest_of}
+use Rattle.regex_meaning.proofs.Leaves.{inside, firsts, behind}
+use Rattle.regex_meaning.specs.GroupOpeningScanWithoutParsing.{texts_after_parentheses}
+use Rattle.regex_meaning.proofs.Members.{leaf_apart}
+use Rattle.regex_meaning.proofs.Found.{scanned}
+use Rattle.regex_meaning.proofs.Scan.{past_escape}
 use Rattle.regex_parser.proofs.DialectTerms.{passed-term, in-profile}
 use Rattle.regex_parser.specs.declared.parser_error.ParseStopReason.{ParseStopReason}
 use Rattle.regex_parser.specs.CodePointAndQuantifierReaderContracts.{is_syntax_error}

@@ -1,14 +1,14 @@
 -- What a reader knows behind a term without groups, with its quantifier.
 use Rattle.std.proofs.Common.{◌≡◌, ℕ, ◌<◌, ◌≤◌, ◌⊎◌, inl, inr, Bool, true, false, List, length, ⊎_elim, nat_eq, refl, sym, subst, ◌∙◌, arith}
 use Rattle.regex_meaning.specs.Tree.{Node, Flags, Quantifier, loop}
-use Rattle.regex_grammar.specs.ReadingStatesAndDigits.{RemainingCodePoints, ParseState, PatternContext}
-use Rattle.regex_grammar.specs.EscapesNamesQuantifiers.{BeginsQuantifier, ValidQuantifier}
-use Rattle.regex_grammar.specs.Grammar.{PatternDialect, Term, assertion, atom, quantified, leaf}
+use Rattle.regex_meaning.specs.ReadingStatesAndDigits.{RemainingCodePoints, ParseState, PatternContext}
+use Rattle.regex_meaning.specs.EscapesNamesQuantifiers.{BeginsQuantifier, ValidQuantifier}
+use Rattle.regex_meaning.specs.Grammar.{PatternDialect, Term, assertion, atom, quantified, leaf}
 use Rattle.regex_parser.specs.ParseStack.{PartialDisjunction, push_term, OpenGroup, IsTerm, once, repeated}
 use Rattle.regex_parser.specs.ParserInvariants.{HasNoTreeIn, with_groups, parse_state, CompletesTo, IsParserInvariant}
 use Rattle.regex_parser.specs.GrouplessTermContracts.{NoTermIn, IsAtomOrIn}
-use Rattle.regex_grammar.proofs.OneTree.{ends_here, first}
-use Rattle.regex_grammar.proofs.Scan.{Ahead, past_quantifier}
+use Rattle.regex_meaning.proofs.OneTree.{ends_here, first}
+use Rattle.regex_meaning.proofs.Scan.{Ahead, past_quantifier}
 use Rattle.regex_parser.proofs.Readable.{IsReadable}
 use Rattle.regex_parser.proofs.Refused.{no_term_here, no_quantified, no_repeated}
 use Rattle.regex_parser.proofs.Standing.{refused, stands-term}

@@ -9,9 +9,9 @@ use Rattle.regex_parser.specs.declared.parser_error.ParseStopReason.{ParseStopRe
 use Rattle.regex_parser.specs.declared.parser_error.ParseStopReason.TheVariants.{Refused, Memory}
 use Rattle.regex_pattern_front.specs.declared.ir.Quantifier.{Quantifier}
 use Rattle.regex_pattern_front.specs.AstToSpecTree.{spec_quantifier_of}
-use Rattle.regex_grammar.specs.ReadingStatesAndDigits.{RemainingCodePoints, Digits, leading_digits}
-use Rattle.regex_grammar.specs.EscapesNamesQuantifiers.{is_ascii_identifier_start, is_ascii_identifier_part, FixedHexDigits, is_lead_surrogate, is_trail_surrogate}
-use Rattle.regex_grammar.specs.EscapesNamesQuantifiers.{QuantifierPrefix, BeginsQuantifier, ValidQuantifier}
+use Rattle.regex_meaning.specs.ReadingStatesAndDigits.{RemainingCodePoints, Digits, leading_digits}
+use Rattle.regex_meaning.specs.EscapesNamesQuantifiers.{is_ascii_identifier_start, is_ascii_identifier_part, FixedHexDigits, is_lead_surrogate, is_trail_surrogate}
+use Rattle.regex_meaning.specs.EscapesNamesQuantifiers.{QuantifierPrefix, BeginsQuantifier, ValidQuantifier}
 
 -- whether the fault is a syntax error, and no allocation failure
 abbrev pub is_syntax_error : ParseStopReason → Bool

@@ -2,8 +2,8 @@
 -- text before what is read, and `there` the text after it.
 use Rattle.std.specs.Prelude.{◌≡◌, ℕ, ◌%◌, Bool, true, false, ◌∷◌, Option, Some, None, Result, Ok, Err, IsTrue}
 use Rattle.std.specs.Char.{is_ascii_alphabetic}
-use Rattle.regex_grammar.specs.ReadingStatesAndDigits.{RemainingCodePoints}
-use Rattle.regex_grammar.specs.EcmaEscapesAndNames.{GrammarParameters as SpecParameters, NameCharacter, is_identifier_start, is_identifier_part}
+use Rattle.regex_meaning.specs.ReadingStatesAndDigits.{RemainingCodePoints}
+use Rattle.regex_meaning.specs.EcmaEscapesAndNames.{GrammarParameters as SpecParameters, NameCharacter, is_identifier_start, is_identifier_part}
 use Rattle.regex_parser.specs.declared.ecmascript_single_character_escapes.GrammarParameters.{GrammarParameters}
 use Rattle.regex_parser.specs.declared.parser_error.ParseStopReason.{ParseStopReason}
 

@@ -5,11 +5,11 @@ use Rattle.std.specs.BTreeMap.{BTreeMap, get_by_text}
 use Rattle.std.specs.Int.{is_in_range}
 use Rattle.regex_meaning.specs.Tree as tree
 use Rattle.regex_meaning.specs.Canonical.{AreCaseVariants}
-use Rattle.regex_grammar.specs.ReadingStatesAndDigits.{RemainingCodePoints, ParseState, PatternContext, Digits, ◌∈◌, group_number_of}
-use Rattle.regex_grammar.specs.Grammar.{Term, Assertion}
-use Rattle.regex_grammar.specs.EcmaEscapesAndNames.{GroupName}
-use Rattle.regex_grammar.specs.EcmaClasses.{CharacterClassEscape}
-use Rattle.regex_grammar.specs.EcmaGrammarWithAnnexB.{SimpleAtom, AtomEscape, ecmascript, has_named_groups, node_of_case_variants, BeginsGroupNumber, reference_node}
+use Rattle.regex_meaning.specs.ReadingStatesAndDigits.{RemainingCodePoints, ParseState, PatternContext, Digits, ◌∈◌, group_number_of}
+use Rattle.regex_meaning.specs.Grammar.{Term, Assertion}
+use Rattle.regex_meaning.specs.EcmaEscapesAndNames.{GroupName}
+use Rattle.regex_meaning.specs.EcmaClasses.{CharacterClassEscape}
+use Rattle.regex_meaning.specs.EcmaGrammarWithAnnexB.{SimpleAtom, AtomEscape, ecmascript, has_named_groups, node_of_case_variants, BeginsGroupNumber, reference_node}
 use Rattle.regex_pattern_front.specs.declared.flags.Flags.{Flags}
 use Rattle.regex_parser.specs.declared.groupless_terms.GrouplessTerm.{GrouplessTerm}
 use Rattle.regex_parser.specs.declared.parser_error.ParseStopReason.{ParseStopReason}

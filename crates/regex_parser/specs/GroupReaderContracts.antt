@@ -6,10 +6,10 @@ use Rattle.std.specs.List.{list_any}
 use Rattle.std.specs.Str.{bytes_eq}
 use Rattle.std.specs.BTreeMap.{BTreeMap, get_by_text, btree_map_len}
 use Rattle.regex_meaning.specs.Tree.{Flags}
-use Rattle.regex_grammar.specs.ReadingStatesAndDigits.{RemainingCodePoints, group_number_of}
-use Rattle.regex_grammar.specs.EscapesNamesQuantifiers.{is_name}
-use Rattle.regex_grammar.specs.Grammar.{PatternDialect, lookaround_opener}
-use Rattle.regex_grammar.specs.GroupOpeningScanWithoutParsing.{texts_after_parentheses}
+use Rattle.regex_meaning.specs.ReadingStatesAndDigits.{RemainingCodePoints, group_number_of}
+use Rattle.regex_meaning.specs.EscapesNamesQuantifiers.{is_name}
+use Rattle.regex_meaning.specs.Grammar.{PatternDialect, lookaround_opener}
+use Rattle.regex_meaning.specs.GroupOpeningScanWithoutParsing.{texts_after_parentheses}
 use Rattle.regex_parser.specs.ParserInvariants.{AreWithinGroupLimit}
 use Rattle.regex_parser.specs.ScannedGroups.{ScansGroups}
 use Rattle.regex_parser.specs.declared.parser_error.ParseStopReason.{ParseStopReason}

@@ -5,10 +5,10 @@ use Rattle.std.specs.Prelude.{Ok, Err, String, IsTrue, if◌then◌else◌}
 use Rattle.std.specs.Int.{is_in_range}
 use Rattle.std.specs.BTreeMap.{BTreeMap}
 use Rattle.regex_meaning.specs.Tree as tree
-use Rattle.regex_grammar.specs.ReadingStatesAndDigits.{RemainingCodePoints, ParseState, PatternContext, ◌∈◌, Digits}
-use Rattle.regex_grammar.specs.EscapesNamesQuantifiers.{GroupName, BeginsQuantifier}
-use Rattle.regex_grammar.specs.Grammar.{PatternDialect, SimpleAtom as AtomLeaf, profile, Term, Assertion}
-use Rattle.regex_grammar.specs.GroupOpeningScanWithoutParsing.{texts_after_parentheses}
+use Rattle.regex_meaning.specs.ReadingStatesAndDigits.{RemainingCodePoints, ParseState, PatternContext, ◌∈◌, Digits}
+use Rattle.regex_meaning.specs.EscapesNamesQuantifiers.{GroupName, BeginsQuantifier}
+use Rattle.regex_meaning.specs.Grammar.{PatternDialect, SimpleAtom as AtomLeaf, profile, Term, Assertion}
+use Rattle.regex_meaning.specs.GroupOpeningScanWithoutParsing.{texts_after_parentheses}
 use Rattle.regex_parser.specs.declared.diagnosis.Cause.{Cause}
 use Rattle.regex_parser.specs.declared.parser_error.ParseStopReason.{ParseStopReason}
 use Rattle.regex_pattern_front.specs.declared.flags.Flags.{Flags}

@@ -1,7 +1,7 @@
 -- What the errors of the parser say of a pattern.
 use Rattle.std.specs.Prelude.{ℕ, ◌≤◌, List, length}
 use Rattle.regex_meaning.specs.Tree.{Flags}
-use Rattle.regex_grammar.specs.Grammar.{PatternDialect, profile}
+use Rattle.regex_meaning.specs.Grammar.{PatternDialect, profile}
 use Rattle.regex_parser.specs.ParserInvariants.{HasNoTreeIn, OpensTooManyGroups}
 use Rattle.regex_parser.specs.declared.diagnosis.Diagnosis.{Diagnosis}
 use Rattle.regex_parser.specs.declared.parse.ParseError.{ParseError}

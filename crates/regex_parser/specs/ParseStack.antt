@@ -2,9 +2,9 @@
 -- it; no part of the grammar.
 use Rattle.std.specs.Prelude.{◌≡◌, ℕ, Bool, List, [], ◌∷◌, ◌++◌, IsTrue}
 use Rattle.regex_meaning.specs.Tree.{Node, Lookaround, Quantifier, alt, loop, lookaround, capture_group}
-use Rattle.regex_grammar.specs.ReadingStatesAndDigits.{RemainingCodePoints, ParseState, PatternContext, groups_at, ◌▸◌, state_with_text_left, arm}
-use Rattle.regex_grammar.specs.EscapesNamesQuantifiers.{BeginsQuantifier, ValidQuantifier}
-use Rattle.regex_grammar.specs.Grammar.{PatternDialect, Disjunction, Alternative}
+use Rattle.regex_meaning.specs.ReadingStatesAndDigits.{RemainingCodePoints, ParseState, PatternContext, groups_at, ◌▸◌, state_with_text_left, arm}
+use Rattle.regex_meaning.specs.EscapesNamesQuantifiers.{BeginsQuantifier, ValidQuantifier}
+use Rattle.regex_meaning.specs.Grammar.{PatternDialect, Disjunction, Alternative}
 
 -- a disjunction as far as it is read: the alternatives that have ended, and the terms of the
 -- current one

@@ -1,9 +1,9 @@
 -- What the functions of the parser ensure, in terms of the grammar.
 use Rattle.std.specs.Prelude.{◌≡◌, ◌⊎◌, ℕ, ◌+◌, ◌≤◌, Bool, true, false, List, [], ◌∷◌, length, Option, Some, Result, Ok, Err, String, IsTrue}
 use Rattle.regex_meaning.specs.Tree as tree
-use Rattle.regex_grammar.specs.ReadingStatesAndDigits.{RemainingCodePoints}
-use Rattle.regex_grammar.specs.EscapesNamesQuantifiers.{BeginsQuantifier, ValidQuantifier}
-use Rattle.regex_grammar.specs.Grammar.{PatternDialect, ParsesBy, profile}
+use Rattle.regex_meaning.specs.ReadingStatesAndDigits.{RemainingCodePoints}
+use Rattle.regex_meaning.specs.EscapesNamesQuantifiers.{BeginsQuantifier, ValidQuantifier}
+use Rattle.regex_meaning.specs.Grammar.{PatternDialect, ParsesBy, profile}
 use Rattle.regex_parser.specs.ParseStack as grammar
 use Rattle.regex_parser.specs.ParserInvariants.{HasNoTreeIn, OpensTooManyGroups, parse_state, IsParserInvariant}
 use Rattle.regex_parser.specs.SyntaxDialects.{spec_syntax_of, AreGroupsKnownIn}

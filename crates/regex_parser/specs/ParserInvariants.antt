@@ -1,10 +1,10 @@
 -- The invariant of a parser with a stack: what it knows of a pattern at its current position.
 use Rattle.std.specs.Prelude.{◌≡◌, ◌⊎◌, ◌↔◌, ℕ, ◌+◌, ◌<◌, ◌≤◌, false, List, [], ◌++◌, length, Some, slice_index_or}
 use Rattle.regex_meaning.specs.Tree.{Node, Tree, Flags}
-use Rattle.regex_grammar.specs.ReadingStatesAndDigits.{RemainingCodePoints, ParseState, PatternContext, group_number_of}
-use Rattle.regex_grammar.specs.Grammar.{PatternDialect, ParsesBy, profile}
-use Rattle.regex_grammar.specs.GroupNameScan.{scanned_names_per_capturing_group}
-use Rattle.regex_grammar.specs.GroupOpeningScanWithoutParsing.{texts_after_parentheses}
+use Rattle.regex_meaning.specs.ReadingStatesAndDigits.{RemainingCodePoints, ParseState, PatternContext, group_number_of}
+use Rattle.regex_meaning.specs.Grammar.{PatternDialect, ParsesBy, profile}
+use Rattle.regex_meaning.specs.GroupNameScan.{scanned_names_per_capturing_group}
+use Rattle.regex_meaning.specs.GroupOpeningScanWithoutParsing.{texts_after_parentheses}
 use Rattle.regex_parser.specs.ParseStack.{PartialDisjunction, empty_disjunction, OpenGroup, CompletesAll}
 use Rattle.regex_parser.specs.ScannedGroups.{ScansGroups}
 

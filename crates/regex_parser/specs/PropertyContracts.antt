@@ -5,9 +5,9 @@ use Rattle.std.specs.Char.{is_ascii_alphanumeric}
 use lib.Pointwise.{pointwise}
 use Rattle.ucd_sets.specs.Loose.{normalize}
 use Rattle.ucd_sets.specs.Lookup.{by_value}
-use Rattle.regex_grammar.specs.ReadingStatesAndDigits.{RemainingCodePoints, ◌∈◌}
-use Rattle.regex_grammar.specs.UnicodeProperties.{in_database, changes_when_nfkc_casefolded, Property as SpecProperty}
-use Rattle.regex_grammar.specs.EcmaEscapesAndNames.{PropertyExpression}
+use Rattle.regex_meaning.specs.ReadingStatesAndDigits.{RemainingCodePoints, ◌∈◌}
+use Rattle.regex_meaning.specs.UnicodeProperties.{in_database, changes_when_nfkc_casefolded, Property as SpecProperty}
+use Rattle.regex_meaning.specs.EcmaEscapesAndNames.{PropertyExpression}
 use Rattle.regex_parser.specs.declared.unicode_properties.Property.{Property}
 use Rattle.regex_parser.specs.declared.unicode_properties.Property.TheVariants.{InDatabase, ChangesWhenNfkcCasefolded}
 

@@ -2,11 +2,11 @@
 -- part of the grammar.
 use Rattle.std.specs.Prelude.{◌≡◌, ◌⊎◌, true, false, List, [], ◌∷◌, ◌++◌, codes}
 use Rattle.regex_meaning.specs.Tree.{Node}
-use Rattle.regex_grammar.specs.ReadingStatesAndDigits.{RemainingCodePoints, PatternContext, begins_with_characters}
-use Rattle.regex_grammar.specs.EcmaGrammarWithAnnexB.{ecmascript}
-use Rattle.regex_grammar.specs.EcmaLaws.{IsPatternDisjunction}
-use Rattle.regex_grammar.specs.GroupOpeningScanWithoutParsing.{texts_after_parentheses}
-use Rattle.regex_grammar.specs.Grammar.{PatternDialect}
+use Rattle.regex_meaning.specs.ReadingStatesAndDigits.{RemainingCodePoints, PatternContext, begins_with_characters}
+use Rattle.regex_meaning.specs.EcmaGrammarWithAnnexB.{ecmascript}
+use Rattle.regex_meaning.specs.EcmaGrammarLaws.{IsPatternDisjunction}
+use Rattle.regex_meaning.specs.GroupOpeningScanWithoutParsing.{texts_after_parentheses}
+use Rattle.regex_meaning.specs.Grammar.{PatternDialect}
 
 -- no name is here
 abbrev pub NoGroupName : PatternDialect → (here : RemainingCodePoints) → Type 0

@@ -1,9 +1,9 @@
 -- The languages of patterns as dialects of the grammar, and what a reader knows of the groups of a pattern.
 use Rattle.std.specs.Prelude.{◌≡◌, ℕ, ◌≤◌, Bool, List, length, String}
 use Rattle.std.specs.BTreeMap.{BTreeMap, get_by_text}
-use Rattle.regex_grammar.specs.ReadingStatesAndDigits.{RemainingCodePoints, group_number_of}
-use Rattle.regex_grammar.specs.Grammar.{PatternDialect, profile}
-use Rattle.regex_grammar.specs.EcmaGrammarWithAnnexB.{ecmascript, has_named_groups}
+use Rattle.regex_meaning.specs.ReadingStatesAndDigits.{RemainingCodePoints, group_number_of}
+use Rattle.regex_meaning.specs.Grammar.{PatternDialect, profile}
+use Rattle.regex_meaning.specs.EcmaGrammarWithAnnexB.{ecmascript, has_named_groups}
 use Rattle.regex_pattern_front.specs.declared.flags.Flags.{Flags}
 use Rattle.regex_parser.specs.declared.syntax.Syntax.{Syntax}
 use Rattle.regex_parser.specs.declared.syntax.Syntax.TheVariants.{Profile, EcmaScript2018}

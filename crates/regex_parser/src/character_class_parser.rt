@@ -2,7 +2,7 @@
 
 ghost use Rattle.std.specs.Prelude.{◌≡◌, ◌≢◌, ◌≤◌, ◌∷◌, ◌++◌, [], Bool, false, ℕ, length, map, option_map, IfOk, OnOk};
 ghost use Rattle.regex_meaning.specs.Outcomes.{in_intervals};
-ghost use Rattle.regex_grammar.specs.CharacterClasses.{class as class_of, single_code_point_interval, CharacterClass, ClassAtom, IsSetOf, class_member_contains};
+ghost use Rattle.regex_meaning.specs.CharacterClasses.{class as class_of, single_code_point_interval, CharacterClass, ClassAtom, IsSetOf, class_member_contains};
 ghost use Rattle.std.specs.List.{list_any};
 ghost use Rattle.regex_pattern_front.specs.Intervals.{interval_of};
 ghost use Rattle.regex_pattern_front.specs.AstToSpecTree.{class_as_spec, spec_flags_of};

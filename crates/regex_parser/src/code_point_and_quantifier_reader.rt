@@ -3,7 +3,7 @@
 ghost use Rattle.std.specs.Prelude.{◌≡◌, ◌<◌, ◌≤◌, ◌∷◌, ◌↔◌, length, IsTrue, IsSome, false, OnOk, IfOk, IfErr};
 ghost use Rattle.std.specs.Option.{ForSome};
 ghost use Rattle.regex_meaning.specs.WellFormedTrees.{is_min_at_most_max};
-ghost use Rattle.regex_grammar.specs.EscapesNamesQuantifiers.{BeginsQuantifier};
+ghost use Rattle.regex_meaning.specs.EscapesNamesQuantifiers.{BeginsQuantifier};
 ghost use Rattle.regex_parser.specs.CodePointAndQuantifierReaderContracts.{IsUnescapedRead, IsNext, peeked, IsEaten, IsDigitRead, IsNumberRead, IsHexRead};
 ghost use Rattle.regex_parser.specs.CodePointAndQuantifierReaderContracts.{AreQuantifierCountsRead};
 ghost use Rattle.regex_parser.specs.CodePointAndQuantifierReaderContracts.{IsQuantifierMaximumRead, IsOptionalBracesQuantifierRead};

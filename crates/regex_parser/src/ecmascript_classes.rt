@@ -2,14 +2,14 @@
 
 ghost use Rattle.std.specs.Prelude.{◌≡◌, ◌≢◌, ◌≤◌, ◌∷◌, ◌&&◌, [], ℕ, not, length, IfOk, OnOk};
 ghost use Rattle.regex_meaning.specs.Outcomes.{in_intervals};
-ghost use Rattle.regex_grammar.specs.EcmaClasses.{CharacterClass, ClassAtom, ClassEscape as SpecClassEscape, character, class as class_of, IsSetOf, is_in_invertible_set};
+ghost use Rattle.regex_meaning.specs.EcmaClasses.{CharacterClass, ClassAtom, ClassEscape as SpecClassEscape, character, class as class_of, IsSetOf, is_in_invertible_set};
 ghost use Rattle.regex_pattern_front.specs.AstToSpecTree.{class_as_spec, spec_flags_of};
 ghost use Rattle.regex_parser.specs.CodePointAndQuantifierReaderContracts.{IsReadOr};
 ghost use Rattle.regex_parser.specs.ClassReaderContracts.{is_in_any_interval};
 ghost use Rattle.regex_parser.specs.EcmaClassContracts.{member_of_atom, set_of_letter, AreEcmaRangesRead, IsEcmaMemberRead, IsEcmaRangeEndRead};
 ghost use Rattle.regex_parser.specs.EcmaClassContracts.{IsClassControlRead, AddsEcmaMembers, IsCanonicalClosure, IsPropertyLetterRead, IsRangeOrCause};
 ghost use Rattle.regex_parser.specs.EcmaClassContracts.{IsNoneUnless, IsSimpleClassEscapeRead};
-ghost use Rattle.regex_grammar.specs.ReadingStatesAndDigits.{begins_with_characters};
+ghost use Rattle.regex_meaning.specs.ReadingStatesAndDigits.{begins_with_characters};
 
 use crate::case_variants::add_canonical_variants;
 use crate::character_class_parser::{CharacterClassType, DigitWordOrSpaceEscape, append_intervals};

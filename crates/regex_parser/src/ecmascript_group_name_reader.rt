@@ -1,8 +1,8 @@
 //! Names of groups in the whole language of ECMAScript.
 
 ghost use Rattle.std.specs.Prelude.{◌≡◌, ◌<◌, ◌≤◌, ◌∷◌, length, string_bytes, IfErr, IsTrue, OnOk, IsSome, Bool};
-ghost use Rattle.regex_grammar.specs.EcmaEscapesAndNames.{GroupName};
-ghost use Rattle.regex_grammar.specs.EscapesNamesQuantifiers.{is_lead_surrogate};
+ghost use Rattle.regex_meaning.specs.EcmaEscapesAndNames.{GroupName};
+ghost use Rattle.regex_meaning.specs.EscapesNamesQuantifiers.{is_lead_surrogate};
 ghost use Rattle.regex_parser.specs.CodePointAndQuantifierReaderContracts.{IsReadOr, is_syntax_error};
 ghost use Rattle.regex_parser.specs.EcmaReaderContracts.{passes_in_name, IsNameCharacterRead, IsNameCodePointRead};
 

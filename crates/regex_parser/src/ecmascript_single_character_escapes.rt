@@ -1,9 +1,9 @@
 //! Escapes of one character in the whole language of ECMAScript, after a backslash.
 
 ghost use Rattle.std.specs.Prelude.{◌≡◌, ◌≤◌, ◌∷◌, ◌+◌, Bool, length, IfErr, IsTrue};
-ghost use Rattle.regex_grammar.specs.EcmaEscapesAndNames.{CharacterEscape, NonIdentityEscape, LegacyOctalEscape, is_identity_escape, next_code_point_passes};
+ghost use Rattle.regex_meaning.specs.EcmaEscapesAndNames.{CharacterEscape, NonIdentityEscape, LegacyOctalEscape, is_identity_escape, next_code_point_passes};
 ghost use Rattle.std.specs.Char.{is_ascii_digit};
-ghost use Rattle.regex_grammar.specs.ReadingStatesAndDigits.{◌∈◌};
+ghost use Rattle.regex_meaning.specs.ReadingStatesAndDigits.{◌∈◌};
 ghost use Rattle.regex_parser.specs.CodePointAndQuantifierReaderContracts.{IsReadOrNothingCanBeRead, is_syntax_error};
 ghost use Rattle.regex_parser.specs.EcmaReaderContracts.{spec_parameters_of, IsControlLetterRead};
 

@@ -3,8 +3,8 @@
 ghost use Rattle.std.specs.Prelude.{◌≡◌, ℕ, ◌<◌, ◌≤◌, ◌∷◌, max, List, [], false, true, length, IfOk, IfErr, IfSome, IsTrue};
 ghost use Rattle.std.specs.BTreeMap.{get_by_text};
 ghost use Rattle.regex_meaning.specs.Tree.{back_ref, by_canonical_case};
-ghost use Rattle.regex_grammar.specs.{ReadingStatesAndDigits.{RemainingCodePoints}, EcmaClasses.{IsSetOf, class as class_of, is_in_invertible_set}};
-ghost use Rattle.regex_grammar.specs.UnicodeProperties.{has_property};
+ghost use Rattle.regex_meaning.specs.{ReadingStatesAndDigits.{RemainingCodePoints}, EcmaClasses.{IsSetOf, class as class_of, is_in_invertible_set}};
+ghost use Rattle.regex_meaning.specs.UnicodeProperties.{has_property};
 ghost use Rattle.regex_pattern_front.specs.AstToSpecTree.{node_of, spec_flags_of};
 ghost use Rattle.regex_pattern_front.specs.SubtreeListInvariants.{IsWellFormedGrouplessSubtree};
 ghost use Rattle.regex_parser.specs.CodePointAndQuantifierReaderContracts.{is_syntax_error};

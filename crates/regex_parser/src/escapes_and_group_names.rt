@@ -1,9 +1,9 @@
 //! Escapes after a backslash, and group names.
 
 ghost use Rattle.std.specs.Prelude.{◌≡◌, ◌≤◌, ◌∷◌, length, string_bytes, Bool, not, ◌&&◌, ◌==◌, IfErr, IfSome, IsTrue, if◌then◌else◌};
-ghost use Rattle.regex_grammar.specs.EscapesNamesQuantifiers.{CharacterEscape, GroupName, control_escape_code_point, is_ascii_identifier_start, is_ascii_identifier_part};
-ghost use Rattle.regex_grammar.specs.EscapesNamesQuantifiers.{FixedHexDigits, UnicodeEscape, is_lead_surrogate};
-ghost use Rattle.regex_grammar.specs.EscapesNamesQuantifiers.{is_trail_surrogate};
+ghost use Rattle.regex_meaning.specs.EscapesNamesQuantifiers.{CharacterEscape, GroupName, control_escape_code_point, is_ascii_identifier_start, is_ascii_identifier_part};
+ghost use Rattle.regex_meaning.specs.EscapesNamesQuantifiers.{FixedHexDigits, UnicodeEscape, is_lead_surrogate};
+ghost use Rattle.regex_meaning.specs.EscapesNamesQuantifiers.{is_trail_surrogate};
 ghost use Rattle.regex_parser.specs.CodePointAndQuantifierReaderContracts.{IsReadOrNothingCanBeRead, IsReadOr, ResultIsGroupNameLetterOrNone};
 ghost use Rattle.regex_parser.specs.CodePointAndQuantifierReaderContracts.{IsOptionalTrailSurrogateEscapeRead};
 ghost use Rattle.regex_parser.specs.CodePointAndQuantifierReaderContracts.{PairsWithTrailSurrogateIfAny, IsCodePointAndClosingBrace, is_syntax_error};

@@ -74,7 +74,7 @@ impl ParenthesisDepthScan {
 
 /// Returns the greatest number of parentheses that are open at once in a pattern: those of groups
 /// of every kind and of lookarounds. Escaped parentheses and those in a class do not count. For
-/// `(a(b)|[(]\()` it is 2 (an entry of `regex_pattern_rows`).
+/// `(a(b)|[(]\()` it is 2 (an entry of `test_patterns`).
 ///
 /// Any text is allowed, whether it is a pattern or not. It takes one pass over the code points, and
 /// allocates no memory and uses no stack that depends on the pattern. A program that compiles

@@ -2,8 +2,8 @@
 
 ghost use Rattle.std.specs.Prelude.{◌≡◌, ◌≤◌, ◌<◌, ◌∷◌, ◌==◌, ◌&&◌, not, [], false, length, string_bytes, IfErr, IfOk, IsTrue, OnOk};
 ghost use Rattle.std.specs.BTreeMap.{get_by_text, btree_map_len};
-ghost use Rattle.regex_grammar.specs.GroupNameScan.{scanned_names_per_capturing_group};
-ghost use Rattle.regex_grammar.specs.ReadingStatesAndDigits.{RemainingCodePoints};
+ghost use Rattle.regex_meaning.specs.GroupNameScan.{scanned_names_per_capturing_group};
+ghost use Rattle.regex_meaning.specs.ReadingStatesAndDigits.{RemainingCodePoints};
 ghost use Rattle.regex_meaning.specs.Tree.{Flags};
 ghost use Rattle.regex_parser.specs.GroupReaderContracts.{IsLookaroundPolaritySignRead, IsOpeningRead, AreCountedAndNumbered, RecordsFurtherGroupsInScan};
 ghost use Rattle.regex_parser.specs.GroupReaderContracts.{GroupNameScanProcessesCodePoint, group_numbers_adding_absent_name, count_of_groups, IsPatternScanned};

@@ -3,7 +3,7 @@
 ghost use Rattle.std.specs.Prelude.{◌≡◌, ℕ, ◌<◌, ◌≤◌, max, length, IfOk, IfErr, IfSome, IsTrue, List, ◌∷◌, true, false};
 ghost use Rattle.std.specs.BTreeMap.{get_by_text};
 ghost use Rattle.regex_meaning.specs.Tree.{bracket as bracket_of, back_ref, by_case};
-ghost use Rattle.regex_grammar.specs.{ReadingStatesAndDigits.{RemainingCodePoints}, Grammar.{character_node}};
+ghost use Rattle.regex_meaning.specs.{ReadingStatesAndDigits.{RemainingCodePoints}, Grammar.{character_node}};
 ghost use Rattle.regex_pattern_front.specs.AstToSpecTree.{node_of, spec_flags_of, class_as_spec};
 ghost use Rattle.regex_pattern_front.specs.SubtreeListInvariants.{IsWellFormedGrouplessSubtree};
 ghost use Rattle.regex_parser.specs.CodePointAndQuantifierReaderContracts.{is_syntax_error};

@@ -4,7 +4,7 @@ ghost use Rattle.std.specs.Prelude.{◌≡◌, ℕ, not, [], ◌∷◌, string_b
 ghost use Rattle.ucd_case.specs.CaseFolding.{full_fold};
 ghost use Rattle.unicode_normalization.specs.Forms.{nfkc};
 ghost use Rattle.regex_meaning.specs.Outcomes.{in_intervals};
-ghost use Rattle.regex_grammar.specs.UnicodeProperties.{has_property, changes_when_nfkc_casefolded, is_nfkc_casefolded};
+ghost use Rattle.regex_meaning.specs.UnicodeProperties.{has_property, changes_when_nfkc_casefolded, is_nfkc_casefolded};
 
 use regex_pattern_front::codepointset::{CODE_POINT_MAX, CodePointSet, Interval};
 use std::alloc::{AllocError, Global};

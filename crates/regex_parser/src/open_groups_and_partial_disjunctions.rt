@@ -7,7 +7,7 @@ ghost use Rattle.regex_pattern_front.specs.SubtreeListInvariants.{CombinesGroups
 ghost use Rattle.regex_parser.specs.ParserGroupIdInvariant.{nodes_at};
 ghost use Rattle.regex_parser.specs.PartialDisjunctionModel.{disjunction_of, nest_all_alternatives};
 ghost use Rattle.regex_parser.specs.ParseStack.{empty_disjunction, push_term, end_alternative, nest_alternatives};
-ghost use Rattle.regex_grammar.specs.ReadingStatesAndDigits.{arm};
+ghost use Rattle.regex_meaning.specs.ReadingStatesAndDigits.{arm};
 
 use crate::group_openings_and_names::GroupKind;
 use regex_pattern_front::ir::Node;

@@ -13,7 +13,7 @@ ghost use Rattle.regex_parser.specs.ParserContracts.{IsTextRefused, IsTextRefuse
 ghost use Rattle.regex_parser.specs.SyntaxDialects.{spec_syntax_of};
 ghost use Rattle.regex_parser.specs.GrouplessTermContracts.{is_paren_or_bar, IsReaderOfSame};
 ghost use Rattle.regex_parser.specs.ParseErrors.{IsParseErrorOf, IsParseErrorIn};
-ghost use Rattle.regex_grammar.specs.{Grammar.{Parses, ParsesBy}, ReadingStatesAndDigits.{RemainingCodePoints}};
+ghost use Rattle.regex_meaning.specs.{Grammar.{Parses, ParsesBy}, ReadingStatesAndDigits.{RemainingCodePoints}};
 ghost use Rattle.regex_parser.specs.ParserInvariants.{AreWithinGroupLimit, FindsGroups, group_names_found_by_scan};
 ghost use Rattle.regex_parser.specs.GroupReaderContracts.{AreGroupsCollected};
 ghost use Rattle.std.specs.BTreeMap.{get_by_text, btree_map_len};
@@ -72,7 +72,7 @@ enum Refusal {
 /// - `TooManyGroups` if the text opens more than 65,535 groups, whatever else is wrong with it.
 ///   These are the parentheses outside escapes and classes that open a capturing group, so each
 ///   tree of the text has as many groups. `diagnose` reports how many there are.
-/// - `Syntax` if it does not, and the grammar (`regex_grammar`) has no tree for it, with the
+/// - `Syntax` if it does not, and the grammar (`regex_meaning`) has no tree for it, with the
 ///   diagnosis that `parse_or_diagnose` reports.
 /// - `Memory` on allocation failure.
 pub fn try_parse(alloc: Global, pattern: &[u32], flags: Flags) -> Result<Regex, ParseError>

@@ -10,7 +10,7 @@ use Rattle.std.proofs.lemmas.Nat.Bits.{shr_and_one, bit_at-lt}
 use Rattle.std.proofs.Math.Bool.{or_comm}
 use Rattle.regex_pattern_front.specs.ByteSetMembers.{is_bit_set}
 use Rattle.regex_pattern_front.proofs.Bits.{has_bit, no-bits, bit-set}
-pub use Rattle.regex_grammar.proofs.Parts.{contains-numbers_from}
+pub use Rattle.regex_meaning.proofs.Parts.{contains-numbers_from}
 use Rattle.regex_meaning.specs.NumberListHelpers.{contains, numbers_from}
 use Rattle.regex_meaning.specs.StartPredicate.{bytes_that_pass}
 

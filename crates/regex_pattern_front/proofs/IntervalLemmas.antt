@@ -11,7 +11,7 @@ use Rattle.std.proofs.lemmas.List.Elements.{All-cons}
 use Rattle.std.proofs.lemmas.Bool.Decides.{nat_tests}
 use Rattle.std.proofs.lemmas.List.Recursion.{or_at, or_from_places}
 use Rattle.regex_meaning.specs.Outcomes.{in_intervals}
-use Rattle.regex_grammar.specs.CharacterClasses.{AreCanonicalIntervals}
+use Rattle.regex_meaning.specs.CharacterClasses.{AreCanonicalIntervals}
 use Rattle.regex_pattern_front.specs.Intervals.{interval_of, IntervalsAreInOrder, is_interval_nonempty, merged_intervals, gaps_between_intervals}
 use Rattle.regex_pattern_front.specs.declared.codepointset.Interval.{Interval}
 

@@ -3,8 +3,8 @@ use Rattle.regex_meaning.specs.Tree.{by_case}
 use Rattle.std.proofs.Common.{◌≡◌, ℕ, ◌<◌, ◌≤◌, Bool, true, false, ◌&&◌, [], length, refl, arith, Vec, Global}
 use Rattle.std.specs.Prelude.{nat_le}
 use Rattle.std.proofs.lemmas.Bool.{le-leb}
-pub use Rattle.regex_grammar.proofs.Trees.{few_members}
-use Rattle.regex_grammar.proofs.Trees.{leaf-reference}
+pub use Rattle.regex_meaning.proofs.Trees.{few_members}
+use Rattle.regex_meaning.proofs.Trees.{leaf-reference}
 use Rattle.regex_pattern_front.specs.AstToSpecTree.{node_of}
 use Rattle.regex_pattern_front.specs.SubtreeListInvariants.{IsSoundSubtreeWithGroupIds, AreSoundSubtrees, IsWellFormedGrouplessSubtree}
 use Rattle.regex_pattern_front.specs.declared.ir.AnchorType.{AnchorType}

@@ -19,8 +19,8 @@ use Rattle.regex_pattern_front.specs.declared.ir.Node.{Node}
 use Rattle.regex_pattern_front.specs.AstToSpecTree.{node_of, cat_of}
 use Rattle.regex_pattern_front.specs.SubtreeListInvariants.{is_sound, occurrences_of_id, IsSoundSubtreeWithGroupIds, AreSoundSubtrees, CombinesGroupsAndGoalsOfNodes}
 use Rattle.regex_pattern_front.specs.SubtreeListInvariants.{KeepsSubtrees}
-use Rattle.regex_grammar.proofs.Parts.{every-more, within-none, within-join, sum_by-cons, count_by-append}
-pub use Rattle.regex_grammar.proofs.Parts.{part-leaf, part-group, part-lookaround, part-loop, whole, whole-plain, whole-reads_none}
+use Rattle.regex_meaning.proofs.Parts.{every-more, within-none, within-join, sum_by-cons, count_by-append}
+pub use Rattle.regex_meaning.proofs.Parts.{part-leaf, part-group, part-lookaround, part-loop, whole, whole-plain, whole-reads_none}
 
 -- ---- Lists
 

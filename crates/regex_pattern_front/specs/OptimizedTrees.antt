@@ -6,7 +6,7 @@ use Rattle.regex_meaning.specs.Text.{Text, Direction}
 use Rattle.regex_meaning.specs.Outcomes.{Groups, outcomes}
 use Rattle.regex_meaning.specs.WellFormedTrees.{is_well_formed}
 use Rattle.regex_meaning.specs.MatchGroupsByNumberAndName.{answers_from, capturing_group_ids_and_names}
-pub use Rattle.regex_grammar.specs.TreesWithoutCharLoops.{has_no_char_loops}
+pub use Rattle.regex_meaning.specs.TreesWithoutCharLoops.{has_no_char_loops}
 
 -- whether the node reads one character and accepts it or not
 abbrev pub reads_one_character : Node → Bool

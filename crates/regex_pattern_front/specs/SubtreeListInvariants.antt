@@ -4,7 +4,7 @@ use Rattle.std.specs.List.{All}
 use Rattle.regex_meaning.specs.Tree as tree
 use Rattle.regex_meaning.specs.Tree.{group_ids, every_node_passes}
 use Rattle.regex_meaning.specs.WellFormedTrees.{number_of_goal_nodes}
-pub use Rattle.regex_grammar.specs.SubtreeInvariants.{is_sound, occurrences_of_id, once_within, IsSoundSubtreeWithGroupIds, IsWellFormedGrouplessSubtree}
+pub use Rattle.regex_meaning.specs.SubtreeInvariants.{is_sound, occurrences_of_id, once_within, IsSoundSubtreeWithGroupIds, IsWellFormedGrouplessSubtree}
 use Rattle.regex_pattern_front.specs.declared.ir.Node.{Node}
 use Rattle.regex_pattern_front.specs.AstToSpecTree.{node_of}
 

@@ -4,7 +4,7 @@ ghost use Rattle.std.specs.Prelude.{◌≡◌, ℕ, ◌+◌, ◌<◌, ◌≤◌,
 ghost use Rattle.std.specs.List.{All};
 ghost use Rattle.std.specs.List.Sorted.{IsNonDecreasingBy, IsPermutation};
 ghost use Rattle.regex_meaning.specs.Outcomes.{in_intervals};
-ghost use Rattle.regex_grammar.specs.CharacterClasses.{AreCanonicalIntervals};
+ghost use Rattle.regex_meaning.specs.CharacterClasses.{AreCanonicalIntervals};
 ghost use Rattle.regex_pattern_front.specs.Intervals.{interval_of, IntervalsAreInOrder, is_interval_nonempty, merged_intervals, gaps_between_intervals};
 
 use std::alloc::{AllocError, Global};

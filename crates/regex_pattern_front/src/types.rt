@@ -2,7 +2,7 @@
 
 ghost use Rattle.std.specs.Prelude.{◌≡◌, ℕ, ◌&&◌, not, map, nat_le, IfOk};
 ghost use Rattle.regex_meaning.specs.Outcomes.{in_intervals};
-ghost use Rattle.regex_grammar.specs.CharacterClasses.{AreCanonicalIntervals};
+ghost use Rattle.regex_meaning.specs.CharacterClasses.{AreCanonicalIntervals};
 ghost use Rattle.regex_pattern_front.specs.Intervals.{interval_of};
 
 use crate::codepointset::{CodePointSet, Interval};

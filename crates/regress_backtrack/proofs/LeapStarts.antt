@@ -9,17 +9,17 @@ use Rattle.regex_meaning.proofs.Options.{some-same}
 use Rattle.regex_meaning.proofs.TextLemmas.{IsBoundary-place, offset-IsBoundary}
 use Rattle.regress_input.proofs.Places.{boundary_inside}
 use Rattle.regress_machine.specs.SearchFindsFirstOutcomeAtPlace.{TreeProgramCanSearchText}
-use Rattle.regress_simulation.specs.FirstSetTables.{HasUnitsForTables}
-use Rattle.regress_plan.specs.declared.leap.Leap.{Leap}
-use Rattle.regress_plan.specs.Leaps.{leap_to_goal, IsLeap}
-use Rattle.regress_plan.specs.LeapsToGoals.{IsCutOff, IsSoundLeap}
-use Rattle.regress_plan.specs.TableKeysOfUnits.{is_16_bit_encoding}
-use Rattle.regress_plan.proofs.LeapLemmas.{starts-cut-off, starts-without}
-use Rattle.regress_exec.specs.AttemptResultsAndStartsToTry.{NextStartSkipsNoMatch, NoMatchAt, NoMatchStartsBetween}
-use Rattle.regress_exec.proofs.FirstMatch.{vain-at}
-use Rattle.regress_scan.specs.TreePlanAndText.{SearchInput, program_of}
-use Rattle.regress_scan.specs.Leaping.{LeapLeads}
-use Rattle.regress_scan.specs.declared.leaping.LeapTarget.{LeapTarget}
+use Rattle.regress_machine.specs.FirstSetTables.{HasUnitsForTables}
+use Rattle.regress_program.specs.declared.leap.Leap.{Leap}
+use Rattle.regress_program.specs.Leaps.{leap_to_goal, IsLeap}
+use Rattle.regress_program.specs.LeapsToGoals.{HasBarrierBetween}
+use Rattle.regress_program.specs.TableKeysOfUnits.{is_16_bit_encoding}
+use Rattle.regress_program.proofs.LeapLemmas.{starts-cut-off, starts-without}
+use Rattle.regress_search.specs.AttemptResultsAndStartsToTry.{NextStartSkipsNoMatch, NoMatchAt, NoMatchStartsBetween}
+use Rattle.regress_search.proofs.FirstMatch.{vain-at}
+use Rattle.regress_search.specs.TreePlanAndText.{SearchInput, program_of}
+use Rattle.regress_search.specs.Leaping.{LeapLeads}
+use Rattle.regress_search.specs.declared.leaping.LeapTarget.{LeapTarget}
 use Rattle.regress_backtrack.specs.LeapMemory.{IsLeapRight}
 
 -- no match begins before the offset to which a leap leads
@@ -35,10 +35,10 @@ leap-excludes w has can leap is from (Some target) leads = (
   leads.behind.ahead,
   λ at on le less.
       let p = IsBoundary-place w.text at has.is_text on in
-      let Cut : ℕ → Type 0 = λ n. IsCutOff (leap_to_goal leap) w.encoding w.text n target.goal in
+      let Barred : ℕ → Type 0 = λ n. HasBarrierBetween (leap_to_goal leap) w.encoding w.text n target.goal in
       vain-at w.tree w.text has.is_text at p.0 p.1
       (starts-cut-off w.encoding (program_of w) w.tree w.text (leap_to_goal leap) can has is.sound from target.goal leads.absent p.0 p.3
-      (subst (λ n. from ≤ n) (sym p.2) le) (subst Cut (sym p.2) (inl (leads.behind.barred at le less)))),
+      (subst (λ n. from ≤ n) (sym p.2) le) (subst Barred (sym p.2) (leads.behind.barred at le less))),
 )
 
 -- where a leap led is kept

@@ -1,4 +1,8 @@
 pub mod SearchParts
+pub mod GroupNotes
+pub mod UnreadGroups
+pub mod BodyTurns
+pub mod BodyLooks
 pub mod Surplus
 pub mod BodyOps
 pub mod Beside
@@ -44,6 +48,7 @@ pub mod Marked
 pub mod Dropped
 pub mod Fronts
 pub mod RunFronts
+pub mod KnownEnds
 pub mod LazyBack
 pub mod Striding
 mod Waits

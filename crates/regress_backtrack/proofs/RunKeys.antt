@@ -14,28 +14,28 @@ use Rattle.regress_machine.specs.Machine.{State, Thread, waiting, first_running_
 use Rattle.regress_machine.proofs.Beside.{moved-zero}
 use Rattle.regress_machine.proofs.Inside.{offset-inside}
 use Rattle.regress_machine.proofs.Run.{numbers_between}
-use Rattle.regress_simulation.specs.CharLoopExitStatesByPreference.{behind, fewest_first, most_first}
-use Rattle.regress_memo_laws.specs.ThreadBisimulation.{Relation, AlikeThreads}
-use Rattle.regress_memo_laws.specs.Liveness.{IsNotAheadInDirection, Agree, outermost, ReadsAsBytes}
-use Rattle.regress_memo_laws.specs.LoopDataKeyCodes.{plan_code, key_of, HasSlotsOfProgram}
-use Rattle.regress_memo_laws.specs.MemoKeys.{IsSoundState}
-use Rattle.regress_memo_laws.specs.MemoPlanChecksAndGuarantees.{plan_taken}
-use Rattle.regress_memo_laws.specs.UnboundedCharLoopMemoKeys.{char_loop_greediness_at, CharLoopRecords, run_key}
-use Rattle.regress_memo_laws.specs.CharLoopExitThreadLists.{passing}
-use Rattle.regress_memo_laws.specs.MemoSearch.{Key, KeyStandsFor}
-use Rattle.regress_memo_laws.specs.ThreadPotentials.{is_one_of}
-use Rattle.regress_memo_laws.proofs.Agree.{moves-on}
-use Rattle.regress_memo_laws.proofs.RunKeys.{runs-have-keys}
-use Rattle.regress_memo_laws.proofs.Runs.{passing-left}
-use Rattle.regress_memo_analysis.specs.declared.analysis_result.MemoAnalysis.{MemoAnalysis}
-use Rattle.regress_memo_analysis.specs.AnalysisChecks.{unlimited}
-use Rattle.regress_memo_analysis.specs.AnalysisAsLivenessAndPotentials.{insn_analysis_of, analysis_as_liveness, key_code_questions_of, insn_direction, recorded}
-use Rattle.regress_memo_analysis.specs.CheckedAnalysis.{IsAnalysisOf}
-use Rattle.regress_memo_analysis.proofs.WholeLemmas.{ledgers-serve, not-recorded}
+use Rattle.regress_machine.specs.CharLoopExitStatesByPreference.{behind, fewest_first, most_first}
+use Rattle.regress_memo.specs.ThreadBisimulation.{Relation, AlikeThreads}
+use Rattle.regress_memo.specs.Liveness.{IsNotAheadInDirection, Agree, outermost, ReadsAsBytes}
+use Rattle.regress_memo.specs.LoopDataKeyCodes.{plan_code, key_of, HasSlotsOfProgram}
+use Rattle.regress_memo.specs.MemoKeys.{IsSoundState}
+use Rattle.regress_memo.specs.MemoPlanChecksAndGuarantees.{plan_taken}
+use Rattle.regress_memo.specs.UnboundedCharLoopMemoKeys.{char_loop_greediness_at, CharLoopRecords, run_key}
+use Rattle.regress_memo.specs.CharLoopExitThreadLists.{passing}
+use Rattle.regress_memo.specs.MemoSearch.{Key, KeyStandsFor}
+use Rattle.regress_memo.specs.ThreadPotentials.{is_one_of}
+use Rattle.regress_memo.proofs.Agree.{moves-on}
+use Rattle.regress_memo.proofs.RunKeys.{runs-have-keys}
+use Rattle.regress_memo.proofs.Runs.{passing-left}
+use Rattle.regress_memo.specs.declared.analysis_result.MemoAnalysis.{MemoAnalysis}
+use Rattle.regress_memo.specs.AnalysisChecks.{unlimited}
+use Rattle.regress_memo.specs.AnalysisAsLivenessAndPotentials.{insn_analysis_of, analysis_as_liveness, key_code_questions_of, insn_direction, recorded}
+use Rattle.regress_memo.specs.CheckedAnalysis.{IsAnalysisOf}
+use Rattle.regress_memo.proofs.WholeLemmas.{ledgers-serve, not-recorded}
 use Rattle.regress_memo.specs.Laws.{analysis_keys}
 use Rattle.regress_memo.specs.MemoContents.{memo_key_at}
 use Rattle.regress_memo.proofs.LawLemmas.{keys-are-there}
-use Rattle.regress_scan.specs.TreePlanAndText.{SearchInput, program_of}
+use Rattle.regress_search.specs.TreePlanAndText.{SearchInput, program_of}
 use Rattle.regress_backtrack.specs.declared.thread_position_and_op_result.ThreadPos.{ThreadPos}
 use Rattle.regress_backtrack.specs.declared.failure_memo.RecordKey.{RecordKey as Stored}
 use Rattle.regress_backtrack.specs.State.{StateModel, current_thread_state_of}

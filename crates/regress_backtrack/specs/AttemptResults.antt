@@ -2,11 +2,11 @@
 use Rattle.std.specs.Prelude.{◌≡◌, ℕ, ◌+◌, length, Bool, Option, Result}
 use Rattle.regex_meaning.specs.Tree.{Tree}
 use Rattle.regress_program.specs.CompilationOfTreesAsFunction.{compiled}
-use Rattle.regress_exec.specs.AttemptResultsAndStartsToTry.{match_end_and_groups_at, end_with_groups, ticks_of_attempt_at}
-use Rattle.regress_exec.specs.StepBudgetAndContinuationAfterSearch.{SpendsNeedOrReachesLimit, AllocFailureCostsAtLeastOneStep}
-use Rattle.regress_exec.specs.declared.exec.SearchError.{SearchError}
+use Rattle.regress_search.specs.AttemptResultsAndStartsToTry.{match_end_and_groups_at, end_with_groups, ticks_of_attempt_at}
+use Rattle.regress_search.specs.StepBudgetAndContinuationAfterSearch.{SpendsNeedOrReachesLimit, AllocFailureCostsAtLeastOneStep}
+use Rattle.regress_search.specs.declared.exec.SearchError.{SearchError}
 use Rattle.regress_backtrack.specs.State.{StateModel, current_thread_state_of}
-use Rattle.regress_scan.specs.TreePlanAndText.{SearchInput}
+use Rattle.regress_search.specs.TreePlanAndText.{SearchInput}
 use Rattle.regress_backtrack.specs.StepsTakenFromBudget.{Budget, step_limit}
 
 -- The end is that of the first outcome at the offset, and the state holds its groups; `None` if

@@ -1,12 +1,12 @@
 -- What a memo table records, by the memo analysis of a program.
 use Rattle.std.specs.Prelude.{Option}
-use Rattle.regress_memo_analysis.specs.declared.analysis_result.MemoAnalysis.{MemoAnalysis}
-use Rattle.regress_memo_analysis.specs.AnalysisAsLivenessAndPotentials.{analysis_as_liveness, key_code_questions_of, insn_direction, insn_analysis_of}
+use Rattle.regress_memo.specs.declared.analysis_result.MemoAnalysis.{MemoAnalysis}
+use Rattle.regress_memo.specs.AnalysisAsLivenessAndPotentials.{analysis_as_liveness, key_code_questions_of, insn_direction, insn_analysis_of}
 use Rattle.regress_memo.specs.Laws.{analysis_keys}
-use Rattle.regress_memo.specs.MemoContents.{has_failure}
+use Rattle.regress_memo.specs.MemoContents.{has_failure, has_success}
 use Rattle.regress_memo.specs.MemoContractView.{MemoView}
-use Rattle.regress_scan.specs.TreePlanAndText.{SearchInput}
-use Rattle.regress_backtrack.specs.FailureMemo.{MemoScheme, AreFailuresRight, scheme_in, failed_in}
+use Rattle.regress_search.specs.TreePlanAndText.{SearchInput}
+use Rattle.regress_backtrack.specs.FailureMemo.{MemoScheme, AreFailuresRight, AreEndsRight, scheme_in, failed_in}
 
 -- The scheme of a memo analysis: its liveness and its keys.
 abbrev pub scheme_of : MemoAnalysis → MemoScheme
@@ -18,6 +18,8 @@ scheme_of t = record {
   records = λ ip. (insn_analysis_of t ip).records;
 }
 
--- The failures in the memo are right, if there is a memo.
+-- The failures and the ends in the memo are right, if there is a memo.
 abbrev pub IsMemoRight : {B : Type 0} → (known : B → MemoView) → SearchInput → Option B → Type 0
-IsMemoRight known w o = AreFailuresRight w (scheme_in (λ b. scheme_of (known b).memo_analysis) o) (failed_in (λ b. has_failure (known b)) o)
+IsMemoRight known w o =
+    AreFailuresRight w (scheme_in (λ b. scheme_of (known b).memo_analysis) o) (failed_in (λ b. has_failure (known b)) o)
+    × AreEndsRight w (scheme_in (λ b. scheme_of (known b).memo_analysis) o) (failed_in (λ b. has_success (known b)) o)

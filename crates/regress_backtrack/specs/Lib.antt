@@ -22,8 +22,10 @@ pub mod FailureMemo
 pub mod MemoizedOpExecutionAndBacktracking
 pub mod FailuresInMemoTable
 pub mod MemoizedCharLoops
+pub mod KnownEnds
 pub mod BulkForcedCountedLoopIterations
 pub mod SkippableCountedLoopIterations
+pub mod RepeatableLoopBodies
 pub mod SurplusRequiredIterations
 pub mod InsnsOfGroupActions
 pub mod LeapMemory

@@ -4,7 +4,7 @@ use Rattle.regex_meaning.specs.Tree.{Tree}
 use Rattle.regex_meaning.specs.Text.{Text}
 use Rattle.regex_meaning.specs.StartPredicate.{StartPredicate, start_anchored, start_predicate, may_start}
 use Rattle.regex_meaning.specs.WellFormedTrees.{is_well_formed}
-use Rattle.regress_exec.specs.AttemptResultsAndStartsToTry.{NextStartSkipsNoMatch, first_filtered_start, next_filtered_start}
+use Rattle.regress_search.specs.AttemptResultsAndStartsToTry.{NextStartSkipsNoMatch, first_filtered_start, next_filtered_start}
 
 -- Whether a start predicate accepts a place, so that it is tried. The predicate of trees with
 -- outcomes only at the left end accepts each place: the search checks only one.

@@ -2,10 +2,10 @@
 
 ghost use Rattle.std.specs.Prelude.{◌≡◌, IfOk, None, false, map, option_map};
 ghost use Rattle.regex_meaning.specs.CodeUnitOffsets.{IsBoundary};
-ghost use Rattle.regress_exec.specs.AttemptResultsAndStartsToTry.{ticks_of_attempt_at};
-ghost use Rattle.regress_exec.specs.StepBudgetAndContinuationAfterSearch.{SpendsNeedOrReachesLimit, step_limit_error_else_memory_error, ResultTellsIfStepLimitReached};
-ghost use Rattle.regress_plan.specs.InsnsAsSpecInsns.{insn_as_spec_insn};
-ghost use Rattle.regress_scan.specs.TreePlanAndText.{program_of};
+ghost use Rattle.regress_search.specs.AttemptResultsAndStartsToTry.{ticks_of_attempt_at};
+ghost use Rattle.regress_search.specs.StepBudgetAndContinuationAfterSearch.{SpendsNeedOrReachesLimit, step_limit_error_else_memory_error, ResultTellsIfStepLimitReached};
+ghost use Rattle.regress_program.specs.InsnsAsSpecInsns.{insn_as_spec_insn};
+ghost use Rattle.regress_search.specs.TreePlanAndText.{program_of};
 ghost use Rattle.regress_backtrack.specs.AttemptResults.{HasFirstOutcomeEndAndGroups, CostsStepsAt, TakesIfSlots};
 ghost use Rattle.regress_backtrack.specs.{MemoizedOpExecutionAndBacktracking.{IsMemoSound, KeepsMemoSound}, Interpreter.{IfDone}};
 ghost use Rattle.regress_backtrack.specs.{FailuresInMemoTable.{IsMemoRight}, TextsReadAsTreeRequires.{TreeCanSearchText}};
@@ -16,10 +16,10 @@ use crate::interpreter::run_thread_rightwards_to_preferred_end;
 use crate::state::BacktrackState;
 use crate::step_and_work_budgets::{SearchStoppedWithoutResult, StepCounter};
 use crate::thread_position_and_op_result::ThreadPos;
-use regress_exec::exec::SearchError;
 use regress_input::indexing::InputIndexer;
-use regress_plan::insn::Insn;
-use regress_scan::search_context::{PositionOf, SearchContext, position_in_searched_text};
+use regress_program::instructions::Insn;
+use regress_search::exec::SearchError;
+use regress_search::search_context::{PositionOf, SearchContext, position_in_searched_text};
 
 // Returns why a search stopped: steps were refused, or else allocation failed.
 fn cause<S: StepCounter>(steps: &S) -> SearchError

@@ -4,16 +4,16 @@ ghost use Rattle.std.specs.Prelude.{◌≡◌, ◌≤◌, IsAscii, IfOk, option_
 ghost use Rattle.std.proofs.Props.{props};
 ghost use Rattle.regex_meaning.specs.{CodeUnitOffsets.{IsBoundary}, Text.{ascii_text, utf8_text, utf16_text, ucs2_text}};
 ghost use Rattle.regex_pattern_front.specs.AstToSpecTree.{tree_of};
-ghost use Rattle.regress_exec.specs.AttemptResultsAndStartsToTry.{NextStartSkipsNoMatch, NoMatchAt};
-ghost use Rattle.regress_exec.specs.NewExecutorsAndAsciiTexts.{ReadsBytesAsAscii, IsNewExecutorWithoutStepLimit, CanSearchAllAsciiTexts};
+ghost use Rattle.regress_search.specs.AttemptResultsAndStartsToTry.{NextStartSkipsNoMatch, NoMatchAt};
+ghost use Rattle.regress_search.specs.NewExecutorsAndAsciiTexts.{ReadsBytesAsAscii, IsNewExecutorWithoutStepLimit, CanSearchAllAsciiTexts};
 ghost use Rattle.regress_machine.specs.SearchFindsFirstOutcomeAtPlace.{TreeProgramCanSearchText};
-ghost use Rattle.regress_plan.specs.TableKeysOfUnits.{is_16_bit_encoding};
-ghost use Rattle.regress_scan.specs.TreePlanAndText.{program_of};
-ghost use Rattle.regress_memo.specs.MemoContents.{has_failure};
+ghost use Rattle.regress_program.specs.TableKeysOfUnits.{is_16_bit_encoding};
+ghost use Rattle.regress_search.specs.TreePlanAndText.{program_of};
+ghost use Rattle.regress_memo.specs.MemoContents.{has_failure, has_success};
 ghost use Rattle.regress_program.specs.CompilationOfTreesAsFunction.{compiled};
 ghost use Rattle.regress_backtrack.specs.{State.{current_thread_state_of}, FailuresInMemoTable.{scheme_of}, ProgramsAndPlans.{executed_tree_of}};
 ghost use Rattle.regress_backtrack.specs.LeapMemory.{IsLeapMemoryRight};
-ghost use Rattle.regress_backtrack.specs.FailureMemo.{AreFailuresRightIn, scheme_in, failed_in};
+ghost use Rattle.regress_backtrack.specs.FailureMemo.{AreFailuresRightIn, AreEndsRightIn, scheme_in, failed_in};
 
 use crate::attempts::{attempt, retry_with_memo};
 use crate::failure_memo::{NoMemo, StepsAndMemo};
@@ -24,16 +24,16 @@ use crate::program_plan_and_text::{ProgramAndPlan, ProgramPlanAndText};
 use crate::state::BacktrackState;
 use crate::step_and_work_budgets::{Unlimited, WorkBounded};
 pub use crate::step_limited::LimitedExecutor;
-use regress_exec::exec::{Executor, MatchProducer, ProducerFromProgramAndText, SearchError};
-use regress_exec::program_and_input::ProgramAndInput;
-use regress_exec::search_loop::SingleAttemptExecutor;
 use regress_input::indexing::{AsciiInput, InputIndexer, Ucs2Input, Utf8Input, Utf16Input};
 use regress_input::position::PositionType;
 use regress_program::insn::{CompiledRegex, CompiledRegexFor16BitUnits, Program};
-use regress_scan::leading_char_loop::{leading_loop_max_char_units, skip_leading_char_loop};
-use regress_scan::search_context::{
+use regress_search::exec::{Executor, MatchProducer, ProducerFromProgramAndText, SearchError};
+use regress_search::leading_char_loop::{leading_loop_max_char_units, skip_leading_char_loop};
+use regress_search::program_and_input::ProgramAndInput;
+use regress_search::search_context::{
     PositionOf, SearchContext, offset_in_searched_text, position_in_searched_text,
 };
+use regress_search::search_loop::SingleAttemptExecutor;
 use std::alloc::AllocError;
 
 /// Executes a program's plan over a text. It keeps one state, and undoes a thread's changes to it
@@ -57,10 +57,14 @@ pub struct BacktrackExecutor<'r, Input: InputIndexer> {
     leads: usize,
     // How far the last leap has led.
     leap: LeapMemory,
-    // The memo is right: each key that it holds as failed does fail.
+    // The memo is right: each key that it holds as failed does fail, and each one that it holds as
+    // finding an end does.
     ghost right: { AreFailuresRightIn (compiled (executed_tree_of search.program)) (Input.text search.searched.input)
         (scheme_in (λ memo. scheme_of memo.value.memo_analysis) again.course.memo)
-        (failed_in (λ memo. has_failure memo.value) again.course.memo) } by { Prim.hlevel props },
+        (failed_in (λ memo. has_failure memo.value) again.course.memo)
+        × AreEndsRightIn (compiled (executed_tree_of search.program)) (Input.text search.searched.input)
+        (scheme_in (λ memo. scheme_of memo.value.memo_analysis) again.course.memo)
+        (failed_in (λ memo. has_success memo.value) again.course.memo) } by { Prim.hlevel props },
     // No match begins between the two offsets of the last leap.
     ghost leapt: { IsLeapMemoryRight (executed_tree_of search.program) (Input.text search.searched.input) leap } by { Prim.hlevel props },
 }

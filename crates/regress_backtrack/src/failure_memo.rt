@@ -1,8 +1,8 @@
-//! What is recorded of searches that failed.
+//! What is recorded of searches that failed, and of searches of lookarounds' contents that found an end.
 
 ghost use Rattle.std.specs.Prelude.{◌≡◌, ◌≤◌, ◌⊎◌, ◌∷◌, [], Bool, true, false, IfSome};
 ghost use Rattle.regex_meaning.specs.CodeUnitOffsets.{units};
-ghost use Rattle.regress_memo_laws.specs.MemoSearch.{Key as KeyOf};
+ghost use Rattle.regress_memo.specs.MemoSearch.{Key as KeyOf};
 ghost use Rattle.regress_machine.specs.Machine.{running};
 ghost use Rattle.regress_backtrack.specs.{State.{current_thread_state_of}, MemoizedCharLoops.{DecidesLoopRest}};
 ghost use Rattle.regress_backtrack.specs.FailureMemo.{MemoScheme, AreFailuresRight, IsKeyOf, memo_key_as_spec, no_scheme};
@@ -10,7 +10,7 @@ ghost use Rattle.regress_backtrack.specs.FailureMemo.{MemoScheme, AreFailuresRig
 use crate::state::BacktrackState;
 use crate::step_and_work_budgets::StepCounter;
 use crate::thread_position_and_op_result::DirectedThreadPos;
-use regress_scan::search_context::SearchContext;
+use regress_search::search_context::SearchContext;
 
 /// A memo key as choice points hold it: an instruction and an offset, with a code for the state of
 /// the loops.
@@ -21,7 +21,8 @@ pub struct RecordKey {
     pub code: usize,
 }
 
-/// Records what has failed, by keys; or nothing.
+/// Records what has failed, and what in a lookaround's contents has found an end, by keys; or
+/// nothing.
 pub trait FailureMemo {
     ghost ON: { Bool };
 
@@ -31,6 +32,8 @@ pub trait FailureMemo {
     ghost terms: { Self → MemoScheme };
 
     ghost failed: { Self → KeyOf → Bool };
+
+    ghost succeeded: { Self → KeyOf → Bool };
 
     // the memo has a place for the key
     ghost has_key: { Self → KeyOf → Type 0 };
@@ -64,9 +67,21 @@ pub trait FailureMemo {
     fn is_known_to_fail(&self, key: RecordKey) -> bool
         ensures { result ≡ failed self.now (memo_key_as_spec key) };
 
+    /// Returns whether a key is known to find an end.
+    fn is_known_to_find_end(&self, key: RecordKey) -> bool
+        ensures { result ≡ succeeded self.now (memo_key_as_spec key) };
+
+    /// Records that a key finds an end, if the memo has it and records this.
+    fn record_key_found_end(&mut self, key: RecordKey)
+        ensures terms { terms self.new ≡ terms self.old }
+        ensures failed { (k : KeyOf) → failed self.new k ≡ failed self.old k }
+        ensures succeeded { (k : KeyOf) → succeeded self.new k ≡ true → (succeeded self.old k ≡ true) ⊎
+            (k ≡ memo_key_as_spec key) };
+
     /// Records that a key has failed, if the memo has it.
     fn record_key_failed(&mut self, key: RecordKey)
         ensures terms { terms self.new ≡ terms self.old }
+        ensures succeeded { (k : KeyOf) → succeeded self.new k ≡ succeeded self.old k }
         ensures failed { (k : KeyOf) → failed self.new k ≡ true → (failed self.old k ≡ true) ⊎
             (k ≡ memo_key_as_spec key) }
         ensures recorded { has_key self.old (memo_key_as_spec key) → failed self.new (memo_key_as_spec key) ≡ true }
@@ -104,6 +119,8 @@ impl FailureMemo for NoMemo {
 
     ghost failed = { λ _ _. false };
 
+    ghost succeeded = { λ _ _. false };
+
     ghost has_key = { λ _ _. ⊥ };
 
     #[inline(always)]
@@ -130,6 +147,14 @@ impl FailureMemo for NoMemo {
     fn is_known_to_fail(&self, _key: RecordKey) -> bool {
         false
     }
+
+    #[inline(always)]
+    fn is_known_to_find_end(&self, _key: RecordKey) -> bool {
+        false
+    }
+
+    #[inline(always)]
+    fn record_key_found_end(&mut self, _key: RecordKey) {}
 
     #[inline(always)]
     fn record_key_failed(&mut self, _key: RecordKey) {}

@@ -1,11 +1,11 @@
 //! Failures that a memo table records, by the memo analysis of a program.
 
 ghost use Rattle.std.specs.Prelude.{◌≡◌, ℕ, true, false, None, is_some, IfOk, IfSome, map};
-ghost use Rattle.regress_memo_laws.specs.{LoopDataKeyCodes.{HasSlotsOfProgram}, UnboundedCharLoopMemoKeys.{char_loop_greediness_at, insn_before}};
-ghost use Rattle.regress_memo_analysis.specs.CheckedAnalysis.{IsRecordableMemoKey};
-ghost use Rattle.regress_memo.specs.MemoContents.{has_failure, memo_key_as_spec as key_known};
-ghost use Rattle.regress_plan.specs.{InsnsAsSpecInsns.{insn_as_spec_insn}, Plans.{op_as_char_loop}};
-ghost use Rattle.regress_scan.specs.TreePlanAndText.{program_of};
+ghost use Rattle.regress_memo.specs.{LoopDataKeyCodes.{HasSlotsOfProgram}, UnboundedCharLoopMemoKeys.{char_loop_greediness_at, insn_before}};
+ghost use Rattle.regress_memo.specs.CheckedAnalysis.{IsRecordableMemoKey};
+ghost use Rattle.regress_memo.specs.MemoContents.{has_failure, has_success, memo_key_as_spec as key_known};
+ghost use Rattle.regress_program.specs.{InsnsAsSpecInsns.{insn_as_spec_insn}, Plans.{op_as_char_loop}};
+ghost use Rattle.regress_search.specs.TreePlanAndText.{program_of};
 ghost use Rattle.regress_backtrack.specs.{State.{current_thread_state_of}, FailuresInMemoTable.{scheme_of, IsMemoRight}};
 ghost use Rattle.regress_backtrack.specs.FailureMemo.{memo_key_as_spec, scheme_in, failed_in, has_key_in};
 
@@ -14,14 +14,12 @@ use crate::state::BacktrackState;
 use crate::step_and_work_budgets::Unlimited;
 use crate::thread_position_and_op_result::DirectedThreadPos;
 use regex_pattern_front::types::LoopID;
+use regress_memo::analysis_result::MemoAnalysis;
+use regress_memo::loop_data_key_codes::{IterationStatesOfAllLoops, LoopCountAndIterationStart};
 use regress_memo::memo::{MemoTable, ThreadMemoKey as Known};
-use regress_memo_analysis::analysis_result::MemoAnalysis;
-use regress_memo_analysis::loop_data_key_codes::{
-    IterationStatesOfAllLoops, LoopCountAndIterationStart,
-};
-use regress_plan::insn::Insn;
-use regress_plan::ops::Op;
-use regress_scan::search_context::{SearchContext, text_end};
+use regress_program::instructions::Insn;
+use regress_program::ops::Op;
+use regress_search::search_context::{SearchContext, text_end};
 use std::alloc::{AllocError, Global};
 
 impl IterationStatesOfAllLoops for BacktrackState {
@@ -76,6 +74,8 @@ impl FailureMemo for MemoTable {
     ghost terms = { λ m. scheme_of m.memo_analysis };
 
     ghost failed = { λ m. has_failure m };
+
+    ghost succeeded = { λ m. has_success m };
 
     ghost has_key = { λ m k. IsRecordableMemoKey m.memo_analysis m.places k };
 
@@ -144,6 +144,20 @@ impl FailureMemo for MemoTable {
     }
 
     #[inline(always)]
+    fn is_known_to_find_end(&self, key: RecordKey) -> bool {
+        let key = memo_key_of(key);
+        self.has(key) && self.is_known_to_reach_end(key)
+    }
+
+    #[inline(always)]
+    fn record_key_found_end(&mut self, key: RecordKey) {
+        let key = memo_key_of(key);
+        if self.records_successes() && self.has(key) {
+            self.record_success(key);
+        }
+    }
+
+    #[inline(always)]
     fn record_key_failed(&mut self, key: RecordKey) {
         let key = memo_key_of(key);
         if self.has(key) {
@@ -189,6 +203,8 @@ impl<M: FailureMemo> FailureMemo for Option<Box<M>> {
 
     ghost failed = { failed_in (λ memo. M.failed memo.value) };
 
+    ghost succeeded = { failed_in (λ memo. M.succeeded memo.value) };
+
     ghost has_key = { has_key_in (λ memo. M.has_key memo.value) };
 
     #[inline(always)]
@@ -222,6 +238,22 @@ impl<M: FailureMemo> FailureMemo for Option<Box<M>> {
         match self {
             Some(memo) => memo.is_known_to_fail(key),
             None => false,
+        }
+    }
+
+    #[inline(always)]
+    fn is_known_to_find_end(&self, key: RecordKey) -> bool {
+        match self {
+            Some(memo) => memo.is_known_to_find_end(key),
+            None => false,
+        }
+    }
+
+    #[inline(always)]
+    fn record_key_found_end(&mut self, key: RecordKey) {
+        match self {
+            Some(memo) => memo.record_key_found_end(key),
+            None => {}
         }
     }
 
@@ -264,6 +296,19 @@ pub(crate) fn enable_memo<W: SearchContext>(
     }
 }
 
+// Checks whether a program has a negative lookaround. Only their contents read the ends that are recorded.
+fn has_negative_lookaround(insns: &[Insn]) -> bool {
+    for insn in insns {
+        if matches!(
+            insn,
+            Insn::Lookahead { negate: true, .. } | Insn::Lookbehind { negate: true, .. }
+        ) {
+            return true;
+        }
+    }
+    false
+}
+
 // Creates a memo table for a search whose instructions these are. No failure is recorded in it yet.
 // Returns `None` if the program has no memo analysis, or if its keys cannot be counted.
 fn new_memo<W: SearchContext>(
@@ -278,7 +323,9 @@ fn new_memo<W: SearchContext>(
     else {
         return Ok(None);
     };
-    let Some(memo) = MemoTable::new(alloc, memo_analysis, text_end(planned) + 1, false)? else {
+    let places = text_end(planned) + 1;
+    let Some(memo) = MemoTable::new(alloc, memo_analysis, places, has_negative_lookaround(insns))?
+    else {
         return Ok(None);
     };
     let memo = Box::new(alloc, memo)?;

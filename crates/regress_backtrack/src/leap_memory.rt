@@ -2,15 +2,15 @@
 
 ghost use Rattle.std.specs.Prelude.{◌≡◌, Some, true};
 ghost use Rattle.regex_meaning.specs.{Tree.{Tree}, Text.{Text}, CodeUnitOffsets.{IsBoundary}};
-ghost use Rattle.regress_exec.specs.AttemptResultsAndStartsToTry.{NextStartSkipsNoMatch, NoMatchAt};
+ghost use Rattle.regress_search.specs.AttemptResultsAndStartsToTry.{NextStartSkipsNoMatch, NoMatchAt};
 ghost use Rattle.regress_machine.specs.SearchFindsFirstOutcomeAtPlace.{TreeProgramCanSearchText};
-ghost use Rattle.regress_plan.specs.{Leaps.{IsLeap}, TableKeysOfUnits.{is_16_bit_encoding}};
-ghost use Rattle.regress_scan.specs.TreePlanAndText.{program_of};
+ghost use Rattle.regress_program.specs.{Leaps.{IsLeap}, TableKeysOfUnits.{is_16_bit_encoding}};
+ghost use Rattle.regress_search.specs.TreePlanAndText.{program_of};
 ghost use Rattle.regress_backtrack.specs.LeapMemory.{IsLeapMemoryRight};
 
-use regress_plan::leap::Leap;
-use regress_scan::leaping::{LeapTarget, leap_from};
-use regress_scan::search_context::SearchContext;
+use regress_program::leap::Leap;
+use regress_search::leaping::{LeapTarget, leap_from};
+use regress_search::search_context::SearchContext;
 
 /// What a search knows by its last leap.
 #[derive(Clone, Copy)]

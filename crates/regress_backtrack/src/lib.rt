@@ -15,6 +15,7 @@ mod leap_memory;
 mod lookaround_frames;
 mod lookaround_search_unless_next_unit_decides;
 mod memoized_char_loops;
+mod memoized_ends;
 mod memoized_op_execution_and_backtracking;
 mod next_candidate_start_by_plan;
 pub mod program_plan_and_text;

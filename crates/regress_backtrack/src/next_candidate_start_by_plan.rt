@@ -2,12 +2,12 @@
 
 ghost use Rattle.std.specs.Prelude.{◌≡◌, false};
 ghost use Rattle.regex_meaning.specs.CodeUnitOffsets.{IsBoundary};
-ghost use Rattle.regress_exec.specs.AttemptResultsAndStartsToTry.{NextStartSkipsNoMatch, NoMatchAt};
+ghost use Rattle.regress_search.specs.AttemptResultsAndStartsToTry.{NextStartSkipsNoMatch, NoMatchAt};
 ghost use Rattle.regress_machine.specs.SearchFindsFirstOutcomeAtPlace.{TreeProgramCanSearchText};
-ghost use Rattle.regress_scan.specs.{TreePlanAndText.{program_of}, StartSearch.{IsFirstCandidate}};
+ghost use Rattle.regress_search.specs.{TreePlanAndText.{program_of}, StartSearch.{IsFirstCandidate}};
 
-use regress_scan::search_context::SearchContext;
-use regress_scan::start_search::{first_candidate, is_candidate};
+use regress_search::search_context::SearchContext;
+use regress_search::start_search::{first_candidate, is_candidate};
 
 /// Returns the first candidate start at or after an offset, by the plan; `None` if no match begins
 /// from there on.

@@ -21,7 +21,8 @@ pub struct GroupOrLoopState {
     pub at: usize,
     pub from: usize,
     pub to: usize,
-    /// In storage: the number of the slot's last entry in the undo log, counted from 1, or less.
+    /// In storage: the number of the slot's last entry in the undo log, from 1 and modulo 2^32; 0 if
+    /// there is none.
     pub noted: u32,
     pub has_range: bool,
     /// Whether the search has set the slot.
@@ -160,8 +161,8 @@ fn last_mark_log(marks: &[ChoicePoint]) -> usize
 }
 
 // Makes room for one more entry in a log of which `used` entries are used, and returns whether the
-// change has to be logged. It has not if the slot's last entry, `noted`, was made after the last
-// choice point; but the first `free` changes always are.
+// change has to be logged. It need not be logged if the slot's last entry, `noted`, was made after
+// the last choice point, except that the first `free` changes are always logged.
 #[inline(always)]
 fn reserve(
     log: &mut Vec<UndoEntry>,

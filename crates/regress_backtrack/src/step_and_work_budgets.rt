@@ -48,6 +48,9 @@ pub trait StepCounter: Copy {
     fn charge_bulk_read_or_drop_work(&mut self, units: usize)
         ensures { budget self.new ≡ budget self.old };
 
+    /// Returns `Err` if too much work was done. A search that does not backtrack asks this itself.
+    fn stop_if_too_much_work(&self) -> Result<(), SearchStoppedWithoutResult>;
+
     /// Returns whether steps were refused.
     fn steps_were_refused(&self) -> bool
         ensures { result ≡ (budget self.now).out };
@@ -128,6 +131,14 @@ impl<const BOUND: bool> StepCounter for WorkCounterWithoutStepLimit<BOUND> {
     }
 
     #[inline(always)]
+    fn stop_if_too_much_work(&self) -> Result<(), SearchStoppedWithoutResult> {
+        if BOUND && self.is_work_limit_exceeded() {
+            return Err(SearchStoppedWithoutResult);
+        }
+        Ok(())
+    }
+
+    #[inline(always)]
     fn steps_were_refused(&self) -> bool {
         false
     }
@@ -168,6 +179,11 @@ impl StepCounter for LimitedStepCounter {
 
     #[inline(always)]
     fn charge_bulk_read_or_drop_work(&mut self, _units: usize) {}
+
+    #[inline(always)]
+    fn stop_if_too_much_work(&self) -> Result<(), SearchStoppedWithoutResult> {
+        Ok(())
+    }
 
     #[inline(always)]
     fn steps_were_refused(&self) -> bool {

@@ -12,10 +12,10 @@ use crate::classicalbacktrack::BacktrackExecutor;
 use crate::failure_memo::{NoMemo, StepsAndMemo};
 use crate::starts_accepted_by_predicate::{first_start_to_try, next_start_to_try};
 use crate::step_and_work_budgets::LimitedStepCounter;
-use regress_exec::exec::{MatchProducer, ProducerFromProgramAndText, SearchError};
-use regress_exec::search_loop::SingleAttemptExecutor;
 use regress_input::indexing::{InputIndexer, Utf8Input};
 use regress_program::insn::{CompiledRegex, Program, StartPredicate};
+use regress_search::exec::{MatchProducer, ProducerFromProgramAndText, SearchError};
+use regress_search::search_loop::SingleAttemptExecutor;
 use std::alloc::AllocError;
 
 /// Searches a text in UTF-8 as `BacktrackExecutor` does, and takes no more than a given number of

@@ -4,8 +4,8 @@ use Rattle.std.specs.Prelude.{is_some, IsSome, IsTrue}
 use Rattle.regex_meaning.specs.CompilationRelation.{Program}
 use Rattle.regex_pattern_front.specs.AstToSpecTree.{tree_of}
 use Rattle.regex_pattern_front.specs.declared.ir.Regex.{Regex}
-use Rattle.regress_plan.specs.InsnsAsSpecInsns.{insn_as_spec_insn}
-use Rattle.regress_plan.specs.declared.insn.Insn.{Insn}
+use Rattle.regress_program.specs.InsnsAsSpecInsns.{insn_as_spec_insn}
+use Rattle.regress_program.specs.declared.instructions.Insn.{Insn}
 use Rattle.regress_program.specs.CompilationOfTreesAsFunction.{compiled}
 use Rattle.regress_program.specs.TextsSearchableByBytePrograms.{IsByteText}
 use Rattle.regress_machine.specs.TextsForBytePrograms.{tree_contains_byte_nodes}
@@ -13,9 +13,9 @@ use Rattle.regex_meaning.specs.Text.{Text}
 use Rattle.regress_machine.specs.Machine.{Next, goes, with_some, test_of}
 use Rattle.regress_machine.specs.InsnEffects.{IsNotStuck}
 use Rattle.regress_machine.proofs.Fetched.{test-some, fetched-some, fetched-below}
-use Rattle.regress_scan.specs.OffsetsAfterMatchedInsns.{ByteInsnHasByteText}
-use Rattle.regress_scan.proofs.Literals.{literal-reads}
-use Rattle.regress_scan.proofs.Reach.{some-of}
+use Rattle.regress_search.specs.OffsetsAfterMatchedInsns.{ByteInsnHasByteText}
+use Rattle.regress_search.proofs.Literals.{literal-reads}
+use Rattle.regress_search.proofs.Reach.{some-of}
 
 pub body-tested : (program : Program) (ip : ℕ) (test : ℕ → Bool) → test_of program (slice_get program.insns (ip + 1)) ≡ Some test → IsSome (test_of program (slice_get program.insns (ip + 1)))
 body-tested program ip test e = ap is_some e

@@ -8,25 +8,25 @@ use Rattle.regex_meaning.specs.CodeUnitOffsets.{HasRisingPlaceOffsets, IsBoundar
 use Rattle.regex_meaning.specs.Tree.{Tree}
 use Rattle.regress_program.specs.CompilationOfTreesAsFunction.{compiled}
 use Rattle.regress_input.proofs.Places.{boundary_inside}
-use Rattle.regress_exec.specs.AttemptResultsAndStartsToTry.{match_end_and_groups_at, steps_for_attempt, search_from}
-use Rattle.regress_exec.proofs.Attempts.{begins}
+use Rattle.regress_search.specs.AttemptResultsAndStartsToTry.{match_end_and_groups_at, steps_for_attempt, search_from}
+use Rattle.regress_search.proofs.Attempts.{begins}
 use Rattle.regex_meaning.specs.CompilationRelation.{Program}
 use Rattle.regress_machine.specs.SearchFindsFirstOutcomeAtPlace.{state_before_first_insn, end_of, TreeProgramCanSearchText}
 use Rattle.regress_machine.specs.InsnEffects.{end_of_search}
 use Rattle.regress_machine.specs.Machine as machine
 use Rattle.regress_machine.specs.Machine.{running, ends, Found, search}
-use Rattle.regress_memo_laws.specs.Liveness.{ReadsAsBytes}
-use Rattle.regress_memo_laws.specs.MemoSearch.{Key, Entry, tried, tries, Answers}
-use Rattle.regress_memo_analysis.specs.declared.analysis_result.MemoAnalysis.{MemoAnalysis}
-use Rattle.regress_memo_analysis.specs.WorkBound.{first_row, work_per_position, all_keys_cost_per_position}
-use Rattle.regress_memo_analysis.specs.AnalysisAsLivenessAndPotentials.{insn_analysis_of}
+use Rattle.regress_memo.specs.Liveness.{ReadsAsBytes}
+use Rattle.regress_memo.specs.MemoSearch.{Key, Entry, tried, tries, Answers}
+use Rattle.regress_memo.specs.declared.analysis_result.MemoAnalysis.{MemoAnalysis}
+use Rattle.regress_memo.specs.WorkBound.{first_row, work_per_position, all_keys_cost_per_position}
+use Rattle.regress_memo.specs.AnalysisAsLivenessAndPotentials.{insn_analysis_of}
 use Rattle.regress_memo.specs.Laws.{ListsExactlyKnownKeys}
 use Rattle.regress_memo.specs.MemoContents.{has_failure, IsEmptyMemo}
 use Rattle.regress_memo.specs.MemoContractView.{MemoView}
 use Rattle.regress_memo.proofs.LawLemmas.{memos-are-true}
-use Rattle.regress_scan.proofs.Reach.{some-of}
+use Rattle.regress_search.proofs.Reach.{some-of}
 use Rattle.regress_memo.specs.AmortizedMemoSearchSteps.{HasCome}
-use Rattle.regress_exec.specs.AttemptsAndMatchesWithinWork.{least_offset_after_match}
+use Rattle.regress_search.specs.AttemptsAndMatchesWithinWork.{least_offset_after_match}
 use Rattle.regress_bounded.specs.declared.memo_and_work_budget.MemoAndWorkBudget.{MemoAndWorkBudget}
 use Rattle.regress_bounded.specs.declared.memo_and_work_budget.AttemptAbortReason.{AttemptAbortReason}
 use Rattle.regress_bounded.specs.declared.memo_and_work_budget.AttemptAbortReason.TheVariants.{Work}
@@ -38,7 +38,7 @@ use Rattle.regress_bounded.specs.SearchStateAsMemoSearchEntries.{IsPaid, IsRight
 use Rattle.regress_bounded.specs.CostsOfSearchEvents.{Costs, nothing_yet, then_happens}
 use Rattle.regress_bounded.specs.CostsOfAttempts.{AttemptCosts, EventsOfAttempt, HasFinished, ListsFailures, failures_of, is_end, no_entry}
 use Rattle.regress_bounded.specs.declared.stack_of_pending_threads_and_records.StackEntry.{StackEntry}
-use Rattle.regress_exec.specs.CostsOfSearches.{CostsMoreThanLeft, Failures, TakesExactCost}
+use Rattle.regress_search.specs.CostsOfSearches.{CostsMoreThanLeft, Failures, TakesExactCost}
 use Rattle.regress_bounded.specs.SearchStateAsMemoSearchEntries.{IsStanding, IsOver, EndsAt, Runs, front_of}
 use Rattle.regress_bounded.specs.WorkOfCharLoopsAndAttempts.{HasWalked, IsWalked, IsTrying}
 use Rattle.regress_pikevm.specs.States.{state_of}

@@ -7,11 +7,11 @@ use Rattle.regex_meaning.specs.CompilationRelation.{Program, Loop1CharBody}
 use Rattle.regex_meaning.proofs.TextLemmas.{offset-place_at}
 use Rattle.regress_machine.specs.Machine.{State, Thread, running, Next, goes, scans, with_some, scan, test_of, act, act_on}
 use Rattle.regress_machine.specs.InsnEffects.{IsNotStuck}
-use Rattle.regress_memo_laws.specs.CharLoopExitThreadLists.{passing}
-use Rattle.regress_memo_laws.specs.MemoSearch.{Key, Entry, tried, kept, tries}
-use Rattle.regress_memo_analysis.specs.declared.analysis_result.MemoAnalysis.{MemoAnalysis}
-use Rattle.regress_memo_analysis.specs.WorkBound.{first_row}
-use Rattle.regress_memo_analysis.specs.AnalysisChecks.{unlimited}
+use Rattle.regress_memo.specs.CharLoopExitThreadLists.{passing}
+use Rattle.regress_memo.specs.MemoSearch.{Key, Entry, tried, kept, tries}
+use Rattle.regress_memo.specs.declared.analysis_result.MemoAnalysis.{MemoAnalysis}
+use Rattle.regress_memo.specs.WorkBound.{first_row}
+use Rattle.regress_memo.specs.AnalysisChecks.{unlimited}
 use Rattle.regress_memo.specs.MemoContents.{memo_key_at}
 use Rattle.regress_memo.specs.AmortizedMemoSearchSteps.{HasCome, ComesOn}
 use Rattle.regress_memo.proofs.SearchLemmas.{searches-are-paid}

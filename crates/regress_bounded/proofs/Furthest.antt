@@ -11,20 +11,20 @@ use Rattle.regex_meaning.specs.CompilationRelation.{Program}
 use Rattle.regex_meaning.proofs.Options.{some-same}
 use Rattle.regex_meaning.proofs.TextLemmas.{IsBoundary-place, offset-IsBoundary, offset-less, offset-le}
 use Rattle.regress_input.specs.CharAndByteReadsFromOffset.{end_if_matched, past_if}
-use Rattle.regress_plan.specs.InsnsAsSpecInsns.{insn_as_spec_insn}
+use Rattle.regress_program.specs.InsnsAsSpecInsns.{insn_as_spec_insn}
 use Rattle.regress_machine.specs.Machine as machine
 use Rattle.regress_machine.specs.Machine.{waiting, test_of}
 use Rattle.regress_machine.specs.InsnEffects.{state_after_char_loop_to_offset}
 use Rattle.regress_machine.proofs.Beside.{moved-zero}
-use Rattle.regress_simulation.specs.CharLoopExitStatesByPreference.{behind}
-use Rattle.regress_memo_laws.specs.LoopDataKeyCodes.{plan_code}
-use Rattle.regress_memo_laws.specs.MemoSearch.{Key, Entry, tried, noted}
-use Rattle.regress_memo_analysis.specs.AnalysisAsLivenessAndPotentials.{key_code_questions_of, insn_direction}
+use Rattle.regress_machine.specs.CharLoopExitStatesByPreference.{behind}
+use Rattle.regress_memo.specs.LoopDataKeyCodes.{plan_code}
+use Rattle.regress_memo.specs.MemoSearch.{Key, Entry, tried, noted}
+use Rattle.regress_memo.specs.AnalysisAsLivenessAndPotentials.{key_code_questions_of, insn_direction}
 use Rattle.regress_memo.specs.declared.memo.ThreadMemoKey.{ThreadMemoKey as Stored}
 use Rattle.regress_memo.specs.MemoContents.{memo_key_as_spec, memo_key_at, has_failure}
 use Rattle.regress_memo.specs.MemoContractView.{MemoView}
-use Rattle.regress_scan.proofs.Reach.{some-of}
-use Rattle.regress_scan.proofs.StopSets.{places-few}
+use Rattle.regress_search.proofs.Reach.{some-of}
+use Rattle.regress_search.proofs.StopSets.{places-few}
 use Rattle.regress_bounded.specs.declared.stack_of_pending_threads_and_records.UnboundedCharLoop.{UnboundedCharLoop}
 use Rattle.regress_bounded.specs.declared.stack_of_pending_threads_and_records.StackEntry.{StackEntry}
 use Rattle.regress_bounded.specs.declared.stack_of_pending_threads_and_records.StackEntry.TheVariants.{Thread as AsThread, Record as AsRecord}

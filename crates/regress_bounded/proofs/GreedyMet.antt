@@ -4,11 +4,11 @@ use Rattle.std.specs.Prelude.{◌⊎◌}
 use Rattle.regex_meaning.specs.Text.{Text, rightwards}
 use Rattle.regex_meaning.specs.CodeUnitOffsets.{HasRisingPlaceOffsets, units}
 use Rattle.regex_meaning.specs.CompilationRelation.{Program}
-use Rattle.regress_plan.specs.InsnsAsSpecInsns.{insn_as_spec_insn}
+use Rattle.regress_program.specs.InsnsAsSpecInsns.{insn_as_spec_insn}
 use Rattle.regress_machine.specs.Machine as machine
 use Rattle.regress_machine.specs.Machine.{running, test_of}
-use Rattle.regress_memo_laws.specs.CharLoopExitThreadLists.{passing}
-use Rattle.regress_memo_laws.specs.MemoSearch.{tried, noted}
+use Rattle.regress_memo.specs.CharLoopExitThreadLists.{passing}
+use Rattle.regress_memo.specs.MemoSearch.{tried, noted}
 use Rattle.regress_memo.specs.MemoContents.{has_failure}
 use Rattle.regress_bounded.specs.declared.memo_and_work_budget.MemoAndWorkBudget.{MemoAndWorkBudget}
 use Rattle.regress_bounded.specs.declared.stack_of_pending_threads_and_records.UnboundedCharLoop.{UnboundedCharLoop}

@@ -9,17 +9,17 @@ use Rattle.regex_meaning.specs.Text.{Text, rightwards, last_place, moved}
 use Rattle.regex_meaning.specs.CodeUnitOffsets.{HasRisingPlaceOffsets, IsBoundary, units, place_at, offset as text_offset}
 use Rattle.regex_meaning.specs.CompilationRelation.{Program, Loop1CharBody}
 use Rattle.regex_meaning.proofs.TextLemmas.{place_at-offset, offset-place_at, IsBoundary-place}
-use Rattle.regress_plan.specs.InsnsAsSpecInsns.{insn_as_spec_insn}
+use Rattle.regress_program.specs.InsnsAsSpecInsns.{insn_as_spec_insn}
 use Rattle.regress_machine.specs.Machine as machine
 use Rattle.regress_machine.specs.Machine.{running, test_of}
 use Rattle.regress_machine.specs.InsnEffects.{state_after_char_loop_to_offset}
 use Rattle.regress_machine.proofs.Beside.{moved-zero}
-use Rattle.regress_simulation.specs.CharLoopExitStatesByPreference.{behind}
-use Rattle.regress_memo_laws.specs.CharLoopExitThreadLists.{passing, pending_loop_threads}
-use Rattle.regress_memo_laws.specs.DistinctLists.{IsNew}
-use Rattle.regress_memo_laws.specs.MemoSearch.{Key, Entry, tried, kept, noted, tries}
-use Rattle.regress_memo_analysis.specs.WorkBound.{first_row}
-use Rattle.regress_memo_analysis.specs.AnalysisChecks.{unlimited}
+use Rattle.regress_machine.specs.CharLoopExitStatesByPreference.{behind}
+use Rattle.regress_memo.specs.CharLoopExitThreadLists.{passing, pending_loop_threads}
+use Rattle.regress_memo.specs.DistinctLists.{IsNew}
+use Rattle.regress_memo.specs.MemoSearch.{Key, Entry, tried, kept, noted, tries}
+use Rattle.regress_memo.specs.WorkBound.{first_row}
+use Rattle.regress_memo.specs.AnalysisChecks.{unlimited}
 use Rattle.regress_memo.specs.declared.memo.ThreadMemoKey.{ThreadMemoKey as Stored}
 use Rattle.regress_memo.specs.MemoContents.{memo_key_as_spec, memo_key_at, has_failure}
 use Rattle.regress_memo.specs.AmortizedMemoSearchSteps.{HasCome}
@@ -36,9 +36,9 @@ use Rattle.regress_bounded.specs.BudgetSpending.{IsTakenFromBudget, WorkExceedsB
 use Rattle.regress_pikevm.specs.States.{state_of}
 use Rattle.regress_bounded.proofs.EventCosts.{ScansAt, scans-at}
 use Rattle.regress_bounded.proofs.Meeting.{few-happen, greedy-at-least, nearest-behind, row-above}
-use Rattle.regress_memo_laws.proofs.Runs.{passing-left}
-use Rattle.regress_scan.proofs.Reach.{some-of}
-use Rattle.regress_scan.proofs.StopSets.{places-few}
+use Rattle.regress_memo.proofs.Runs.{passing-left}
+use Rattle.regress_search.proofs.Reach.{some-of}
+use Rattle.regress_search.proofs.StopSets.{places-few}
 use Rattle.regress_bounded.proofs.PaidRuns.{lazy-key}
 use Rattle.regress_bounded.proofs.Stopping.{some-key}
 use Rattle.regress_bounded.proofs.Standing.{Popped, popped, back-comes, happens-back, row-push, can-turn, new, known, CostsAtLeast, comes-on, is-short}

@@ -2,9 +2,9 @@
 use Rattle.std.proofs.Common.{◌≡◌, ◌<◌, ℕ, List, Option, Some, None, refl, ap, ◌∙◌, length, map, slice_get}
 use Rattle.std.specs.Prelude.{option_map}
 use Rattle.std.proofs.lemmas.Option.{slice_get-map, slice_get_within}
-use Rattle.regress_memo_laws.specs.EquivalenceAfterSkippingSucceedingLookarounds.{lookaround_at}
-use Rattle.regress_plan.specs.InsnsAsSpecInsns.{insn_as_spec_insn}
-use Rattle.regress_plan.specs.declared.insn.Insn.{Insn}
+use Rattle.regress_memo.specs.EquivalenceAfterSkippingSucceedingLookarounds.{lookaround_at}
+use Rattle.regress_program.specs.InsnsAsSpecInsns.{insn_as_spec_insn}
+use Rattle.regress_program.specs.declared.instructions.Insn.{Insn}
 
 -- where none of those that are there is one
 pub no-looks : (insns : List Insn) → ((k : ℕ) → k < length insns → (x : Insn) → slice_get insns k ≡ Some x → lookaround_at (Some (insn_as_spec_insn x)) ≡ None)

@@ -7,7 +7,9 @@ use Rattle.regex_meaning.specs.CodeUnitOffsets.{units}
 use Rattle.regex_meaning.specs.StepBudget.{answers_within, finishes_within}
 use Rattle.regex_meaning.specs.Text.{Text}
 use Rattle.regex_meaning.specs.Tree.{Tree}
-use Rattle.regress_exec.specs.AttemptsAndMatchesWithinWork.{RemainingAnswersAndWork, is_work_enough}
+use Rattle.regress_search.specs.AttemptsAndMatchesWithinWork.{RemainingAnswersAndWork, is_work_enough}
+use Rattle.regress_search.specs.CostsOfSearches.{Failures}
+use Rattle.regress_bounded.specs.CostsOfAttempts.{BeginsSearches}
 use Rattle.regress_bounded.specs.ProgramWorkBoundForAllMatches.{IsAtStart, YieldsMatchesIfWorkSuffices}
 
 -- an executor that has made no attempt has all before it, from whatever start
@@ -22,10 +24,10 @@ HasBegun tree text budget enough ahead left start it =
     (it.come.answers ≡ answers_within tree text budget start) × (it.come.limited ≡ not (finishes_within tree text budget start)) × (it.come.text_end ≡ units text)
     × (it.left ≡ left) × (it.enough ≡ is_work_enough enough ahead (if nat_le start (units text) then Some start else None))
 
-pub begun-Yields : {tree its_tree : Tree} {text its_text : Text} {per_unit work : ℕ} {budget : Option ℕ} {enough : Bool} {ahead left start : ℕ} {it : RemainingAnswersAndWork}
-    → IsAtStart tree text per_unit work its_tree its_text budget enough ahead left
+pub begun-Yields : {tree its_tree : Tree} {text its_text : Text} {per_unit work : ℕ} {budget : Option ℕ} {enough : Bool} {ahead left start : ℕ} {failures : Failures} {it : RemainingAnswersAndWork}
+    → IsAtStart tree text per_unit work its_tree its_text budget enough ahead left failures
     → HasBegun its_tree its_text budget enough ahead left start it → YieldsMatchesIfWorkSuffices tree text start per_unit work it
-begun-Yields {tree} {its_tree} {text} {its_text} {per_unit} {work} {budget} {enough} {ahead} {left} {start} {it} s b = record {
+begun-Yields {tree} {its_tree} {text} {its_text} {per_unit} {work} {budget} {enough} {ahead} {left} {start} {failures} {it} s b = record {
   answers = b.0 ∙ rw (s.of_tree, s.of_text, s.unlimited) refl;
   unlimited = b.1 ∙ rw (s.of_tree, s.of_text, s.unlimited) refl;
   text_end = b.2 ∙ ap units s.of_text;
@@ -33,3 +35,15 @@ begun-Yields {tree} {its_tree} {text} {its_text} {per_unit} {work} {budget} {eno
   enough = λ e. b.4
       ∙ fresh-enough enough ahead (nat_le start (units its_text)) start (s.is_enough ∙ le-leb (per_unit * (units text + 1)) work e) s.first;
 }
+
+-- What the cost of its first call depends on.
+pub begun-costs : {tree its_tree now_tree : Tree} {text its_text now_text : Text} {per_unit work : ℕ} {budget : Option ℕ} {enough : Bool} {ahead left start : ℕ} {failures now_failures : Failures} {position : Option ℕ}
+    → IsAtStart tree text per_unit work its_tree its_text budget enough ahead left failures → now_tree ≡ its_tree → now_text ≡ its_text → now_failures ≡ failures
+    → position ≡ (if nat_le start (units its_text) then Some start else None) → BeginsSearches tree text start now_tree now_text now_failures position
+begun-costs {start = start} s t x f at =
+    record {
+      of_tree = t ∙ s.of_tree;
+      of_text = x ∙ s.of_text;
+      fresh = λ ip at code. ap (λ (g : Failures). g ip at code) f ∙ s.fresh ip at code;
+      position = at ∙ ap (λ (x : Text). if nat_le start (units x) then Some start else None) s.of_text;
+    }

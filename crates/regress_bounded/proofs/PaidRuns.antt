@@ -17,51 +17,51 @@ use Rattle.regex_meaning.proofs.TextLemmas.{offset-place_at}
 use Rattle.regress_machine.specs.Machine.{State, Thread, running, waiting, scans, first_running_and_others_waiting, run_states, test_of, act}
 use Rattle.regress_machine.proofs.Beside.{moved-zero}
 use Rattle.regress_machine.proofs.Run.{numbers_between}
-use Rattle.regress_simulation.specs.CharLoopExitStatesByPreference.{behind}
-use Rattle.regress_simulation.specs.ThreadSimulation.{FindNothing}
-use Rattle.regress_simulation.proofs.Runs.{behind-from, run-turn}
-use Rattle.regress_simulation.proofs.Simulates.{simulates-same}
-use Rattle.regress_memo_laws.specs.Liveness.{Agree, outermost, ReadsAsBytes}
-use Rattle.regress_memo_laws.specs.ThreadBisimulation.{Relation, AlikeThreads}
-use Rattle.regress_memo_laws.specs.CappedCharLoopsAndLookarounds.{ScanIsPaid, ScanGives}
-use Rattle.regress_memo_laws.specs.LoopDataKeyCodes.{HasSlotsOfProgram, plan_code, key_of}
-use Rattle.regress_memo_laws.specs.DistinctLists.{IsNew}
-use Rattle.regress_memo_laws.specs.PreservedSlotCounts.{state_of_thread}
-use Rattle.regress_memo_laws.specs.AmortizedStepCosts.{potential_by, IsCostCovered, GreedyLoopIsCovered, LazyLoopIsCovered, RunTurnsArePaid, LazyTurnsArePaid}
-use Rattle.regress_memo_laws.specs.MemoPlanChecksAndGuarantees.{IsRecorded, plan_taken}
-use Rattle.regress_memo_laws.specs.UnboundedCharLoopMemoKeys.{char_loop_greediness_at, CharLoopRecords, run_key}
-use Rattle.regress_memo_laws.specs.CharLoopExitThreadLists.{passing, pending_loop_threads}
-use Rattle.regress_memo_laws.specs.UnboundedCharLoopsAsMemoSteps.{placed, AreUnknown, AtCharLoop, GreedyGives, LazyGives}
-use Rattle.regress_memo_laws.specs.MemoSearch.{Key, Entry, tried, kept, noted, tries, threads_in, entry_potential, GoesOnward, KeyStandsFor, AreSound, IsMemoStep}
-use Rattle.regress_memo_laws.specs.MemoSearch.{ReachesBySteps, gives}
-use Rattle.regress_memo_laws.specs.ThreadPotentials.{each_noted}
-use Rattle.regress_memo_laws.proofs.Beside.{others-paid, scans-give}
-use Rattle.regress_memo_laws.proofs.Distinct.{Each-left, Each-right}
-use Rattle.regress_memo_laws.proofs.Looks.{soundness-stays}
-use Rattle.regress_memo_laws.proofs.Paid.{turns-paid, one-weighs}
-use Rattle.regress_memo_laws.proofs.Plans.{plans-take}
-use Rattle.regress_memo_laws.proofs.RunKeys.{runs-have-keys}
-use Rattle.regress_memo_laws.proofs.Runs.{passing-left, passing-on, lazy-runs-go-on}
-use Rattle.regress_memo_laws.proofs.RunTurns.{place-inside, row-next, row-last, runs-give}
-use Rattle.regress_memo_laws.proofs.Turns.{threads-tries, turns-right}
-use Rattle.regress_memo_laws.proofs.Weights.{turns-give}
-use Rattle.regress_memo_analysis.specs.declared.analysis_result.MemoAnalysis.{MemoAnalysis}
-use Rattle.regress_memo_analysis.specs.UnreachedCharLoopBodies.{FlowsPastBodies}
-use Rattle.regress_memo_analysis.specs.WorkBound.{IsWorkBounded}
-use Rattle.regress_memo_analysis.specs.AnalysisChecks.{IsConsistentAt, unlimited}
-use Rattle.regress_memo_analysis.specs.AnalysisAsLivenessAndPotentials.{insn_analysis_of, analysis_as_liveness, key_code_questions_of, recorded, potentials_of}
-use Rattle.regress_memo_analysis.specs.AnalysisAsLivenessAndPotentials.{key_cost_of}
-use Rattle.regress_memo_analysis.specs.AnalysisAsLivenessAndPotentials.{insn_direction}
-use Rattle.regress_memo_analysis.specs.Successors.{successors_of_insn_if_any}
-use Rattle.regress_memo_analysis.specs.CheckedAnalysis.{IsAnalysisOf, Serves}
-use Rattle.regress_memo_analysis.proofs.WholeLemmas.{ledgers-serve}
+use Rattle.regress_machine.specs.CharLoopExitStatesByPreference.{behind}
+use Rattle.regress_machine.specs.ThreadSimulation.{FindNothing}
+use Rattle.regress_machine.proofs.Runs.{behind-from, run-turn}
+use Rattle.regress_machine.proofs.Simulates.{simulates-same}
+use Rattle.regress_memo.specs.Liveness.{Agree, outermost, ReadsAsBytes}
+use Rattle.regress_memo.specs.ThreadBisimulation.{Relation, AlikeThreads}
+use Rattle.regress_memo.specs.CappedCharLoopsAndLookarounds.{ScanIsPaid, ScanGives}
+use Rattle.regress_memo.specs.LoopDataKeyCodes.{HasSlotsOfProgram, plan_code, key_of}
+use Rattle.regress_memo.specs.DistinctLists.{IsNew}
+use Rattle.regress_memo.specs.PreservedSlotCounts.{state_of_thread}
+use Rattle.regress_memo.specs.AmortizedStepCosts.{potential_by, IsCostCovered, GreedyLoopIsCovered, LazyLoopIsCovered, RunTurnsArePaid, LazyTurnsArePaid}
+use Rattle.regress_memo.specs.MemoPlanChecksAndGuarantees.{IsRecorded, plan_taken}
+use Rattle.regress_memo.specs.UnboundedCharLoopMemoKeys.{char_loop_greediness_at, CharLoopRecords, run_key}
+use Rattle.regress_memo.specs.CharLoopExitThreadLists.{passing, pending_loop_threads}
+use Rattle.regress_memo.specs.UnboundedCharLoopsAsMemoSteps.{placed, AreUnknown, AtCharLoop, GreedyGives, LazyGives}
+use Rattle.regress_memo.specs.MemoSearch.{Key, Entry, tried, kept, noted, tries, threads_in, entry_potential, GoesOnward, KeyStandsFor, AreSound, IsMemoStep}
+use Rattle.regress_memo.specs.MemoSearch.{ReachesBySteps, gives}
+use Rattle.regress_memo.specs.ThreadPotentials.{each_noted}
+use Rattle.regress_memo.proofs.Beside.{others-paid, scans-give}
+use Rattle.regress_memo.proofs.Distinct.{Each-left, Each-right}
+use Rattle.regress_memo.proofs.Looks.{soundness-stays}
+use Rattle.regress_memo.proofs.Paid.{turns-paid, one-weighs}
+use Rattle.regress_memo.proofs.Plans.{plans-take}
+use Rattle.regress_memo.proofs.RunKeys.{runs-have-keys}
+use Rattle.regress_memo.proofs.Runs.{passing-left, passing-on, lazy-runs-go-on}
+use Rattle.regress_memo.proofs.RunTurns.{place-inside, row-next, row-last, runs-give}
+use Rattle.regress_memo.proofs.Turns.{threads-tries, turns-right}
+use Rattle.regress_memo.proofs.Weights.{turns-give}
+use Rattle.regress_memo.specs.declared.analysis_result.MemoAnalysis.{MemoAnalysis}
+use Rattle.regress_memo.specs.UnreachedCharLoopBodies.{FlowsPastBodies}
+use Rattle.regress_memo.specs.WorkBound.{IsWorkBounded}
+use Rattle.regress_memo.specs.AnalysisChecks.{IsConsistentAt, unlimited}
+use Rattle.regress_memo.specs.AnalysisAsLivenessAndPotentials.{insn_analysis_of, analysis_as_liveness, key_code_questions_of, recorded, potentials_of}
+use Rattle.regress_memo.specs.AnalysisAsLivenessAndPotentials.{key_cost_of}
+use Rattle.regress_memo.specs.AnalysisAsLivenessAndPotentials.{insn_direction}
+use Rattle.regress_memo.specs.Successors.{successors_of_insn_if_any}
+use Rattle.regress_memo.specs.CheckedAnalysis.{IsAnalysisOf, Serves}
+use Rattle.regress_memo.proofs.WholeLemmas.{ledgers-serve}
 use Rattle.regress_memo.specs.Laws.{analysis_keys, KeyFails}
 use Rattle.regress_memo.specs.MemoContents.{memo_key_at}
 use Rattle.regress_memo.specs.AmortizedMemoSearchSteps.{IsKeyed, AreKeyed, HasCome}
 use Rattle.regress_memo.proofs.LawLemmas.{keys-are-there, records-there}
 use Rattle.regress_memo.proofs.SearchLemmas.{HasKey, has-key, no-key, keyed-joined}
-use Rattle.regress_scan.proofs.Reach.{numbers-last}
-use Rattle.regress_scan.proofs.StopSets.{places-few}
+use Rattle.regress_search.proofs.Reach.{numbers-last}
+use Rattle.regress_search.proofs.StopSets.{places-few}
 use Rattle.regress_bounded.specs.WorkOfCharLoopsAndAttempts.{IsEndless, key_on, row_on, row_of_places}
 
 -- ---- Numbers

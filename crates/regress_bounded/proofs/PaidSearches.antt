@@ -8,24 +8,24 @@ use Rattle.regex_meaning.specs.CodeUnitOffsets.{HasRisingPlaceOffsets, units}
 use Rattle.regex_meaning.specs.CompilationRelation.{Program}
 use Rattle.regress_machine.specs.SearchFindsFirstOutcomeAtPlace.{state_before_first_insn}
 use Rattle.regress_machine.specs.Machine.{Thread, running}
-use Rattle.regress_memo_laws.specs.Liveness.{ReadsAsBytes}
-use Rattle.regress_memo_laws.specs.LoopDataKeyCodes.{plan_codes}
-use Rattle.regress_memo_laws.specs.DistinctLists.{IsIn}
-use Rattle.regress_memo_laws.specs.AmortizedStepCosts.{potential_by}
-use Rattle.regress_memo_laws.specs.AttemptsAndWorkOverSuccessiveMatches.{at_first, passed, failed, found}
-use Rattle.regress_memo_laws.specs.MemoSearch.{Key, Entry, tried, tries, keys_in, at_of, AreOnward, Answers, IsMemory}
-use Rattle.regress_memo_laws.specs.MemoSearch as turns
-use Rattle.regress_memo_laws.proofs.Distinct.{Each-right, distinct-right}
-use Rattle.regress_memo_laws.proofs.Paid.{one-weighs}
-use Rattle.regress_memo_laws.proofs.Turns.{turns-go-on, work-is-bounded}
-use Rattle.regress_memo_laws.proofs.Weights.{places-keys}
-use Rattle.regress_memo_analysis.specs.declared.analysis_result.MemoAnalysis.{MemoAnalysis}
-use Rattle.regress_memo_analysis.specs.WorkBound.{all_keys_cost_per_position, work_per_position, first_row}
-use Rattle.regress_memo_analysis.specs.AnalysisAsLivenessAndPotentials.{insn_analysis_of, analysis_as_liveness, key_code_questions_of, recorded, potentials_of}
-use Rattle.regress_memo_analysis.specs.AnalysisAsLivenessAndPotentials.{key_cost_of}
-use Rattle.regress_memo_analysis.specs.CheckedAnalysis.{IsAnalysisOf, Serves}
-use Rattle.regress_memo_analysis.proofs.BoundLemmas.{ledgers-bound, prices-of-all}
-use Rattle.regress_memo_analysis.proofs.WholeLemmas.{ledgers-serve}
+use Rattle.regress_memo.specs.Liveness.{ReadsAsBytes}
+use Rattle.regress_memo.specs.LoopDataKeyCodes.{plan_codes}
+use Rattle.regress_memo.specs.DistinctLists.{IsIn}
+use Rattle.regress_memo.specs.AmortizedStepCosts.{potential_by}
+use Rattle.regress_memo.specs.AttemptsAndWorkOverSuccessiveMatches.{at_first, passed, failed, found}
+use Rattle.regress_memo.specs.MemoSearch.{Key, Entry, tried, tries, keys_in, at_of, AreOnward, Answers, IsMemory}
+use Rattle.regress_memo.specs.MemoSearch as turns
+use Rattle.regress_memo.proofs.Distinct.{Each-right, distinct-right}
+use Rattle.regress_memo.proofs.Paid.{one-weighs}
+use Rattle.regress_memo.proofs.Turns.{turns-go-on, work-is-bounded}
+use Rattle.regress_memo.proofs.Weights.{places-keys}
+use Rattle.regress_memo.specs.declared.analysis_result.MemoAnalysis.{MemoAnalysis}
+use Rattle.regress_memo.specs.WorkBound.{all_keys_cost_per_position, work_per_position, first_row}
+use Rattle.regress_memo.specs.AnalysisAsLivenessAndPotentials.{insn_analysis_of, analysis_as_liveness, key_code_questions_of, recorded, potentials_of}
+use Rattle.regress_memo.specs.AnalysisAsLivenessAndPotentials.{key_cost_of}
+use Rattle.regress_memo.specs.CheckedAnalysis.{IsAnalysisOf, Serves}
+use Rattle.regress_memo.proofs.BoundLemmas.{ledgers-bound, prices-of-all}
+use Rattle.regress_memo.proofs.WholeLemmas.{ledgers-serve}
 use Rattle.regress_memo.specs.Laws.{analysis_keys, ListsExactlyKnownKeys}
 use Rattle.regress_memo.specs.MemoContents.{has_failure, IsEmptyMemo}
 use Rattle.regress_memo.specs.MemoContractView.{MemoView}

@@ -4,9 +4,9 @@ use Rattle.regex_meaning.specs.Text.{Text, rightwards, moved}
 use Rattle.regex_meaning.specs.CodeUnitOffsets.{HasRisingPlaceOffsets, IsBoundary, offset as text_offset, place_at}
 use Rattle.regex_meaning.proofs.TextLemmas.{offset-place_at, offset-IsBoundary}
 use Rattle.regress_input.specs.CharAndByteReadsFromOffset.{end_if_matched, past_if}
-use Rattle.regress_memo_laws.specs.CharLoopExitThreadLists.{passing}
+use Rattle.regress_memo.specs.CharLoopExitThreadLists.{passing}
 use Rattle.regress_machine.proofs.Beside.{moved-zero}
-use Rattle.regress_scan.proofs.Reach.{one-on, none-on}
+use Rattle.regress_search.proofs.Reach.{one-on, none-on}
 use Rattle.regress_bounded.specs.SearchStateAsMemoSearchEntries.{IsPast}
 
 module _ {P : Type 0} (offset : P → ℕ) (text : Text) (is : HasRisingPlaceOffsets text) (test : ℕ → Bool) (place : ℕ) where

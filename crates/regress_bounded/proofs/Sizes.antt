@@ -4,8 +4,8 @@ use Rattle.std.specs.Prelude.{nat_le}
 use Rattle.std.proofs.Math.Nat.{mul-le-mul_right}
 use Rattle.std.proofs.lemmas.Bool.{leb-true}
 use Rattle.std.proofs.lemmas.List.Folds.{fold-map}
-use Rattle.regress_plan.specs.InsnsAsSpecInsns.{insn_as_spec_insn}
-use Rattle.regress_plan.specs.declared.insn.Insn.{Insn as Coded}
+use Rattle.regress_program.specs.InsnsAsSpecInsns.{insn_as_spec_insn}
+use Rattle.regress_program.specs.declared.instructions.Insn.{Insn as Coded}
 use Rattle.regress_bounded.specs.ProgramWorkBoundForAllMatches.{size_of_insn}
 
 -- the size is the same of instructions as they are coded

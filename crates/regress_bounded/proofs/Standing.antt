@@ -9,15 +9,15 @@ use Rattle.regress_machine.specs.Machine as machine
 use Rattle.regress_machine.specs.Machine.{Thread, running, waiting, Next, goes, scans, ends, asks, stuck, act, Found, result_without_threads, search}
 use Rattle.regress_machine.specs.InsnEffects.{IsNotStuck}
 use Rattle.regress_machine.proofs.Search.{ends-found, never_stuck}
-use Rattle.regress_memo_laws.specs.AmortizedStepCosts.{potential_by}
-use Rattle.regress_memo_laws.specs.DistinctLists.{IsNew}
-use Rattle.regress_memo_laws.specs.MemoSearch.{Key, Keys, Entry, tried, noted, tries, threads_in, IsMemory, HoldsInvariant as Finds}
-use Rattle.regress_memo_laws.proofs.Turns.{work-is-bounded, reached-fail}
-use Rattle.regress_memo_analysis.specs.declared.analysis_result.MemoAnalysis.{MemoAnalysis}
-use Rattle.regress_memo_analysis.specs.WorkBound.{first_row}
-use Rattle.regress_memo_analysis.specs.AnalysisAsLivenessAndPotentials.{analysis_as_liveness, recorded, potentials_of, key_cost_of}
-use Rattle.regress_memo_analysis.specs.CheckedAnalysis.{IsRecordableMemoKey, Serves}
-use Rattle.regress_memo_analysis.proofs.WholeLemmas.{ledgers-serve}
+use Rattle.regress_memo.specs.AmortizedStepCosts.{potential_by}
+use Rattle.regress_memo.specs.DistinctLists.{IsNew}
+use Rattle.regress_memo.specs.MemoSearch.{Key, Keys, Entry, tried, noted, tries, threads_in, IsMemory, HoldsInvariant as Finds}
+use Rattle.regress_memo.proofs.Turns.{work-is-bounded, reached-fail}
+use Rattle.regress_memo.specs.declared.analysis_result.MemoAnalysis.{MemoAnalysis}
+use Rattle.regress_memo.specs.WorkBound.{first_row}
+use Rattle.regress_memo.specs.AnalysisAsLivenessAndPotentials.{analysis_as_liveness, recorded, potentials_of, key_cost_of}
+use Rattle.regress_memo.specs.CheckedAnalysis.{IsRecordableMemoKey, Serves}
+use Rattle.regress_memo.proofs.WholeLemmas.{ledgers-serve}
 use Rattle.regress_memo.specs.Laws.{analysis_keys, KeyFails}
 use Rattle.regress_memo.specs.MemoContents.{memo_key_as_spec, has_failure, RecordsFailure}
 use Rattle.regress_memo.specs.MemoContractView.{MemoView}

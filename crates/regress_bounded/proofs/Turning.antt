@@ -10,18 +10,18 @@ use Rattle.regex_meaning.specs.CodeUnitOffsets.{HasRisingPlaceOffsets, place_at,
 use Rattle.regex_meaning.specs.CompilationRelation.{Program, Insn, Goal, Loop1CharBody}
 use Rattle.regex_pattern_front.specs.AstToSpecTree.{tree_of}
 use Rattle.regex_pattern_front.specs.declared.ir.Regex.{Regex}
-use Rattle.regress_plan.specs.InsnsAsSpecInsns.{insn_as_spec_insn}
-use Rattle.regress_plan.specs.declared.insn.Insn.{Insn as Coded}
-use Rattle.regress_plan.specs.declared.insn.Insn.TheVariants.{Goal as CodedGoal, Loop1CharBody as CodedRun}
+use Rattle.regress_program.specs.InsnsAsSpecInsns.{insn_as_spec_insn}
+use Rattle.regress_program.specs.declared.instructions.Insn.{Insn as Coded}
+use Rattle.regress_program.specs.declared.instructions.Insn.TheVariants.{Goal as CodedGoal, Loop1CharBody as CodedRun}
 use Rattle.regress_program.specs.CompilationOfTreesAsFunction.{compiled}
 use Rattle.regress_machine.specs.Machine as machine
 use Rattle.regress_machine.specs.Machine.{Thread, running, waiting, Next, goes, scans, ends, asks, stuck, first_running_and_others_waiting, test_of, act, act_on}
 use Rattle.regress_machine.specs.InsnEffects.{IsNotStuck}
 use Rattle.regress_machine.proofs.Fetched.{act-some, fetched-below}
-use Rattle.regress_simulation.proofs.Runs.{run-turn}
-use Rattle.regress_memo_laws.specs.CharLoopExitThreadLists.{passing}
-use Rattle.regress_memo_laws.specs.MemoSearch.{Key, Entry, tried, noted, tries}
-use Rattle.regress_memo_analysis.specs.AnalysisChecks.{unlimited}
+use Rattle.regress_machine.proofs.Runs.{run-turn}
+use Rattle.regress_memo.specs.CharLoopExitThreadLists.{passing}
+use Rattle.regress_memo.specs.MemoSearch.{Key, Entry, tried, noted, tries}
+use Rattle.regress_memo.specs.AnalysisChecks.{unlimited}
 use Rattle.regress_memo.specs.declared.memo.ThreadMemoKey.{ThreadMemoKey as Stored}
 use Rattle.regress_memo.specs.MemoContents.{memo_key_as_spec, memo_key_at, has_failure}
 use Rattle.regress_bounded.specs.declared.memo_and_work_budget.MemoAndWorkBudget.{MemoAndWorkBudget}

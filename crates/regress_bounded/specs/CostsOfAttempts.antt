@@ -1,19 +1,22 @@
 -- What attempts cost that remember failures from the first one on: an attempt is a search from the
 -- first instruction on, whose events (`CostsOfSearchEvents`) cost the sum of their costs.
-use Rattle.std.specs.Prelude.{◌≡◌, ◌+◌, ℕ, List, [], ◌∷◌, Option, Some, None, IfSome}
+use Rattle.std.specs.Prelude.{◌≡◌, ◌+◌, ℕ, false, if◌then◌else◌, nat_le, List, [], ◌∷◌, Option, Some, None, IfSome}
 use Rattle.regex_meaning.specs.Text.{Text, rightwards}
 use Rattle.regex_meaning.specs.Tree.{Tree}
 use Rattle.regex_meaning.specs.CompilationRelation.{Program}
 use Rattle.regress_machine.specs.Machine.{State, running, ends, act}
-use Rattle.regress_memo_laws.specs.MemoSearch.{Key, Entry, tried, tries}
-use Rattle.regress_memo_analysis.specs.declared.analysis_result.MemoAnalysis.{MemoAnalysis}
-use Rattle.regress_memo_analysis.specs.CheckedAnalysis.{IsAnalysisOf}
-use Rattle.regress_memo_analysis.specs.WorkBound.{first_row}
+use Rattle.regress_memo.specs.MemoSearch.{Key, Entry, tried, tries}
+use Rattle.regress_memo.specs.declared.analysis_result.MemoAnalysis.{MemoAnalysis}
+use Rattle.regress_memo.specs.CheckedAnalysis.{IsAnalysisOf}
+use Rattle.regress_memo.specs.WorkBound.{first_row}
 use Rattle.regress_memo.specs.Laws.{ListsExactlyKnownKeys}
 use Rattle.regress_memo.specs.MemoContents.{has_failure}
 use Rattle.regress_memo.specs.MemoContractView.{MemoView}
 use Rattle.regress_program.specs.CompilationOfTreesAsFunction.{compiled}
-use Rattle.regress_exec.specs.CostsOfSearches.{Failures}
+use Rattle.regex_meaning.specs.CodeUnitOffsets.{units}
+use Rattle.regress_search.specs.CostsOfSearches.{Failures}
+use Rattle.regress_search.specs.CostsOfCalls.{WorkMatchesView}
+use Rattle.regress_search.specs.declared.exec.MatchProducer.{Ghosts}
 use Rattle.regress_bounded.specs.CostsOfSearchEvents.{Costs}
 
 -- The failures in a memo table.
@@ -46,3 +49,19 @@ pub record EventsOfAttempt (tree : Tree) (text : Text) (before : Failures) (at c
 -- The attempt, or a part of it from its beginning on, costs this (a proposition).
 abbrev pub AttemptCosts : (tree : Tree) (text : Text) (before : Failures) (at cost : ℕ) (after : Option Failures) → Type 0
 AttemptCosts tree text before at cost after = ∥ EventsOfAttempt tree text before at cost after ∥₁
+
+-- No failure is known.
+abbrev pub AreNone : Failures → Type 0
+AreNone failures = (ip at code : ℕ) → failures ip at code ≡ false
+
+-- What the cost of the first call of an iterator depends on: it searches this text with the tree's
+-- program from `start` on, and no failure is known.
+pub record BeginsSearches (tree : Tree) (text : Text) (start : ℕ) (its_tree : Tree) (its_text : Text) (its_failures : Failures) (its_position : Option ℕ) : Type 0 where
+  pub of_tree : its_tree ≡ tree
+  pub of_text : its_text ≡ text
+  pub fresh : AreNone its_failures
+  pub position : its_position ≡ (if nat_le start (units text) then Some start else None)
+
+-- `BeginsSearches` of an iterator, by the ghost state of its producer.
+abbrev pub IteratorBeginsSearches : {E Q : Type 0} (e : Ghosts E Q) (tree : Tree) (text : Text) (start : ℕ) → WorkMatchesView E → Type 0
+IteratorBeginsSearches e tree text start it = BeginsSearches tree text start (e.tree it.producer) (e.text it.producer) (e.failures it.producer) it.position

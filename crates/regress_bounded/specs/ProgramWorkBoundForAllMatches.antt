@@ -7,14 +7,16 @@ use Rattle.regex_meaning.specs.CompilationRelation.{Program, Insn, Loop1CharBody
 use Rattle.regex_meaning.specs.Text.{Text}
 use Rattle.regex_meaning.specs.Tree.{Tree}
 use Rattle.regex_meaning.specs.CodeUnitOffsets.{IsBoundary, units}
-use Rattle.regress_memo_laws.specs.EquivalenceAfterSkippingSucceedingLookarounds.{lookaround_at}
+use Rattle.regress_memo.specs.EquivalenceAfterSkippingSucceedingLookarounds.{lookaround_at}
 use Rattle.regress_program.specs.CompilationOfTreesAsFunction.{compiled}
-use Rattle.regress_exec.specs.AttemptsAndMatchesWithinWork.{RemainingAnswersAndWork}
-use Rattle.regress_exec.specs.declared.exec.MatchProducer.{Ghosts}
-use Rattle.regress_memo_analysis.specs.declared.analysis_result.MemoAnalysis.{MemoAnalysis}
-use Rattle.regress_memo_analysis.specs.WorkBound.{IsWorkBounded, work_per_position}
-use Rattle.regress_memo_analysis.specs.AnalysisChecks.{unlimited}
-use Rattle.regress_memo_analysis.specs.CheckedAnalysis.{IsAnalysisOf}
+use Rattle.regress_search.specs.AttemptsAndMatchesWithinWork.{RemainingAnswersAndWork}
+use Rattle.regress_search.specs.CostsOfSearches.{Failures}
+use Rattle.regress_search.specs.declared.exec.MatchProducer.{Ghosts}
+use Rattle.regress_memo.specs.declared.analysis_result.MemoAnalysis.{MemoAnalysis}
+use Rattle.regress_memo.specs.WorkBound.{IsWorkBounded, work_per_position}
+use Rattle.regress_memo.specs.AnalysisChecks.{unlimited}
+use Rattle.regress_memo.specs.CheckedAnalysis.{IsAnalysisOf}
+use Rattle.regress_bounded.specs.CostsOfAttempts.{AreNone}
 use Rattle.regress_bounded.specs.declared.work_bound.WorkBound.{WorkBound}
 
 -- The bound per position: 1 to pass it, the work of all searches together, and that of one more.
@@ -56,22 +58,23 @@ abbrev pub is_work_enough_for_text : (per_unit : ℕ) → Text → (work : ℕ) 
 is_work_enough_for_text per_unit text work = nat_le (per_unit * (units text + 1)) work
 
 -- The public state of an executor before its first attempt: its tree and text, no step limit, the
--- work left, and whether that is enough.
+-- work left, whether that is enough, and no known failures.
 pub record IsAtStart (tree : Tree) (text : Text) (per_unit work : ℕ)
-    (its_tree : Tree) (its_text : Text) (budget : Option ℕ) (enough : Bool) (ahead left : ℕ) : Type 0 where
+    (its_tree : Tree) (its_text : Text) (budget : Option ℕ) (enough : Bool) (ahead left : ℕ) (failures : Failures) : Type 0 where
   pub of_tree : its_tree ≡ tree
   pub of_text : its_text ≡ text
   pub unlimited : budget ≡ None
   pub is_enough : enough ≡ is_work_enough_for_text per_unit text work
   pub first : ahead ≡ 0
   pub has_left : left ≡ work
+  pub fresh : AreNone failures
 
 -- `IsAtStart` of an executor, by its ghost state, with the bound of a tree's program; the tree's
 -- unicode flag selects the text.
 abbrev pub ExecutorIsBeforeItsFirstAttempt : {E Q : Type 0} (e : Ghosts E Q) (tree : Tree) (text_of : Bool → Text) (bound : WorkBound) (work : ℕ) → E → Type 0
 ExecutorIsBeforeItsFirstAttempt e tree text_of bound work x =
     IsAtStart tree (text_of tree.flags.unicode) bound.per_unit work
-    (e.tree x) (e.text x) (e.budget x) (e.enough x) (e.ahead x) (e.left x)
+    (e.tree x) (e.text x) (e.budget x) (e.enough x) (e.ahead x) (e.left x) (e.failures x)
 
 -- A search may start at this offset: it is a boundary, or past the end.
 abbrev pub IsBoundaryOrPastEnd : Text → (start : ℕ) → Type 0

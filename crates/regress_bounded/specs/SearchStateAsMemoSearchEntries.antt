@@ -1,4 +1,4 @@
--- The state of a bounded search as a list of entries of `regress_memo_laws`: threads, pending lazy
+-- The state of a bounded search as a list of entries of `regress_memo`: threads, pending lazy
 -- loops, and records.
 use Rattle.std.specs.Prelude.{◌≡◌, ◌≤◌, ◌<◌, ◌^◌, ◌+◌, ◌-◌, ℕ, Bool, true, false, List, [], ◌∷◌, ◌++◌, map, reverse, Option, Some, None, option_map}
 use Rattle.std.specs.Prelude.{Result, Ok, Err, IfSome, ◌⊎◌, ◌==◌, if◌then◌else◌, slice_get}
@@ -7,21 +7,21 @@ use Rattle.regex_meaning.specs.CodeUnitOffsets.{HasRisingPlaceOffsets, offset as
 use Rattle.regex_meaning.specs.CompilationRelation.{Program, Insn, Goal, Loop1CharBody}
 use Rattle.regex_pattern_front.specs.AstToSpecTree.{tree_of}
 use Rattle.regex_pattern_front.specs.declared.ir.Regex.{Regex}
-use Rattle.regress_plan.specs.InsnsAsSpecInsns.{insn_as_spec_insn}
+use Rattle.regress_program.specs.InsnsAsSpecInsns.{insn_as_spec_insn}
 use Rattle.regress_program.specs.CompilationOfTreesAsFunction.{compiled}
 use Rattle.regress_machine.specs.Machine as machine
 use Rattle.regress_machine.specs.Machine.{Thread, running, waiting, first_running_and_others_waiting, ends, act, Found, search}
 use Rattle.regress_machine.specs.InsnEffects.{state_after_char_loop_to_offset}
-use Rattle.regress_simulation.specs.CharLoopExitStatesByPreference.{behind}
-use Rattle.regress_memo_laws.specs.Liveness.{ReadsAsBytes}
-use Rattle.regress_memo_laws.specs.EquivalenceAfterSkippingSucceedingLookarounds.{lookaround_at}
-use Rattle.regress_memo_laws.specs.CharLoopExitThreadLists.{passing, pending_loop_threads}
-use Rattle.regress_memo_laws.specs.MemoSearch.{Key, Entry, tried, kept, noted, tries, IsMemory}
-use Rattle.regress_memo_analysis.specs.declared.analysis_result.MemoAnalysis.{MemoAnalysis}
-use Rattle.regress_memo_analysis.specs.WorkBound.{IsWorkBounded, first_row}
-use Rattle.regress_memo_analysis.specs.AnalysisChecks.{unlimited}
-use Rattle.regress_memo_analysis.specs.AnalysisAsLivenessAndPotentials.{analysis_as_liveness}
-use Rattle.regress_memo_analysis.specs.CheckedAnalysis.{IsAnalysisOf}
+use Rattle.regress_machine.specs.CharLoopExitStatesByPreference.{behind}
+use Rattle.regress_memo.specs.Liveness.{ReadsAsBytes}
+use Rattle.regress_memo.specs.EquivalenceAfterSkippingSucceedingLookarounds.{lookaround_at}
+use Rattle.regress_memo.specs.CharLoopExitThreadLists.{passing, pending_loop_threads}
+use Rattle.regress_memo.specs.MemoSearch.{Key, Entry, tried, kept, noted, tries, IsMemory}
+use Rattle.regress_memo.specs.declared.analysis_result.MemoAnalysis.{MemoAnalysis}
+use Rattle.regress_memo.specs.WorkBound.{IsWorkBounded, first_row}
+use Rattle.regress_memo.specs.AnalysisChecks.{unlimited}
+use Rattle.regress_memo.specs.AnalysisAsLivenessAndPotentials.{analysis_as_liveness}
+use Rattle.regress_memo.specs.CheckedAnalysis.{IsAnalysisOf}
 use Rattle.regress_memo.specs.declared.memo.ThreadMemoKey.{ThreadMemoKey as Stored}
 use Rattle.regress_memo.specs.Laws.{IsTrueOf, ListsExactlyKnownKeys, analysis_keys}
 use Rattle.regress_memo.specs.MemoContents.{memo_key_as_spec, has_failure, memo_key_at}

@@ -4,17 +4,17 @@ use Rattle.std.specs.Prelude.{◌≡◌, ◌≤◌, ℕ, zero, suc, ◌+◌, Boo
 use Rattle.regex_meaning.specs.Text.{Text, Direction, rightwards, moved}
 use Rattle.regex_meaning.specs.CompilationRelation.{Program, Loop1CharBody}
 use Rattle.regress_machine.specs.Machine.{State, Thread, waiting, test_of}
-use Rattle.regress_simulation.specs.CharLoopExitStatesByPreference.{behind}
-use Rattle.regress_memo_laws.specs.AmortizedStepCosts.{potential_by}
-use Rattle.regress_memo_laws.specs.MemoPlanChecksAndGuarantees.{plan_taken}
-use Rattle.regress_memo_laws.specs.UnboundedCharLoopsAsMemoSteps.{key_behind}
-use Rattle.regress_memo_laws.specs.CharLoopExitThreadLists.{greedy_loop_threads}
-use Rattle.regress_memo_laws.specs.AttemptsAndWorkOverSuccessiveMatches.{Attempted}
-use Rattle.regress_memo_laws.specs.MemoSearch.{Key, Entry, tried, noted, tries, IsMemory}
-use Rattle.regress_memo_analysis.specs.declared.analysis_result.MemoAnalysis.{MemoAnalysis}
-use Rattle.regress_memo_analysis.specs.WorkBound.{first_row}
-use Rattle.regress_memo_analysis.specs.AnalysisChecks.{unlimited}
-use Rattle.regress_memo_analysis.specs.AnalysisAsLivenessAndPotentials.{analysis_as_liveness, key_code_questions_of, recorded, potentials_of, key_cost_of, insn_direction}
+use Rattle.regress_machine.specs.CharLoopExitStatesByPreference.{behind}
+use Rattle.regress_memo.specs.AmortizedStepCosts.{potential_by}
+use Rattle.regress_memo.specs.MemoPlanChecksAndGuarantees.{plan_taken}
+use Rattle.regress_memo.specs.UnboundedCharLoopsAsMemoSteps.{key_behind}
+use Rattle.regress_memo.specs.CharLoopExitThreadLists.{greedy_loop_threads}
+use Rattle.regress_memo.specs.AttemptsAndWorkOverSuccessiveMatches.{Attempted}
+use Rattle.regress_memo.specs.MemoSearch.{Key, Entry, tried, noted, tries, IsMemory}
+use Rattle.regress_memo.specs.declared.analysis_result.MemoAnalysis.{MemoAnalysis}
+use Rattle.regress_memo.specs.WorkBound.{first_row}
+use Rattle.regress_memo.specs.AnalysisChecks.{unlimited}
+use Rattle.regress_memo.specs.AnalysisAsLivenessAndPotentials.{analysis_as_liveness, key_code_questions_of, recorded, potentials_of, key_cost_of, insn_direction}
 use Rattle.regress_memo.specs.Laws.{analysis_keys, ListsExactlyKnownKeys}
 use Rattle.regress_memo.specs.AmortizedMemoSearchSteps.{HasCome}
 

@@ -1,12 +1,13 @@
 //! The bounded executor: it copies its states, and remembers each failure from the first attempt
 //! on.
 
-ghost use Rattle.std.specs.Prelude.{◌≡◌, ◌≤◌, ◌<◌, ◌^◌, ◌*◌, ◌+◌, nat_le, not, IfErr, IfOk, IsAscii, None, Some, [], false, true};
+ghost use Rattle.std.specs.Prelude.{◌≡◌, ◌≤◌, ◌<◌, ◌^◌, ◌*◌, ◌+◌, nat_le, not, IfErr, IfOk, IsAscii, None, Some, [], false, refl, true};
 ghost use Rattle.std.proofs.Props.{props};
 ghost use Rattle.regex_meaning.specs.{CodeUnitOffsets.{IsBoundary, units}, Text.{ascii_text, ucs2_text, utf16_text, utf8_text}};
 ghost use Rattle.regex_pattern_front.specs.AstToSpecTree.{tree_of};
-ghost use Rattle.regress_exec.specs.{AttemptResultsAndStartsToTry.{match_end_and_groups_at}, AttemptsAndMatchesWithinWork.{least_offset_after_match}};
-ghost use Rattle.regress_exec.specs.declared.exec.SearchError.TheVariants.{Memory};
+ghost use Rattle.regress_search.specs.{AttemptResultsAndStartsToTry.{match_end_and_groups_at}, AttemptsAndMatchesWithinWork.{least_offset_after_match}};
+ghost use Rattle.regress_search.specs.CostsOfCalls.{remaining};
+ghost use Rattle.regress_search.specs.declared.exec.SearchError.TheVariants.{Memory};
 ghost use Rattle.regress_program.specs.CompilationOfTreesAsFunction.{compiled};
 ghost use Rattle.regress_pikevm.specs.{InsnEffects.{end_and_groups}, States.{groups_of}};
 ghost use Rattle.regress_bounded.specs.ProgramWorkBoundForAllMatches.{IsBoundaryOrPastEnd, TreeHasWorkBound, ExecutorIsBeforeItsFirstAttempt};
@@ -14,7 +15,7 @@ ghost use Rattle.regress_bounded.specs.ProgramWorkBoundForAllMatches.{YieldsMatc
 ghost use Rattle.regress_bounded.specs.SearchStateAsMemoSearchEntries.{AttemptStartMemoBudgetAndResult, AttemptBeginsWithMemoAndBudget, IsMemoRightForRegex, Stands};
 ghost use Rattle.regress_bounded.specs.SearchStateAsMemoSearchEntries.{IsStanding, Runs, front_of};
 ghost use Rattle.regress_bounded.specs.WorkOfSuccessiveAttempts.{HasWalked};
-ghost use Rattle.regress_bounded.specs.CostsOfAttempts.{AttemptCosts, failures_of};
+ghost use Rattle.regress_bounded.specs.CostsOfAttempts.{AreNone, AttemptCosts, IteratorBeginsSearches, failures_of};
 
 use crate::memo_and_work_budget::{AttemptAbortReason, MemoAndWorkBudget};
 use crate::stack_of_pending_threads_and_records::StackEntry;
@@ -22,13 +23,13 @@ use crate::thread_steps_and_backtracking::{
     StepResult, execute_thread_step, resume_entry_or_record_failure,
 };
 use crate::work_bound::WorkBound;
-use regress_exec::exec::{MatchProducer, SearchError, WorkLimitedProducer, WorkMatches};
-use regress_exec::program_and_input::ProgramAndInput;
-use regress_exec::search_loop::{SingleAttemptExecutor, group_at};
 use regress_input::indexing::{AsciiInput, InputIndexer, Ucs2Input, Utf8Input, Utf16Input};
 use regress_input::position::PositionType;
 use regress_pikevm::pikevm::states::{State, initial_state};
 use regress_program::insn::{CompiledRegex, CompiledRegexFor16BitUnits, Program};
+use regress_search::exec::{MatchProducer, SearchError, WorkLimitedProducer, WorkMatches};
+use regress_search::program_and_input::ProgramAndInput;
+use regress_search::search_loop::{SingleAttemptExecutor, group_at};
 
 /// Searches a text with a program that has a bound, in a limited amount of work for all matches
 /// together.
@@ -210,6 +211,8 @@ impl<'r, Input: InputIndexer> WorkLimitedProducer for BoundedExecutor<'r, Input>
     fn is_work_exhausted(&self) -> bool {
         self.out
     }
+
+    ghost is_counted = { refl };
 }
 
 impl<'r, Input: InputIndexer> BoundedExecutor<'r, Input> {
@@ -225,6 +228,7 @@ impl<'r, Input: InputIndexer> BoundedExecutor<'r, Input> {
         ensures enough { IfOk result (λ e. e.enough
             ≡ is_work_enough_for_text bound.now.per_unit (Input.text searched.entry.input) work) }
         ensures ahead { IfOk result (λ e. e.ahead ≡ 0) }
+        ensures fresh { IfOk result (λ e. AreNone (failures_of e.course.memo)) }
         ensures refused { IfErr result (λ e. e ≡ Memory) }
     {
         let alloc = searched.program.allocator();
@@ -272,9 +276,12 @@ impl<'r, 't> BoundedExecutor<'r, Ucs2Input<'t>> {
     ) -> Result<WorkMatches<Self>, SearchError>
         requires bound { TreeHasWorkBound (tree_of re.now) bound.now }
         requires start { IsBoundaryOrPastEnd (ucs2_text text.now (tree_of re.now).flags.unicode) start }
-        ensures yields { IfOk result (YieldsMatchesIfWorkSuffices (tree_of re.now)
+        ensures yields { IfOk result (λ it. YieldsMatchesIfWorkSuffices (tree_of re.now)
             (ucs2_text text.now (tree_of re.now).flags.unicode)
-            start bound.now.per_unit work) }
+            start bound.now.per_unit work (remaining it)) }
+        ensures begins { let e = ⟦<BoundedExecutor<'r, Ucs2Input<'t>> as MatchProducer>⟧ in
+            IfOk result (IteratorBeginsSearches e (tree_of re.now)
+            (ucs2_text text.now (tree_of re.now).flags.unicode) start) }
         ensures ended { IfOk result (λ it. it.come.ended
             ≡ not (nat_le start (units (ucs2_text text.now (tree_of re.now).flags.unicode)))) }
         ensures refused { IfErr result (λ e. e ≡ Memory) }
@@ -316,9 +323,12 @@ impl<'r, 't> BoundedExecutor<'r, Utf8Input<'t>> {
     ) -> Result<WorkMatches<Self>, SearchError>
         requires bound { TreeHasWorkBound (tree_of re.now) bound.now }
         requires start { IsBoundaryOrPastEnd (utf8_text text.now (tree_of re.now).flags.unicode) start }
-        ensures yields { IfOk result (YieldsMatchesIfWorkSuffices (tree_of re.now)
+        ensures yields { IfOk result (λ it. YieldsMatchesIfWorkSuffices (tree_of re.now)
             (utf8_text text.now (tree_of re.now).flags.unicode)
-            start bound.now.per_unit work) }
+            start bound.now.per_unit work (remaining it)) }
+        ensures begins { let e = ⟦<BoundedExecutor<'r, Utf8Input<'t>> as MatchProducer>⟧ in
+            IfOk result (IteratorBeginsSearches e (tree_of re.now)
+            (utf8_text text.now (tree_of re.now).flags.unicode) start) }
         ensures ended { IfOk result (λ it. it.come.ended
             ≡ not (nat_le start (units (utf8_text text.now (tree_of re.now).flags.unicode)))) }
         ensures refused { IfErr result (λ e. e ≡ Memory) }
@@ -361,9 +371,12 @@ impl<'r, 't> BoundedExecutor<'r, AsciiInput<'t>> {
         requires bound { TreeHasWorkBound (tree_of re.now) bound.now }
         requires ascii { IsAscii text.now }
         requires start { IsBoundaryOrPastEnd (ascii_text text.now (tree_of re.now).flags.unicode) start }
-        ensures yields { IfOk result (YieldsMatchesIfWorkSuffices (tree_of re.now)
+        ensures yields { IfOk result (λ it. YieldsMatchesIfWorkSuffices (tree_of re.now)
             (ascii_text text.now (tree_of re.now).flags.unicode)
-            start bound.now.per_unit work) }
+            start bound.now.per_unit work (remaining it)) }
+        ensures begins { let e = ⟦<BoundedExecutor<'r, AsciiInput<'t>> as MatchProducer>⟧ in
+            IfOk result (IteratorBeginsSearches e (tree_of re.now)
+            (ascii_text text.now (tree_of re.now).flags.unicode) start) }
         ensures ended { IfOk result (λ it. it.come.ended
             ≡ not (nat_le start (units (ascii_text text.now (tree_of re.now).flags.unicode)))) }
         ensures refused { IfErr result (λ e. e ≡ Memory) }
@@ -406,9 +419,12 @@ impl<'r, 't> BoundedExecutor<'r, Utf16Input<'t>> {
     ) -> Result<WorkMatches<Self>, SearchError>
         requires bound { TreeHasWorkBound (tree_of re.now) bound.now }
         requires start { IsBoundaryOrPastEnd (utf16_text text.now (tree_of re.now).flags.unicode) start }
-        ensures yields { IfOk result (YieldsMatchesIfWorkSuffices (tree_of re.now)
+        ensures yields { IfOk result (λ it. YieldsMatchesIfWorkSuffices (tree_of re.now)
             (utf16_text text.now (tree_of re.now).flags.unicode)
-            start bound.now.per_unit work) }
+            start bound.now.per_unit work (remaining it)) }
+        ensures begins { let e = ⟦<BoundedExecutor<'r, Utf16Input<'t>> as MatchProducer>⟧ in
+            IfOk result (IteratorBeginsSearches e (tree_of re.now)
+            (utf16_text text.now (tree_of re.now).flags.unicode) start) }
         ensures ended { IfOk result (λ it. it.come.ended
             ≡ not (nat_le start (units (utf16_text text.now (tree_of re.now).flags.unicode)))) }
         ensures refused { IfErr result (λ e. e ≡ Memory) }

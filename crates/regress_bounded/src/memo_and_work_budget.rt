@@ -1,7 +1,7 @@
 //! The work budget of a search: what is known to fail, and how much work may still be done.
 
 ghost use Rattle.std.specs.Prelude.{◌≡◌, ◌<◌, ◌≤◌, ◌-◌, min, OnOk, IfErr, IfSome, option_map};
-ghost use Rattle.regress_memo_analysis.specs.CheckedAnalysis.{IsRecordableMemoKey};
+ghost use Rattle.regress_memo.specs.CheckedAnalysis.{IsRecordableMemoKey};
 ghost use Rattle.regress_memo.specs.MemoContents.{memo_key_as_spec, memo_key_at as key_of_state};
 ghost use Rattle.regress_pikevm.specs.States.{state_of};
 ghost use Rattle.regress_bounded.specs.declared.memo_and_work_budget.AttemptAbortReason.TheVariants.{Memory, Work};

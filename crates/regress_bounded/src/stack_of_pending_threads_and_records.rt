@@ -6,10 +6,8 @@ ghost use Rattle.regress_pikevm.specs.States.{loop_of};
 
 use regress_input::front::LoopID;
 use regress_input::position::PositionType;
+use regress_memo::loop_data_key_codes::{IterationStatesOfAllLoops, LoopCountAndIterationStart};
 use regress_memo::memo::ThreadMemoKey;
-use regress_memo_analysis::loop_data_key_codes::{
-    IterationStatesOfAllLoops, LoopCountAndIterationStart,
-};
 use regress_pikevm::pikevm::states::State;
 use regress_program::insn::Insn;
 use std::alloc::AllocError;

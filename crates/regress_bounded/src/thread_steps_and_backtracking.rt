@@ -3,11 +3,11 @@
 ghost use Rattle.std.specs.Prelude.{◌≡◌, ◌≤◌, List, IfErr, IfOk, IfSome, OnOk, [], ◌∷◌, ◌++◌, map, option_map};
 ghost use Rattle.regex_meaning.specs.{CodeUnitOffsets.{units}, Text.{rightwards}};
 ghost use Rattle.regex_pattern_front.specs.AstToSpecTree.{tree_of};
-ghost use Rattle.regress_memo_laws.specs.MemoSearch.{tried};
+ghost use Rattle.regress_memo.specs.MemoSearch.{tried};
 ghost use Rattle.regress_machine.specs.{InsnEffects.{IsNotStuck}, Machine.{act, running}};
 ghost use Rattle.regress_memo.specs.MemoContents.{memo_key_as_spec, has_failure};
 ghost use Rattle.regress_program.specs.{CompilationOfTreesAsFunction.{compiled}, InsnsAndStartPredicatesAsSpec.{insn_as_spec_insn}};
-ghost use Rattle.regress_memo_analysis.specs.CheckedAnalysis.{IsRecordableMemoKey};
+ghost use Rattle.regress_memo.specs.CheckedAnalysis.{IsRecordableMemoKey};
 ghost use Rattle.regress_bounded.specs.CostsOfSearchEvents.{LeavesThreads, threads_left, work_of};
 ghost use Rattle.regress_bounded.specs.SearchStateAsMemoSearchEntries.{IsMemoRightForRegex, IsUnfailedStateKeyIfAny, char_loop_max, is_goal_insn};
 ghost use Rattle.regress_bounded.specs.SearchStateAsMemoSearchEntries.{IsNotUnboundedCharLoop, is_known_key, unbounded_char_loop_min_and_greed};
@@ -21,7 +21,6 @@ use crate::stack_of_pending_threads_and_records::{StackEntry, UnboundedCharLoop,
 use crate::unbounded_char_loops::{
     execute_unbounded_char_loop_with_memo, read_chars_within_budget, resume_pending_lazy_char_loop,
 };
-use regress_exec::program_and_input::ProgramAndInput;
 use regress_input::cursor::Forward;
 use regress_input::indexing::InputIndexer;
 use regress_input::position::PositionType;
@@ -29,6 +28,7 @@ use regress_memo::memo::ThreadMemoKey;
 use regress_pikevm::pikevm::single_insn_execution::execute_insn;
 use regress_pikevm::pikevm::states::{NextStates, State};
 use regress_program::insn::Insn;
+use regress_search::program_and_input::ProgramAndInput;
 use std::alloc::AllocError;
 
 /// The result of a step: the thread that continues, if one does, or the end of the search.

@@ -3,11 +3,11 @@
 ghost use Rattle.std.specs.Prelude.{◌≡◌, ◌<◌, ◌≤◌, ◌^◌, ◌+◌, ◌-◌, ℕ, Bool, true, false, min, Some, IfOk, IfErr, IsSome, [], ◌∷◌, ◌++◌, map};
 ghost use Rattle.regex_meaning.specs.CodeUnitOffsets.{IsBoundary, place_at};
 ghost use Rattle.regex_pattern_front.specs.AstToSpecTree.{tree_of};
-ghost use Rattle.regress_memo_laws.specs.{CharLoopExitThreadLists.{passing}, MemoSearch.{tried}};
+ghost use Rattle.regress_memo.specs.{CharLoopExitThreadLists.{passing}, MemoSearch.{tried}};
 ghost use Rattle.regress_machine.specs.Machine.{running};
 ghost use Rattle.regress_memo.specs.MemoContents.{has_failure};
 ghost use Rattle.regress_program.specs.{CompilationOfTreesAsFunction.{compiled}, InsnsAndStartPredicatesAsSpec.{insn_as_spec_insn}};
-ghost use Rattle.regress_scan.specs.OffsetsAfterMatchedInsns.{ByteInsnHasByteText, char_test_of_insn};
+ghost use Rattle.regress_search.specs.OffsetsAfterMatchedInsns.{ByteInsnHasByteText, char_test_of_insn};
 ghost use Rattle.regress_bounded.specs.SearchStateAsMemoSearchEntries.{IsMemoRightForRegex, IsRunHere, IsStanding, GoesFrom, ScansWithMemo, HasPassedOver, IsPast};
 ghost use Rattle.regress_bounded.specs.SearchStateAsMemoSearchEntries.{IsNearest};
 ghost use Rattle.regress_bounded.specs.declared.memo_and_work_budget.AttemptAbortReason.TheVariants.{Work};
@@ -16,7 +16,6 @@ ghost use Rattle.regress_pikevm.specs.States.{state_of};
 
 use crate::memo_and_work_budget::{AttemptAbortReason, MemoAndWorkBudget};
 use crate::stack_of_pending_threads_and_records::{StackEntry, UnboundedCharLoop, push_entry};
-use regress_exec::program_and_input::ProgramAndInput;
 use regress_input::cursor::Forward;
 use regress_input::indexing::InputIndexer;
 use regress_input::position::PositionType;
@@ -25,6 +24,7 @@ use regress_pikevm::pikevm::char_loops::copy_state_after_char_loop;
 use regress_pikevm::pikevm::read_or_assertion_insn_matchers;
 use regress_pikevm::pikevm::states::State;
 use regress_program::insn::Insn;
+use regress_search::program_and_input::ProgramAndInput;
 use std::alloc::AllocError;
 
 /// Reads the characters at a position that a loop accepts, at most `most`, and no more than the

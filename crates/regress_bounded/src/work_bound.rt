@@ -4,14 +4,14 @@ ghost use Rattle.std.specs.Arc.{arc_value};
 ghost use Rattle.std.specs.Prelude.{◌≡◌, ◌+◌, ◌-◌, ◌/◌, ◌*◌, ◌≤◌, ◌^◌, ℕ, IfOk, IfSome, MatchOption, None, Some, false, map, min, nat_le, slice_get};
 ghost use Rattle.std.specs.List.{sum_by};
 ghost use Rattle.regex_pattern_front.specs.AstToSpecTree.{tree_of};
-ghost use Rattle.regress_memo_analysis.specs.CheckedAnalysis.{AreInsnCodesCountedAndDisjoint};
-ghost use Rattle.regress_memo_laws.specs.EquivalenceAfterSkippingSucceedingLookarounds.{lookaround_at};
+ghost use Rattle.regress_memo.specs.CheckedAnalysis.{AreInsnCodesCountedAndDisjoint};
+ghost use Rattle.regress_memo.specs.EquivalenceAfterSkippingSucceedingLookarounds.{lookaround_at};
 ghost use Rattle.regress_memo.specs.MemoContents.{IsEmptyMemo};
 ghost use Rattle.regress_program.specs.InsnsAndStartPredicatesAsSpec.{insn_as_spec_insn};
 ghost use Rattle.regress_bounded.specs.ProgramWorkBoundForAllMatches.{TreeHasWorkBound, most_memo_codes_per_insn, size_of_insn};
 
+use regress_memo::analysis_result::MemoAnalysis;
 use regress_memo::memo::MemoTable;
-use regress_memo_analysis::analysis_result::MemoAnalysis;
 use regress_program::insn::{CompiledRegex, CompiledRegexFor16BitUnits, Insn, Program};
 use std::alloc::{AllocError, Global};
 use std::sync::Arc;

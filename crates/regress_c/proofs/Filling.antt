@@ -14,11 +14,11 @@ use Rattle.regex_meaning.specs.StepBudget.{IsBudgetAtMost, answers_within, finis
 use Rattle.regex_meaning.specs.Text.{Text}
 use Rattle.regex_meaning.specs.Tree.{Tree}
 use Rattle.regex_meaning.proofs.Each.{Each-append}
-use Rattle.regress_exec.specs.MatchesAsSpecAnswers.{answer_of}
-use Rattle.regress_exec.specs.declared.exec.SearchError.{SearchError}
-use Rattle.regress_exec.specs.declared.exec.SearchError.TheVariants.{Memory, StepLimit}
-use Rattle.regress_exec.proofs.Budget.{left-no_more}
-use Rattle.regress_exec.proofs.Coming.{new-comes}
+use Rattle.regress_search.specs.MatchesAsSpecAnswers.{answer_of}
+use Rattle.regress_search.specs.declared.exec.SearchError.{SearchError}
+use Rattle.regress_search.specs.declared.exec.SearchError.TheVariants.{Memory, StepLimit}
+use Rattle.regress_search.proofs.Budget.{left-no_more}
+use Rattle.regress_search.proofs.Coming.{new-comes}
 use Rattle.regress_match.specs.ProgramTreesAndAnswers.{IsBoundaryOrPastEnd}
 use Rattle.regress_match.specs.Resuming.{ResumesFrom, IsExhaustedFrom, FindInTurn, FindsNext, budget_after}
 use Rattle.regress_match.specs.declared.api.searches_resumed_at_offsets.Step.{Step}

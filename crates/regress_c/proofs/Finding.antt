@@ -1,6 +1,6 @@
 -- What is found first is what a search finds, of a text and a start that are tested.
 use Rattle.std.proofs.Common.{Option, Result, Ok, Err}
-use Rattle.regress_exec.specs.declared.exec.Match.{Match}
+use Rattle.regress_search.specs.declared.exec.Match.{Match}
 use Rattle.regress_c.specs.Searching.{Coming, Finds, IsFirst}
 use Rattle.regress_c.specs.declared.refusal.Refusal.{Refusal}
 use Rattle.regress_c.specs.declared.refusal.Refusal.TheVariants.{Memory, StepLimit}

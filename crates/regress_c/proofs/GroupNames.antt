@@ -3,7 +3,7 @@ use Rattle.std.proofs.Common.{◌≡◌, ℕ, ◌+◌, ◌<◌, ◌≤◌, true,
 use Rattle.std.proofs.Common.{sym, ap, ◌∙◌, arith}
 use Rattle.std.proofs.Math.ListN.{drop_of_length-le}
 use Rattle.regex_meaning.specs.MatchGroupsByNumberAndName.{group_names_by_id, ids_where}
-use Rattle.regress_exec.proofs.Groups.{ids-here}
+use Rattle.regress_search.proofs.Groups.{ids-here}
 use Rattle.regress_match.specs.ProgramTreesAndAnswers.{tree_for_byte_units}
 use Rattle.regress_match.specs.declared.api.regex.Regex.{Regex}
 use Rattle.regress_c.specs.Codes.{code_of}

@@ -7,9 +7,9 @@ use Rattle.std.proofs.lemmas.List.{append-nil, length-drop, length-map, take_all
 use Rattle.std.proofs.Math.Seq.{drop-drop, take-length}
 use Rattle.std.proofs.lemmas.Option.{unwrap_or-slice_get}
 use Rattle.regex_meaning.specs.MatchGroupsByNumberAndName.{Answer, group}
-use Rattle.regress_exec.specs.GroupIterators.{all_groups}
-use Rattle.regress_exec.specs.MatchesAsSpecAnswers.{answer_of, range_as_pair}
-use Rattle.regress_exec.specs.declared.exec.Match.{Match}
+use Rattle.regress_search.specs.GroupIterators.{all_groups}
+use Rattle.regress_search.specs.MatchesAsSpecAnswers.{answer_of, range_as_pair}
+use Rattle.regress_search.specs.declared.exec.Match.{Match}
 use Rattle.regress_c.specs.Codes.{code_of, done}
 use Rattle.regress_c.specs.Replies.{left_by, reply_to, span_of, spans_of, written_over}
 use Rattle.regress_c.specs.declared.refusal.Refusal.TheVariants.{ShortBuffer}

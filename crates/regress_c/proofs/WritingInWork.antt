@@ -10,11 +10,11 @@ use Rattle.regex_meaning.specs.MatchGroupsByNumberAndName.{Answer}
 use Rattle.regex_meaning.proofs.Each.{Each-map}
 use Rattle.regex_meaning.proofs.Ordered.{answers-IsAnswerOf}
 use Rattle.regex_meaning.proofs.TextLemmas.{utf8_text-IsText}
-use Rattle.regress_exec.specs.MatchesAsSpecAnswers.{answer_of}
-use Rattle.regress_exec.specs.AttemptsAndMatchesWithinWork.{NextYieldsWithinWork, RemainingAnswersAndWork}
-use Rattle.regress_exec.specs.declared.exec.Match.{Match}
-use Rattle.regress_exec.specs.declared.exec.work_matches.WorkError.{WorkError}
-use Rattle.regress_exec.specs.declared.exec.work_matches.WorkError.TheVariants as worked
+use Rattle.regress_search.specs.MatchesAsSpecAnswers.{answer_of}
+use Rattle.regress_search.specs.AttemptsAndMatchesWithinWork.{NextYieldsWithinWork, RemainingAnswersAndWork}
+use Rattle.regress_search.specs.declared.exec.Match.{Match}
+use Rattle.regress_search.specs.declared.exec.work_matches.WorkError.{WorkError}
+use Rattle.regress_search.specs.declared.exec.work_matches.WorkError.TheVariants as worked
 use Rattle.regress_match.specs.ProgramTreesAndAnswers.{bytes_as_utf8_text, tree_for_byte_units, utf8_answers}
 use Rattle.regress_match.specs.WorkBounds.{BoundedView, IsHigherOfProgramWorkBounds, YieldsMatchesIfWorkSuffices}
 use Rattle.regress_match.specs.declared.api.regex.Regex.{Regex}

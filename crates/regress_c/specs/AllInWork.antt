@@ -2,9 +2,9 @@
 use Rattle.std.specs.Prelude.{◌≡◌, ◌<◌, ◌≤◌, ◌+◌, ◌*◌, ◌++◌, ℕ, false, List, [], Option, Some, None, Result, Ok, Err, IsUtf8, flat_map, length}
 use Rattle.regex_meaning.specs.Laws.{Each}
 use Rattle.regex_meaning.specs.MatchGroupsByNumberAndName.{Answer}
-use Rattle.regress_exec.specs.AttemptsAndMatchesWithinWork.{RemainingAnswersAndWork}
-use Rattle.regress_exec.specs.declared.exec.work_matches.WorkError.{WorkError}
-use Rattle.regress_exec.specs.declared.exec.work_matches.WorkError.TheVariants as worked
+use Rattle.regress_search.specs.AttemptsAndMatchesWithinWork.{RemainingAnswersAndWork}
+use Rattle.regress_search.specs.declared.exec.work_matches.WorkError.{WorkError}
+use Rattle.regress_search.specs.declared.exec.work_matches.WorkError.TheVariants as worked
 use Rattle.regress_match.specs.ProgramTreesAndAnswers.{utf8_answers}
 use Rattle.regress_match.specs.declared.api.regex.Regex.{Regex}
 use Rattle.regress_c.specs.Codes.{code_of, done, no_match, of_work}

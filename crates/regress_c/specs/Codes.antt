@@ -2,10 +2,10 @@
 use Rattle.std.specs.Prelude.{ℕ}
 use Rattle.regex_parser.specs.declared.parse.ParseError.TheVariants as parse
 use Rattle.regress_program.specs.declared.emit.EmitError.TheVariants as emit
-use Rattle.regress_exec.specs.declared.exec.SearchError.{SearchError}
-use Rattle.regress_exec.specs.declared.exec.SearchError.TheVariants as search
-use Rattle.regress_exec.specs.declared.exec.work_matches.WorkError.{WorkError}
-use Rattle.regress_exec.specs.declared.exec.work_matches.WorkError.TheVariants as worked
+use Rattle.regress_search.specs.declared.exec.SearchError.{SearchError}
+use Rattle.regress_search.specs.declared.exec.SearchError.TheVariants as search
+use Rattle.regress_search.specs.declared.exec.work_matches.WorkError.{WorkError}
+use Rattle.regress_search.specs.declared.exec.work_matches.WorkError.TheVariants as worked
 use Rattle.regress_match.specs.declared.api.compile_and_replace_errors.Error.{Error}
 use Rattle.regress_match.specs.declared.api.compile_and_replace_errors.Error.TheVariants as error
 use Rattle.regress_c.specs.declared.refusal.Refusal.{Refusal}

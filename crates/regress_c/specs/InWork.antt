@@ -1,8 +1,8 @@
 -- The results of a search within a work budget.
 use Rattle.std.specs.Prelude.{◌≡◌, ◌<◌, ◌≤◌, ℕ, List, Option, Some, None, Result, Ok, Err, IsUtf8, length, option_map, slice_get}
 use Rattle.regex_meaning.specs.MatchGroupsByNumberAndName.{Answer}
-use Rattle.regress_exec.specs.MatchesAsSpecAnswers.{answer_of}
-use Rattle.regress_exec.specs.declared.exec.Match.{Match}
+use Rattle.regress_search.specs.MatchesAsSpecAnswers.{answer_of}
+use Rattle.regress_search.specs.declared.exec.Match.{Match}
 use Rattle.regress_match.specs.ProgramTreesAndAnswers.{bytes_as_utf8_text, utf8_answers}
 use Rattle.regress_match.specs.WorkBounds.{IsHigherOfProgramWorkBounds, enough_work_for_text}
 use Rattle.regress_match.specs.declared.api.regex.Regex.{Regex}

@@ -1,9 +1,9 @@
 -- The reply to the result of a search, and the caller's buffer afterwards.
 use Rattle.std.specs.Prelude.{ℕ, ◌-◌, ◌^◌, ◌++◌, List, Option, Some, None, Result, Ok, Err, drop, length, map, nat_le, if◌then◌else◌}
 use Rattle.regex_meaning.specs.MatchGroupsByNumberAndName.{Answer}
-use Rattle.regress_exec.specs.MatchesAsSpecAnswers.{answer_of}
-use Rattle.regress_exec.specs.GroupIterators.{all_groups}
-use Rattle.regress_exec.specs.declared.exec.Match.{Match}
+use Rattle.regress_search.specs.MatchesAsSpecAnswers.{answer_of}
+use Rattle.regress_search.specs.GroupIterators.{all_groups}
+use Rattle.regress_search.specs.declared.exec.Match.{Match}
 use Rattle.regress_c.specs.Codes.{code_of, done, no_match}
 use Rattle.regress_c.specs.declared.refusal.Refusal.{Refusal}
 use Rattle.regress_c.specs.declared.refusal.Refusal.TheVariants.{ShortBuffer}

@@ -5,8 +5,8 @@ use Rattle.std.specs.Option.{IfNone}
 use Rattle.std.specs.Borrow.{Bor}
 use Rattle.regex_meaning.specs.MatchGroupsByNumberAndName.{Answer}
 use Rattle.regex_meaning.specs.Text.{is_unit_boundary}
-use Rattle.regress_exec.specs.MatchesAsSpecAnswers.{answer_of}
-use Rattle.regress_exec.specs.declared.exec.Match.{Match}
+use Rattle.regress_search.specs.MatchesAsSpecAnswers.{answer_of}
+use Rattle.regress_search.specs.declared.exec.Match.{Match}
 use Rattle.regress_match.specs.ProgramTreesAndAnswers.{utf8_answers, utf16_answers, ucs2_answers}
 use Rattle.regress_match.specs.declared.api.regex.Regex.{Regex}
 use Rattle.regress_c.specs.Replies.{left_by, reply_to}

@@ -2,6 +2,7 @@
 
 ghost use Rattle.std.specs.Prelude.{◌≡◌, ◌<◌, Some, length};
 ghost use Rattle.regex_meaning.specs.Laws.{Each};
+ghost use Rattle.regress_search.specs.CostsOfCalls.{remaining};
 ghost use Rattle.regress_c.specs.{AllInWork.{FillsInWork, RepliesAllInWork, RepliesOutcome, WritesInWork}, Replies.{spans_of}};
 ghost use Rattle.regress_c.specs.{Searching.{can_start_utf8}, Texts.{range_count}};
 
@@ -9,8 +10,8 @@ use crate::pattern::Pattern;
 use crate::refusal::{DONE, NO_MATCH, Refusal};
 use crate::reply::{Reply, Span, write_at};
 use crate::subject::text_from;
-use regress_exec::exec::{WorkLimitedProducer, WorkMatches};
 use regress_match::{BoundedRegex, Regex};
+use regress_search::exec::{WorkLimitedProducer, WorkMatches};
 use std::alloc::Global;
 
 /// Writes the matches in a UTF-8 text from an offset on, as many as there is room for, with at most
@@ -82,7 +83,7 @@ fn write_all<P: WorkLimitedProducer + Drop>(
 ) -> Reply
     requires some { 0 < ranges }
     requires each { Each (λ m. length (spans_of m) ≡ ranges) matches.old.come.answers }
-    ensures { WritesInWork ranges matches.old matches.new spans.old spans.new result }
+    ensures { WritesInWork ranges (remaining matches.old) (remaining matches.new) spans.old spans.new result }
 {
     let mut count = 0;
     let mut at = 0;

@@ -5,7 +5,7 @@ ghost use Rattle.regress_c.specs.Codes.{code_of as number_of};
 ghost use Rattle.regress_c.specs.Going.{Fills, FillsFrom, FillsIn, RepliesNext, code_of_stop, ranges_of as ranges_by, tree_by};
 ghost use Rattle.regress_c.specs.{Searching.{can_start_utf8, can_start_utf16}, Replies.{spans_of}};
 ghost use Rattle.regex_meaning.specs.CodeUnitOffsets.{units};
-ghost use Rattle.regress_exec.specs.MatchesAsSpecAnswers.{answer_of};
+ghost use Rattle.regress_search.specs.MatchesAsSpecAnswers.{answer_of};
 ghost use Rattle.regress_match.specs.ProgramTreesAndAnswers.{IsBoundaryOrPastEnd, units_as_ucs2_text, units_as_utf16_text, bytes_as_utf8_text, tree_for_byte_units};
 ghost use Rattle.regress_match.specs.ProgramTreesAndAnswers.{tree_for_16_bit_units};
 
@@ -14,8 +14,8 @@ use crate::pattern::Pattern;
 use crate::refusal::{DONE, NO_MATCH, Refusal};
 use crate::reply::{Reply, Span, write_at};
 use crate::search::{Encoding, Search};
-use regress_exec::search_loop::SingleAttemptExecutor;
 use regress_match::{Regex, SearchError, Step, next_from};
+use regress_search::search_loop::SingleAttemptExecutor;
 use std::alloc::Global;
 
 /// Why no further match was written.

@@ -2,7 +2,7 @@
 
 ghost use Rattle.std.specs.Prelude.{◌≡◌, ◌≤◌, ◌+◌, ◌++◌, Ok, Some, drop, length, option_map, take};
 ghost use Rattle.regress_c.specs.Replies.{left_by, reply_to, span_of, spans_of, written_over};
-ghost use Rattle.regress_exec.specs.MatchesAsSpecAnswers.{answer_of, range_as_pair};
+ghost use Rattle.regress_search.specs.MatchesAsSpecAnswers.{answer_of, range_as_pair};
 
 use crate::refusal::{DONE, NO_MATCH, Refusal};
 use regress_match::{Match, Range};

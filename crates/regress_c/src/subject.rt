@@ -6,8 +6,8 @@ ghost use Rattle.regress_c.specs.Searching.{Coming, Finds, IsFirst, Starts, can_
 ghost use Rattle.regress_match.specs.declared.api.regex.Regex.{Regex as Compiled};
 
 use crate::refusal::Refusal;
-use regress_exec::exec::{MatchProducer, Matches};
 use regress_match::{Match, Regex, is_unit_boundary};
+use regress_search::exec::{MatchProducer, Matches};
 
 /// A text to be searched. Contracts see whether it is valid in its encoding, where a search may
 /// start, and the matches from there on.

@@ -25,3 +25,23 @@ pub mod Fetched
 pub mod Leaving
 pub mod Inside
 pub mod Remains
+-- From the relation of threads to what an executor does at each instruction.
+pub mod Simulates
+pub mod Left
+pub mod Below
+pub mod Excluded
+pub mod Units
+pub mod Tables
+pub mod Starts
+pub mod Rows
+pub mod Runs
+pub mod SimulatedLoops
+pub mod SimulatedLooks
+pub mod Ends
+pub mod Checks
+pub mod Prefixes
+pub mod Arms
+pub mod Choices
+pub mod Rounds
+pub mod Idle
+pub mod Verdicts

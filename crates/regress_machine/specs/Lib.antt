@@ -2,3 +2,14 @@ pub mod Machine
 pub mod TextsForBytePrograms
 pub mod SearchFindsFirstOutcomeAtPlace
 pub mod InsnEffects
+pub mod ThreadSimulation
+pub mod ExecutorLoopInvariantAndSpentSteps
+pub mod FailingInsnsAtOffset
+pub mod FirstSetTables
+pub mod MatchStartsExcludedByFirstSet
+pub mod RequiredPrefixes
+pub mod CharLoopExitStatesByPreference
+pub mod LiveAlternationArms
+pub mod ForcedOneUnitLoopIterations
+pub mod LoopsReadingNothing
+pub mod LookaroundContentsMatchingWithoutEffect

@@ -1,13 +1,19 @@
-//! The abstract machine that runs programs, and its correctness theorem.
+//! The abstract machine that runs compiled programs, its correctness theorem, and simulation
+//! relations between its threads.
 //!
-//! Both executors do what this machine does, operation for operation. The theorem says that the
-//! program of a well-formed tree, run from a place of a text (a number of characters from the
-//! left), ends with the tree's outcome of highest priority there. It takes as many steps as the
-//! tree's list has ticks up to that outcome.
+//! Proofs of executors refer to this machine. The theorem says that the program of a well-formed
+//! tree, run from a place of a text (a number of characters from the left), ends with the tree's
+//! outcome of highest priority there. It takes as many steps as the tree's list has ticks up to
+//! that outcome.
 #![tactic(auto)]
 
 ghost use Rattle.regress_machine.specs.TextsForBytePrograms.{ByteTextsHaveUtf8Offsets};
 ghost use Rattle.regress_machine.specs.SearchFindsFirstOutcomeAtPlace.{SearchesFindFirstOutcome, SearchResultIsMatchAtPlace, TicksAreSteps};
+ghost use Rattle.regress_machine.specs.{FailingInsnsAtOffset.{InsnsExcludedAtOffsetFindNothing}, LoopsReadingNothing.{LastRequiredEmptyIterationReplacesOthers}};
+ghost use Rattle.regress_machine.specs.RequiredPrefixes.{RequiredPrefixesExclude};
+ghost use Rattle.regress_machine.specs.ThreadSimulation.{DroppingDeadThreadsKeepsEnd, SimulatingThreadsFindSameEnd};
+ghost use Rattle.regress_machine.specs.MatchStartsExcludedByFirstSet.{FirstSetExcludesMatchStarts};
+ghost use Rattle.regress_machine.specs.FirstSetTables.{StatesExcludedByTablesFindNothing};
 
 /// A search of a tree's program from a place takes one step for each tick of the tree's list up to
 /// the first outcome. It ends with that outcome, or with none if the list has none.
@@ -30,4 +36,42 @@ pub fn ticks_are_steps()
 /// Byte programs can run on texts of UTF-8 bytes and on texts of ASCII bytes.
 pub fn byte_texts_are_read()
     ensures { ByteTextsHaveUtf8Offsets }
+{}
+
+/// Threads that simulate those of a search find the same end, in no more steps. If steps are
+/// counted, they take exactly as many fewer as were spent.
+pub fn simulating_threads_find_same_end()
+    ensures { SimulatingThreadsFindSameEnd }
+{}
+
+/// A thread that finds nothing may be dropped from a list of threads without changing the end.
+pub fn dropping_dead_threads_keeps_end()
+    ensures { DroppingDeadThreadsKeepsEnd }
+{}
+
+/// A thread finds nothing if its instruction is outside a closed set of instructions that may find
+/// something.
+pub fn closed_sets_exclude()
+    ensures { InsnsExcludedAtOffsetFindNothing }
+{}
+
+/// A thread finds nothing if the table of its instruction excludes the code unit at its offset, or
+/// the end of the text. The tables only have to pass a check for each instruction.
+pub fn covered_tables_exclude()
+    ensures { StatesExcludedByTablesFindNothing }
+{}
+
+/// No match begins where the table of the first instruction excludes the code unit or the end.
+pub fn covered_starts_exclude()
+    ensures { FirstSetExcludesMatchStarts }
+{}
+
+/// If the body of a loop reads nothing, the last required iteration may replace any required one.
+pub fn last_iteration_suffices()
+    ensures { LastRequiredEmptyIterationReplacesOthers }
+{}
+
+/// No match begins where one of the next code units is not allowed by the required prefix.
+pub fn required_prefixes_exclude()
+    ensures { RequiredPrefixesExclude }
 {}

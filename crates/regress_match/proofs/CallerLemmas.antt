@@ -14,10 +14,10 @@ use Rattle.regex_meaning.proofs.Encodings.{ascii-utf8}
 use Rattle.regex_meaning.proofs.Ordered.{answers-IsAnswerOf, answers-StandInOrder}
 use Rattle.regex_meaning.proofs.TextLemmas.{utf8_text-IsText}
 use Rattle.regress_input.proofs.Utf8Slices.{char_boundary}
-use Rattle.regress_exec.specs.MatchesAsSpecAnswers.{answer_of}
-use Rattle.regress_exec.specs.RemainingAnswers.{RemainingView, NextYields}
-use Rattle.regress_exec.specs.declared.exec.Match.{Match}
-use Rattle.regress_exec.specs.declared.exec.SearchError.{SearchError}
+use Rattle.regress_search.specs.MatchesAsSpecAnswers.{answer_of}
+use Rattle.regress_search.specs.RemainingAnswers.{RemainingView, NextYields}
+use Rattle.regress_search.specs.declared.exec.Match.{Match}
+use Rattle.regress_search.specs.declared.exec.SearchError.{SearchError}
 use Rattle.regress_match.specs.Laws.{MatchesStandInText}
 use Rattle.regress_match.specs.ProgramTreesAndAnswers.{tree_for_byte_units, ascii_answers}
 use Rattle.regress_match.specs.ExpansionsAndMatchRanges.{IsCharBoundaryRange, MatchFitsText, MatchesFitTextInOrderFrom}

@@ -5,8 +5,8 @@ use Rattle.std.proofs.lemmas.Str.{encode_ascii}
 use Rattle.std.proofs.lemmas.List.{nil_from_length}
 use Rattle.regex_meaning.specs.NumberListHelpers.{contains}
 use Rattle.regex_meaning.specs.FlagLettersAndEscaping.{syntax_characters, escape}
-use Rattle.regex_grammar.proofs.EscapedBytes.{escape-next}
-pub use Rattle.regex_grammar.proofs.EscapedBytes.{mark}
+use Rattle.regex_meaning.proofs.EscapedBytes.{escape-next}
+pub use Rattle.regex_meaning.proofs.EscapedBytes.{mark}
 
 -- what is written before a character is its mark
 pub behind-mark : (out : List ℕ) (c : ℕ) → true ≡ contains syntax_characters c → out ++ encode_utf8 92 ≡ out ++ mark c

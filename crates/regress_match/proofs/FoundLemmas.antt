@@ -13,8 +13,8 @@ use Rattle.regex_meaning.proofs.AnswerLemmas.{answers-go_on, first_answer-stands
 use Rattle.regex_meaning.proofs.AtOnePlace.{matches_at-first}
 use Rattle.regex_meaning.proofs.Ordered.{answers-IsAnswerOf}
 use Rattle.regex_meaning.proofs.TextLemmas.{IsBoundary-place, offset-le}
-use Rattle.regress_exec.specs.MatchesAsSpecAnswers.{answer_of}
-use Rattle.regress_exec.specs.declared.exec.Match.{Match}
+use Rattle.regress_search.specs.MatchesAsSpecAnswers.{answer_of}
+use Rattle.regress_search.specs.declared.exec.Match.{Match}
 use Rattle.regress_match.specs.ExpansionsAndMatchRanges.{MatchFitsText, MatchRangesLieWithinUnits, IsRangeWithinUnits, MatchesFitTextInOrderFrom}
 
 module _ (root : Node) (text : Text) (is : HasRisingPlaceOffsets text) where

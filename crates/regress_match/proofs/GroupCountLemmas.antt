@@ -3,16 +3,16 @@ use Rattle.std.proofs.Common.{◌≡◌, ℕ, suc, Bool, true, false, not, ◌&&
 use Rattle.std.specs.Prelude.{codes, if◌then◌else◌, flat_map}
 use Rattle.std.proofs.lemmas.Bool.{false_from_ne_true}
 use Rattle.regex_meaning.specs.Tree.{Flags, Tree, group_ids}
-use Rattle.regex_grammar.specs.ReadingStatesAndDigits.{RemainingCodePoints, ◌∈◌, begins_with_characters}
-use Rattle.regex_grammar.specs.Grammar.{PatternDialect, ParsesBy, pattern_is, lookaround_opener}
-use Rattle.regex_grammar.specs.EcmaGrammarWithAnnexB.{ecmascript}
-use Rattle.regex_grammar.specs.GroupNameScan.{name_of_opened_group, scanned_names_per_capturing_group}
-use Rattle.regex_grammar.specs.GroupOpeningScanWithoutParsing.{texts_after_parentheses, OpensGroups, no_parenthesis, opens_plain_group, opens_lookaround}
-use Rattle.regex_grammar.specs.GroupOpeningScanWithoutParsing.{opens_group, opens_named_group}
-use Rattle.regex_grammar.proofs.OneTree.{IsReadInOneWay, rest_of}
-use Rattle.regex_grammar.proofs.EcmaMembers.{ecmascript-reads}
-use Rattle.regex_grammar.proofs.EcmaTrees.{groups-are-found, groups-are-named}
-use Rattle.regex_grammar.proofs.Trees.{scan_counts_pattern_groups}
+use Rattle.regex_meaning.specs.ReadingStatesAndDigits.{RemainingCodePoints, ◌∈◌, begins_with_characters}
+use Rattle.regex_meaning.specs.Grammar.{PatternDialect, ParsesBy, pattern_is, lookaround_opener}
+use Rattle.regex_meaning.specs.EcmaGrammarWithAnnexB.{ecmascript}
+use Rattle.regex_meaning.specs.GroupNameScan.{name_of_opened_group, scanned_names_per_capturing_group}
+use Rattle.regex_meaning.specs.GroupOpeningScanWithoutParsing.{texts_after_parentheses, OpensGroups, no_parenthesis, opens_plain_group, opens_lookaround}
+use Rattle.regex_meaning.specs.GroupOpeningScanWithoutParsing.{opens_group, opens_named_group}
+use Rattle.regex_meaning.proofs.OneTree.{IsReadInOneWay, rest_of}
+use Rattle.regex_meaning.proofs.EcmaMembers.{ecmascript-reads}
+use Rattle.regex_meaning.proofs.EcmaTrees.{groups-are-found, groups-are-named}
+use Rattle.regex_meaning.proofs.Trees.{scan_counts_pattern_groups}
 use Rattle.regex_parser.specs.SyntaxDialects.{spec_syntax_of}
 use Rattle.regex_parser.specs.ParserInvariants.{group_names_found_by_scan}
 use Rattle.regex_parser.specs.declared.syntax.Syntax.{Syntax}

@@ -3,10 +3,10 @@ use Rattle.std.proofs.Common.{◌≡◌, ℕ, List, Bool, true, refl, sym, ap, �
 use Rattle.regex_meaning.specs.Tree.{Tree, Node, Flags}
 use Rattle.regex_meaning.specs.Text as text
 use Rattle.regex_meaning.specs.MatchGroupsByNumberAndName.{Answer, answers_from}
-use Rattle.regex_grammar.specs.Grammar.{PatternDialect, ParsesBy, profile}
-use Rattle.regex_grammar.specs.EcmaGrammarWithAnnexB.{ecmascript}
-use Rattle.regex_grammar.proofs.Whole.{one_tree}
-use Rattle.regex_grammar.proofs.EcmaTrees.{one-tree}
+use Rattle.regex_meaning.specs.Grammar.{PatternDialect, ParsesBy, profile}
+use Rattle.regex_meaning.specs.EcmaGrammarWithAnnexB.{ecmascript}
+use Rattle.regex_meaning.proofs.Whole.{one_tree}
+use Rattle.regex_meaning.proofs.EcmaTrees.{one-tree}
 use Rattle.regex_pattern_front.proofs.OptimizedLemmas.{answers-optimized}
 use Rattle.regress_program.specs.OptimizedTreeUnlessNoOpt.{planned_tree}
 use Rattle.regress_program.proofs.RunningLemmas.{planned-same}

@@ -10,7 +10,7 @@ use Rattle.regex_meaning.specs.Tree.{Node, Tree, Flags, group_ids}
 use Rattle.regex_meaning.specs.CompilationRelation.{tree_contains_byte_nodes}
 use Rattle.regress_match.specs.declared.api.compile_and_replace_errors.Error.{Error}
 use Rattle.regress_program.specs.CompileRefusals.{TreeHasByteCompileErrorCause}
-use Rattle.regex_grammar.specs.Grammar.{ParsesBy}
+use Rattle.regex_meaning.specs.Grammar.{ParsesBy}
 use Rattle.regex_parser.specs.ParserInvariants.{OpensTooManyGroups, group_names_found_by_scan}
 use Rattle.regex_parser.specs.SyntaxDialects.{spec_syntax_of}
 use Rattle.regex_parser.specs.ParseErrors.{IsParseErrorIn}

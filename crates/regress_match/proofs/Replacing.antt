@@ -6,8 +6,8 @@ use Rattle.std.specs.List.{Contains}
 use Rattle.regex_meaning.specs.Laws.{AreAscendingDisjointAnswersFrom}
 use Rattle.regex_meaning.specs.MatchGroupsByNumberAndName.{Answer}
 use Rattle.regex_meaning.specs.Replace.{replaced}
-use Rattle.regress_exec.specs.MatchesAsSpecAnswers.{answer_of}
-use Rattle.regress_exec.specs.declared.exec.Match.{Match}
+use Rattle.regress_search.specs.MatchesAsSpecAnswers.{answer_of}
+use Rattle.regress_search.specs.declared.exec.Match.{Match}
 use Rattle.regress_match.specs.ReplacementClosuresReturningStrings.{ClosureCanBeCalled}
 
 -- the first of the matches alone

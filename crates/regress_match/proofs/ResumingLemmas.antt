@@ -17,13 +17,13 @@ use Rattle.regex_meaning.proofs.AnswerLemmas.{answers-go_on, next_start-ahead}
 use Rattle.regex_meaning.proofs.Ordered.{answers-IsAnswerOf}
 use Rattle.regex_meaning.proofs.StepLemmas.{within-some, within-none, beyond}
 use Rattle.regex_meaning.proofs.TextLemmas.{place_at-past}
-use Rattle.regress_exec.specs.MatchesAsSpecAnswers.{answer_of}
-use Rattle.regress_exec.specs.StepBudgetAndContinuationAfterSearch.{SpendsNeedOrReachesLimit}
-use Rattle.regress_exec.specs.declared.exec.Match.{Match}
-use Rattle.regress_exec.specs.declared.exec.SearchError.{SearchError}
-use Rattle.regress_exec.specs.declared.exec.SearchError.TheVariants.{Memory, StepLimit}
-use Rattle.regress_exec.proofs.Budget.{handed}
-use Rattle.regress_exec.proofs.Coming.{new-comes}
+use Rattle.regress_search.specs.MatchesAsSpecAnswers.{answer_of}
+use Rattle.regress_search.specs.StepBudgetAndContinuationAfterSearch.{SpendsNeedOrReachesLimit}
+use Rattle.regress_search.specs.declared.exec.Match.{Match}
+use Rattle.regress_search.specs.declared.exec.SearchError.{SearchError}
+use Rattle.regress_search.specs.declared.exec.SearchError.TheVariants.{Memory, StepLimit}
+use Rattle.regress_search.proofs.Budget.{handed}
+use Rattle.regress_search.proofs.Coming.{new-comes}
 use Rattle.regress_match.specs.ProgramTreesAndAnswers.{IsBoundaryOrPastEnd}
 use Rattle.regress_match.specs.Resuming.{ResumesFrom, IsExhaustedFrom, FindInTurn, FindsNext, budget_after}
 use Rattle.regress_match.specs.declared.api.searches_resumed_at_offsets.Step.{Step}

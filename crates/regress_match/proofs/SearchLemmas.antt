@@ -1,8 +1,8 @@
 -- What calls of an iterator answer in a row.
 use Rattle.std.proofs.Common.{◌≡◌, List, [], ◌∷◌, true, false, refl, sym, ap, ◌∙◌, subst}
 use Rattle.std.specs.Prelude.{Some, None, Ok, Err}
-use Rattle.regress_exec.specs.RemainingAnswers.{RemainingView}
-use Rattle.regress_exec.specs.declared.exec.SearchError.TheVariants.{Memory, StepLimit}
+use Rattle.regress_search.specs.RemainingAnswers.{RemainingView}
+use Rattle.regress_search.specs.declared.exec.SearchError.TheVariants.{Memory, StepLimit}
 use Rattle.regress_match.specs.SearchResults.{NextResult, NextCallsYield, AllNone, AnswerInTurn, SearchesAnswerInTurn}
 
 -- what has ended answers nothing

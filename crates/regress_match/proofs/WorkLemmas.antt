@@ -13,16 +13,20 @@ use Rattle.regex_meaning.specs.Laws.{Each}
 use Rattle.regex_meaning.specs.CodeUnitOffsets.{units}
 use Rattle.regex_meaning.specs.Text.{Text}
 use Rattle.regex_meaning.specs.Tree.{Tree}
-use Rattle.regress_exec.specs.AttemptsAndMatchesWithinWork.{RemainingAnswersAndWork}
-use Rattle.regress_exec.specs.declared.exec.work_matches.WorkError.TheVariants.{Memory, WorkLimit}
-use Rattle.regress_memo_analysis.specs.AnalysisAsLivenessAndPotentials.{no_insn_analysis}
-use Rattle.regress_memo_analysis.specs.CheckedAnalysis.{AreInsnCodesCountedAndDisjoint}
-use Rattle.regress_memo_analysis.specs.declared.analysis_result.InsnAnalysis.{InsnAnalysis}
-use Rattle.regress_memo_analysis.specs.declared.analysis_result.MemoAnalysis.{MemoAnalysis}
+use Rattle.regress_search.specs.AttemptsAndMatchesWithinWork.{RemainingAnswersAndWork}
+use Rattle.regress_search.specs.CostsOfCalls.{WorkMatchesView}
+use Rattle.regress_search.specs.CostsOfSearches.{Failures}
+use Rattle.regress_bounded.specs.CostsOfAttempts.{BeginsSearches}
+use Rattle.regress_search.specs.declared.exec.work_matches.WorkError.TheVariants.{Memory, WorkLimit}
+use Rattle.regress_memo.specs.AnalysisAsLivenessAndPotentials.{no_insn_analysis}
+use Rattle.regress_memo.specs.CheckedAnalysis.{AreInsnCodesCountedAndDisjoint}
+use Rattle.regress_memo.specs.declared.analysis_result.InsnAnalysis.{InsnAnalysis}
+use Rattle.regress_memo.specs.declared.analysis_result.MemoAnalysis.{MemoAnalysis}
 use Rattle.regress_program.specs.CompilationOfTreesAsFunction.{compiled}
 use Rattle.regress_bounded.specs.ProgramWorkBoundForAllMatches.{TreeHasWorkBound, IsWorkBoundOfTree, most_memo_codes_per_insn, program_size}
 use Rattle.regress_bounded.specs.declared.work_bound.WorkBound.{WorkBound}
 use Rattle.regress_match.specs.WorkBounds.{WorkMatchesNextResultType, AnswerInWork, BoundedView, NextCallsYieldWithinWork, SearchesAnswerInWork, WorkPerUnitLimitSuffices}
+use Rattle.regress_match.specs.WorkBounds.{CallsCost, IsNoAllocationFailure, NextCallsYieldAtCost, SearchesCostInWork}
 use Rattle.regress_match.specs.WorkBounds.{YieldsMatchesIfWorkSuffices, enough_work_for_text, higher, work_per_unit_limit}
 use Rattle.regress_match.specs.ProgramTreesAndAnswers.{tree_for_byte_units, tree_for_16_bit_units}
 use Rattle.regress_match.specs.declared.api.regex.Regex.{Regex}
@@ -62,6 +66,29 @@ searches-AnswerInWork tree text start per_unit work it t rs y k = (
         → (it.enough ≡ true) ⊎ (work < enough_work_for_text per_unit text)
     by (inl (e, l)) = inl (y.enough l)
     by (inr (e, l)) = inr l
+
+-- ---- What the calls cost
+
+module _ {P : Type 0} (attempt_costs : Tree → Text → (before : Failures) → (at cost : ℕ) → (after : Option Failures) → Type 0) (tree_of : P → Tree) (text_of : P → Text) (failures_of : P → Failures) where
+  -- with enough work, no call is refused, and each takes its cost
+  calls-cost : (s t : WorkMatchesView P) (rs : List WorkMatchesNextResultType) → s.enough ≡ true → NextCallsYieldAtCost attempt_costs tree_of text_of failures_of s rs t
+      → Each IsNoAllocationFailure rs → (cost : ℕ) × CallsCost attempt_costs tree_of text_of failures_of s rs cost t × (s.left ≡ cost + t.left)
+  calls-cost s t [] e h n = (0, (h, refl), (let same : s.left ≡ t.left = ap (λ (v : WorkMatchesView P). v.left) (sym h) in omega (arith, same)))
+  calls-cost s t (None ∷ rs) e (u, h, k) n =
+      let cost = h.1 in
+      let later = calls-cost u t rs (h.0.0.2 e) k n.1 in
+      (cost.0 + later.0, (u, cost.0, later.0, h, cost.1, later.1, refl), (let first = cost.2 in let rest = later.2 in omega (arith, first, rest)))
+  calls-cost s t (Some (Ok m) ∷ rs) e (u, h, k) n =
+      let cost = h.1 in
+      let later = calls-cost u t rs (h.0.0.4 e) k n.1 in
+      (cost.0 + later.0, (u, cost.0, later.0, h, cost.1, later.1, refl), (let first = cost.2 in let rest = later.2 in omega (arith, first, rest)))
+  calls-cost s t (Some (Err Memory) ∷ rs) e h n = absurd n.0
+  calls-cost s t (Some (Err WorkLimit) ∷ rs) e (u, h, k) n = absurd (cc (sym e ∙ h.0.0.0.0))
+
+  pub searches-cost : SearchesCostInWork attempt_costs tree_of text_of failures_of
+  searches-cost tree text start per_unit work it t rs y big k n =
+      let all = calls-cost it t rs (y.enough big) k n in
+      (all.0, all.1, sym y.left ∙ all.2)
 
 -- ---- What is enough
 
@@ -104,6 +131,15 @@ pub bound-Yields : {b : BoundedView} {own : Tree} {few many work start : ℕ} {i
 bound-Yields {b} {own} {few} {many} {work} {start} {it} of re text_of l view same y =
     subst (λ (v : BoundedView). YieldsMatchesIfWorkSuffices (of v.re) (text_of (of v.re).flags.unicode) start v.per_unit work it) view
     (subst (λ (t : Tree). YieldsMatchesIfWorkSuffices t (text_of t.flags.unicode) start many work it) same (more-Yields l y))
+
+-- What the cost of its first call depends on, by a program of one of the trees of a pattern.
+pub bound-Begins : {b : BoundedView} {own its_tree : Tree} {its_text : Text} {failures : Failures} {position : Option ℕ} {many start : ℕ}
+    (of : Regex → Tree) (re : Regex) (text_of : Bool → Text) → record { re = re; per_unit = many } ≡ b → own ≡ of re
+    → BeginsSearches own (text_of own.flags.unicode) start its_tree its_text failures position
+    → BeginsSearches (of b.re) (text_of (of b.re).flags.unicode) start its_tree its_text failures position
+bound-Begins {its_tree = its_tree} {its_text = its_text} {failures = failures} {position = position} {start = start} of re text_of view same y =
+    subst (λ (v : BoundedView). BeginsSearches (of v.re) (text_of (of v.re).flags.unicode) start its_tree its_text failures position) view
+    (subst (λ (t : Tree). BeginsSearches t (text_of t.flags.unicode) start its_tree its_text failures position) same y)
 
 -- ---- What no bound exceeds
 

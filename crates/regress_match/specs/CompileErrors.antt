@@ -1,7 +1,7 @@
 -- The errors of the compilation stages as errors of the whole, and when each of them occurs.
 use Rattle.std.specs.Prelude.{◌≡◌, ℕ, List, Option, Some, None}
 use Rattle.regex_meaning.specs.Tree.{Tree, Flags}
-use Rattle.regex_grammar.specs.Grammar.{PatternDialect, ParsesBy, profile}
+use Rattle.regex_meaning.specs.Grammar.{PatternDialect, ParsesBy, profile}
 use Rattle.regex_parser.specs.ParserInvariants.{OpensTooManyGroups}
 use Rattle.regress_program.specs.CompileRefusals.{TreeHasByteCompileErrorCause}
 use Rattle.regex_parser.specs.ParseErrors.{IsDiagnosisIn}
@@ -10,8 +10,8 @@ use Rattle.regex_parser.specs.declared.parse.ParseError.{ParseError}
 use Rattle.regex_parser.specs.declared.parse.ParseError.TheVariants as parse
 use Rattle.regress_program.specs.declared.emit.EmitError.{EmitError}
 use Rattle.regress_program.specs.declared.emit.EmitError.TheVariants as emit
-use Rattle.regress_exec.specs.declared.exec.SearchError.{SearchError}
-use Rattle.regress_exec.specs.declared.exec.SearchError.TheVariants as search
+use Rattle.regress_search.specs.declared.exec.SearchError.{SearchError}
+use Rattle.regress_search.specs.declared.exec.SearchError.TheVariants as search
 use Rattle.regress_match.specs.declared.api.compile_and_replace_errors.Error.{Error}
 use Rattle.regress_match.specs.declared.api.compile_and_replace_errors.Error.TheVariants.{Parse, Emit, Memory}
 

@@ -4,7 +4,7 @@ use Rattle.regex_meaning.specs.Tree.{Tree, Flags}
 use Rattle.regex_meaning.specs.Text.{utf8_text, ascii_text, utf16_text, ucs2_text}
 use Rattle.regex_meaning.specs.MatchGroupsByNumberAndName.{answers_from}
 use Rattle.regex_meaning.specs.Replace.{replaced}
-use Rattle.regex_grammar.specs.Grammar.{PatternDialect, ParsesBy, profile}
+use Rattle.regex_meaning.specs.Grammar.{PatternDialect, ParsesBy, profile}
 use Rattle.regress_match.specs.ProgramTreesAndAnswers.{IsCompiledWithSyntax, utf8_answers, ascii_answers, utf16_answers, ucs2_answers}
 use Rattle.regress_match.specs.ExpansionsAndMatchRanges.{MatchesFitTextInOrderFrom, matches_with_expansions}
 use Rattle.regress_match.specs.declared.api.regex.Regex.{Regex}

@@ -8,7 +8,7 @@ use Rattle.regex_meaning.specs.MatchGroupsByNumberAndName.{Answer, answers_from}
 use Rattle.regex_meaning.specs.SearchAnswers.{answer_at}
 use Rattle.regex_meaning.specs.StepBudget.{answers_within, finishes_within}
 use Rattle.regex_meaning.specs.WellFormedTrees.{is_well_formed}
-use Rattle.regex_grammar.specs.Grammar.{PatternDialect, ParsesBy, profile}
+use Rattle.regex_meaning.specs.Grammar.{PatternDialect, ParsesBy, profile}
 use Rattle.regex_pattern_front.specs.AstToSpecTree.{tree_of}
 use Rattle.regex_pattern_front.specs.OptimizedTrees.{has_no_char_loops}
 use Rattle.regress_program.specs.CompilationOfTreesAsFunction.{compiled}

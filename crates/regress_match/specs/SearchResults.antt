@@ -4,10 +4,10 @@ use Rattle.regex_meaning.specs.Tree.{Tree}
 use Rattle.regex_meaning.specs.Text.{Text}
 use Rattle.regex_meaning.specs.CodeUnitOffsets.{units}
 use Rattle.regex_meaning.specs.MatchGroupsByNumberAndName.{Answer, answers_from}
-use Rattle.regress_exec.specs.MatchesAsSpecAnswers.{answer_of}
-use Rattle.regress_exec.specs.RemainingAnswers.{RemainingView, NextYields}
-use Rattle.regress_exec.specs.declared.exec.Match.{Match}
-use Rattle.regress_exec.specs.declared.exec.SearchError.{SearchError}
+use Rattle.regress_search.specs.MatchesAsSpecAnswers.{answer_of}
+use Rattle.regress_search.specs.RemainingAnswers.{RemainingView, NextYields}
+use Rattle.regress_search.specs.declared.exec.Match.{Match}
+use Rattle.regress_search.specs.declared.exec.SearchError.{SearchError}
 use Rattle.regress_match.specs.CompileErrors.{IsOutOfMemory}
 
 -- The remaining matches of a search from `start` are exactly the tree's list of matches in the

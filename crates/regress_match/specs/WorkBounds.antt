@@ -1,14 +1,16 @@
 -- Work bounds of patterns, and what a search within a work budget yields.
-use Rattle.std.specs.Prelude.{◌≡◌, ◌≤◌, ◌<◌, ◌*◌, ℕ, List, [], ◌∷◌, Option, Some, None, Result, Ok, Err, if◌then◌else◌, nat_lt}
+use Rattle.std.specs.Prelude.{◌≡◌, ◌≤◌, ◌<◌, ◌+◌, ◌*◌, ℕ, List, [], ◌∷◌, Option, Some, None, Result, Ok, Err, if◌then◌else◌, nat_lt}
 use Rattle.regex_meaning.specs.Laws.{Each}
 use Rattle.regex_meaning.specs.MatchGroupsByNumberAndName.{Answer, answers_from}
 use Rattle.regex_meaning.specs.Text.{Text}
 use Rattle.regex_meaning.specs.Tree.{Tree}
-use Rattle.regress_exec.specs.MatchesAsSpecAnswers.{answer_of}
-use Rattle.regress_exec.specs.AttemptsAndMatchesWithinWork.{RemainingAnswersAndWork, NextYieldsWithinWork}
-use Rattle.regress_exec.specs.declared.exec.Match.{Match}
-use Rattle.regress_exec.specs.declared.exec.work_matches.WorkError.{WorkError}
-use Rattle.regress_exec.specs.declared.exec.work_matches.WorkError.TheVariants.{Memory, WorkLimit}
+use Rattle.regress_search.specs.MatchesAsSpecAnswers.{answer_of}
+use Rattle.regress_search.specs.AttemptsAndMatchesWithinWork.{RemainingAnswersAndWork, NextYieldsWithinWork}
+use Rattle.regress_search.specs.CostsOfSearches.{Failures}
+use Rattle.regress_search.specs.CostsOfCalls.{NextCosts, NextYieldsAtCost, WorkMatchesView, remaining}
+use Rattle.regress_search.specs.declared.exec.Match.{Match}
+use Rattle.regress_search.specs.declared.exec.work_matches.WorkError.{WorkError}
+use Rattle.regress_search.specs.declared.exec.work_matches.WorkError.TheVariants.{Memory, WorkLimit}
 use Rattle.regress_program.specs.CompilationOfTreesAsFunction.{compiled}
 use Rattle.regress_bounded.specs.ProgramWorkBoundForAllMatches.{TreeHasWorkBound, program_size}
 pub use Rattle.regress_bounded.specs.ProgramWorkBoundForAllMatches.{YieldsMatchesIfWorkSuffices, enough_work_for_text}
@@ -81,3 +83,33 @@ abbrev pub SearchesAnswerInWork : Type 0
 SearchesAnswerInWork = (tree : Tree) (text : Text) (start per_unit work : ℕ) (it behind : RemainingAnswersAndWork) (rs : List WorkMatchesNextResultType)
     → YieldsMatchesIfWorkSuffices tree text start per_unit work it → NextCallsYieldWithinWork it rs behind
     → AnswerInWork (work < enough_work_for_text per_unit text) (answers_from tree.root text start) rs × (behind.left ≤ work)
+
+-- ---- Costs of its calls
+
+-- The call returns no allocation failure.
+abbrev pub IsNoAllocationFailure : WorkMatchesNextResultType → Type 0
+IsNoAllocationFailure (Some (Err Memory)) = ⊥
+IsNoAllocationFailure _ = Unit {0}
+
+module _ {P : Type 0} (attempt_costs : Tree → Text → (before : Failures) → (at cost : ℕ) → (after : Option Failures) → Type 0) (tree_of : P → Tree) (text_of : P → Text) (failures_of : P → Failures) where
+  -- Successive calls of `next` return these results, and take the iterator from the view `before` to
+  -- the view `behind`.
+  abbrev pub NextCallsYieldAtCost : (before : WorkMatchesView P) → List WorkMatchesNextResultType → (behind : WorkMatchesView P) → Type 0
+  NextCallsYieldAtCost before [] behind = behind ≡ before
+  NextCallsYieldAtCost before (r ∷ rs) behind =
+      (next : WorkMatchesView P) × NextYieldsAtCost attempt_costs tree_of text_of failures_of before r next × NextCallsYieldAtCost next rs behind
+
+  -- The same, where the searches of the calls cost `cost` together.
+  abbrev pub CallsCost : (before : WorkMatchesView P) → List WorkMatchesNextResultType → (cost : ℕ) → (behind : WorkMatchesView P) → Type 0
+  CallsCost before [] cost behind = (behind ≡ before) × (cost ≡ 0)
+  CallsCost before (r ∷ rs) cost behind =
+      (next : WorkMatchesView P) × (first later : ℕ) × NextYieldsAtCost attempt_costs tree_of text_of failures_of before r next
+      × NextCosts attempt_costs tree_of text_of failures_of before first (Some (failures_of next.producer)) × CallsCost next rs later behind × (cost ≡ first + later)
+
+  -- With a budget that is enough, the calls of a search cost together what the budget falls by, unless
+  -- an allocation fails. So with the least budget that is enough, they cost at most that.
+  abbrev pub SearchesCostInWork : Type 0
+  SearchesCostInWork = (tree : Tree) (text : Text) (start per_unit work : ℕ) (it behind : WorkMatchesView P) (rs : List WorkMatchesNextResultType)
+      → YieldsMatchesIfWorkSuffices tree text start per_unit work (remaining it) → enough_work_for_text per_unit text ≤ work
+      → NextCallsYieldAtCost it rs behind → Each IsNoAllocationFailure rs
+      → (cost : ℕ) × CallsCost it rs cost behind × (work ≡ cost + behind.left)

@@ -17,7 +17,7 @@ pub use self::compile_and_replace_errors::{Error, ReplaceError};
 pub use self::escaping::escape;
 pub use self::flags::Flags;
 pub use self::laws::{
-    matches_stand_in_text, searches_answer_in_turn, searches_answer_in_work,
+    matches_stand_in_text, searches_answer_in_turn, searches_answer_in_work, searches_cost_in_work,
     searches_follow_the_ecmascript_pattern, searches_follow_the_pattern, work_bounds_are_limited,
 };
 pub use self::regex::{AsciiMatches, LimitedMatches, Matches, Regex};
@@ -26,6 +26,6 @@ pub use self::searches_resumed_at_offsets::{Step, next_from};
 pub use self::work_budget_searches::{BoundedRegex, MatchesInWork};
 pub use regex_parser::diagnosis::{CaretDiagnosis, Cause, Diagnosis};
 pub use regex_parser::syntax::Syntax;
-pub use regress_exec::exec::{Groups, Match, NamedGroups, SearchError, WorkError};
 pub use regress_input::indexing::is_unit_boundary;
+pub use regress_search::exec::{Groups, Match, NamedGroups, SearchError, WorkError};
 pub use std::ops::Range;

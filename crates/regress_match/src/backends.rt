@@ -13,9 +13,9 @@ pub use crate::executor_aliases_per_encoding::{
 };
 pub use regex_parser::parse::{diagnose, diagnose_in, try_parse, try_parse_in};
 pub use regex_pattern_front::optimizer::optimize;
-use regress_exec::exec::{Executor, Matches};
 pub use regress_pikevm::pikevm::PikeVMExecutor;
 pub use regress_program::emit::{emit, emit_units};
+use regress_search::exec::{Executor, Matches};
 
 /// Returns the matches of a pattern in `text` from offset `start` on, as found by the executor `E`.
 ///

@@ -6,9 +6,9 @@ ghost use Rattle.regex_pattern_front.specs.AstToSpecTree.{tree_of};
 ghost use Rattle.regress_match.specs.{ProgramTreesAndAnswers.{IsBoundaryOrPastEnd}, CompileErrors.{IsOutOfMemory}, SearchResults.{YieldsMatches}};
 
 pub use regress_backtrack::classicalbacktrack::{BacktrackExecutor, LimitedExecutor};
-use regress_exec::exec::{Matches, ProducerFromProgramAndText, SearchError};
 use regress_input::indexing::{AsciiInput, Ucs2Input, Utf8Input, Utf16Input};
 use regress_program::insn::CompiledRegex;
+use regress_search::exec::{Matches, ProducerFromProgramAndText, SearchError};
 
 /// The executor that searches UTF-8 text.
 pub type DefaultExecutor<'r, 't> = BacktrackExecutor<'r, Utf8Input<'t>>;

@@ -22,7 +22,7 @@ pub use crate::api::{
 };
 pub use regex_parser::greatest_parenthesis_depth_of_pattern::nesting;
 pub use regress_backtrack::classicalbacktrack;
-pub use regress_exec::{exec, search_loop};
 pub use regress_input::{cursor, indexing, matchers, position, scm};
 pub use regress_pikevm::pikevm;
 pub use regress_program::{emit, insn, startpredicate};
+pub use regress_search::{exec, search_loop};

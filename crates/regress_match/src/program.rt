@@ -1,7 +1,7 @@
 //! The program `regress-tool`.
 
 use crate::api::{Error, Flags, Regex, Syntax};
-use regress_exec::exec::{Match, SearchError};
+use regress_search::exec::{Match, SearchError};
 use std::alloc::Global;
 use std::io;
 use std::io::Write;

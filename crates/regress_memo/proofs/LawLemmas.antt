@@ -13,22 +13,22 @@ use Rattle.regex_meaning.specs.CodeUnitOffsets.{place_at, offset, units}
 use Rattle.regex_meaning.specs.CompilationRelation.{Program}
 use Rattle.regress_machine.specs.Machine.{State, LoopData, Thread, running, test_of}
 use Rattle.regress_machine.proofs.Beside.{moved-zero}
-use Rattle.regress_simulation.specs.CharLoopExitStatesByPreference.{behind}
-use Rattle.regress_memo_laws.specs.Liveness.{Agree, outermost}
-use Rattle.regress_memo_laws.specs.DistinctLists.{IsIn, IsNew, AreDistinct}
-use Rattle.regress_memo_laws.specs.LoopDataKeyCodes.{Question, is_empty, how_many, number_of_possible_answers, bool_as_digit, answer_to_loop_question, code_of}
-use Rattle.regress_memo_laws.specs.LoopDataKeyCodes.{plan_code, plan_codes, key_of, own_row}
-use Rattle.regress_memo_laws.specs.LoopDataKeyCodes.{HasSlotsOfProgram}
-use Rattle.regress_memo_laws.specs.UnboundedCharLoopMemoKeys.{row_by, plan_rows, char_loop_greediness_at, insn_before, CharLoopRecords, run_key}
-use Rattle.regress_memo_laws.specs.MemoPlanChecksAndGuarantees.{plan_taken}
-use Rattle.regress_memo_laws.specs.MemoSearch.{Key, KeyStandsFor, IsKnown, known_to_fail, known_to_reach}
-use Rattle.regress_memo_laws.specs.ThreadPotentials.{is_one_of}
-use Rattle.regress_memo_laws.proofs.Codes.{plans-tell}
-use Rattle.regress_memo_laws.proofs.Weights.{in-places}
-use Rattle.regress_memo_analysis.specs.declared.analysis_result.MemoAnalysis.{MemoAnalysis}
-use Rattle.regress_memo_analysis.specs.AnalysisAsLivenessAndPotentials.{insn_analysis_of, analysis_as_liveness, key_code_questions_of, insn_direction, recorded}
-use Rattle.regress_memo_analysis.specs.CheckedAnalysis.{IsRecordableMemoKey, IsAnalysisOf}
-use Rattle.regress_memo_analysis.proofs.WholeLemmas.{recorded-is, not-recorded}
+use Rattle.regress_machine.specs.CharLoopExitStatesByPreference.{behind}
+use Rattle.regress_memo.specs.Liveness.{Agree, outermost}
+use Rattle.regress_memo.specs.DistinctLists.{IsIn, IsNew, AreDistinct}
+use Rattle.regress_memo.specs.LoopDataKeyCodes.{Question, is_empty, how_many, number_of_possible_answers, bool_as_digit, answer_to_loop_question, code_of}
+use Rattle.regress_memo.specs.LoopDataKeyCodes.{plan_code, plan_codes, key_of, own_row}
+use Rattle.regress_memo.specs.LoopDataKeyCodes.{HasSlotsOfProgram}
+use Rattle.regress_memo.specs.UnboundedCharLoopMemoKeys.{row_by, plan_rows, char_loop_greediness_at, insn_before, CharLoopRecords, run_key}
+use Rattle.regress_memo.specs.MemoPlanChecksAndGuarantees.{plan_taken}
+use Rattle.regress_memo.specs.MemoSearch.{Key, KeyStandsFor, IsKnown, known_to_fail, known_to_reach}
+use Rattle.regress_memo.specs.ThreadPotentials.{is_one_of}
+use Rattle.regress_memo.proofs.Codes.{plans-tell}
+use Rattle.regress_memo.proofs.Weights.{in-places}
+use Rattle.regress_memo.specs.declared.analysis_result.MemoAnalysis.{MemoAnalysis}
+use Rattle.regress_memo.specs.AnalysisAsLivenessAndPotentials.{insn_analysis_of, analysis_as_liveness, key_code_questions_of, insn_direction, recorded}
+use Rattle.regress_memo.specs.CheckedAnalysis.{IsRecordableMemoKey, IsAnalysisOf}
+use Rattle.regress_memo.proofs.WholeLemmas.{recorded-is, not-recorded}
 use Rattle.regress_memo.specs.MemoContractView.{MemoView}
 use Rattle.regress_memo.specs.MemoContents.{same_key, memo_key_at, has_failure, has_success, knows, IsEmptyMemo, RecordsFailure, RecordsSuccess}
 use Rattle.regress_memo.specs.Laws.{analysis_keys, KeyFails, KeyReaches, IsTrueOf, ListsExactlyKnownKeys, HasMemory, RecordingAddsKnownKeys, MemosAreSound}

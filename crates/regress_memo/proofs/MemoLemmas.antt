@@ -7,14 +7,14 @@ use Rattle.std.proofs.lemmas.Bool.{both_ways, cases_lt, ltb-true, lt-ltb, eqb-tr
 use Rattle.std.proofs.lemmas.Option.{slice_get_past}
 use Rattle.regex_meaning.proofs.Booleans.{and-left, and-right, same-truth}
 use Rattle.regress_machine.specs.Machine.{State, LoopData}
-use Rattle.regress_memo_laws.specs.MemoSearch.{Key}
-use Rattle.regress_memo_laws.specs.LoopDataKeyCodes.{code_of, plan_code, plan_codes, key_of}
-use Rattle.regress_memo_laws.proofs.Codes.{plans-tell}
-use Rattle.regress_memo_analysis.specs.declared.analysis_result.InsnAnalysis.{InsnAnalysis}
-use Rattle.regress_memo_analysis.specs.declared.analysis_result.MemoAnalysis.{MemoAnalysis}
-use Rattle.regress_memo_analysis.specs.AnalysisAsLivenessAndPotentials.{no_insn_analysis, insn_analysis_of, key_code_questions_of, memo_bit_index_of_key}
-use Rattle.regress_memo_analysis.specs.CheckedAnalysis.{AreInsnCodesCountedAndDisjoint, IsRecordableMemoKey}
-use Rattle.regress_memo_analysis.proofs.Bits.{bits-apart}
+use Rattle.regress_memo.specs.MemoSearch.{Key}
+use Rattle.regress_memo.specs.LoopDataKeyCodes.{code_of, plan_code, plan_codes, key_of}
+use Rattle.regress_memo.proofs.Codes.{plans-tell}
+use Rattle.regress_memo.specs.declared.analysis_result.InsnAnalysis.{InsnAnalysis}
+use Rattle.regress_memo.specs.declared.analysis_result.MemoAnalysis.{MemoAnalysis}
+use Rattle.regress_memo.specs.AnalysisAsLivenessAndPotentials.{no_insn_analysis, insn_analysis_of, key_code_questions_of, memo_bit_index_of_key}
+use Rattle.regress_memo.specs.CheckedAnalysis.{AreInsnCodesCountedAndDisjoint, IsRecordableMemoKey}
+use Rattle.regress_memo.proofs.Bits.{bits-apart}
 use Rattle.regress_memo.specs.BitSet.{is_set}
 use Rattle.regress_memo.specs.MemoContractView.{MemoView}
 use Rattle.regress_memo.specs.MemoContents.{same_key, memo_key_at, has_bit, is_noted, RecordsFailure, RecordsSuccess}

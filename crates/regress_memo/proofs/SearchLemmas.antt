@@ -9,32 +9,32 @@ use Rattle.regex_meaning.specs.CodeUnitOffsets.{HasRisingPlaceOffsets, units}
 use Rattle.regex_meaning.specs.CompilationRelation.{Program}
 use Rattle.regress_machine.specs.SearchFindsFirstOutcomeAtPlace.{state_before_first_insn}
 use Rattle.regress_machine.specs.Machine.{State, Thread, running, waiting, goes, act}
-use Rattle.regress_memo_laws.specs.Liveness.{Agree, outermost, ReadsAsBytes}
-use Rattle.regress_memo_laws.specs.ThreadBisimulation.{AlikeThreads}
-use Rattle.regress_memo_laws.specs.LoopDataKeyCodes.{HasSlotsOfProgram, plan_code, key_of}
-use Rattle.regress_memo_laws.specs.DistinctLists.{IsNew}
-use Rattle.regress_memo_laws.specs.PreservedSlotCounts.{state_of_thread}
-use Rattle.regress_memo_laws.specs.AmortizedStepCosts.{potential_by}
-use Rattle.regress_memo_laws.specs.MemoPlanChecksAndGuarantees.{IsRecorded, plan_taken}
-use Rattle.regress_memo_laws.specs.MemoSearch.{Key, Entry, tried, noted, tries, threads_in, at_first, gives, reaches}
-use Rattle.regress_memo_laws.specs.ThreadPotentials.{is_one_of}
-use Rattle.regress_memo_laws.proofs.Beside.{others-paid}
-use Rattle.regress_memo_laws.proofs.LaidOut.{states-stay}
-use Rattle.regress_memo_laws.proofs.Looks.{soundness-stays}
-use Rattle.regress_memo_laws.proofs.Paid.{turns-paid}
-use Rattle.regress_memo_laws.proofs.Plans.{plans-take}
-use Rattle.regress_memo_laws.proofs.Turns.{threads-tries, threads-joined, turns-right}
-use Rattle.regress_memo_analysis.specs.declared.analysis_result.MemoAnalysis.{MemoAnalysis}
-use Rattle.regress_memo_analysis.specs.UnreachedCharLoopBodies.{IsNotLoopBody}
-use Rattle.regress_memo_analysis.specs.WorkBound.{IsWorkBounded, first_row}
-use Rattle.regress_memo_analysis.specs.AnalysisAsLivenessAndPotentials.{insn_analysis_of, analysis_as_liveness, key_code_questions_of, recorded, potentials_of}
-use Rattle.regress_memo_analysis.specs.AnalysisAsLivenessAndPotentials.{key_cost_of}
-use Rattle.regress_memo_analysis.specs.AnalysisAsLivenessAndPotentials.{insn_direction}
-use Rattle.regress_memo_analysis.specs.CheckedAnalysis.{IsAnalysisOf, ip_of, Serves}
-use Rattle.regress_memo_analysis.proofs.NoBodies.{bodies-apart}
-use Rattle.regress_memo_analysis.proofs.Outside.{starts-outside}
-use Rattle.regress_memo_analysis.proofs.Ways.{ways-stay}
-use Rattle.regress_memo_analysis.proofs.WholeLemmas.{recorded-is, ledgers-serve}
+use Rattle.regress_memo.specs.Liveness.{Agree, outermost, ReadsAsBytes}
+use Rattle.regress_memo.specs.ThreadBisimulation.{AlikeThreads}
+use Rattle.regress_memo.specs.LoopDataKeyCodes.{HasSlotsOfProgram, plan_code, key_of}
+use Rattle.regress_memo.specs.DistinctLists.{IsNew}
+use Rattle.regress_memo.specs.PreservedSlotCounts.{state_of_thread}
+use Rattle.regress_memo.specs.AmortizedStepCosts.{potential_by}
+use Rattle.regress_memo.specs.MemoPlanChecksAndGuarantees.{IsRecorded, plan_taken}
+use Rattle.regress_memo.specs.MemoSearch.{Key, Entry, tried, noted, tries, threads_in, at_first, gives, reaches}
+use Rattle.regress_memo.specs.ThreadPotentials.{is_one_of}
+use Rattle.regress_memo.proofs.Beside.{others-paid}
+use Rattle.regress_memo.proofs.LaidOut.{states-stay}
+use Rattle.regress_memo.proofs.Looks.{soundness-stays}
+use Rattle.regress_memo.proofs.Paid.{turns-paid}
+use Rattle.regress_memo.proofs.Plans.{plans-take}
+use Rattle.regress_memo.proofs.Turns.{threads-tries, threads-joined, turns-right}
+use Rattle.regress_memo.specs.declared.analysis_result.MemoAnalysis.{MemoAnalysis}
+use Rattle.regress_memo.specs.UnreachedCharLoopBodies.{IsNotLoopBody}
+use Rattle.regress_memo.specs.WorkBound.{IsWorkBounded, first_row}
+use Rattle.regress_memo.specs.AnalysisAsLivenessAndPotentials.{insn_analysis_of, analysis_as_liveness, key_code_questions_of, recorded, potentials_of}
+use Rattle.regress_memo.specs.AnalysisAsLivenessAndPotentials.{key_cost_of}
+use Rattle.regress_memo.specs.AnalysisAsLivenessAndPotentials.{insn_direction}
+use Rattle.regress_memo.specs.CheckedAnalysis.{IsAnalysisOf, ip_of, Serves}
+use Rattle.regress_memo.proofs.NoBodies.{bodies-apart}
+use Rattle.regress_memo.proofs.Outside.{starts-outside}
+use Rattle.regress_memo.proofs.Ways.{ways-stay}
+use Rattle.regress_memo.proofs.WholeLemmas.{recorded-is, ledgers-serve}
 use Rattle.regress_memo.specs.Laws.{analysis_keys, KeyFails}
 use Rattle.regress_memo.specs.MemoContents.{memo_key_at}
 use Rattle.regress_memo.specs.AmortizedMemoSearchSteps.{IsKeyed, AreKeyed, HasCome, ComesOn, WorkIsCoveredByKeyCosts}

@@ -6,17 +6,17 @@ use Rattle.regex_meaning.specs.Text.{Text, Direction, rightwards}
 use Rattle.regex_meaning.specs.CodeUnitOffsets.{HasRisingPlaceOffsets, units}
 use Rattle.regex_meaning.specs.CompilationRelation.{Program}
 use Rattle.regress_machine.specs.Machine.{State, Thread, running, waiting, goes, act}
-use Rattle.regress_memo_laws.specs.Liveness.{Agree, outermost, ReadsAsBytes}
-use Rattle.regress_memo_laws.specs.LoopDataKeyCodes.{HasSlotsOfProgram}
-use Rattle.regress_memo_laws.specs.DistinctLists.{IsNew}
-use Rattle.regress_memo_laws.specs.PreservedSlotCounts.{state_of_thread}
-use Rattle.regress_memo_laws.specs.AmortizedStepCosts.{potential_by}
-use Rattle.regress_memo_laws.specs.MemoSearch.{Key, Entry, tried, noted, tries, threads_in, ReachesBySteps}
-use Rattle.regress_memo_analysis.specs.declared.analysis_result.MemoAnalysis.{MemoAnalysis}
-use Rattle.regress_memo_analysis.specs.UnreachedCharLoopBodies.{IsNotLoopBody}
-use Rattle.regress_memo_analysis.specs.WorkBound.{IsWorkBounded, first_row}
-use Rattle.regress_memo_analysis.specs.AnalysisAsLivenessAndPotentials.{analysis_as_liveness, recorded, potentials_of, key_cost_of, insn_direction}
-use Rattle.regress_memo_analysis.specs.CheckedAnalysis.{IsAnalysisOf}
+use Rattle.regress_memo.specs.Liveness.{Agree, outermost, ReadsAsBytes}
+use Rattle.regress_memo.specs.LoopDataKeyCodes.{HasSlotsOfProgram}
+use Rattle.regress_memo.specs.DistinctLists.{IsNew}
+use Rattle.regress_memo.specs.PreservedSlotCounts.{state_of_thread}
+use Rattle.regress_memo.specs.AmortizedStepCosts.{potential_by}
+use Rattle.regress_memo.specs.MemoSearch.{Key, Entry, tried, noted, tries, threads_in, ReachesBySteps}
+use Rattle.regress_memo.specs.declared.analysis_result.MemoAnalysis.{MemoAnalysis}
+use Rattle.regress_memo.specs.UnreachedCharLoopBodies.{IsNotLoopBody}
+use Rattle.regress_memo.specs.WorkBound.{IsWorkBounded, first_row}
+use Rattle.regress_memo.specs.AnalysisAsLivenessAndPotentials.{analysis_as_liveness, recorded, potentials_of, key_cost_of, insn_direction}
+use Rattle.regress_memo.specs.CheckedAnalysis.{IsAnalysisOf}
 use Rattle.regress_memo.specs.Laws.{analysis_keys, KeyFails}
 use Rattle.regress_memo.specs.MemoContents.{memo_key_at}
 

@@ -1,18 +1,18 @@
--- Laws of memo tables: their contents as a list of keys in the terms of `regress_memo_laws`.
+-- Laws of memo tables: their contents as a list of keys in the terms of `regress_memo`.
 use Rattle.std.specs.Prelude.{◌≡◌, ◌+◌, ℕ, Bool, true, false, List, [], ◌∷◌, None, Some}
 use Rattle.regex_meaning.specs.Text.{Text, Direction}
 use Rattle.regex_meaning.specs.CodeUnitOffsets.{offset, units}
 use Rattle.regex_meaning.specs.CompilationRelation.{Program}
 use Rattle.regress_machine.specs.Machine.{State, Thread, running}
-use Rattle.regress_memo_laws.specs.Liveness.{Agree, outermost}
-use Rattle.regress_memo_laws.specs.DistinctLists.{IsIn, IsNew}
-use Rattle.regress_memo_laws.specs.LoopDataKeyCodes.{HasSlotsOfProgram}
-use Rattle.regress_memo_laws.specs.UnboundedCharLoopMemoKeys.{plan_keys, char_loop_greediness_at, insn_before, CharLoopRecords, run_key}
-use Rattle.regress_memo_laws.specs.MemoPlanChecksAndGuarantees.{plan_taken}
-use Rattle.regress_memo_laws.specs.MemoSearch.{Key, Keys, KeyStandsFor, Fails, Succeeds, IsMemory}
-use Rattle.regress_memo_analysis.specs.declared.analysis_result.MemoAnalysis.{MemoAnalysis}
-use Rattle.regress_memo_analysis.specs.AnalysisAsLivenessAndPotentials.{analysis_as_liveness, key_code_questions_of, insn_direction, recorded}
-use Rattle.regress_memo_analysis.specs.CheckedAnalysis.{IsRecordableMemoKey, IsAnalysisOf}
+use Rattle.regress_memo.specs.Liveness.{Agree, outermost}
+use Rattle.regress_memo.specs.DistinctLists.{IsIn, IsNew}
+use Rattle.regress_memo.specs.LoopDataKeyCodes.{HasSlotsOfProgram}
+use Rattle.regress_memo.specs.UnboundedCharLoopMemoKeys.{plan_keys, char_loop_greediness_at, insn_before, CharLoopRecords, run_key}
+use Rattle.regress_memo.specs.MemoPlanChecksAndGuarantees.{plan_taken}
+use Rattle.regress_memo.specs.MemoSearch.{Key, Keys, KeyStandsFor, Fails, Succeeds, IsMemory}
+use Rattle.regress_memo.specs.declared.analysis_result.MemoAnalysis.{MemoAnalysis}
+use Rattle.regress_memo.specs.AnalysisAsLivenessAndPotentials.{analysis_as_liveness, key_code_questions_of, insn_direction, recorded}
+use Rattle.regress_memo.specs.CheckedAnalysis.{IsRecordableMemoKey, IsAnalysisOf}
 use Rattle.regress_memo.specs.MemoContractView.{MemoView}
 use Rattle.regress_memo.specs.MemoContents.{memo_key_at, has_failure, has_success, knows, IsEmptyMemo, RecordsFailure, RecordsSuccess}
 
@@ -47,7 +47,7 @@ pub record ListsExactlyKnownKeys (known : Key → Bool) (memory : List Key) : Ty
 
 -- ---- Laws
 
--- The known keys as a memory of `regress_memo_laws`, with which the invariant of a search may
+-- The known keys as a memory of `regress_memo`, with which the invariant of a search may
 -- begin.
 pub record HasMemory (program : Program) (text : Text) (m : MemoView) (known : Key → Bool) : Type 0 where
   pub memory : List Key

@@ -1,17 +1,17 @@
 -- The contents of a memo table: what it knows of keys.
 use Rattle.std.specs.Prelude.{◌≡◌, ℕ, Bool, false, if◌then◌else◌, ◌&&◌, ◌||◌, ◌==◌, List, length, Option, Some, None, nat_lt}
 use Rattle.regress_machine.specs.Machine.{State}
-use Rattle.regress_memo_laws.specs.MemoSearch.{Key}
-use Rattle.regress_memo_laws.specs.LoopDataKeyCodes.{plan_code, key_of}
-use Rattle.regress_memo_analysis.specs.declared.analysis_result.MemoAnalysis.{MemoAnalysis}
-use Rattle.regress_memo_analysis.specs.AnalysisAsLivenessAndPotentials.{insn_analysis_of, key_code_questions_of, memo_bit_index_of_key}
+use Rattle.regress_memo.specs.MemoSearch.{Key}
+use Rattle.regress_memo.specs.LoopDataKeyCodes.{plan_code, key_of}
+use Rattle.regress_memo.specs.declared.analysis_result.MemoAnalysis.{MemoAnalysis}
+use Rattle.regress_memo.specs.AnalysisAsLivenessAndPotentials.{insn_analysis_of, key_code_questions_of, memo_bit_index_of_key}
 use Rattle.regress_memo.specs.declared.memo.ThreadMemoKey.{ThreadMemoKey as Stored}
 use Rattle.regress_memo.specs.BitSet.{is_set}
 use Rattle.regress_memo.specs.MemoContractView.{MemoView}
 
 -- ---- Keys
 
--- A `ThreadMemoKey` as a key of `regress_memo_laws`.
+-- A `ThreadMemoKey` as a key of `regress_memo`.
 abbrev pub memo_key_as_spec : Stored → Key
 memo_key_as_spec k = record { ip = k.ip; at = k.at; code = k.code }
 

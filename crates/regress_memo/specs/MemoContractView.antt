@@ -1,7 +1,7 @@
 -- The contents of a memo table as contracts see them, and that they have a bit for each key.
 use Rattle.std.specs.Prelude.{◌≡◌, ◌≤◌, ◌<◌, ◌^◌, ℕ, ◌*◌, Bool, true, List, length}
-use Rattle.regress_memo_analysis.specs.declared.analysis_result.MemoAnalysis.{MemoAnalysis}
-use Rattle.regress_memo_analysis.specs.CheckedAnalysis.{AreInsnCodesCountedAndDisjoint}
+use Rattle.regress_memo.specs.declared.analysis_result.MemoAnalysis.{MemoAnalysis}
+use Rattle.regress_memo.specs.CheckedAnalysis.{AreInsnCodesCountedAndDisjoint}
 
 -- A memo table: its memo analysis, its number of offsets, and the words of its two bit sets.
 pub record MemoView : Type 0 where

@@ -8,7 +8,7 @@ pub fn recording_adds_known_keys()
 {}
 
 /// If only true facts are recorded, all that a memo table knows is true. As a list of keys it is
-/// then a memory in the terms of `regress_memo_laws`.
+/// then a memory in the terms of `regress_memo`.
 pub fn memos_are_sound()
     ensures { MemosAreSound }
 {}

@@ -3,14 +3,14 @@
 ghost use Rattle.std.specs.Prelude.{◌≡◌, ◌≤◌, ◌<◌, ◌*◌, ◌^◌, ◌↔◌, true, option_map, IfOk, IfSome, IsTrue, MatchOption};
 ghost use Rattle.std.specs.Arc.{arc_value};
 ghost use Rattle.regress_machine.specs.Machine.{State};
-ghost use Rattle.regress_memo_analysis.specs.AnalysisAsLivenessAndPotentials.{memo_bit_index_of_key as bit_of_key};
-ghost use Rattle.regress_memo_analysis.specs.CheckedAnalysis.{AreInsnCodesCountedAndDisjoint, IsRecordableMemoKey};
+ghost use Rattle.regress_memo.specs.AnalysisAsLivenessAndPotentials.{memo_bit_index_of_key as bit_of_key};
+ghost use Rattle.regress_memo.specs.CheckedAnalysis.{AreInsnCodesCountedAndDisjoint, IsRecordableMemoKey};
 ghost use Rattle.regress_memo.specs.MemoContents.{memo_key_as_spec, memo_key_at as key_of_state, has_failure, has_success, IsEmptyMemo, RecordsFailure, RecordsSuccess};
 ghost use Rattle.regress_memo.specs.MemoContractView.{MemoView, HasRoom};
 
+use crate::analysis_result::MemoAnalysis;
 use crate::bit_set::Bits;
-use regress_memo_analysis::analysis_result::MemoAnalysis;
-use regress_memo_analysis::loop_data_key_codes::IterationStatesOfAllLoops;
+use crate::loop_data_key_codes::IterationStatesOfAllLoops;
 use std::alloc::{AllocError, Global};
 use std::marker::Model;
 use std::sync::Arc;

@@ -4,8 +4,8 @@ use Rattle.std.specs.Prelude.{is_some, IsTrue}
 use Rattle.regex_meaning.specs.Text.{Text, Direction}
 use Rattle.regex_pattern_front.specs.AstToSpecTree.{tree_of}
 use Rattle.regex_pattern_front.specs.declared.ir.Regex.{Regex}
-use Rattle.regress_plan.specs.InsnsAsSpecInsns.{insn_as_spec_insn}
-use Rattle.regress_plan.specs.declared.insn.Insn.{Insn}
+use Rattle.regress_program.specs.InsnsAsSpecInsns.{insn_as_spec_insn}
+use Rattle.regress_program.specs.declared.instructions.Insn.{Insn}
 use Rattle.regress_program.specs.CompilationOfTreesAsFunction.{compiled}
 use Rattle.regress_machine.specs.Machine.{State, Next, act, test_of, with_some}
 use Rattle.regress_machine.specs.InsnEffects.{IsNotStuck}

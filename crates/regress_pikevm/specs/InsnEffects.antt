@@ -8,14 +8,14 @@ use Rattle.regex_pattern_front.specs.declared.ir.Regex.{Regex}
 use Rattle.regex_pattern_front.specs.AstToSpecTree.{tree_of}
 use Rattle.regress_input.specs.CharAndByteReadsFromOffset.{direction_of_forward_flag}
 use Rattle.regress_program.specs.CompilationOfTreesAsFunction.{compiled}
-use Rattle.regress_plan.specs.InsnsAsSpecInsns.{insn_as_spec_insn}
-use Rattle.regress_plan.specs.declared.insn.Insn.{Insn}
+use Rattle.regress_program.specs.InsnsAsSpecInsns.{insn_as_spec_insn}
+use Rattle.regress_program.specs.declared.instructions.Insn.{Insn}
 use Rattle.regress_machine.specs.Machine as machine
 use Rattle.regress_machine.specs.Machine.{Found, Next, act, act_on, read_group, scan, with_some}
 use Rattle.regress_machine.specs.SearchFindsFirstOutcomeAtPlace.{end_of}
 use Rattle.regress_machine.specs.InsnEffects.{state_after_char_loop_to_offset, end_of_search, IsReached}
-use Rattle.regress_exec.specs.AttemptResultsAndStartsToTry.{search_from}
-use Rattle.regress_scan.specs.OffsetsAfterMatchedInsns.{char_test_of_insn}
+use Rattle.regress_search.specs.AttemptResultsAndStartsToTry.{search_from}
+use Rattle.regress_search.specs.OffsetsAfterMatchedInsns.{char_test_of_insn}
 use Rattle.regress_pikevm.specs.declared.pikevm.char_loops.CharLoopBoundsAndGreed.{CharLoopBoundsAndGreed}
 use Rattle.regress_pikevm.specs.declared.pikevm.states.State.{State}
 use Rattle.regress_pikevm.specs.States.{groups_of, range_of, state_of}

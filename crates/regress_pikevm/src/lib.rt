@@ -4,4 +4,4 @@
 
 pub mod pikevm;
 
-pub use regress_exec::exec;
+pub use regress_search::exec;

@@ -6,8 +6,8 @@ ghost use Rattle.regex_meaning.specs.{Text.{ascii_text, ucs2_text, utf16_text, u
 ghost use Rattle.regex_pattern_front.specs.AstToSpecTree.{tree_of};
 ghost use Rattle.regress_program.specs.{CompilationOfTreesAsFunction.{compiled}, InsnsAndStartPredicatesAsSpec.{insn_as_spec_insn}};
 ghost use Rattle.regress_machine.specs.{Machine.{first_running_and_others_waiting}, InsnEffects.{IsNotStuck}};
-ghost use Rattle.regress_exec.specs.AttemptResultsAndStartsToTry.{match_end_and_groups_at};
-ghost use Rattle.regress_exec.specs.NewExecutorsAndAsciiTexts.{IsNewExecutorWithoutStepLimit, ReadsBytesAsAscii, CanSearchAllAsciiTexts};
+ghost use Rattle.regress_search.specs.AttemptResultsAndStartsToTry.{match_end_and_groups_at};
+ghost use Rattle.regress_search.specs.NewExecutorsAndAsciiTexts.{IsNewExecutorWithoutStepLimit, ReadsBytesAsAscii, CanSearchAllAsciiTexts};
 ghost use Rattle.regress_pikevm.specs.InsnEffects.{end_and_groups, search_at, effect_at, HasRun};
 ghost use Rattle.regress_pikevm.specs.States.{groups_of, next_threads, waiting_threads, pending_threads, preferred_last, TakesNextThread};
 
@@ -18,13 +18,13 @@ pub mod states;
 
 use self::single_insn_execution::execute_insn;
 use self::states::{NextStates, State, initial_state, resume_after_lookaround};
-use regress_exec::exec::{Executor, MatchProducer, ProducerFromProgramAndText, SearchError};
-use regress_exec::program_and_input::ProgramAndInput;
-use regress_exec::search_loop::{SingleAttemptExecutor, group_at};
 use regress_input::cursor::{Backward, Forward};
 use regress_input::indexing::{AsciiInput, InputIndexer, Ucs2Input, Utf8Input, Utf16Input};
 use regress_input::position::PositionType;
 use regress_program::insn::{CompiledRegex, CompiledRegexFor16BitUnits, Insn, Program};
+use regress_search::exec::{Executor, MatchProducer, ProducerFromProgramAndText, SearchError};
+use regress_search::program_and_input::ProgramAndInput;
+use regress_search::search_loop::{SingleAttemptExecutor, group_at};
 use std::alloc::{AllocError, Global};
 
 /// An executor that runs a program over a text and copies whole states.

@@ -11,8 +11,8 @@ use Rattle.regex_meaning.specs.Tree.{Node, group_ids}
 use Rattle.regex_meaning.specs.MatchGroupsByNumberAndName.{capturing_group_ids_and_names, group_name_of_id, group_names_by_id}
 use Rattle.regex_meaning.specs.WellFormedTrees.{each_id_stands_once}
 use Rattle.regex_meaning.proofs.Sound.{all-contains}
-use Rattle.regex_grammar.proofs.Parts.{contains-numbers_from}
-use Rattle.regex_grammar.proofs.Names.{ids_of, named_ids-ids, at-number}
+use Rattle.regex_meaning.proofs.Parts.{contains-numbers_from}
+use Rattle.regex_meaning.proofs.Names.{ids_of, named_ids-ids, at-number}
 use Rattle.regex_pattern_front.specs.AstToSpecTree.{node_of}
 use Rattle.regex_pattern_front.specs.declared.ir.Node as ir
 use Rattle.regress_program.specs.LeafNodesAndOptimizableLoops.{cat_of, is_leaf}

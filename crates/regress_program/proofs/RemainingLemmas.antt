@@ -7,7 +7,7 @@ use Rattle.regex_meaning.specs.Tree.{Quantifier, Lookaround, Node as TreeNode, a
 use Rattle.regex_meaning.specs.Outcomes.{max_iterations}
 use Rattle.regex_meaning.specs.WellFormedTrees.{set_sizes_and_characters_fit_instructions}
 use Rattle.regex_meaning.specs.CompilationRelation.{Insn, Alt, EnterLoop, Jump, Goal, LoopAgain, lookaround_insn}
-use Rattle.regress_plan.specs.declared.insn.LoopFields.{LoopFields}
+use Rattle.regress_program.specs.declared.instructions.LoopFields.{LoopFields}
 use Rattle.regex_pattern_front.specs.AstToSpecTree.{node_of}
 use Rattle.regex_pattern_front.specs.declared.ir.Node as ir
 use Rattle.regress_program.specs.InnerNodeCountMeasure.{inner_node_count}

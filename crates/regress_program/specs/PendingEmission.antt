@@ -6,7 +6,7 @@ use Rattle.regex_meaning.specs.CompilationRelation.{Alt, EnterLoop, EndCaptureGr
 use Rattle.regex_meaning.specs.WellFormedTrees.{set_sizes_and_characters_fit_instructions}
 use Rattle.regex_pattern_front.specs.AstToSpecTree.{node_of}
 use Rattle.regex_pattern_front.specs.declared.ir.Node as ir
-use Rattle.regress_plan.specs.declared.insn.LoopFields.{LoopFields}
+use Rattle.regress_program.specs.declared.instructions.LoopFields.{LoopFields}
 use Rattle.regress_program.specs.LeafNodesAndOptimizableLoops.{cat_of}
 use Rattle.regress_program.specs.InnerNodeCountMeasure.{inner_node_count}
 use Rattle.regress_program.specs.EmitterStateAndAppendedCode.{EmitterState, emitter_state, with_code, with_insn_appended, with_insn_at, node_with_char_loops_if_enabled}

@@ -6,8 +6,8 @@ use Rattle.regex_meaning.specs.WellFormedTrees.{is_well_formed}
 use Rattle.regex_pattern_front.specs.AstToSpecTree.{tree_of, spec_flags_of, class_as_spec}
 use Rattle.regex_meaning.specs.CompilationRelation.{Program, tree_contains_byte_nodes}
 use Rattle.regex_pattern_front.specs.declared.ir.Regex.{Regex}
-use Rattle.regress_plan.specs.declared.plan.Plan.{Plan}
-use Rattle.regress_plan.specs.Plans.{IsPlanOf}
+use Rattle.regress_program.specs.declared.plan.Plan.{Plan}
+use Rattle.regress_program.specs.Plans.{IsPlanOf}
 use Rattle.regress_program.specs.InsnsAndStartPredicatesAsSpec.{insn_as_spec_insn}
 use Rattle.regress_program.specs.declared.insn.start_predicate_type.StartPredicate.{StartPredicate}
 use Rattle.regress_program.specs.StartPredicatesAndWhenTheyAllocate.{IsStartOf, is_anchored_tree}

@@ -33,12 +33,12 @@ use crate::insn::{
     CompiledRegex, CompiledRegexFor16BitUnits, EmittedCode, GroupNames, PlanAndCodeFor16BitUnits,
     Program,
 };
+use crate::plan::{Plan, ProgramPartsForPlan};
 use crate::startpredicate::{matches_at_left_end, predicate_for_re};
+use crate::table_keys_of_units::UnitWidth;
 use regex_pattern_front::ir;
 use regex_pattern_front::optimizer::optimize;
 use regex_pattern_front::types::{LoopID, MAX_CAPTURE_GROUPS};
-use regress_plan::plan::{Plan, ProgramPartsForPlan};
-use regress_plan::table_keys_of_units::UnitWidth;
 use std::alloc::{AllocError, Global};
 use std::sync::Arc;
 use thiserror::Error;

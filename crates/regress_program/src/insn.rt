@@ -13,5 +13,5 @@ pub(crate) use crate::insn::emitted_code::EmittedCode;
 pub use crate::insn::group_name_storage::GroupNames;
 pub(crate) use crate::insn::plan_for_16_bit_units::PlanAndCodeFor16BitUnits;
 pub use crate::insn::start_predicate_type::StartPredicate;
+pub use crate::instructions::{Insn, LoopFields, MAX_BYTE_SEQ_LENGTH};
 pub use regex_pattern_front::types::MAX_CHAR_SET_LENGTH;
-pub use regress_plan::insn::{Insn, LoopFields, MAX_BYTE_SEQ_LENGTH};

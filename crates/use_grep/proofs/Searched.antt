@@ -3,7 +3,7 @@ use Rattle.std.proofs.Common.{◌≡◌, ℕ, List, [], ◌∷◌, Bool, true, f
 use Rattle.std.specs.Prelude.{◌||◌, chars, is_some, slice_get, if◌then◌else◌}
 use Rattle.regex_meaning.specs.Tree.{Flags, Tree}
 use Rattle.regex_meaning.specs.FlagLettersAndEscaping.{flags_from_letters}
-use Rattle.regex_grammar.specs.EcmaGrammarWithAnnexB.{ParsesEcmaScript, ecmascript}
+use Rattle.regex_meaning.specs.EcmaGrammarWithAnnexB.{ParsesEcmaScript, ecmascript}
 use Rattle.regress_match.specs.ProgramTreesAndAnswers.{IsCompiledWithSyntax, tree_for_16_bit_units}
 use Rattle.regress_match.specs.declared.api.regex.Regex.{Regex}
 use Rattle.regress_match.proofs.FlagLemmas.{flags_by}

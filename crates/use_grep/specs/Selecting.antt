@@ -7,7 +7,7 @@ use Rattle.regex_meaning.specs.Text.{utf8_text}
 use Rattle.regex_meaning.specs.FlagLettersAndEscaping.{flags_from_letters}
 use Rattle.regex_meaning.specs.MatchGroupsByNumberAndName.{Answer, answers_from}
 use Rattle.regex_meaning.specs.Replace.{replaced}
-use Rattle.regex_grammar.specs.EcmaGrammarWithAnnexB.{ParsesEcmaScript}
+use Rattle.regex_meaning.specs.EcmaGrammarWithAnnexB.{ParsesEcmaScript}
 use Rattle.regress_match.specs.ProgramTreesAndAnswers.{utf8_answers}
 use Rattle.regress_match.specs.declared.api.regex.Regex.{Regex}
 use Rattle.use_grep.specs.Local.{is_local}

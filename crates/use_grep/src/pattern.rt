@@ -2,7 +2,7 @@
 
 ghost use Rattle.std.specs.Prelude.{◌≡◌, ◌++◌, IfOk, IsTrue, chars, codes, if◌then◌else◌, string_bytes};
 ghost use Rattle.regex_meaning.specs.Tree.{Tree};
-ghost use Rattle.regex_grammar.specs.EcmaGrammarWithAnnexB.{ParsesEcmaScript};
+ghost use Rattle.regex_meaning.specs.EcmaGrammarWithAnnexB.{ParsesEcmaScript};
 ghost use Rattle.regress_match.specs.PublicFlagsAsSpecFlags.{spec_flags_of};
 ghost use Rattle.use_grep.specs.Selecting.{HasNoneInLines, IsSearchOf, framed, searched, tree_flags};
 

@@ -4,7 +4,7 @@ use Rattle.std.specs.List.{position_or_len}
 use Rattle.regex_meaning.specs.Tree.{Tree}
 use Rattle.regex_meaning.specs.FlagLettersAndEscaping.{flags_from_letters}
 use Rattle.regex_meaning.specs.MatchGroupsByNumberAndName.{Answer, named_group}
-use Rattle.regex_grammar.specs.EcmaGrammarWithAnnexB.{ParsesEcmaScript}
+use Rattle.regex_meaning.specs.EcmaGrammarWithAnnexB.{ParsesEcmaScript}
 use Rattle.use_highlighter.specs.declared.tokens.Token.{Token}
 
 abbrev pub names_of : List Token → List (List ℕ)

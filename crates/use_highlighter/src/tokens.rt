@@ -1,9 +1,9 @@
 //! The tokens that are looked for.
 
 ghost use Rattle.std.specs.Prelude.{◌≡◌, ◌++◌, [], All, IfOk, chars, is_some, string_bytes};
-ghost use Rattle.regex_grammar.specs.EcmaGrammarWithAnnexB.{ecmascript};
+ghost use Rattle.regex_meaning.specs.EcmaGrammarWithAnnexB.{ecmascript};
 ghost use Rattle.regex_meaning.specs.{FlagLettersAndEscaping.{flags_from_letters}, MatchGroupsByNumberAndName.{named_group}};
-ghost use Rattle.regress_exec.specs.MatchesAsSpecAnswers.{answer_of};
+ghost use Rattle.regress_search.specs.MatchesAsSpecAnswers.{answer_of};
 ghost use Rattle.regress_match.specs.{PublicFlagsAsSpecFlags.{spec_flags_of}, ProgramTreesAndAnswers.{IsCompiledWithSyntax}};
 ghost use Rattle.use_highlighter.specs.Tokens.{IsPattern, any_of, arm_of, names_of, token_of};
 

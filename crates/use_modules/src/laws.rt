@@ -6,31 +6,31 @@ ghost use Rattle.std.specs.Prelude.{codes, if◌then◌else◌, length, option_m
 ghost use Rattle.std.specs.List.{list_all};
 ghost use Rattle.regex_meaning.specs.{MatchGroupsByNumberAndName.{Answer, answers_from, group_names_by_id}, CodeUnitOffsets.{HasRisingPlaceOffsets, place_at}};
 ghost use Rattle.regex_meaning.specs.FlagLettersAndEscaping.{flags_from_letters};
-ghost use Rattle.regex_meaning.specs.{Laws.{AreAscendingDisjointAnswersFrom}, Text.{Text, last_place, utf8_text}, Tree.{Flags, Tree, group_ids}};
-ghost use Rattle.regex_grammar.specs.{Grammar.{Parses}, GroupNameScan.{scanned_names_per_capturing_group}, Laws.{literal_tree}};
-ghost use Rattle.regress_exec.specs.{MatchesAsSpecAnswers.{answer_of}, RemainingAnswers.{NextYields, RemainingView}};
-ghost use Rattle.regress_exec.specs.AttemptsAndMatchesWithinWork.{RemainingAnswersAndWork};
-ghost use Rattle.regress_exec.specs.declared.{exec.Match.{Match as TheMatch}, exec.SearchError.{SearchError as TheError}};
-ghost use Rattle.regress_exec.specs.declared.exec.work_matches.WorkError.TheVariants.{WorkLimit};
+ghost use Rattle.regex_meaning.specs.{Laws.{AreAscendingDisjointAnswersFrom, Each}, Text.{Text, last_place, utf8_text}, Tree.{Flags, Tree, group_ids}};
+ghost use Rattle.regex_meaning.specs.{Grammar.{Parses}, GroupNameScan.{scanned_names_per_capturing_group}, GrammarLaws.{literal_tree}};
+ghost use Rattle.regress_search.specs.{MatchesAsSpecAnswers.{answer_of}, RemainingAnswers.{NextYields, RemainingView}};
+ghost use Rattle.regress_search.specs.AttemptsAndMatchesWithinWork.{RemainingAnswersAndWork};
+ghost use Rattle.regress_search.specs.CostsOfCalls.{WorkMatchesView, remaining};
+ghost use Rattle.regress_search.specs.declared.{exec.Match.{Match as TheMatch}, exec.SearchError.{SearchError as TheError}};
+ghost use Rattle.regress_search.specs.declared.exec.work_matches.WorkError.TheVariants.{WorkLimit};
 ghost use Rattle.regress_match.specs.ProgramTreesAndAnswers.{IsCompiledWith, bytes_as_utf8_text, ascii_answers, tree_for_byte_units, tree_for_16_bit_units, utf8_answers};
 ghost use Rattle.regress_match.specs.{ExpansionsAndMatchRanges.{MatchFitsText}, SearchResults.{AllNone, NextCallsYield, NextResult, YieldsMatches}};
 ghost use Rattle.regress_match.specs.WorkBounds.{NextCallsYieldWithinWork, IsHigherOfProgramWorkBounds, WorkMatchesNextResultType, YieldsMatchesIfWorkSuffices};
 ghost use Rattle.regress_match.specs.WorkBounds.{enough_work_for_text};
+ghost use Rattle.regress_match.specs.WorkBounds.{CallsCost, IsNoAllocationFailure, NextCallsYieldAtCost};
 ghost use Rattle.regress_match.specs.WorkBounds.{work_per_unit_limit};
 ghost use Rattle.regress_match.specs.declared.api.regex.Regex.{Regex as TheRegex};
 
-use regex_grammar::{
-    escaped_bytes_are_read, one_tree, scan_counts_pattern_groups, scan_finds_group_names,
-};
 use regex_meaning::{
     answer_count_is_bounded, answers_are_ordered_without_overlap, ascii_and_utf8_answers_agree,
-    encoded_texts_have_rising_offsets, resuming_after_nonempty_match_yields_rest,
+    encoded_texts_have_rising_offsets, escaped_bytes_are_read, one_tree,
+    resuming_after_nonempty_match_yields_rest, scan_counts_pattern_groups, scan_finds_group_names,
 };
 use regress_match::api::{
-    matches_stand_in_text, searches_answer_in_turn, searches_answer_in_work,
+    matches_stand_in_text, searches_answer_in_turn, searches_answer_in_work, searches_cost_in_work,
     searches_follow_the_pattern, whole_matches_give_back, work_bounds_are_limited,
 };
-use regress_match::exec::match_at_text_end_is_last;
+use regress_match::exec::{WorkLimitedProducer, match_at_text_end_is_last};
 use regress_match::{Error, Match, Regex, SearchError, escape};
 use std::alloc::Global;
 
@@ -156,6 +156,18 @@ pub fn work_limit_means_too_small_a_budget()
         → NextCallsYieldWithinWork it (Some (Err WorkLimit) ∷ rs) behind → work < enough_work_for_text per_unit text }
 {
     searches_answer_in_work();
+}
+
+/// With a budget of just what the bound requires, the calls of a search cost at most that together, unless an
+/// allocation fails.
+pub fn calls_cost_at_most_the_bound<P: WorkLimitedProducer>()
+    ensures { (tree : Tree) (text : Text) (start per_unit : ℕ) (it behind : WorkMatchesView P)
+        (rs : List WorkMatchesNextResultType) → let bound = enough_work_for_text per_unit text in
+        YieldsMatchesIfWorkSuffices tree text start per_unit bound (remaining it)
+        → NextCallsYieldAtCost P.attempt_costs P.tree P.text P.failures it rs behind → Each IsNoAllocationFailure rs
+        → (cost : ℕ) × CallsCost P.attempt_costs P.tree P.text P.failures it rs cost behind × (cost ≤ bound) }
+{
+    searches_cost_in_work::<P>();
 }
 
 /// With a budget by the limit of the pattern's bounds, the work is enough, whichever bound is used.

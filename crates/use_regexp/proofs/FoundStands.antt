@@ -11,8 +11,8 @@ use Rattle.regex_meaning.proofs.AnswerLemmas.{first_answer-stands}
 use Rattle.regex_meaning.proofs.TextLemmas.{ucs2_text-IsText, utf16_text-IsText}
 use Rattle.regex_meaning.proofs.UnitLemmas.{AreUnits, unit_boundary-between, unit_boundary-place_at, units-utf16}
 use Rattle.regex_meaning.proofs.UnitLengths.{ucs2_text-units}
-use Rattle.regress_exec.specs.MatchesAsSpecAnswers.{answer_of}
-use Rattle.regress_exec.specs.declared.exec.Match.{Match}
+use Rattle.regress_search.specs.MatchesAsSpecAnswers.{answer_of}
+use Rattle.regress_search.specs.declared.exec.Match.{Match}
 use Rattle.regress_match.specs.ProgramTreesAndAnswers.{units_as_ucs2_text, units_as_utf16_text, ucs2_answer_beginning_at, ucs2_answers, tree_for_16_bit_units}
 use Rattle.regress_match.specs.ProgramTreesAndAnswers.{utf16_answer_beginning_at}
 use Rattle.regress_match.specs.ProgramTreesAndAnswers.{utf16_answers}

@@ -8,8 +8,8 @@ use Rattle.std.proofs.lemmas.Bool.{cases_lt, eqb-false}
 use Rattle.regex_meaning.specs.MatchGroupsByNumberAndName.{Answer}
 use Rattle.regex_meaning.specs.Outcomes.{Groups}
 use Rattle.regex_meaning.proofs.UnitLemmas.{AreUnits}
-use Rattle.regress_exec.specs.MatchesAsSpecAnswers.{answer_of}
-use Rattle.regress_exec.specs.declared.exec.Match.{Match}
+use Rattle.regress_search.specs.MatchesAsSpecAnswers.{answer_of}
+use Rattle.regress_search.specs.declared.exec.Match.{Match}
 use Rattle.use_regexp.specs.Exec.{StandsFrom, first_match}
 use Rattle.use_regexp.specs.Split.{ArePieces, AreSeparators, CutsNone, IsSeparator, IsSplit, before_end, chosen, ends_at, pieces, pieces_of_none}
 use Rattle.use_regexp.specs.Split.{separator}

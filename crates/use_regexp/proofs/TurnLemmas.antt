@@ -8,8 +8,8 @@ use Rattle.std.specs.Option.{option_copied, option_to_list}
 use Rattle.std.proofs.lemmas.List.{map-append}
 use Rattle.regex_meaning.specs.MatchGroupsByNumberAndName.{Answer}
 use Rattle.regex_meaning.proofs.UnitLemmas.{AreUnits}
-use Rattle.regress_exec.specs.MatchesAsSpecAnswers.{answer_of}
-use Rattle.regress_exec.specs.declared.exec.Match.{Match}
+use Rattle.regress_search.specs.MatchesAsSpecAnswers.{answer_of}
+use Rattle.regress_search.specs.declared.exec.Match.{Match}
 use Rattle.regress_match.proofs.FlagLemmas.{IfOk-map}
 use Rattle.use_regexp.specs.Exec.{StandsFrom, first_match, found, last_behind, match_here, search_index}
 use Rattle.use_regexp.specs.Loops.{AreFoundInTurn, AreTaken, last_taken, next_last}

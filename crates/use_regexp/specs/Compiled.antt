@@ -1,6 +1,6 @@
 -- The pattern that is compiled from a source text and letters of flags.
 use Rattle.std.specs.Prelude.{◌≡◌, ℕ, List, Some}
-use Rattle.regex_grammar.specs.EcmaGrammarWithAnnexB.{ecmascript}
+use Rattle.regex_meaning.specs.EcmaGrammarWithAnnexB.{ecmascript}
 use Rattle.regress_match.specs.ProgramTreesAndAnswers.{IsCompiledWithSyntax}
 use Rattle.use_regexp.specs.Flags.{flags_of, tree_flags}
 use Rattle.use_regexp.specs.Units.{characters_of}

@@ -1,6 +1,6 @@
 -- Why the constructor of a regular expression fails.
 use Rattle.std.specs.Prelude.{◌≡◌, ℕ, List, Some, false}
-use Rattle.regex_grammar.specs.EcmaGrammarWithAnnexB.{ecmascript}
+use Rattle.regex_meaning.specs.EcmaGrammarWithAnnexB.{ecmascript}
 use Rattle.regress_match.specs.CompileErrors.{IsPatternRefusedWithSyntax}
 use Rattle.regress_match.specs.declared.api.compile_and_replace_errors.Error.{Error}
 use Rattle.regress_match.specs.declared.api.compile_and_replace_errors.Error.TheVariants as error

@@ -3,7 +3,7 @@ use Rattle.std.specs.Prelude.{◌≡◌, ◌≤◌, ℕ, List, [], ◌∷◌, Re
 use Rattle.std.specs.Borrow.{Bor}
 use Rattle.regex_meaning.specs.MatchGroupsByNumberAndName.{Answer}
 use Rattle.regex_meaning.specs.Replace.{replaced}
-use Rattle.regress_exec.specs.declared.exec.Match.{Match}
+use Rattle.regress_search.specs.declared.exec.Match.{Match}
 use Rattle.regress_match.specs.ClosureReplacementForAnyResultType as answered
 use Rattle.regress_match.specs.ReplacementClosuresReturningStrings.{ClosureCanBeCalled}
 use Rattle.regress_match.specs.CompileErrors.{IsOutOfMemory}

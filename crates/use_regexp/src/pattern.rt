@@ -2,7 +2,7 @@
 
 ghost use Rattle.std.specs.Prelude.{◌≡◌, ◌++◌, ◌∷◌, ◌≤◌, [], IfErr, IfOk, IfSome, IsTrue, false, if◌then◌else◌, length, map, option_map, slice_get};
 ghost use Rattle.std.specs.Option.{option_to_list};
-ghost use Rattle.regress_exec.specs.MatchesAsSpecAnswers.{answer_of};
+ghost use Rattle.regress_search.specs.MatchesAsSpecAnswers.{answer_of};
 ghost use Rattle.regress_match.specs.CompileErrors.{IsOutOfMemory};
 ghost use Rattle.use_regexp.specs.Refusals.{CanRefuse};
 

@@ -1,7 +1,7 @@
 //! The RegExp object: a compiled pattern, and the index at which its next search begins.
 
 ghost use Rattle.std.specs.Prelude.{◌≡◌, IfErr, IfOk, OnErr, if◌then◌else◌, is_some, map, option_map, slice_get};
-ghost use Rattle.regress_exec.specs.MatchesAsSpecAnswers.{answer_of};
+ghost use Rattle.regress_search.specs.MatchesAsSpecAnswers.{answer_of};
 ghost use Rattle.regress_match.specs.CompileErrors.{IsOutOfMemory};
 ghost use Rattle.use_regexp.specs.{Compiled.{IsPatternOf}, Exec.{found, last_behind}, Loops.{AreTaken, LeavesTaken}, Refusals.{CanRefuse}};
 ghost use Rattle.use_regexp.specs.Source.{escaped_source, literal_of};

@@ -1,7 +1,7 @@
 //! Splitting of texts at matches.
 
 ghost use Rattle.std.specs.Prelude.{◌≡◌, ◌++◌, ◌∷◌, ◌⊎◌, ◌≤◌, [], IfErr, IfNone, IfOk, IfSome, None, Some, length, map, option_map, take};
-ghost use Rattle.regress_exec.specs.MatchesAsSpecAnswers.{answer_of, range_as_pair};
+ghost use Rattle.regress_search.specs.MatchesAsSpecAnswers.{answer_of, range_as_pair};
 ghost use Rattle.regress_match.specs.CompileErrors.{IsOutOfMemory};
 ghost use Rattle.use_regexp.specs.Split.{ArePieces, IsSeparator, IsSplit, before_end as before_end_of, chosen, pieces_of_none, separator};
 

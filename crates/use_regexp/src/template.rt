@@ -4,7 +4,7 @@ ghost use Rattle.std.specs.Prelude.{◌≡◌, ◌++◌, ◌<◌, IfOk, IfSome, 
 ghost use Rattle.std.specs.Char.{is_ascii_digit};
 ghost use Rattle.std.specs.List.{list_all};
 ghost use Rattle.regex_meaning.specs.{MatchGroupsByNumberAndName.{Answer}, Replace.{text_of}};
-ghost use Rattle.regress_exec.specs.MatchesAsSpecAnswers.{answer_of, range_as_pair};
+ghost use Rattle.regress_search.specs.MatchesAsSpecAnswers.{answer_of, range_as_pair};
 ghost use Rattle.regress_match.specs.ExpansionsAndMatchRanges.{MatchRangesLieWithinUnits, IsRangeWithinUnits};
 ghost use Rattle.use_regexp.specs.Template.{IsWritten, behind_dollar, is_ascii, is_greater, is_group as is_group_of, name_end as name_end_of, named};
 ghost use Rattle.use_regexp.specs.Template.{named_text, numbered, plain, said, substitution, two_digits as two_digits_of};

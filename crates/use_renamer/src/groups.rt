@@ -1,7 +1,7 @@
 //! The named groups of matches.
 
 ghost use Rattle.std.specs.Prelude.{◌≡◌, ◌++◌, IfErr, IfOk, IfSome, option_map, string_bytes};
-ghost use Rattle.regress_exec.specs.MatchesAsSpecAnswers.{answer_of, range_as_pair};
+ghost use Rattle.regress_search.specs.MatchesAsSpecAnswers.{answer_of, range_as_pair};
 ghost use Rattle.regress_match.specs.{CompileErrors.{IsOutOfMemory}, ExpansionsAndMatchRanges.{MatchFitsText, IsCharBoundaryRange}};
 ghost use Rattle.use_renamer.specs.Names.{described, groups_shown, parts_of};
 

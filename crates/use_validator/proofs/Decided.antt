@@ -1,10 +1,10 @@
 -- What the first item of a search in so much work tells, and how much is enough.
 use Rattle.std.proofs.Common.{◌≡◌, ◌≤◌, ◌<◌, ◌+◌, ◌*◌, ◌^◌, ◌∙◌, ℕ, List, true, false, ap, sym, subst}
 use Rattle.std.specs.Prelude.{Option, Some, None, Result, Ok, Err, SomeIff}
-use Rattle.regress_exec.specs.AttemptsAndMatchesWithinWork.{NextYieldsWithinWork, RemainingAnswersAndWork}
-use Rattle.regress_exec.specs.declared.exec.Match.{Match}
-use Rattle.regress_exec.specs.declared.exec.work_matches.WorkError.{WorkError}
-use Rattle.regress_exec.specs.declared.exec.work_matches.WorkError.TheVariants.{WorkLimit}
+use Rattle.regress_search.specs.AttemptsAndMatchesWithinWork.{NextYieldsWithinWork, RemainingAnswersAndWork}
+use Rattle.regress_search.specs.declared.exec.Match.{Match}
+use Rattle.regress_search.specs.declared.exec.work_matches.WorkError.{WorkError}
+use Rattle.regress_search.specs.declared.exec.work_matches.WorkError.TheVariants.{WorkLimit}
 use Rattle.regress_match.specs.ProgramTreesAndAnswers.{bytes_as_utf8_text, tree_for_byte_units, utf8_answers}
 use Rattle.regress_match.specs.WorkBounds.{YieldsMatchesIfWorkSuffices, enough_work_for_text}
 use Rattle.regress_match.specs.declared.api.regex.Regex.{Regex}

@@ -3,7 +3,7 @@ use Rattle.std.specs.Prelude.{◌≡◌, ℕ, List, String, chars, codes, string
 use Rattle.std.specs.Global.{Global}
 use Rattle.regex_meaning.specs.FlagLettersAndEscaping.{flags_from_letters}
 use Rattle.regex_meaning.specs.Laws.{Each}
-use Rattle.regex_grammar.specs.EcmaGrammarWithAnnexB.{ecmascript}
+use Rattle.regex_meaning.specs.EcmaGrammarWithAnnexB.{ecmascript}
 use Rattle.regress_match.specs.ProgramTreesAndAnswers.{IsCompiledWithSyntax}
 use Rattle.regress_match.specs.declared.api.regex.Regex.{Regex}
 use Rattle.use_validator.specs.Judge.{IsToldOf}

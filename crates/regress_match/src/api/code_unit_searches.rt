@@ -7,7 +7,7 @@ ghost use Rattle.regress_match.specs.SearchResults.{YieldsMatches};
 
 use crate::api::{Regex, SearchError};
 use crate::executor_aliases_per_encoding::{DefaultUcs2Executor, DefaultUtf16Executor};
-use regress_exec::exec::Matches;
+use regress_search::exec::Matches;
 
 impl Regex {
     /// Returns an iterator over the matches in a UTF-16 text from `start` on, an offset in code
@@ -15,7 +15,7 @@ impl Regex {
     /// the end there are no matches.
     ///
     /// A high surrogate followed by a low surrogate is one character. Any other code unit is a
-    /// character by itself. `.` matches both (tested in `regress_checks`).
+    /// character by itself. `.` matches both (tested in `test_searches`).
     ///
     /// # Errors
     ///

@@ -5,8 +5,8 @@ ghost use Rattle.regress_match.specs.CompileErrors.{diagnosis_in_error, error_of
 
 use regex_parser::diagnosis::Diagnosis;
 use regex_parser::parse::ParseError;
-use regress_exec::exec::SearchError;
 use regress_program::emit::EmitError;
+use regress_search::exec::SearchError;
 use std::alloc::AllocError;
 use std::fmt;
 
@@ -93,7 +93,7 @@ impl<E> From<SearchError> for ReplaceError<E> {
 }
 
 impl<E> From<AllocError> for ReplaceError<E> {
-    ghost use Rattle.regress_exec.specs.declared.exec.SearchError.TheVariants.{Memory};
+    ghost use Rattle.regress_search.specs.declared.exec.SearchError.TheVariants.{Memory};
     ghost use Rattle.regress_match.specs.declared.api.compile_and_replace_errors.ReplaceError.TheVariants.{Search};
 
     ghost from_gives = { λ _ e. e ≡ Search Memory };

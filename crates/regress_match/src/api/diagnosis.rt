@@ -2,7 +2,7 @@
 
 ghost use Rattle.std.specs.Prelude.{◌≡◌, ◌≤◌, IfOk, IfSome, None, chars, length};
 ghost use Rattle.regex_meaning.specs.Tree.{Tree};
-ghost use Rattle.regex_grammar.specs.Grammar.{Parses, ParsesBy};
+ghost use Rattle.regex_meaning.specs.Grammar.{Parses, ParsesBy};
 ghost use Rattle.regex_parser.specs.ParserContracts.{IsTextRefused, IsTextRefusedIn};
 ghost use Rattle.regex_parser.specs.SyntaxDialects.{spec_syntax_of};
 ghost use Rattle.regress_match.specs.PublicFlagsAsSpecFlags.{spec_flags_of};
@@ -26,7 +26,7 @@ impl Regex {
     ///
     /// The diagnosis is displayed like `unclosed group at 3`, and `below_text` displays it in a
     /// line below the pattern. The position is in code points; `offset_in` converts it to bytes.
-    /// For `é(a|b` these are 1 and 2 (tested in `regress_checks`).
+    /// For `é(a|b` these are 1 and 2 (tested in `test_searches`).
     ///
     /// # Errors
     ///

@@ -8,7 +8,7 @@ use std::alloc::{AllocError, Global};
 /// Returns the text with a backslash before each syntax character, `\ ^ $ . | ? * + ( ) [ ] { }`,
 /// so that it matches itself literally in a pattern. All other characters are unchanged.
 ///
-/// `a.b*c` becomes `a\.b\*c` (tested in `regress_checks`).
+/// `a.b*c` becomes `a\.b\*c` (tested in `test_searches`).
 ///
 /// # Errors
 ///

@@ -1,8 +1,10 @@
 //! Laws of searches that callers may cite. They are functions that do nothing.
 
-ghost use Rattle.regex_grammar.specs.EcmaGrammarWithAnnexB.{ecmascript};
+ghost use Rattle.regex_meaning.specs.EcmaGrammarWithAnnexB.{ecmascript};
 ghost use Rattle.regress_match.specs.{Laws.{MatchesStandInText, SearchesFollowThePattern, SearchesFollowThePatternWithSyntax}, SearchResults.{SearchesAnswerInTurn}};
-ghost use Rattle.regress_match.specs.WorkBounds.{SearchesAnswerInWork, WorkPerUnitLimitSuffices};
+ghost use Rattle.regress_match.specs.WorkBounds.{SearchesAnswerInWork, SearchesCostInWork, WorkPerUnitLimitSuffices};
+
+use regress_search::exec::WorkLimitedProducer;
 
 /// States that a search yields the matches of the list one after another, and then `None` for good.
 /// It ends earlier only if an allocation fails.
@@ -16,6 +18,13 @@ pub fn searches_answer_in_turn()
 /// is left never exceeds the budget.
 pub fn searches_answer_in_work()
     ensures { SearchesAnswerInWork }
+{}
+
+/// States that the calls of a search within a work budget cost together exactly what the work left
+/// falls by, if the budget is at least what the pattern's bound requires and no allocation fails. So
+/// with a budget of just what the bound requires, they cost at most that.
+pub fn searches_cost_in_work<P: WorkLimitedProducer>()
+    ensures { SearchesCostInWork P.attempt_costs P.tree P.text P.failures }
 {}
 
 /// States that what a compiled pattern finds in a text, in each encoding, is the list of matches of

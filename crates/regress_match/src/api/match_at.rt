@@ -2,15 +2,15 @@
 
 ghost use Rattle.std.specs.Prelude.{◌≡◌, ◌<◌, ◌⊎◌, IfErr, IfOk, IfSome, IsAscii, IsCharBoundary, IsTrue, length, option_map};
 ghost use Rattle.regex_meaning.specs.Text.{is_unit_boundary as is_boundary_of};
-ghost use Rattle.regress_exec.specs.MatchesAsSpecAnswers.{answer_of};
+ghost use Rattle.regress_search.specs.MatchesAsSpecAnswers.{answer_of};
 ghost use Rattle.regress_match.specs.ProgramTreesAndAnswers.{ascii_answer_beginning_at, ucs2_answer_beginning_at, utf16_answer_beginning_at, utf8_answer_beginning_at};
 ghost use Rattle.regress_match.specs.CompileErrors.{IsOutOfMemory};
 ghost use Rattle.regress_match.specs.ExpansionsAndMatchRanges.{MatchFitsText, MatchRangesLieWithinUnits};
 
 use crate::api::{Match, Regex, SearchError};
 use crate::executor_aliases_per_encoding::DefaultAsciiExecutor;
-use regress_exec::exec::ProducerFromProgramAndText;
-use regress_exec::search_loop::match_at;
+use regress_search::exec::ProducerFromProgramAndText;
+use regress_search::search_loop::match_at;
 
 impl Regex {
     /// Returns the match of highest priority in `text` that begins at byte offset `at`, which is a
@@ -21,7 +21,7 @@ impl Regex {
     /// `find_from`.
     ///
     /// In `xab`, the match of `a|ab` at 1 is `1..2`, and at 0 there is none (tested in
-    /// `regress_checks`).
+    /// `test_searches`).
     ///
     /// # Errors
     ///

@@ -4,7 +4,7 @@ ghost use Rattle.std.specs.Prelude.{◌≡◌, ◌<◌, ◌⊎◌, IfErr, IfOk, 
 ghost use Rattle.regex_meaning.specs.FlagLettersAndEscaping.{flags_from_letters};
 ghost use Rattle.regex_parser.specs.SyntaxDialects.{spec_syntax_of};
 ghost use Rattle.regex_pattern_front.specs.AstToSpecTree.{tree_of};
-ghost use Rattle.regress_exec.specs.MatchesAsSpecAnswers.{answer_of};
+ghost use Rattle.regress_search.specs.MatchesAsSpecAnswers.{answer_of};
 ghost use Rattle.regress_match.specs.CompileErrors.{IsOutOfMemory, IsPatternRefusedWith, IsPatternRefusedWithSyntax};
 ghost use Rattle.regress_match.specs.ExpansionsAndMatchRanges.{MatchFitsText, MatchesFitTextInOrderFrom};
 ghost use Rattle.regress_match.specs.SearchResults.{YieldsMatches};
@@ -15,10 +15,10 @@ use crate::executor_aliases_per_encoding::{
     DefaultAsciiExecutor, DefaultExecutor, LimitedExecutor, search_with_executor_from,
 };
 use regex_parser::parse::try_parse_in;
-use regress_exec::exec;
-use regress_exec::exec::{Match, MatchProducer, SearchError};
 use regress_program::emit::emit_both;
 use regress_program::insn::{CompiledRegex, CompiledRegexFor16BitUnits};
+use regress_search::exec;
+use regress_search::exec::{Match, MatchProducer, SearchError};
 use std::alloc::{AllocError, Global};
 
 /// An iterator over the matches of a pattern in a UTF-8 text. Contracts see the remaining answers.
@@ -193,7 +193,7 @@ impl Regex {
     /// Returns the first match in `text`, or `None` exactly if there is none.
     ///
     /// The first match of `(aa|aabaac|ba|b|c)*` in `aabaac` is `0..4`, with the group `2..4`
-    /// (tested in `regress_checks`).
+    /// (tested in `test_searches`).
     ///
     /// # Errors
     ///
@@ -222,7 +222,7 @@ impl Regex {
 
     /// Returns an iterator over the matches in `text`, from its beginning.
     ///
-    /// The matches of `a*` in `aab` are `0..2`, `2..2` and `3..3` (tested in `regress_checks`).
+    /// The matches of `a*` in `aab` are `0..2`, `2..2` and `3..3` (tested in `test_searches`).
     ///
     /// # Errors
     ///
@@ -258,7 +258,7 @@ impl Regex {
     ///
     /// What precedes `start` is part of the text: `start` does not count as the beginning of the
     /// text for `^`, and a lookbehind reads what precedes it. The matches of `(?<=x)y` in `xyxy`
-    /// from 1 on are `1..2` and `3..4` (tested in `regress_checks`).
+    /// from 1 on are `1..2` and `3..4` (tested in `test_searches`).
     ///
     /// # Errors
     ///
@@ -286,7 +286,7 @@ impl Regex {
     /// alone, and not on the time that a search takes; it may be more than any `u64`.
     ///
     /// A search for `[b]c` in `aabbc` needs five steps: with four, the first item is `StepLimit`
-    /// (tested in `regress_checks`).
+    /// (tested in `test_searches`).
     ///
     /// # Errors
     ///

@@ -2,7 +2,7 @@
 
 ghost use Rattle.std.specs.Prelude.{◌≡◌, ◌≤◌, ◌++◌, IfErr, IfOk, IsCharBoundary, drop, false, slice_range, string_bytes, take};
 ghost use Rattle.regex_meaning.specs.Replace.{replaced};
-ghost use Rattle.regress_exec.specs.MatchesAsSpecAnswers.{answer_of};
+ghost use Rattle.regress_search.specs.MatchesAsSpecAnswers.{answer_of};
 ghost use Rattle.regress_match.specs.{Laws.{WholeMatchesGiveBack}, ProgramTreesAndAnswers.{utf8_answers}, CompileErrors.{IsOutOfMemory}};
 ghost use Rattle.regress_match.specs.ExpansionsAndMatchRanges.{MatchFitsText, MatchesFitTextInOrderFrom, matches_with_expansions};
 
@@ -11,7 +11,7 @@ mod expansion;
 
 use crate::api::replace::expansion::expand;
 use crate::api::{Match, Regex, SearchError};
-use regress_exec::exec::{MatchProducer, Matches};
+use regress_search::exec::{MatchProducer, Matches};
 use std::alloc::{AllocError, Global};
 
 impl Regex {
@@ -19,7 +19,7 @@ impl Regex {
     /// `text` itself.
     ///
     /// With `(\d{4})-(\d{2})-(\d{2})`, the replacement `$2/$3/$1` turns `2023-12-25` into
-    /// `12/25/2023` (tested in `regress_checks`).
+    /// `12/25/2023` (tested in `test_searches`).
     ///
     /// In a replacement:
     ///
@@ -45,7 +45,7 @@ impl Regex {
     /// Returns `text` with each match replaced by `replacement`, which is read as in `replace`.
     ///
     /// With `\b(\w)(\w+)`, the replacement `$1.$2` turns `hello world` into `h.ello w.orld` (tested
-    /// in `regress_checks`).
+    /// in `test_searches`).
     ///
     /// # Errors
     ///

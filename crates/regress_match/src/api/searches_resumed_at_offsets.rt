@@ -11,9 +11,9 @@ use crate::api::{Match, Regex, SearchError};
 use crate::executor_aliases_per_encoding::{
     DefaultExecutor, DefaultUcs2Executor, DefaultUtf16Executor, LimitedExecutor,
 };
-use regress_exec::exec::{MatchProducer, ProducerFromProgramAndText};
-use regress_exec::search_loop::SingleAttemptExecutor;
 use regress_input::indexing::InputIndexer;
+use regress_search::exec::{MatchProducer, ProducerFromProgramAndText};
+use regress_search::search_loop::SingleAttemptExecutor;
 
 /// A match, and the offset from which the list of matches continues after it.
 #[derive(Debug, Drop)]

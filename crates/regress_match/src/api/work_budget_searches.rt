@@ -6,13 +6,15 @@ ghost use Rattle.regress_match.specs.ProgramTreesAndAnswers.{bytes_as_ascii_text
 ghost use Rattle.regress_match.specs.ProgramTreesAndAnswers.{tree_for_16_bit_units};
 ghost use Rattle.regress_match.specs.CompileErrors.{IsOutOfMemory};
 ghost use Rattle.regress_match.specs.ExpansionsAndMatchRanges.{MatchesFitTextInOrderFrom};
+ghost use Rattle.regress_bounded.specs.CostsOfAttempts.{IteratorBeginsSearches};
+ghost use Rattle.regress_search.specs.CostsOfCalls.{remaining};
 ghost use Rattle.regress_match.specs.WorkBounds.{IsHigherOfProgramWorkBounds, YieldsMatchesIfWorkSuffices, higher};
 
 use crate::api::{Regex, SearchError};
 use regress_bounded::executor::BoundedExecutor;
 use regress_bounded::work_bound::WorkBound;
-use regress_exec::exec::WorkMatches;
 use regress_input::indexing::{AsciiInput, Ucs2Input, Utf8Input, Utf16Input};
+use regress_search::exec::{MatchProducer, WorkMatches};
 use std::alloc::AllocError;
 use std::marker::Model;
 
@@ -25,10 +27,11 @@ pub type MatchesInWork<'r, Input> = WorkMatches<BoundedExecutor<'r, Input>>;
 ///
 /// A unit of work is one step of a thread, one backtrack to a pending thread, one thread that is
 /// dropped because it is known to fail, one character that a char loop examines, or one record of a
-/// failure that is reached. Copies of states and the positions that are passed are not counted. The
-/// work therefore bounds the time, up to a factor that depends on the pattern. On most texts these
-/// searches take longer than those of `Regex` (`docs/LINEAR.md`). They remember failures in one bit
-/// for each position, each instruction that records, and each state of the loops around it.
+/// failure that is reached. Each call of `next` takes exactly what its search costs (`CostsInWork`).
+/// Copies of states and the positions that are passed are not counted. The work therefore bounds the
+/// time, up to a factor that depends on the pattern. On most texts these searches take longer than
+/// those of `Regex` (`docs/LINEAR.md`). They remember failures in one bit for each position, each
+/// instruction that records, and each state of the loops around it.
 ///
 /// Contracts see the pattern, and the number that `work_per_unit` returns.
 #[derive(Drop)]
@@ -119,7 +122,7 @@ impl<'r> BoundedRegex<'r> {
     /// returns how much work is left.
     ///
     /// A search for all matches of `a` in `ba` takes 3 units of work: with 2, the match is followed
-    /// by a `WorkLimit` (tested in `regress_checks`).
+    /// by a `WorkLimit` (tested in `test_searches`).
     ///
     /// # Errors
     ///
@@ -131,9 +134,12 @@ impl<'r> BoundedRegex<'r> {
         work: u64,
     ) -> Result<MatchesInWork<'r, Utf8Input<'t>>, SearchError>
         requires { IsCharBoundary text.now start ⊎ (length text.now < start) }
-        ensures yields { IfOk result (YieldsMatchesIfWorkSuffices (tree_for_byte_units self.now.re)
+        ensures yields { IfOk result (λ it. YieldsMatchesIfWorkSuffices (tree_for_byte_units self.now.re)
             (bytes_as_utf8_text self.now.re text.now)
-            start self.now.per_unit work) }
+            start self.now.per_unit work (remaining it)) }
+        ensures begins { let e = ⟦<BoundedExecutor<'r, Utf8Input<'t>> as MatchProducer>⟧ in
+            IfOk result (IteratorBeginsSearches e (tree_for_byte_units self.now.re)
+            (bytes_as_utf8_text self.now.re text.now) start) }
         ensures stand { IfOk result (λ it. MatchesFitTextInOrderFrom text.now start it.come.answers) }
         ensures ended { IfOk result (λ it. it.come.ended ≡ not (nat_le start (length text.now))) }
         ensures refused { IfErr result IsOutOfMemory }
@@ -158,9 +164,12 @@ impl<'r> BoundedRegex<'r> {
         work: u64,
     ) -> Result<MatchesInWork<'r, AsciiInput<'t>>, SearchError>
         requires { IsAscii text.now }
-        ensures yields { IfOk result (YieldsMatchesIfWorkSuffices (tree_for_byte_units self.now.re)
+        ensures yields { IfOk result (λ it. YieldsMatchesIfWorkSuffices (tree_for_byte_units self.now.re)
             (bytes_as_ascii_text self.now.re text.now)
-            start self.now.per_unit work) }
+            start self.now.per_unit work (remaining it)) }
+        ensures begins { let e = ⟦<BoundedExecutor<'r, AsciiInput<'t>> as MatchProducer>⟧ in
+            IfOk result (IteratorBeginsSearches e (tree_for_byte_units self.now.re)
+            (bytes_as_ascii_text self.now.re text.now) start) }
         ensures stand { IfOk result (λ it. MatchesFitTextInOrderFrom text.now start it.come.answers) }
         ensures ended { IfOk result (λ it. it.come.ended ≡ not (nat_le start (length text.now))) }
         ensures refused { IfErr result IsOutOfMemory }
@@ -186,9 +195,12 @@ impl<'r> BoundedRegex<'r> {
         work: u64,
     ) -> Result<MatchesInWork<'r, Utf16Input<'t>>, SearchError>
         requires { IsTrue (is_boundary_of text.now start) ⊎ (length text.now < start) }
-        ensures yields { IfOk result (YieldsMatchesIfWorkSuffices (tree_for_16_bit_units self.now.re)
+        ensures yields { IfOk result (λ it. YieldsMatchesIfWorkSuffices (tree_for_16_bit_units self.now.re)
             (units_as_utf16_text self.now.re text.now)
-            start self.now.per_unit work) }
+            start self.now.per_unit work (remaining it)) }
+        ensures begins { let e = ⟦<BoundedExecutor<'r, Utf16Input<'t>> as MatchProducer>⟧ in
+            IfOk result (IteratorBeginsSearches e (tree_for_16_bit_units self.now.re)
+            (units_as_utf16_text self.now.re text.now) start) }
         ensures ended { IfOk result (λ it. it.come.ended ≡ not (nat_le start (length text.now))) }
         ensures refused { IfErr result IsOutOfMemory }
     {
@@ -212,9 +224,12 @@ impl<'r> BoundedRegex<'r> {
         start: usize,
         work: u64,
     ) -> Result<MatchesInWork<'r, Ucs2Input<'t>>, SearchError>
-        ensures yields { IfOk result (YieldsMatchesIfWorkSuffices (tree_for_16_bit_units self.now.re)
+        ensures yields { IfOk result (λ it. YieldsMatchesIfWorkSuffices (tree_for_16_bit_units self.now.re)
             (units_as_ucs2_text self.now.re text.now)
-            start self.now.per_unit work) }
+            start self.now.per_unit work (remaining it)) }
+        ensures begins { let e = ⟦<BoundedExecutor<'r, Ucs2Input<'t>> as MatchProducer>⟧ in
+            IfOk result (IteratorBeginsSearches e (tree_for_16_bit_units self.now.re)
+            (units_as_ucs2_text self.now.re text.now) start) }
         ensures ended { IfOk result (λ it. it.come.ended ≡ not (nat_le start (length text.now))) }
         ensures refused { IfErr result IsOutOfMemory }
     {

@@ -5,16 +5,16 @@ ghost use Rattle.std.specs.Prelude.{◌≡◌, ◌<◌, ◌^◌, ◌+◌, ℕ, I
 ghost use Rattle.regex_meaning.specs.CodeUnitOffsets.{IsBoundary};
 ghost use Rattle.regress_program.specs.InsnsAndStartPredicatesAsSpec.{insn_as_spec_insn};
 ghost use Rattle.regress_machine.specs.InsnEffects.{state_after_char_loop_to_offset, IsNotStuck};
-ghost use Rattle.regress_scan.specs.OffsetsAfterMatchedInsns.{ByteInsnHasByteText, char_test_of_insn};
+ghost use Rattle.regress_search.specs.OffsetsAfterMatchedInsns.{ByteInsnHasByteText, char_test_of_insn};
 ghost use Rattle.regress_pikevm.specs.{InsnEffects.{effect_of_char_loop, ReachesExits, PushesExit}, States.{state_of, next_threads}};
 
 use super::read_or_assertion_insn_matchers;
 use super::states::{NextStates, State, copy_state};
-use regress_exec::program_and_input::ProgramAndInput;
 use regress_input::cursor::Direction;
 use regress_input::indexing::InputIndexer;
 use regress_input::position::PositionType;
 use regress_program::insn::Insn;
+use regress_search::program_and_input::ProgramAndInput;
 use std::alloc::AllocError;
 
 /// The least and greatest number of iterations of a char loop, and whether it prefers more of them.

@@ -5,15 +5,15 @@ ghost use Rattle.regex_meaning.specs.CodeUnitOffsets.{IsBoundary, units};
 ghost use Rattle.regress_input.specs.CharAndByteReadsFromOffset.{end_if_matched};
 ghost use Rattle.regress_machine.specs.InsnEffects.{is_byte_sequence_insn};
 ghost use Rattle.regress_program.specs.InsnsAndStartPredicatesAsSpec.{insn_as_spec_insn};
-ghost use Rattle.regress_scan.specs.OffsetsAfterMatchedInsns.{HasPassed, ByteInsnHasByteText, offset_after_read_or_assertion, read_accepted_char, char_test_of_insn};
+ghost use Rattle.regress_search.specs.OffsetsAfterMatchedInsns.{HasPassed, ByteInsnHasByteText, offset_after_read_or_assertion, read_accepted_char, char_test_of_insn};
 
-use regress_exec::program_and_input::ProgramAndInput;
 use regress_input::cursor::{self, Direction};
 use regress_input::indexing::InputIndexer;
 use regress_program::insn::Insn;
-use regress_scan::insns_that_read_or_test_text::{
+use regress_search::insns_that_read_or_test_text::{
     accepts, at_line_end, at_line_start, bytes_of_literal_insn, passes_word_boundary_assertion,
 };
+use regress_search::program_and_input::ProgramAndInput;
 
 /// Checks whether the instruction, which reads one character, accepts the next character in the
 /// direction. If so, the position is after the character, and otherwise the position is not

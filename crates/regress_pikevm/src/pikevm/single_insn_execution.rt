@@ -10,18 +10,18 @@ ghost use Rattle.regress_machine.specs.Machine.{effect_at_iteration_end, loop_ag
 ghost use Rattle.regress_machine.specs.InsnEffects.{begin_capture_group_effect, end_capture_group_effect, reset_capture_group_effect, body_entered_with_iteration_count};
 ghost use Rattle.regress_machine.specs.InsnEffects.{IsNotStuck, is_read_or_assertion_insn};
 ghost use Rattle.regress_pikevm.specs.{InsnEffects.{effect_at, effect_of_insn, effect_of_range_backref, effect_of_backref}, States.{state_of, loop_of, next_threads}};
-ghost use Rattle.regress_scan.specs.OffsetsAfterMatchedInsns.{ByteInsnHasByteText};
+ghost use Rattle.regress_search.specs.OffsetsAfterMatchedInsns.{ByteInsnHasByteText};
 
 use super::char_loops::{CharLoopBoundsAndGreed, execute_char_loop};
 use super::read_or_assertion_insn_matchers;
 use super::states::{LoopData, NextStates, State, copy_state};
-use regress_exec::program_and_input::ProgramAndInput;
 use regress_input::cursor::Direction;
 use regress_input::front::{CaptureGroupID, LoopID, Sameness};
 use regress_input::indexing::InputIndexer;
 use regress_input::position::PositionType;
 use regress_program::insn::{Insn, LoopFields};
-use regress_scan::insns_that_read_or_test_text::backref_matches;
+use regress_search::insns_that_read_or_test_text::backref_matches;
+use regress_search::program_and_input::ProgramAndInput;
 use std::alloc::AllocError;
 
 /// Executes the instruction at the state.

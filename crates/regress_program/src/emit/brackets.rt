@@ -11,10 +11,10 @@ ghost use Rattle.regex_pattern_front.specs.Intervals.{interval_of};
 ghost use Rattle.regress_program.specs.EmitterStateAndAppendedCode.{IsEmitted, emitter_state, with_bracket_table_entry};
 
 use crate::emit::emitter::{Emitter, FoldingCharLoopLookbehindMode};
+use crate::instructions::Insn;
 use regex_pattern_front::bytesearch::AsciiBitmap;
 use regex_pattern_front::codepointset::Interval;
 use regex_pattern_front::types::BracketContents;
-use regress_plan::insn::Insn;
 use std::alloc::AllocError;
 
 impl Emitter {

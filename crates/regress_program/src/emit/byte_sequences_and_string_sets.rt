@@ -8,8 +8,8 @@ ghost use Rattle.regress_program.specs.EmitterStateAndAppendedCode.{IsEmitted, e
 
 use crate::emit::emitter::{Emitter, FoldingCharLoopLookbehindMode};
 use crate::emit::small_set_and_assertion_insns::insn_of_case_variants;
+use crate::instructions::{Insn, MAX_BYTE_SEQ_LENGTH, byte_seq_insn};
 use regex_pattern_front::folding_and_first_bytes::expand_code_point;
-use regress_plan::insn::{Insn, MAX_BYTE_SEQ_LENGTH, byte_seq_insn};
 use std::alloc::AllocError;
 
 // Returns the number of chunks of a byte sequence.

@@ -6,7 +6,7 @@ ghost use Rattle.regex_meaning.specs.{Tree.{every_node_passes}, WellFormedTrees.
 ghost use Rattle.regex_meaning.specs.CompilationRelation.{EnterLoop, lookaround_insn};
 ghost use Rattle.regex_pattern_front.specs.OptimizedTrees.{reads_one_character as is_one_character};
 ghost use Rattle.regex_pattern_front.specs.AstToSpecTree.{class_as_spec, node_of};
-ghost use Rattle.regress_plan.specs.InsnsAsSpecInsns.{loop_fields_as_spec};
+ghost use Rattle.regress_program.specs.InsnsAsSpecInsns.{loop_fields_as_spec};
 ghost use Rattle.regress_program.specs.{InsnsAndStartPredicatesAsSpec.{insn_as_spec_insn}, CompilationOfTreesAsFunction.{group_reset_insns}};
 ghost use Rattle.regress_program.specs.LeafNodesAndOptimizableLoops.{is_leaf};
 ghost use Rattle.regress_program.specs.EmitterStateAndAppendedCode.{HasIndexRoomForNode, emitter_state, with_insn_appended, with_insns_appended, with_insn_at, with_loop};
@@ -18,11 +18,11 @@ use crate::emit::small_set_and_assertion_insns::{
     anchor_insn, byte_set_insn, char_set_insn, word_boundary_insn,
 };
 use crate::insn::EmittedCode;
+use crate::instructions::{Insn, LoopFields};
 use regex_pattern_front::canonical::Sameness;
 use regex_pattern_front::ir::Node;
 use regex_pattern_front::optimizer::reads_one_character;
 use regex_pattern_front::types::{BracketContents, CaptureGroupID, LoopID};
-use regress_plan::insn::{Insn, LoopFields};
 use std::alloc::{AllocError, Global};
 use std::ops::Range;
 

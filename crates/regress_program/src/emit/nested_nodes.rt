@@ -16,9 +16,9 @@ ghost use Rattle.regress_program.specs.PendingEmission.{with_loop_end};
 use crate::emit::emitter::{
     Emitter, FoldingCharLoopLookbehindMode, LookaroundFieldsWithoutContents, loop_head_insn,
 };
+use crate::instructions::{Insn, LoopFields};
 use regex_pattern_front::ir::{Node, Quantifier};
 use regex_pattern_front::types::CaptureGroupID;
-use regress_plan::insn::{Insn, LoopFields};
 use std::alloc::AllocError;
 use std::ops::Range;
 

@@ -5,9 +5,9 @@ ghost use Rattle.regex_meaning.specs.CompilationRelation as layout;
 ghost use Rattle.regex_pattern_front.specs.AstToSpecTree.{anchor_of};
 ghost use Rattle.regress_program.specs.InsnsAndStartPredicatesAsSpec.{insn_as_spec_insn};
 
+use crate::instructions::Insn;
 use regex_pattern_front::bytesearch::ByteArraySet;
 use regex_pattern_front::ir::AnchorType;
-use regress_plan::insn::Insn;
 
 // Returns the instruction that reads one character of a set. The first member is repeated if there
 // are fewer than four.

@@ -11,8 +11,8 @@ ghost use Rattle.regress_program.specs.ProgramFieldsMatchTree.{IsPlanForUnitWidt
 use crate::insn::common_program_part::Program;
 use crate::insn::plan_for_16_bit_units::{PlanAndCodeFor16BitUnits, copy_plan};
 use crate::insn::start_predicate_type::StartPredicate;
-use regress_plan::insn::Insn;
-use regress_plan::plan::Plan;
+use crate::instructions::Insn;
+use crate::plan::Plan;
 use std::alloc::AllocError;
 use std::marker::Model;
 use std::ops::Deref;

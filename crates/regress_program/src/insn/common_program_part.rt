@@ -5,18 +5,18 @@ ghost use Rattle.regex_pattern_front.specs.AstToSpecTree.{tree_of, spec_flags_of
 ghost use Rattle.regex_meaning.specs.WellFormedTrees.{is_well_formed};
 ghost use Rattle.regress_program.specs.{InsnsAndStartPredicatesAsSpec.{insn_as_spec_insn}, CompilationOfTreesAsFunction.{node_insn_count, compiled}};
 ghost use Rattle.regress_program.specs.{ProgramFieldsMatchTree.{IsCodeOfTree}, OptimizedTreeUnlessNoOpt.{optimized_tree_unless_no_opt}};
-ghost use Rattle.regress_plan.specs.{TableKeysOfUnits.{is_16_bit_width}, Plans.{IsPlanOf}};
+ghost use Rattle.regress_program.specs.{TableKeysOfUnits.{is_16_bit_width}, Plans.{IsPlanOf}};
 ghost use Rattle.std.specs.Arc.{arc_value};
 
 use crate::ghost_source_tree::GhostSourceTree;
 use crate::insn::emitted_code::EmittedCode;
 use crate::insn::group_name_storage::GroupNames;
+use crate::instructions::Insn;
+use crate::plan::{Plan, ProgramPartsForPlan};
+use crate::table_keys_of_units::UnitWidth;
 use regex_pattern_front::flags::Flags;
 use regex_pattern_front::ir;
 use regex_pattern_front::types::BracketContents;
-use regress_plan::insn::Insn;
-use regress_plan::plan::{Plan, ProgramPartsForPlan};
-use regress_plan::table_keys_of_units::UnitWidth;
 use std::alloc::{AllocError, Global};
 use std::marker::Model;
 use std::sync::Arc;

@@ -1,7 +1,7 @@
 //! The code emitted for a tree.
 
+use crate::instructions::Insn;
 use regex_pattern_front::types::BracketContents;
-use regress_plan::insn::Insn;
 
 /// The instructions of a tree, the brackets that they refer to, and the number of loops.
 #[derive(Drop)]

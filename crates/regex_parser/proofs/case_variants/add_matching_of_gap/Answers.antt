@@ -1,6 +1,6 @@
 use Rattle.std.proofs.Common.{◌++◌, map, ap, ◌∙◌}
 use Rattle.regex_meaning.specs.Outcomes.{in_intervals}
-use Rattle.regex_grammar.specs.CharacterClasses.{single_code_point_interval}
+use Rattle.regex_meaning.specs.CharacterClasses.{single_code_point_interval}
 use Rattle.regex_pattern_front.specs.Intervals.{interval_of}
 use Rattle.regex_parser.specs.CaseVariantContracts.{firsts_that_match, is_between}
 use Rattle.regex_parser.proofs.ClassLemmas.{ok-on}

@@ -1,7 +1,7 @@
 use Rattle.std.proofs.Common.{◌∙◌, ◌++◌, map, sym, ap, append-nil, true, false}
 use Rattle.std.specs.List.{list_any}
 use Rattle.regex_meaning.specs.Outcomes.{in_intervals}
-use Rattle.regex_grammar.specs.CharacterClasses.{single_code_point_interval}
+use Rattle.regex_meaning.specs.CharacterClasses.{single_code_point_interval}
 use Rattle.regex_pattern_front.specs.Intervals.{interval_of}
 use Rattle.regex_parser.proofs.ClosingLemmas.{closing-as}
 use Rattle.regex_parser.proofs.ClassLemmas.{ok-on}

@@ -1,5 +1,5 @@
 use Rattle.std.proofs.Common.{◌∙◌, ap, true, false}
-use Rattle.regex_grammar.specs.CharacterClasses.{has_set_operation}
+use Rattle.regex_meaning.specs.CharacterClasses.{has_set_operation}
 use Rattle.regex_parser.proofs.ClassLemmas.{sets-closed, sets-by}
 use Rattle.regex_parser.proofs.character_class_parser.no_set_operation.Goals as goal
 

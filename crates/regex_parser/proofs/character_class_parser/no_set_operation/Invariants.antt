@@ -1,5 +1,5 @@
 use Rattle.std.proofs.Common.{◌≡◌, length}
-use Rattle.regex_grammar.specs.CharacterClasses.{has_set_operation}
+use Rattle.regex_meaning.specs.CharacterClasses.{has_set_operation}
 use Rattle.regex_parser.proofs.character_class_parser.no_set_operation.Given as goal
 
 abbrev pub invariant-loop-c : goal.invariant-loop-c

@@ -1,5 +1,5 @@
 use Rattle.std.proofs.Common.{◌≤◌, List, [], length}
-use Rattle.regex_grammar.specs.CharacterClasses.{ClassMember}
+use Rattle.regex_meaning.specs.CharacterClasses.{ClassMember}
 use Rattle.regex_parser.specs.ClassReaderContracts.{AddsMembers}
 use Rattle.regex_pattern_front.specs.AstToSpecTree.{spec_flags_of}
 use Rattle.regex_parser.proofs.ClassLemmas.{RangesSoFar}

@@ -1,6 +1,6 @@
 use Rattle.std.proofs.Common.{◌∙◌, ap, sym, ◌||◌, false}
 use Rattle.regex_meaning.specs.Outcomes.{in_intervals}
-use Rattle.regex_grammar.specs.EcmaClasses.{class_member_contains}
+use Rattle.regex_meaning.specs.EcmaClasses.{class_member_contains}
 use Rattle.regex_parser.specs.ClassReaderContracts.{is_in_any_interval}
 use Rattle.regex_parser.specs.declared.ecmascript_classes.AtomValue.TheVariants.{Letter}
 use Rattle.regex_pattern_front.specs.AstToSpecTree.{spec_flags_of}

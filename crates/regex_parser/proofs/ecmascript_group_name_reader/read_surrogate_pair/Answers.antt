@@ -1,6 +1,6 @@
 use Rattle.std.proofs.Common.{sym, ap, ◌∙◌, true≢false}
-use Rattle.regex_grammar.specs.EscapesNamesQuantifiers.{is_trail_surrogate}
-use Rattle.regex_grammar.proofs.Leaves.{firsts}
+use Rattle.regex_meaning.specs.EscapesNamesQuantifiers.{is_trail_surrogate}
+use Rattle.regex_meaning.proofs.Leaves.{firsts}
 use Rattle.regex_parser.proofs.EcmaNameLemmas.{pair-none, pair-read, nil-not-cons}
 use Rattle.regex_parser.proofs.ecmascript_group_name_reader.read_surrogate_pair.Goals as goal
 

@@ -1,5 +1,5 @@
 use Rattle.std.proofs.Common.{sym, ◌∙◌}
-use Rattle.regex_grammar.specs.EcmaEscapesAndNames.{non_identity_escape}
+use Rattle.regex_meaning.specs.EcmaEscapesAndNames.{non_identity_escape}
 use Rattle.regex_parser.proofs.EcmaEscapeLemmas.{identity-read}
 use Rattle.regex_parser.proofs.ecmascript_single_character_escapes.read_character_escape.Goals as goal
 

@@ -1,5 +1,5 @@
 use Rattle.std.proofs.Common.{◌≡◌, ◌+◌, ◌-◌, ◌≤◌, false, refl, sym, arith, inl, inr}
-use Rattle.regex_grammar.specs.EcmaEscapesAndNames.{hex_escape, unicode_escape, is_octal_digit}
+use Rattle.regex_meaning.specs.EcmaEscapesAndNames.{hex_escape, unicode_escape, is_octal_digit}
 use Rattle.regex_parser.proofs.EscapeLemmas.{scalar-same, scalar-is, as-read}
 use Rattle.regex_parser.proofs.EcmaEscapeLemmas.{at-letter, letter-read, control-read, hex-none, unicode-none, other-kind, not-octal}
 use Rattle.regex_parser.proofs.ecmascript_single_character_escapes.read_non_identity_escape.Goals.{then-digit-ge48+else-digit-le55, else-digit-ge48}

@@ -1,6 +1,6 @@
 use Rattle.std.proofs.Common.{sym, ◌∙◌, true≢false}
 use Rattle.std.proofs.lemmas.Bool.{lt-ltb}
-use Rattle.regex_grammar.specs.EcmaEscapesAndNames.{legacy_octal_escape}
+use Rattle.regex_meaning.specs.EcmaEscapesAndNames.{legacy_octal_escape}
 use Rattle.regex_parser.proofs.EcmaEscapeLemmas.{zero-read}
 use Rattle.regex_parser.proofs.ecmascript_single_character_escapes.read_octal_escape.Goals.{then-first-gt0, else-first-gt0}
 use Rattle.regex_parser.proofs.ecmascript_single_character_escapes.read_octal_escape.Goals as goal

@@ -1,6 +1,6 @@
 use Rattle.std.proofs.Common.{◌≡◌, ◌∙◌, sym, refl, false}
 use Rattle.std.specs.Char.{is_ascii_alphanumeric}
-use Rattle.regex_grammar.specs.EscapesNamesQuantifiers.{hex_escape, unicode_escape, identity_escape}
+use Rattle.regex_meaning.specs.EscapesNamesQuantifiers.{hex_escape, unicode_escape, identity_escape}
 use Rattle.regex_parser.proofs.EscapeLemmas.{scalar-same, scalar-is, no_letter, control-read, as-read, hex_none, unicode_none}
 use Rattle.regex_parser.proofs.escapes_and_group_names.character_of_escape.Goals as goal
 

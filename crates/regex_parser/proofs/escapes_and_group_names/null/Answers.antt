@@ -1,6 +1,6 @@
 use Rattle.std.proofs.Common.{◌≡◌, ◌∙◌, sym, ap, refl}
 use Rattle.std.specs.Char.{is_ascii_digit}
-use Rattle.regex_grammar.specs.EscapesNamesQuantifiers.{null}
+use Rattle.regex_meaning.specs.EscapesNamesQuantifiers.{null}
 use Rattle.regex_parser.proofs.EscapeLemmas.{no_digit_here}
 use Rattle.regex_parser.proofs.escapes_and_group_names.null.Goals as goal
 

@@ -1,5 +1,5 @@
 use Rattle.std.proofs.Common.{◌≡◌, ◌∙◌, sym, ap, not, arith}
-use Rattle.regex_grammar.specs.UnicodeProperties.{is_nfkc_casefolded}
+use Rattle.regex_meaning.specs.UnicodeProperties.{is_nfkc_casefolded}
 use Rattle.regex_parser.specs.ClassReaderContracts.{is_in_any_interval}
 use Rattle.regex_parser.proofs.ClassLemmas.{ok-map}
 use Rattle.regex_parser.proofs.NfkcCasefoldLemmas.{holds-none, holds-more, holds-same, holds-all}

@@ -1,5 +1,5 @@
 use Rattle.std.proofs.Common.{not}
-use Rattle.regex_grammar.specs.UnicodeProperties.{is_nfkc_casefolded}
+use Rattle.regex_meaning.specs.UnicodeProperties.{is_nfkc_casefolded}
 use Rattle.regex_parser.proofs.NfkcCasefoldLemmas.{HoldsBelow}
 use Rattle.regex_parser.proofs.nfkc_casefold.changes_when_nfkc_casefolded.Given as goal
 

@@ -1,6 +1,6 @@
 use Rattle.std.proofs.Common.{◌∙◌, ap, refl}
 use Rattle.regex_meaning.proofs.Lists.{map-reverse}
-use Rattle.regex_grammar.specs.ReadingStatesAndDigits.{sequence_node}
+use Rattle.regex_meaning.specs.ReadingStatesAndDigits.{sequence_node}
 use Rattle.regex_pattern_front.specs.AstToSpecTree.{node_of}
 use Rattle.regex_parser.proofs.ModelLemmas.{cat_is}
 use Rattle.regex_pattern_front.proofs.NodeLemmas.{node_of-Cat}

@@ -1,4 +1,4 @@
-use Rattle.regex_grammar.specs.Grammar.{ParsesBy}
+use Rattle.regex_meaning.specs.Grammar.{ParsesBy}
 use Rattle.regex_parser.specs.ParserContracts.{IsTextRefusedIn}
 use Rattle.regex_parser.specs.SyntaxDialects.{spec_syntax_of}
 use Rattle.regex_pattern_front.specs.AstToSpecTree.{spec_flags_of, tree_of}

@@ -1,6 +1,6 @@
 use Rattle.std.proofs.Common.{◌≡◌, ℕ, ◌+◌, ◌⊎◌, Bool, inl, inr, ap, arith, refl}
 use Rattle.regex_meaning.specs.Tree as tree
-use Rattle.regex_grammar.specs.ReadingStatesAndDigits.{RemainingCodePoints}
+use Rattle.regex_meaning.specs.ReadingStatesAndDigits.{RemainingCodePoints}
 use Rattle.regex_parser.specs.ParserContracts.{group_node_around}
 use Rattle.regex_pattern_front.specs.AstToSpecTree.{node_of, group_name_bytes}
 use Rattle.regex_parser.specs.ParserGroupIdInvariant.{captures_opened_by_group_kind}

@@ -1,5 +1,5 @@
 use Rattle.std.proofs.Common.{refl, subst}
-use Rattle.regex_grammar.specs.Grammar.{ParsesBy}
+use Rattle.regex_meaning.specs.Grammar.{ParsesBy}
 use Rattle.regex_parser.specs.SyntaxDialects.{spec_syntax_of}
 use Rattle.regex_parser.specs.ParserContracts.{tree_of_root_and_flags}
 use Rattle.regex_pattern_front.specs.AstToSpecTree.{spec_flags_of}

@@ -1,6 +1,6 @@
-use Rattle.regex_grammar.specs.EcmaGrammarWithAnnexB.{ecmascript}
-use Rattle.regex_grammar.proofs.EcmaMembers.{ecmascript-reads}
-use Rattle.regex_grammar.proofs.EcmaTrees.{groups-are-found}
+use Rattle.regex_meaning.specs.EcmaGrammarWithAnnexB.{ecmascript}
+use Rattle.regex_meaning.proofs.EcmaMembers.{ecmascript-reads}
+use Rattle.regex_meaning.proofs.EcmaTrees.{groups-are-found}
 use Rattle.regex_parser.proofs.ScannedGroups.{scanned-opened}
 use Rattle.regex_parser.proofs.scan_law.ecmascript_scan_finds_groups.Goals as goal
 

@@ -3,13 +3,13 @@ use Rattle.std.specs.Prelude.{IsSome, true, option_map, Option, Err}
 use Rattle.regex_meaning.specs.CodeUnitOffsets.{units}
 use Rattle.regress_input.proofs.Places.{boundary_inside}
 use Rattle.regress_program.specs.CompilationOfTreesAsFunction.{compiled}
-use Rattle.regress_exec.proofs.Searchable.{can-search}
-use Rattle.regress_exec.specs.AttemptResultsAndStartsToTry.{ticks_of_attempt_at}
-use Rattle.regress_exec.specs.StepBudgetAndContinuationAfterSearch.{SpendsNeedOrReachesLimit, AllocFailureCostsAtLeastOneStep}
-use Rattle.regress_exec.specs.declared.exec.SearchError.TheVariants.{Memory}
-use Rattle.regress_exec.proofs.Budget.{handed}
+use Rattle.regress_search.proofs.Searchable.{can-search}
+use Rattle.regress_search.specs.AttemptResultsAndStartsToTry.{ticks_of_attempt_at}
+use Rattle.regress_search.specs.StepBudgetAndContinuationAfterSearch.{SpendsNeedOrReachesLimit, AllocFailureCostsAtLeastOneStep}
+use Rattle.regress_search.specs.declared.exec.SearchError.TheVariants.{Memory}
+use Rattle.regress_search.proofs.Budget.{handed}
 use Rattle.regress_backtrack.specs.State.{StateModel, current_thread_state_of, last_mark_log}
-use Rattle.regress_scan.specs.TreePlanAndText.{program_of}
+use Rattle.regress_search.specs.TreePlanAndText.{program_of}
 use Rattle.regress_backtrack.specs.AttemptResults.{HasSlots}
 use Rattle.regress_backtrack.specs.SearchProgressAndFinalState.{found_from_state, NeedStepsAtLeast}
 use Rattle.regress_backtrack.specs.StepsTakenFromBudget.{step_limit}

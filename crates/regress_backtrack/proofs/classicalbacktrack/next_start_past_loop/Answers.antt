@@ -1,5 +1,5 @@
 use Rattle.std.proofs.Common.{arith, le_refl, subst, sym}
-use Rattle.regress_exec.specs.AttemptResultsAndStartsToTry.{NoMatchAt}
+use Rattle.regress_search.specs.AttemptResultsAndStartsToTry.{NoMatchAt}
 use Rattle.regress_backtrack.proofs.NextStarts.{next-further, past-run}
 use Rattle.regress_backtrack.proofs.classicalbacktrack.next_start_past_loop.Goals as goal
 

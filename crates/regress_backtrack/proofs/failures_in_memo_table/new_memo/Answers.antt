@@ -1,12 +1,12 @@
 use Rattle.std.proofs.Common.{◌≤◌, ◌*◌, ◌^◌, ◌+◌, false, sym, subst}
 use Rattle.std.specs.Prelude.{IfSome, MatchOption}
 use Rattle.regex_meaning.specs.CompilationRelation.{Program}
-use Rattle.regress_memo_analysis.specs.Successors.{AreInsnsOfProgram}
-use Rattle.regress_memo_analysis.specs.CheckedAnalysis.{IsAnalysisOf}
-use Rattle.regress_memo.specs.MemoContents.{IsEmptyMemo, has_failure}
-use Rattle.regress_scan.specs.TreePlanAndText.{program_of}
+use Rattle.regress_memo.specs.Successors.{AreInsnsOfProgram}
+use Rattle.regress_memo.specs.CheckedAnalysis.{IsAnalysisOf}
+use Rattle.regress_memo.specs.MemoContents.{IsEmptyMemo, has_failure, has_success}
+use Rattle.regress_search.specs.TreePlanAndText.{program_of}
 use Rattle.regress_backtrack.specs.FailuresInMemoTable.{scheme_of}
-use Rattle.regress_backtrack.specs.FailureMemo.{AreFailuresRightIn}
+use Rattle.regress_backtrack.specs.FailureMemo.{AreFailuresRightIn, AreEndsRightIn}
 use Rattle.regress_backtrack.proofs.Rightness.{memory-right}
 use Rattle.regress_backtrack.proofs.failures_in_memo_table.new_memo.Goals as goal
 
@@ -18,8 +18,10 @@ returns g c =
     let of : IsAnalysisOf (program_of w) t =
     subst (λ o. IfSome o (λ memo_analysis. (program : Program) → AreInsnsOfProgram program c.args.insns.now → IsAnalysisOf program memo_analysis)) c.in-Some.is
     c.in_ok-memo_analysis.ensures.of (program_of w) (sym c.requires) in
-    let places = c.text_end.result + 1 in
-    let begun = subst (λ o. MatchOption o (2 ^ 64 ≤ t.codes * places) (IsEmptyMemo t places false)) c.in-Some-2.is c.in_ok-memo.ensures in
-    subst (λ m. AreFailuresRightIn (program_of w) w.text (scheme_of m.memo_analysis) (has_failure m)) (sym c.in_ok-memo-2.ensures.ok)
+    let places = c.text_end-places.result + 1 in
+    let wanted = c.has_negative_lookaround.result in
+    let begun = subst (λ o. MatchOption o (2 ^ 64 ≤ t.codes * places) (IsEmptyMemo t places wanted)) c.in-Some-2.is c.in_ok-memo.ensures in
+    subst (λ m. AreFailuresRightIn (program_of w) w.text (scheme_of m.memo_analysis) (has_failure m) × AreEndsRightIn (program_of w) w.text (scheme_of m.memo_analysis) (has_success m))
+    (sym c.in_ok-memo-2.ensures.ok)
     (memory-right (program_of w) w.text t of (g.met.W.SearchContext.is_text it) (λ ip x there l. (g.met.W.SearchContext.literals it ip x there l).reads)
-    (g.met.W.SearchContext.offsets_fit it) c.in-Some-2.memo places begun)
+    (g.met.W.SearchContext.offsets_fit it) c.in-Some-2.memo places wanted begun)

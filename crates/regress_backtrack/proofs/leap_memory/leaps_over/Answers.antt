@@ -1,11 +1,11 @@
 use Rattle.std.proofs.Common.{Option, subst}
 use Rattle.std.specs.Prelude.{IfSome}
-use Rattle.regress_plan.specs.declared.leap.Leap.{Leap}
-use Rattle.regress_plan.specs.declared.plan.Plan.{Plan}
-use Rattle.regress_plan.specs.Leaps.{IsLeap}
-use Rattle.regress_plan.specs.TableKeysOfUnits.{is_16_bit_encoding}
-use Rattle.regress_plan.proofs.LookAheadLemmas.{some-has}
-use Rattle.regress_scan.specs.TreePlanAndText.{program_of}
+use Rattle.regress_program.specs.declared.leap.Leap.{Leap}
+use Rattle.regress_program.specs.declared.plan.Plan.{Plan}
+use Rattle.regress_program.specs.Leaps.{IsLeap}
+use Rattle.regress_program.specs.TableKeysOfUnits.{is_16_bit_encoding}
+use Rattle.regress_program.proofs.LookAheadLemmas.{some-has}
+use Rattle.regress_search.specs.TreePlanAndText.{program_of}
 use Rattle.regress_backtrack.proofs.leap_memory.leaps_over.Goals as goal
 
 pub leap_over-requires-clause-leap : goal.leap_over-requires-clause-leap

@@ -2,8 +2,8 @@ use Rattle.std.proofs.Common.{◌<◌, Some, None, ap, sym, refl, subst, ◌∙�
 use Rattle.std.specs.Prelude.{IfSome, option_map, option_and_then}
 use Rattle.regex_meaning.specs.Text.{rightwards}
 use Rattle.regex_meaning.specs.CodeUnitOffsets.{IsBoundary, read}
-use Rattle.regress_exec.proofs.Skips.{untried}
-use Rattle.regress_exec.specs.AttemptResultsAndStartsToTry.{first_filtered_start}
+use Rattle.regress_search.proofs.Skips.{untried}
+use Rattle.regress_search.specs.AttemptResultsAndStartsToTry.{first_filtered_start}
 use Rattle.regress_input.proofs.Places.{boundary_inside}
 use Rattle.regress_program.specs.InsnsAndStartPredicatesAsSpec.{start_predicate_as_spec}
 use Rattle.regress_backtrack.proofs.TriedPlaces.{and-then-mapped, fewer, is-first, reads-bytes, tried-here, tried-on}

@@ -1,5 +1,5 @@
 use Rattle.regex_pattern_front.specs.AstToSpecTree.{tree_of}
-use Rattle.regress_exec.proofs.Searchable.{can-search}
+use Rattle.regress_search.proofs.Searchable.{can-search}
 use Rattle.regress_program.specs.CompilationOfTreesAsFunction.{compiled}
 use Rattle.regress_bounded.proofs.Ending.{begins-stands, attempt-stands, found-all}
 use Rattle.regress_bounded.proofs.Stopping.{runs-handed}

@@ -1,5 +1,5 @@
 use Rattle.std.proofs.Common.{◌-◌}
-use Rattle.regress_scan.specs.OffsetsAfterMatchedInsns.{char_test_of_insn}
+use Rattle.regress_search.specs.OffsetsAfterMatchedInsns.{char_test_of_insn}
 use Rattle.regress_bounded.proofs.Passed.{HasPassed}
 use Rattle.regress_bounded.proofs.unbounded_char_loops.read_chars_within_budget.Given as goal
 

@@ -4,7 +4,7 @@ use Rattle.regex_pattern_front.specs.AstToSpecTree.{tree_of}
 use Rattle.regress_machine.specs.Machine.{test_of}
 use Rattle.regress_program.specs.CompilationOfTreesAsFunction.{compiled}
 use Rattle.regress_program.specs.InsnsAndStartPredicatesAsSpec.{insn_as_spec_insn}
-use Rattle.regress_memo_analysis.specs.CheckedAnalysis.{IsRecordableMemoKey}
+use Rattle.regress_memo.specs.CheckedAnalysis.{IsRecordableMemoKey}
 use Rattle.regress_memo.specs.MemoContents.{memo_key_as_spec}
 use Rattle.regress_bounded.proofs.Lazily.{rest-of, back-known-over, back-known-goes, back-over, back-goes, back-place, back-boundary, back-tested}
 use Rattle.regress_bounded.proofs.Lazily.{back-keyed}

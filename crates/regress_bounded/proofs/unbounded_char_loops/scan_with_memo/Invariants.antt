@@ -2,7 +2,7 @@ use Rattle.std.proofs.Common.{◌-◌}
 use Rattle.regex_meaning.specs.CodeUnitOffsets.{units}
 use Rattle.regex_pattern_front.specs.AstToSpecTree.{tree_of}
 use Rattle.regress_program.specs.CompilationOfTreesAsFunction.{compiled}
-use Rattle.regress_scan.specs.OffsetsAfterMatchedInsns.{char_test_of_insn}
+use Rattle.regress_search.specs.OffsetsAfterMatchedInsns.{char_test_of_insn}
 use Rattle.regress_pikevm.specs.States.{state_of}
 use Rattle.regress_bounded.proofs.Furthest.{HasGoneOver}
 use Rattle.regress_bounded.proofs.unbounded_char_loops.scan_with_memo.Given as goal

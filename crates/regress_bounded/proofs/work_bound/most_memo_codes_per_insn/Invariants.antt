@@ -1,5 +1,5 @@
 use Rattle.std.proofs.Common.{◌≡◌, max, take, fold}
-use Rattle.regress_memo_analysis.specs.declared.analysis_result.InsnAnalysis.{InsnAnalysis}
+use Rattle.regress_memo.specs.declared.analysis_result.InsnAnalysis.{InsnAnalysis}
 use Rattle.regress_bounded.proofs.work_bound.most_memo_codes_per_insn.Given as goal
 
 abbrev pub invariant-loop-line : goal.invariant-loop-line

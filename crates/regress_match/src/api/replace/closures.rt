@@ -8,7 +8,7 @@ ghost use Rattle.regress_match.specs.ExpansionsAndMatchRanges.{MatchesFitTextInO
 
 use crate::api::replace::{append_rest, append_unmatched_text_up_to_match};
 use crate::api::{Match, Regex, ReplaceError};
-use regress_exec::exec::{MatchProducer, Matches};
+use regress_search::exec::{MatchProducer, Matches};
 use std::alloc::Global;
 
 impl Regex {

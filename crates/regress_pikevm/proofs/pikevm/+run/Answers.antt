@@ -4,7 +4,7 @@ use Rattle.regress_input.specs.CharAndByteReadsFromOffset.{direction_of_forward_
 use Rattle.regress_program.specs.CompilationOfTreesAsFunction.{compiled}
 use Rattle.regress_machine.specs.Machine.{running, first_running_and_others_waiting, after_lookaround}
 use Rattle.regress_pikevm.specs.States.{state_of, next_threads, running_thread, waiting_threads, preferred_last}
-use Rattle.regress_exec.specs.AttemptResultsAndStartsToTry.{steps_for_attempt, search_from}
+use Rattle.regress_search.specs.AttemptResultsAndStartsToTry.{steps_for_attempt, search_from}
 use Rattle.regress_machine.specs.InsnEffects.{end_of_search}
 use Rattle.regress_machine.proofs.Remains.{Remains, steps_of, remains-begin}
 use Rattle.regress_pikevm.proofs.Remains.{TakenUp, less-by, turn-can, turn-inside, turn-dead, turn-go, turn-fork, turn-scans, taken-up}

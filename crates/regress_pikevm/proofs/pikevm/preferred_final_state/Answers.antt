@@ -6,10 +6,10 @@ use Rattle.regex_pattern_front.specs.AstToSpecTree.{tree_of}
 use Rattle.regress_input.proofs.Places.{boundary_inside}
 use Rattle.regress_machine.specs.Machine as machine
 use Rattle.regress_machine.specs.SearchFindsFirstOutcomeAtPlace.{end_of}
-use Rattle.regress_exec.specs.AttemptResultsAndStartsToTry.{search_from}
+use Rattle.regress_search.specs.AttemptResultsAndStartsToTry.{search_from}
 use Rattle.regress_machine.specs.InsnEffects.{end_of_search}
-use Rattle.regress_exec.proofs.Searchable.{can-search}
-use Rattle.regress_exec.proofs.Attempts.{begins}
+use Rattle.regress_search.proofs.Searchable.{can-search}
+use Rattle.regress_search.proofs.Attempts.{begins}
 use Rattle.regress_pikevm.proofs.Remains.{map-end}
 use Rattle.regress_pikevm.proofs.pikevm.preferred_final_state.Goals as goal
 

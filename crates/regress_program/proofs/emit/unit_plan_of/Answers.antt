@@ -1,6 +1,6 @@
 use Rattle.std.proofs.Common.{◌∙◌, ap, sym, map, true}
 use Rattle.regex_pattern_front.specs.AstToSpecTree.{tree_of, class_as_spec}
-use Rattle.regress_plan.specs.Plans.{ProgramHasInsnsBracketsAndGroups}
+use Rattle.regress_program.specs.Plans.{ProgramHasInsnsBracketsAndGroups}
 use Rattle.regress_program.specs.InsnsAndStartPredicatesAsSpec.{insn_as_spec_insn}
 use Rattle.regress_program.specs.CompilationOfTreesAsFunction.{compiled}
 use Rattle.regress_program.specs.OptimizedTreeUnlessNoOpt.{optimized_tree_unless_no_opt}

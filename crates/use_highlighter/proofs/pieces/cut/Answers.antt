@@ -1,8 +1,8 @@
 use Rattle.std.proofs.Common.{◌≡◌, ◌∙◌, ◌++◌, ◌∷◌, ℕ, [], false, ap, ap₂}
 use Rattle.std.specs.Prelude.{Some, None}
 use Rattle.std.proofs.lemmas.Str.{IsCharBoundary-end}
-use Rattle.regress_exec.specs.MatchesAsSpecAnswers.{answer_of}
-use Rattle.regress_exec.specs.RemainingAnswers.{RemainingView}
+use Rattle.regress_search.specs.MatchesAsSpecAnswers.{answer_of}
+use Rattle.regress_search.specs.RemainingAnswers.{RemainingView}
 use Rattle.regress_match.specs.ProgramTreesAndAnswers.{utf8_answers}
 use Rattle.regress_match.proofs.CallerLemmas.{IsReached, reached-unlimited, takes-next}
 use Rattle.use_highlighter.specs.Tokens.{names_of}

@@ -1,5 +1,5 @@
 use Rattle.std.proofs.Common.{◌≡◌, ◌+◌, length}
-use Rattle.regress_exec.specs.MatchesAsSpecAnswers.{answer_of}
+use Rattle.regress_search.specs.MatchesAsSpecAnswers.{answer_of}
 use Rattle.use_highlighter.specs.Tokens.{names_of, token_of}
 use Rattle.use_highlighter.proofs.tokens.token_of.Given as goal
 

@@ -2,8 +2,8 @@ use Rattle.std.proofs.Common.{[], ◌∙◌, subst, sym}
 use Rattle.std.proofs.lemmas.Str.{is_utf8-from_IsUtf8}
 use Rattle.std.specs.Prelude.{chars}
 use Rattle.regex_meaning.specs.FlagLettersAndEscaping.{flags_from_letters}
-use Rattle.regex_grammar.specs.Grammar.{Parses}
-use Rattle.regex_grammar.specs.Laws.{literal_tree}
+use Rattle.regex_meaning.specs.Grammar.{Parses}
+use Rattle.regex_meaning.specs.GrammarLaws.{literal_tree}
 use Rattle.regress_match.specs.ProgramTreesAndAnswers.{IsCompiledWith, tree_for_16_bit_units}
 use Rattle.regress_match.proofs.FlagLemmas.{IfOk-map}
 use Rattle.use_modules.proofs.laws.compile_literal.Goals as goal

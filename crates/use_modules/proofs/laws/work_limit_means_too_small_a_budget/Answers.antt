@@ -1,6 +1,6 @@
 use Rattle.std.proofs.Common.{◌∷◌}
 use Rattle.std.specs.Prelude.{Some, Err}
-use Rattle.regress_exec.specs.declared.exec.work_matches.WorkError.TheVariants.{WorkLimit}
+use Rattle.regress_search.specs.declared.exec.work_matches.WorkError.TheVariants.{WorkLimit}
 use Rattle.use_modules.proofs.laws.work_limit_means_too_small_a_budget.Goals as goal
 
 pub returns : goal.returns

@@ -1,6 +1,6 @@
 use Rattle.std.proofs.Common.{◌∙◌, ◌++◌, ap, map, refl}
 use Rattle.std.proofs.lemmas.List.{take_rest}
-use Rattle.regress_exec.specs.MatchesAsSpecAnswers.{answer_of}
+use Rattle.regress_search.specs.MatchesAsSpecAnswers.{answer_of}
 use Rattle.regress_match.proofs.Answering.{ends, goes-answered, refuses-answered}
 use Rattle.regress_match.proofs.Replacing.{callable-next, callable-rest}
 use Rattle.use_regexp.specs.Replace.{units_of}

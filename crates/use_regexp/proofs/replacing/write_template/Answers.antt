@@ -1,6 +1,6 @@
 use Rattle.std.proofs.Common.{◌∙◌, ◌++◌, ap, map}
 use Rattle.std.proofs.lemmas.List.{take_rest}
-use Rattle.regress_exec.specs.MatchesAsSpecAnswers.{answer_of}
+use Rattle.regress_search.specs.MatchesAsSpecAnswers.{answer_of}
 use Rattle.regress_match.proofs.Replacing.{replaced-end, replaced-more}
 use Rattle.use_regexp.specs.Template.{substitution}
 use Rattle.use_regexp.proofs.Replaced.{map-none, stand-behind}

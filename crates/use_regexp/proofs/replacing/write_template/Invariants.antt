@@ -1,6 +1,6 @@
 use Rattle.std.proofs.Common.{◌≡◌, ◌++◌, length, map}
 use Rattle.regex_meaning.specs.Replace.{replaced}
-use Rattle.regress_exec.specs.MatchesAsSpecAnswers.{answer_of}
+use Rattle.regress_search.specs.MatchesAsSpecAnswers.{answer_of}
 use Rattle.use_regexp.specs.Replace.{StandInUnits, substituted}
 use Rattle.use_regexp.proofs.replacing.write_template.Given as goal
 

@@ -1,6 +1,6 @@
 use Rattle.std.proofs.Common.{◌≡◌, ◌++◌, map, take}
 use Rattle.std.specs.Prelude.{option_map}
-use Rattle.regress_exec.specs.MatchesAsSpecAnswers.{range_as_pair}
+use Rattle.regress_search.specs.MatchesAsSpecAnswers.{range_as_pair}
 use Rattle.use_regexp.proofs.splitting.push_pieces.Given as goal
 
 abbrev pub invariant-loop-group : goal.invariant-loop-group

@@ -2,7 +2,7 @@ use Rattle.std.proofs.Common.{◌≡◌, ◌∙◌, ◌++◌, ap, sym, subst}
 use Rattle.std.specs.Prelude.{IfSome, None, Some, if◌then◌else◌, option_map, string_bytes}
 use Rattle.std.specs.List.{list_all}
 use Rattle.regex_meaning.specs.Replace.{text_of}
-use Rattle.regress_exec.specs.MatchesAsSpecAnswers.{answer_of}
+use Rattle.regress_search.specs.MatchesAsSpecAnswers.{answer_of}
 use Rattle.regress_match.specs.ExpansionsAndMatchRanges.{IsRangeWithinUnits}
 use Rattle.regress_match.proofs.FlagLemmas.{IfOk-map}
 use Rattle.use_regexp.specs.Template.{is_ascii}

@@ -2,7 +2,7 @@ use Rattle.std.proofs.Common.{◌∙◌, ◌++◌, ap, refl, sym, subst}
 use Rattle.std.proofs.lemmas.List.{take_rest}
 use Rattle.std.specs.Prelude.{IfSome}
 use Rattle.regex_meaning.specs.Replace.{text_of}
-use Rattle.regress_exec.specs.MatchesAsSpecAnswers.{answer_of}
+use Rattle.regress_search.specs.MatchesAsSpecAnswers.{answer_of}
 use Rattle.regress_match.specs.ExpansionsAndMatchRanges.{IsRangeWithinUnits}
 use Rattle.use_regexp.proofs.TemplateLemmas.{group-within, one-written, two-written}
 use Rattle.use_regexp.proofs.template.push_numbered.Goals as goal

@@ -1,5 +1,5 @@
 use Rattle.std.proofs.Common.{◌∙◌, ◌++◌, ◌-◌, ◌+◌, ap, sym, arith, append-nil, length}
-use Rattle.regress_exec.specs.MatchesAsSpecAnswers.{answer_of}
+use Rattle.regress_search.specs.MatchesAsSpecAnswers.{answer_of}
 use Rattle.use_regexp.specs.Template.{substitution}
 use Rattle.use_regexp.proofs.TemplateLemmas.{said-more, said-none, said-out}
 use Rattle.use_regexp.proofs.template.substitute.Goals as goal

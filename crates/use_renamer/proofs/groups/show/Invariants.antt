@@ -1,7 +1,7 @@
 use Rattle.std.proofs.Common.{◌≡◌, ◌++◌, flat_map, string_bytes, ℕ, List}
 use Rattle.std.specs.Prelude.{IfSome, Option}
 use Rattle.regex_meaning.specs.Laws.{Each}
-use Rattle.regress_exec.specs.MatchesAsSpecAnswers.{answer_of}
+use Rattle.regress_search.specs.MatchesAsSpecAnswers.{answer_of}
 use Rattle.regress_match.specs.ExpansionsAndMatchRanges.{IsCharBoundaryRange}
 use Rattle.use_renamer.specs.Names.{described, groups_shown}
 use Rattle.use_renamer.proofs.groups.show.Given as goal

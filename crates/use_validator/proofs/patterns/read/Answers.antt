@@ -1,6 +1,6 @@
 use Rattle.std.proofs.Common.{chars, subst}
 use Rattle.std.specs.Prelude.{IfOk}
-use Rattle.regex_grammar.specs.EcmaGrammarWithAnnexB.{ecmascript}
+use Rattle.regex_meaning.specs.EcmaGrammarWithAnnexB.{ecmascript}
 use Rattle.regress_match.specs.ProgramTreesAndAnswers.{IsCompiledWithSyntax}
 use Rattle.use_validator.proofs.patterns.read.Goals as goal
 

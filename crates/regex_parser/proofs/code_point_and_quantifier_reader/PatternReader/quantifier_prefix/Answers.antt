@@ -1,4 +1,4 @@
-use Rattle.regex_grammar.specs.EscapesNamesQuantifiers.{star, plus, question}
+use Rattle.regex_meaning.specs.EscapesNamesQuantifiers.{star, plus, question}
 use Rattle.regex_parser.proofs.code_point_and_quantifier_reader.PatternReader.quantifier_prefix.Goals as goal
 
 pub returns-then-eat-clause-text : goal.returns-then-eat-clause-text

@@ -1,5 +1,5 @@
 use Rattle.std.proofs.Common.{sym, ◌∙◌}
-use Rattle.regex_grammar.specs.EcmaClasses.{simple_escape, character_escape}
+use Rattle.regex_meaning.specs.EcmaClasses.{simple_escape, character_escape}
 use Rattle.regex_parser.proofs.EcmaNameLemmas.{err-read}
 use Rattle.regex_parser.proofs.EcmaClassLemmas.{letter-read, property-escape, no-property_escape, no-escape, no-class_escape, err-or}
 use Rattle.regex_parser.proofs.ecmascript_classes.ClassReader.read_escape.Goals as goal

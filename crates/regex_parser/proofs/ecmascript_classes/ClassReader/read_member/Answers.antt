@@ -1,5 +1,5 @@
 use Rattle.std.proofs.Common.{[], ◌∷◌}
-use Rattle.regex_grammar.specs.EcmaClasses.{character, alone}
+use Rattle.regex_meaning.specs.EcmaClasses.{character, alone}
 use Rattle.regex_parser.specs.EcmaClassContracts.{member_of_atom}
 use Rattle.regex_pattern_front.specs.AstToSpecTree.{spec_flags_of}
 use Rattle.regex_parser.proofs.EcmaClassLemmas.{member-no_end, member-range, member-apart, member-wrong, err-member}

@@ -1,5 +1,5 @@
 use Rattle.std.proofs.Common.{◌≤◌, List, [], length}
-use Rattle.regex_grammar.specs.EcmaClasses.{ClassMember}
+use Rattle.regex_meaning.specs.EcmaClasses.{ClassMember}
 use Rattle.regex_parser.specs.EcmaClassContracts.{AddsEcmaMembers}
 use Rattle.regex_pattern_front.specs.AstToSpecTree.{spec_flags_of}
 use Rattle.regex_parser.proofs.EcmaClassLemmas.{RangesSoFar}

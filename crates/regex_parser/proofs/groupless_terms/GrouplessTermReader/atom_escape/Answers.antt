@@ -1,6 +1,6 @@
 use Rattle.std.proofs.Common.{◌∙◌, sym, refl, [], ◌∷◌}
-use Rattle.regex_grammar.specs.Grammar.{character_escape}
-use Rattle.regex_grammar.proofs.Found.{scanned}
+use Rattle.regex_meaning.specs.Grammar.{character_escape}
+use Rattle.regex_meaning.proofs.Found.{scanned}
 use Rattle.regex_parser.specs.GrouplessTermContracts.{pattern_context, NoSimpleAtom}
 use Rattle.std.specs.BTreeMap.{get_by_text}
 use Rattle.regex_parser.proofs.ClassLemmas.{no_class}

@@ -1,5 +1,5 @@
 use Rattle.std.proofs.Common.{◌∙◌, sym, subst}
-use Rattle.regex_grammar.specs.EcmaEscapesAndNames.{CharacterEscape}
+use Rattle.regex_meaning.specs.EcmaEscapesAndNames.{CharacterEscape}
 use Rattle.regex_parser.specs.GrouplessTermContracts.{pattern_context}
 use Rattle.regex_pattern_front.proofs.LeafLemmas.{leaf-Char}
 use Rattle.regex_parser.proofs.EcmaTermLemmas.{parameters-same, escape-read, control-read, slash-read}

@@ -1,6 +1,6 @@
 use Rattle.std.proofs.Common.{[], ◌∷◌}
 use Rattle.std.proofs.lemmas.Bool.{ne_eqb}
-use Rattle.regex_grammar.proofs.Found.{scanned}
+use Rattle.regex_meaning.proofs.Found.{scanned}
 use Rattle.regex_parser.specs.GrouplessTermContracts.{pattern_context, NoTerm}
 use Rattle.regex_parser.proofs.TermLemmas.{read-leaf, read-err, character-read, in-all, passed-of, alone, alone-none, bracket-none}
 use Rattle.regex_parser.proofs.TermLemmas.{bracket-read}

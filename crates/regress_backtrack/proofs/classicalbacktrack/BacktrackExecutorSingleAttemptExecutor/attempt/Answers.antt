@@ -1,10 +1,10 @@
 use Rattle.std.proofs.Common.{sym, ◌∙◌, subst, Ok, None}
-use Rattle.regress_exec.specs.AttemptResultsAndStartsToTry.{NoMatchAt}
-use Rattle.regress_exec.specs.declared.exec.SearchError.{SearchError}
+use Rattle.regress_search.specs.AttemptResultsAndStartsToTry.{NoMatchAt}
+use Rattle.regress_search.specs.declared.exec.SearchError.{SearchError}
 use Rattle.regress_backtrack.specs.ProgramsAndPlans.{executed_tree_of}
 use Rattle.regex_pattern_front.specs.AstToSpecTree.{tree_of}
 use Rattle.regress_backtrack.specs.State.{current_thread_state_of}
-use Rattle.regress_exec.proofs.InWork.{goes-on-free}
+use Rattle.regress_search.proofs.InWork.{goes-on-free}
 use Rattle.regress_backtrack.proofs.InPlace.{can-be, can-run, end-planned, ends-planned, search-run}
 use Rattle.regress_backtrack.proofs.classicalbacktrack.BacktrackExecutorSingleAttemptExecutor.attempt.Goals as goal
 

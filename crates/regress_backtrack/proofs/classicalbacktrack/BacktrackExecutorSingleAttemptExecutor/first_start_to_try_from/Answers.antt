@@ -2,7 +2,7 @@ use Rattle.std.proofs.Common.{◌+◌, sym, ◌∙◌, subst, le_refl, arith}
 use Rattle.std.specs.Prelude.{option_map}
 use Rattle.regex_pattern_front.specs.AstToSpecTree.{tree_of}
 use Rattle.regress_program.specs.OptimizedTreeUnlessNoOpt.{planned_tree}
-use Rattle.regress_exec.specs.AttemptResultsAndStartsToTry.{NextStartSkipsNoMatch, NoMatchAt}
+use Rattle.regress_search.specs.AttemptResultsAndStartsToTry.{NextStartSkipsNoMatch, NoMatchAt}
 use Rattle.regress_backtrack.proofs.NextStarts.{next-one}
 use Rattle.regress_backtrack.proofs.InPlace.{can-be, search-run, next-tree, end-planned}
 use Rattle.regress_backtrack.proofs.classicalbacktrack.BacktrackExecutorSingleAttemptExecutor.first_start_to_try_from.Goals as goal

@@ -1,7 +1,7 @@
 use Rattle.std.proofs.Common.{◌+◌, Some, None, arith, sym, ◌∙◌, subst}
 use Rattle.std.specs.Prelude.{option_map}
 use Rattle.regex_pattern_front.specs.AstToSpecTree.{tree_of}
-use Rattle.regress_exec.specs.AttemptResultsAndStartsToTry.{NextStartSkipsNoMatch}
+use Rattle.regress_search.specs.AttemptResultsAndStartsToTry.{NextStartSkipsNoMatch}
 use Rattle.regress_backtrack.proofs.NextStarts.{next-further}
 use Rattle.regress_backtrack.proofs.InPlace.{can-be, search-run, end-planned, next-tree, next-planned}
 use Rattle.regress_backtrack.proofs.classicalbacktrack.BacktrackExecutorSingleAttemptExecutor.next_start_after_failed_attempt.Goals as goal

@@ -1,10 +1,10 @@
 use Rattle.std.proofs.Common.{◌≡◌, [], ◌∷◌, refl, ap, sym, ◌∙◌, subst}
 use Rattle.regex_meaning.specs.CodeUnitOffsets.{units}
 use Rattle.regress_machine.specs.Machine.{running}
-use Rattle.regress_memo_laws.specs.MemoKeys.{IsSoundState}
-use Rattle.regress_memo_analysis.specs.declared.analysis_result.MemoAnalysis.{MemoAnalysis}
-use Rattle.regress_memo_analysis.specs.declared.analysis_result.InsnAnalysis.{InsnAnalysis}
-use Rattle.regress_memo_analysis.specs.AnalysisAsLivenessAndPotentials.{insn_analysis_of, analysis_as_liveness, insn_direction}
+use Rattle.regress_memo.specs.MemoKeys.{IsSoundState}
+use Rattle.regress_memo.specs.declared.analysis_result.MemoAnalysis.{MemoAnalysis}
+use Rattle.regress_memo.specs.declared.analysis_result.InsnAnalysis.{InsnAnalysis}
+use Rattle.regress_memo.specs.AnalysisAsLivenessAndPotentials.{insn_analysis_of, analysis_as_liveness, insn_direction}
 use Rattle.regress_backtrack.specs.State.{current_thread_state_of}
 use Rattle.regress_backtrack.proofs.MemoKeys.{key-of-thread, stored-key, same-way}
 use Rattle.regress_backtrack.proofs.failures_in_memo_table.MemoTableFailureMemo.key_at.Goals as goal

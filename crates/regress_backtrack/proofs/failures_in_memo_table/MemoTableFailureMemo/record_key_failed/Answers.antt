@@ -1,8 +1,8 @@
 use Rattle.std.proofs.Common.{◌≡◌, true, subst, sym}
 use Rattle.std.specs.Prelude.{◌⊎◌, IsTrue}
-use Rattle.regress_memo_laws.specs.MemoSearch.{Key}
+use Rattle.regress_memo.specs.MemoSearch.{Key}
 use Rattle.regress_memo.specs.MemoContents.{has_failure}
-use Rattle.regress_memo_analysis.specs.CheckedAnalysis.{IsRecordableMemoKey}
+use Rattle.regress_memo.specs.CheckedAnalysis.{IsRecordableMemoKey}
 use Rattle.regress_backtrack.proofs.MemoKeys.{noted-itself, noted-kept, noted-more}
 use Rattle.regress_backtrack.proofs.failures_in_memo_table.MemoTableFailureMemo.record_key_failed.Goals as goal
 
@@ -24,3 +24,6 @@ returns-else-has-clause-recorded c = λ has.
     let m = c.args.self.now in
     let there : IsTrue c.has.result = c.has.ensures.1 (subst (λ (k : Key). IsRecordableMemoKey m.memo_analysis m.places k) (sym c.memo_key_of-key.ensures) has) in
     absurd (cc (there, c.if-has.false))
+
+pub returns-then-has-clause-succeeded : goal.returns-then-has-clause-succeeded
+returns-then-has-clause-succeeded c = λ k. c.record_failure.ensures.ends k

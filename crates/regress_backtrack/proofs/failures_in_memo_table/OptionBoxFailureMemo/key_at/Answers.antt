@@ -1,5 +1,5 @@
 use Rattle.std.proofs.Common.{sym, subst}
-use Rattle.regress_scan.specs.TreePlanAndText.{program_of}
+use Rattle.regress_search.specs.TreePlanAndText.{program_of}
 use Rattle.regress_backtrack.specs.FailureMemo.{AreFailuresRightIn, scheme_in, failed_in}
 use Rattle.regress_backtrack.proofs.failures_in_memo_table.OptionBoxFailureMemo.key_at.Goals as goal
 

@@ -1,6 +1,6 @@
 use Rattle.std.proofs.Common.{sym, subst}
 use Rattle.std.specs.Prelude.{IfSome}
-use Rattle.regress_scan.specs.TreePlanAndText.{program_of}
+use Rattle.regress_search.specs.TreePlanAndText.{program_of}
 use Rattle.regress_backtrack.specs.FailureMemo.{AreFailuresRightIn, memo_key_as_spec, scheme_in, failed_in}
 use Rattle.regress_backtrack.specs.MemoizedCharLoops.{DecidesLoopRest}
 use Rattle.regress_backtrack.proofs.failures_in_memo_table.OptionBoxFailureMemo.unbounded_char_loop_rest_key.Goals as goal

@@ -2,9 +2,9 @@ use Rattle.std.proofs.Common.{Some, ap, ◌∙◌, subst}
 use Rattle.std.proofs.lemmas.Result.{IfOk-weaker}
 use Rattle.regex_meaning.specs.Text.{utf8_text}
 use Rattle.regex_pattern_front.specs.AstToSpecTree.{tree_of}
-use Rattle.regress_exec.specs.AttemptResultsAndStartsToTry.{match_end_and_groups_at, ticks_of_attempt_at}
-use Rattle.regress_exec.specs.StepBudgetAndContinuationAfterSearch.{SpendsNeedOrReachesLimit}
-use Rattle.regress_exec.proofs.InWork.{goes-on-free}
+use Rattle.regress_search.specs.AttemptResultsAndStartsToTry.{match_end_and_groups_at, ticks_of_attempt_at}
+use Rattle.regress_search.specs.StepBudgetAndContinuationAfterSearch.{SpendsNeedOrReachesLimit}
+use Rattle.regress_search.proofs.InWork.{goes-on-free}
 use Rattle.regress_backtrack.proofs.InPlace.{can-be, can-planned, planned-single_unit}
 use Rattle.regress_backtrack.proofs.step_limited.LimitedExecutorSingleAttemptExecutor.attempt.Goals as goal
 

@@ -1,7 +1,7 @@
 use Rattle.std.proofs.Common.{◌∙◌, ap, nat_le, not, subst, sym}
 use Rattle.regex_meaning.specs.CodeUnitOffsets.{units}
 use Rattle.regress_bounded.specs.ProgramWorkBoundForAllMatches.{IsBoundaryOrPastEnd}
-use Rattle.regress_bounded.proofs.MatchLemmas.{begun-Yields}
+use Rattle.regress_bounded.proofs.MatchLemmas.{begun-Yields, begun-costs}
 use Rattle.regress_bounded.proofs.executor.BoundedExecutor+AsciiInput.matches_ascii.Goals as goal
 
 pub new-requires : goal.new-requires
@@ -12,3 +12,6 @@ returns-clause-yields c = let is = c.new.ensures in begun-Yields c.in_ok-executo
 
 pub returns-clause-ended : goal.returns-clause-ended
 returns-clause-ended c = c.new.ensures.ended ∙ ap (λ t. not (nat_le c.args.start (units t))) c.in_ok-executor.ensures.start.of_text
+
+pub returns-clause-begins : goal.returns-clause-begins
+returns-clause-begins c = let is = c.new.ensures in begun-costs c.in_ok-executor.ensures.start is.tree is.text is.failures is.position

@@ -38,3 +38,10 @@ invariant_of-result g c =
           begun-walked program text is bytes short t b.has m begun c.args.work (omega (arith, fits, same)));
       spent = λ e. absurd (let no : ⊥ = cc in no);
     }
+
+pub returns-clause-fresh : goal.returns-clause-fresh
+returns-clause-fresh g c = λ ip at code.
+    let t = arc_value c.args.bound.now.memo_analysis in
+    let places = c.unit_count-places.result + 1 in
+    let begun : IsEmptyMemo t places false c.in-Some.memo = subst (λ o. MatchOption o (2 ^ 64 ≤ t.codes * places) (IsEmptyMemo t places false)) c.in-Some.is c.in_ok-memo.ensures in
+    begun.failures (record { ip = ip; at = at; code = code })

@@ -1,6 +1,6 @@
 use Rattle.std.proofs.Common.{◌≡◌, ◌∙◌, ◌++◌, ap, string_bytes}
 use Rattle.regex_meaning.specs.Replace.{expansion, replaced}
-use Rattle.regress_exec.specs.RemainingAnswers.{RemainingView}
+use Rattle.regress_search.specs.RemainingAnswers.{RemainingView}
 use Rattle.regress_match.specs.ExpansionsAndMatchRanges.{matches_with_expansions}
 use Rattle.regress_match.proofs.CallerLemmas.{IsReached, reached-none, takes-next}
 use Rattle.regress_match.proofs.Replacing.{replaced-more, replaced-end}

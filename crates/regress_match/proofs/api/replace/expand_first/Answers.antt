@@ -1,7 +1,7 @@
 use Rattle.std.proofs.Common.{◌∙◌, ◌++◌, ap, refl, drop, string_bytes, slice_range, take, []}
 use Rattle.std.proofs.lemmas.Str.{IsCharBoundary-start}
 use Rattle.regex_meaning.specs.Replace.{expansion, replaced}
-use Rattle.regress_exec.specs.MatchesAsSpecAnswers.{answer_of}
+use Rattle.regress_search.specs.MatchesAsSpecAnswers.{answer_of}
 use Rattle.regress_match.specs.ExpansionsAndMatchRanges.{matches_with_expansions}
 use Rattle.regress_match.proofs.CallerLemmas.{reached-none, takes-next}
 use Rattle.regress_match.proofs.Replacing.{replaced-more, replaced-end}

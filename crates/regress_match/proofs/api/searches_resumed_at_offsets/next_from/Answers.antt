@@ -1,7 +1,7 @@
 use Rattle.std.proofs.Common.{◌≡◌, ◌<◌, ◌-◌, ◌^◌, Option, Some, None, Ok, subst, option_map}
 use Rattle.regex_meaning.specs.CodeUnitOffsets.{units}
-use Rattle.regress_exec.specs.MatchesAsSpecAnswers.{answer_of}
-use Rattle.regress_exec.specs.declared.exec.Match.{Match}
+use Rattle.regress_search.specs.MatchesAsSpecAnswers.{answer_of}
+use Rattle.regress_search.specs.declared.exec.Match.{Match}
 use Rattle.regress_match.specs.Resuming.{ResumesFrom, FindsNext}
 use Rattle.regress_match.proofs.ResumingLemmas.{none-over, past-over, place-is, place-none, refused-from, steps-to}
 use Rattle.regress_match.proofs.api.searches_resumed_at_offsets.next_from.Goals as goal

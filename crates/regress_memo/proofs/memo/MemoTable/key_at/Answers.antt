@@ -1,9 +1,9 @@
 use Rattle.std.proofs.Common.{◌≡◌, ◌<◌, Some, subst, ap, ◌∙◌, arith}
 use Rattle.std.specs.Arc.{arc_value}
 use Rattle.std.proofs.lemmas.Bool.{not-false}
-use Rattle.regress_memo_laws.specs.LoopDataKeyCodes.{code_of}
-use Rattle.regress_memo_analysis.specs.AnalysisAsLivenessAndPotentials.{insn_analysis_of, key_code_questions_of}
-use Rattle.regress_memo_analysis.specs.CheckedAnalysis.{IsRecordableMemoKey}
+use Rattle.regress_memo.specs.LoopDataKeyCodes.{code_of}
+use Rattle.regress_memo.specs.AnalysisAsLivenessAndPotentials.{insn_analysis_of, key_code_questions_of}
+use Rattle.regress_memo.specs.CheckedAnalysis.{IsRecordableMemoKey}
 use Rattle.regress_memo.specs.MemoContractView.{MemoView}
 use Rattle.regress_memo.specs.MemoContents.{memo_key_at as key_of_state}
 use Rattle.regress_memo.proofs.MemoLemmas.{one-code, key-is, code-bit, told-bit}

@@ -1,7 +1,7 @@
 use Rattle.std.proofs.Common.{◌≡◌, true, sym, subst, ap, ◌∙◌}
 use Rattle.std.specs.Arc.{arc_value}
-use Rattle.regress_memo_analysis.specs.AnalysisAsLivenessAndPotentials.{memo_bit_index_of_key}
-use Rattle.regress_memo_analysis.specs.CheckedAnalysis.{IsRecordableMemoKey}
+use Rattle.regress_memo.specs.AnalysisAsLivenessAndPotentials.{memo_bit_index_of_key}
+use Rattle.regress_memo.specs.CheckedAnalysis.{IsRecordableMemoKey}
 use Rattle.regress_memo.specs.MemoContractView.{MemoView}
 use Rattle.regress_memo.specs.MemoContents.{memo_key_as_spec, RecordsSuccess}
 use Rattle.regress_memo.proofs.MemoLemmas.{known_by, notes-end}

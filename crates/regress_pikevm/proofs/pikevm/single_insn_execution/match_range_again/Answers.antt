@@ -5,7 +5,7 @@ use Rattle.regress_machine.specs.Machine as machine
 use Rattle.regress_machine.specs.Machine.{go_if, read_group}
 use Rattle.regress_pikevm.specs.States.{range_of, state_of}
 use Rattle.regress_machine.specs.InsnEffects.{IsNotStuck}
-use Rattle.regress_scan.proofs.Readers.{nothing-read, group-read}
+use Rattle.regress_search.proofs.Readers.{nothing-read, group-read}
 use Rattle.regress_pikevm.specs.InsnEffects.{effect_of_range_backref}
 use Rattle.regress_pikevm.proofs.pikevm.single_insn_execution.match_range_again.Given.{Over}
 use Rattle.regress_pikevm.proofs.pikevm.single_insn_execution.match_range_again.Goals.{After-backref_matches}

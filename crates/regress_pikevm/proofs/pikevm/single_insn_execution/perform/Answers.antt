@@ -8,7 +8,7 @@ use Rattle.regress_program.specs.InsnsAndStartPredicatesAsSpec.{insn_as_spec_ins
 use Rattle.regress_machine.specs.Machine.{act_on, loop_again_effect, with_some, test_of, scan}
 use Rattle.regress_pikevm.specs.States.{state_of, next_threads}
 use Rattle.regress_machine.specs.InsnEffects.{IsNotStuck}
-use Rattle.regress_scan.proofs.Literals.{literal-reads}
+use Rattle.regress_search.proofs.Literals.{literal-reads}
 use Rattle.regress_machine.proofs.Fetched.{again-some, fetched-some}
 use Rattle.regress_pikevm.proofs.Fetching.{insn-behind, fits-behind}
 use Rattle.regress_pikevm.proofs.pikevm.single_insn_execution.perform.Goals as goal

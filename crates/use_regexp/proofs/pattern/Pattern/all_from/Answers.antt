@@ -1,6 +1,6 @@
 use Rattle.std.proofs.Common.{◌≡◌, ◌∙◌, ap, map, sym}
 use Rattle.std.specs.Prelude.{Some, option_map}
-use Rattle.regress_exec.specs.MatchesAsSpecAnswers.{answer_of}
+use Rattle.regress_search.specs.MatchesAsSpecAnswers.{answer_of}
 use Rattle.use_regexp.specs.Exec.{found}
 use Rattle.use_regexp.proofs.TurnLemmas.{found-stands, goes-end, goes-more, goes-none, turn-smaller}
 use Rattle.use_regexp.proofs.pattern.Pattern.all_from.Goals as goal

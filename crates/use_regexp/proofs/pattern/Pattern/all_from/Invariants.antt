@@ -1,5 +1,5 @@
 use Rattle.std.proofs.Common.{◌+◌, ◌-◌, length, map}
-use Rattle.regress_exec.specs.MatchesAsSpecAnswers.{answer_of}
+use Rattle.regress_search.specs.MatchesAsSpecAnswers.{answer_of}
 use Rattle.use_regexp.proofs.TurnLemmas.{GoesOn}
 use Rattle.use_regexp.proofs.pattern.Pattern.all_from.Given as goal
 

@@ -1,7 +1,7 @@
 use Rattle.std.proofs.Common.{◌≡◌, ◌≤◌, ◌⊎◌, ◌∙◌, ap, map, sym, subst, length}
 use Rattle.std.proofs.lemmas.List.{take-map}
 use Rattle.std.specs.Prelude.{IfNone, None, option_map}
-use Rattle.regress_exec.specs.MatchesAsSpecAnswers.{range_as_pair}
+use Rattle.regress_search.specs.MatchesAsSpecAnswers.{range_as_pair}
 use Rattle.use_regexp.specs.Split.{separator}
 use Rattle.use_regexp.proofs.SplitLemmas.{cut-more, cut-none, cut-smaller, enough, split-end}
 use Rattle.use_regexp.proofs.pattern.Pattern.pieces.Goals as goal

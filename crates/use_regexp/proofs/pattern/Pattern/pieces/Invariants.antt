@@ -1,6 +1,6 @@
 use Rattle.std.proofs.Common.{◌-◌, length, map}
 use Rattle.std.specs.Prelude.{option_map}
-use Rattle.regress_exec.specs.MatchesAsSpecAnswers.{range_as_pair}
+use Rattle.regress_search.specs.MatchesAsSpecAnswers.{range_as_pair}
 use Rattle.use_regexp.proofs.SplitLemmas.{IsCutTo}
 use Rattle.use_regexp.proofs.pattern.Pattern.pieces.Given as goal
 

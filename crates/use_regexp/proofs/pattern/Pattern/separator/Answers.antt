@@ -1,5 +1,5 @@
 use Rattle.std.specs.Prelude.{option_map}
-use Rattle.regress_exec.specs.MatchesAsSpecAnswers.{answer_of}
+use Rattle.regress_search.specs.MatchesAsSpecAnswers.{answer_of}
 use Rattle.use_regexp.proofs.SplitLemmas.{separator-is, separator-stands-if}
 use Rattle.use_regexp.proofs.pattern.Pattern.separator.Goals as goal
 

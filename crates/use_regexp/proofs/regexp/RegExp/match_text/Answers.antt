@@ -1,6 +1,6 @@
 use Rattle.std.proofs.Common.{◌∙◌, ap, map}
 use Rattle.std.specs.Prelude.{if◌then◌else◌, slice_get}
-use Rattle.regress_exec.specs.MatchesAsSpecAnswers.{answer_of}
+use Rattle.regress_search.specs.MatchesAsSpecAnswers.{answer_of}
 use Rattle.use_regexp.specs.Exec.{last_behind}
 use Rattle.use_regexp.proofs.TurnLemmas.{taken-last}
 use Rattle.use_regexp.proofs.regexp.RegExp.match_text.Goals as goal

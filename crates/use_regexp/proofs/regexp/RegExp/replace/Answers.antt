@@ -1,7 +1,7 @@
 use Rattle.std.proofs.Common.{◌∙◌, ap, map, subst, sym}
 use Rattle.std.specs.Prelude.{if◌then◌else◌, slice_get}
 use Rattle.regex_meaning.specs.Replace.{replaced}
-use Rattle.regress_exec.specs.MatchesAsSpecAnswers.{answer_of}
+use Rattle.regress_search.specs.MatchesAsSpecAnswers.{answer_of}
 use Rattle.use_regexp.specs.Exec.{last_behind}
 use Rattle.use_regexp.specs.Replace.{StandInUnits, substituted}
 use Rattle.use_regexp.proofs.TurnLemmas.{taken-last, taken-stand}

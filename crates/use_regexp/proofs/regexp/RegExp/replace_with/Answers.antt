@@ -1,5 +1,5 @@
 use Rattle.std.proofs.Common.{map, subst, sym}
-use Rattle.regress_exec.specs.MatchesAsSpecAnswers.{answer_of}
+use Rattle.regress_search.specs.MatchesAsSpecAnswers.{answer_of}
 use Rattle.use_regexp.specs.Replace.{StandInUnits}
 use Rattle.use_regexp.proofs.TurnLemmas.{taken-stand}
 use Rattle.use_regexp.proofs.regexp.RegExp.replace_with.Goals as goal

@@ -1,6 +1,6 @@
 use Rattle.std.proofs.Common.{◌∙◌, map, sym}
 use Rattle.std.specs.Prelude.{option_map}
-use Rattle.regress_exec.specs.MatchesAsSpecAnswers.{range_as_pair}
+use Rattle.regress_search.specs.MatchesAsSpecAnswers.{range_as_pair}
 use Rattle.regress_match.proofs.FlagLemmas.{IfOk-map}
 use Rattle.use_regexp.proofs.SplitLemmas.{split-empty, split-some}
 use Rattle.use_regexp.proofs.regexp.RegExp.split.Goals as goal

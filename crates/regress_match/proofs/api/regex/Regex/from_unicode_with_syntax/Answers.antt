@@ -8,7 +8,7 @@ use Rattle.regress_program.specs.CompilationOfTreesAsFunction.{compiled}
 use Rattle.regress_program.specs.OptimizedTreeUnlessNoOpt.{optimized_tree_unless_no_opt}
 use Rattle.regress_program.specs.CompileRefusals.{Is16BitUnitCompileErrorCause, IsCompileErrorCause}
 use Rattle.regex_parser.specs.ParseErrors.{IsParseErrorIn}
-use Rattle.regex_grammar.specs.Grammar.{ParsesBy}
+use Rattle.regex_meaning.specs.Grammar.{ParsesBy}
 use Rattle.regex_parser.specs.SyntaxDialects.{spec_syntax_of}
 use Rattle.regress_match.specs.CompileErrors.{error_of_emit, error_of_parse}
 use Rattle.regress_match.proofs.RefusalLemmas.{parse-refuses, emit-refuses, err-refused, reads-not}

@@ -1,6 +1,6 @@
 use Rattle.std.proofs.Common.{◌≡◌, ap, refl, string_bytes}
-use Rattle.regress_exec.specs.MatchesAsSpecAnswers.{answer_of}
-use Rattle.regress_exec.specs.RemainingAnswers.{RemainingView}
+use Rattle.regress_search.specs.MatchesAsSpecAnswers.{answer_of}
+use Rattle.regress_search.specs.RemainingAnswers.{RemainingView}
 use Rattle.regress_match.proofs.Answering.{IsBegun, begins, ends, goes-answered, refuses-answered}
 use Rattle.regress_match.specs.ReplacementClosuresReturningStrings.{ClosureCanBeCalled}
 use Rattle.regress_match.proofs.CallerLemmas.{IsReached, reached-none, takes-next}

@@ -1,7 +1,7 @@
 use Rattle.std.proofs.Common.{◌∙◌, ap, sym, subst, ◌∷◌, [], map, string_bytes}
 use Rattle.std.specs.Prelude.{IfSome, option_map}
 use Rattle.regex_meaning.specs.Replace.{literal, group_part, named_part, text_of}
-use Rattle.regress_exec.specs.MatchesAsSpecAnswers.{answer_of, range_as_pair}
+use Rattle.regress_search.specs.MatchesAsSpecAnswers.{answer_of, range_as_pair}
 use Rattle.regress_match.specs.ReplacementPartsAsSpecParts.{spec_parts_of_dollar_substitution}
 use Rattle.regress_match.specs.ExpansionsAndMatchRanges.{IsCharBoundaryRange}
 use Rattle.regress_match.proofs.Expansion.{named-fits, dollar-written, part-written}

@@ -6,7 +6,7 @@ use Rattle.regress_match.specs.ProgramTreesAndAnswers.{tree_for_byte_units}
 use Rattle.regress_match.specs.ExpansionsAndMatchRanges.{MatchesFitTextInOrderFrom}
 use Rattle.regress_match.proofs.CallerLemmas.{matches-stand}
 use Rattle.regress_match.proofs.Starts.{utf8_start, utf8_units}
-use Rattle.regress_match.proofs.WorkLemmas.{bound-Yields, higher-left}
+use Rattle.regress_match.proofs.WorkLemmas.{bound-Begins, bound-Yields, higher-left}
 use Rattle.regress_match.proofs.api.work_budget_searches.BoundedRegex.find_from.Goals as goal
 
 pub matches_utf8-requires : goal.matches_utf8-requires
@@ -24,3 +24,6 @@ returns-clause-stand c =
 
 pub returns-clause-ended : goal.returns-clause-ended
 returns-clause-ended c = c.in_ok-matches.ensures.ended ∙ ap (λ n. not (nat_le c.args.start n)) (utf8_units _ c.args.text.now (tree_of c.byte_program-program.result.now).flags.unicode refl c.utf8.text)
+
+pub returns-clause-begins : goal.returns-clause-begins
+returns-clause-begins c = bound-Begins tree_for_byte_units c.self.inside.re.now (utf8_text c.args.text.now) c.self.view_is (ap tree_of c.byte_program-program.ensures) c.in_ok-matches.ensures.begins

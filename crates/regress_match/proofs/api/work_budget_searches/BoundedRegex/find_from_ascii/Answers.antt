@@ -6,7 +6,7 @@ use Rattle.regress_match.specs.ProgramTreesAndAnswers.{tree_for_byte_units}
 use Rattle.regress_match.specs.ExpansionsAndMatchRanges.{MatchesFitTextInOrderFrom}
 use Rattle.regress_match.proofs.CallerLemmas.{ascii-stand}
 use Rattle.regress_match.proofs.Starts.{ascii_start, ascii_units}
-use Rattle.regress_match.proofs.WorkLemmas.{bound-Yields, higher-left}
+use Rattle.regress_match.proofs.WorkLemmas.{bound-Begins, bound-Yields, higher-left}
 use Rattle.regress_match.proofs.api.work_budget_searches.BoundedRegex.find_from_ascii.Goals as goal
 
 pub matches_ascii-requires : goal.matches_ascii-requires
@@ -25,3 +25,6 @@ returns-clause-stand c =
 
 pub returns-clause-ended : goal.returns-clause-ended
 returns-clause-ended c = c.in_ok-matches.ensures.ended ∙ ap (λ n. not (nat_le c.args.start n)) (ascii_units _ c.args.text.now (tree_of c.byte_program-program.result.now).flags.unicode refl)
+
+pub returns-clause-begins : goal.returns-clause-begins
+returns-clause-begins c = bound-Begins tree_for_byte_units c.self.inside.re.now (ascii_text c.args.text.now) c.self.view_is (ap tree_of c.byte_program-program.ensures) c.in_ok-matches.ensures.begins

@@ -4,7 +4,7 @@ use Rattle.regex_pattern_front.specs.AstToSpecTree.{tree_of}
 use Rattle.regress_bounded.specs.ProgramWorkBoundForAllMatches.{TreeHasWorkBound}
 use Rattle.regress_match.specs.ProgramTreesAndAnswers.{tree_for_16_bit_units}
 use Rattle.regress_match.proofs.Starts.{utf16_start, utf16_units}
-use Rattle.regress_match.proofs.WorkLemmas.{bound-Yields, higher-right}
+use Rattle.regress_match.proofs.WorkLemmas.{bound-Begins, bound-Yields, higher-right}
 use Rattle.regress_match.proofs.api.work_budget_searches.BoundedRegex.find_from_utf16.Goals as goal
 
 pub matches_utf16-requires : goal.matches_utf16-requires
@@ -18,3 +18,6 @@ returns-clause-yields c = bound-Yields tree_for_16_bit_units c.self.inside.re.no
 
 pub returns-clause-ended : goal.returns-clause-ended
 returns-clause-ended c = c.in_ok-matches.ensures.ended ∙ ap (λ n. not (nat_le c.args.start n)) (utf16_units _ c.args.text.now (tree_of c.unit_program-program.result.now).flags.unicode refl (λ k _. (c.type_inv.text k).fits))
+
+pub returns-clause-begins : goal.returns-clause-begins
+returns-clause-begins c = bound-Begins tree_for_16_bit_units c.self.inside.re.now (utf16_text c.args.text.now) c.self.view_is (ap tree_of c.unit_program-program.ensures) c.in_ok-matches.ensures.begins

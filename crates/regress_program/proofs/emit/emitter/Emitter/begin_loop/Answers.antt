@@ -1,7 +1,7 @@
 use Rattle.std.proofs.Common.{refl, arith}
 use Rattle.regex_meaning.specs.Tree.{loop}
 use Rattle.regex_pattern_front.specs.AstToSpecTree.{node_of, spec_quantifier_of}
-use Rattle.regress_plan.specs.declared.insn.LoopFields.{LoopFields}
+use Rattle.regress_program.specs.declared.instructions.LoopFields.{LoopFields}
 use Rattle.regress_program.specs.InnerNodeCountMeasure.{inner_node_count}
 use Rattle.regress_program.specs.EmitterStateAndAppendedCode.{node_with_char_loops_if_enabled, emitter_state, with_code}
 use Rattle.regress_program.specs.PendingEmission.{node_measure, pending_measure, is_emittable, with_pending}

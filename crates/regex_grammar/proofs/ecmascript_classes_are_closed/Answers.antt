@@ -1,5 +1,0 @@
-use Rattle.regex_grammar.proofs.EcmaSets.{classes-are-closed}
-use Rattle.regex_grammar.proofs.ecmascript_classes_are_closed.Goals as goal
-
-pub returns : goal.returns
-returns c = classes-are-closed

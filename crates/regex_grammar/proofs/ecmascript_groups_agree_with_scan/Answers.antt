@@ -1,5 +1,0 @@
-use Rattle.regex_grammar.proofs.EcmaTrees.{groups-are-named}
-use Rattle.regex_grammar.proofs.ecmascript_groups_agree_with_scan.Goals as goal
-
-pub returns : goal.returns
-returns c = groups-are-named

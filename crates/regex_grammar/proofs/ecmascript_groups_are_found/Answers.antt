@@ -1,5 +1,0 @@
-use Rattle.regex_grammar.proofs.EcmaTrees.{groups-are-found}
-use Rattle.regex_grammar.proofs.ecmascript_groups_are_found.Goals as goal
-
-pub returns : goal.returns
-returns c = groups-are-found

@@ -1,5 +1,0 @@
-use Rattle.regex_grammar.proofs.Escaped.{escaped_texts_are_read}
-use Rattle.regex_grammar.proofs.escaped_texts_are_read.Goals as goal
-
-pub returns : goal.returns
-returns c = escaped_texts_are_read

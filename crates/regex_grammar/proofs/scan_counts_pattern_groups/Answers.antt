@@ -1,5 +1,0 @@
-use Rattle.regex_grammar.proofs.Trees.{scan_counts_pattern_groups}
-use Rattle.regex_grammar.proofs.scan_counts_pattern_groups.Goals as goal
-
-pub returns : goal.returns
-returns c = scan_counts_pattern_groups

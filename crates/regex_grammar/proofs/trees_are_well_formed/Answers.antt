@@ -1,5 +1,0 @@
-use Rattle.regex_grammar.proofs.Trees.{trees_are_well_formed}
-use Rattle.regex_grammar.proofs.trees_are_well_formed.Goals as goal
-
-pub returns : goal.returns
-returns c = trees_are_well_formed

@@ -1,0 +1,5 @@
+use Rattle.regex_meaning.proofs.EcmaTrees.{groups-are-decided}
+use Rattle.regex_meaning.proofs.ecmascript_groups_independent_of_context.Goals as goal
+
+pub returns : goal.returns
+returns c = groups-are-decided

@@ -1,0 +1,5 @@
+use Rattle.regex_meaning.proofs.EcmaTrees.{one-tree}
+use Rattle.regex_meaning.proofs.ecmascript_one_tree.Goals as goal
+
+pub returns : goal.returns
+returns c = one-tree

@@ -1,0 +1,6 @@
+use Rattle.regex_meaning.proofs.Row.{row}
+use Rattle.regex_meaning.proofs.row_is_parsed.Goals as goal
+
+-- src/lib.rt:7:1
+pub returns : goal.returns
+returns c = row

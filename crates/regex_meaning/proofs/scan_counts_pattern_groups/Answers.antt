@@ -1,0 +1,5 @@
+use Rattle.regex_meaning.proofs.Trees.{scan_counts_pattern_groups}
+use Rattle.regex_meaning.proofs.scan_counts_pattern_groups.Goals as goal
+
+pub returns : goal.returns
+returns c = scan_counts_pattern_groups

@@ -1,0 +1,5 @@
+use Rattle.regex_meaning.proofs.Trees.{trees_are_well_formed}
+use Rattle.regex_meaning.proofs.trees_are_well_formed.Goals as goal
+
+pub returns : goal.returns
+returns c = trees_are_well_formed

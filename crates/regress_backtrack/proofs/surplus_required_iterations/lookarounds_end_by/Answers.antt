@@ -1,0 +1,18 @@
+use Rattle.std.proofs.Common.{◌≡◌, ◌≤◌, Some, arith}
+use Rattle.regex_meaning.specs.CompilationRelation.{Insn}
+use Rattle.regress_search.specs.TreePlanAndText.{insn_at}
+use Rattle.regress_program.proofs.ChoiceLemmas.{below-more}
+use Rattle.regress_backtrack.specs.RepeatableLoopBodies.{EndsBy}
+use Rattle.regress_backtrack.proofs.surplus_required_iterations.lookarounds_end_by.Goals as goal
+
+pub loop-ip-init : goal.loop-ip-init
+loop-ip-init g c = λ k after before. absurd (omega (arith, after, before))
+
+pub loop-ip-preserved : goal.loop-ip-preserved
+loop-ip-preserved g c =
+    let w = g.W.SearchContext.searching c.args.planned.now in
+    λ k after less. below-more (λ k. c.args.from ≤ k → (insn : Insn) → insn_at w k ≡ Some insn → EndsBy c.args.to insn) c.loop-ip.ip
+    (λ k less after. c.loop-ip.invariant k after less) (λ after. c.ends_by.ensures c.if-not-ends_by.false) k less after
+
+pub returns : goal.returns
+returns g c = λ yes k after less. c.loop-ip.invariant k after (omega (arith, less, c.loop-ip-test.false))

@@ -1,0 +1,97 @@
+-- Bodies of loops that need not make more required iterations than there are units left, and one.
+use Rattle.std.specs.Prelude.{◌≡◌, ◌<◌, ◌≤◌, ℕ, ◌+◌, ◌-◌, [], ◌∷◌, Some, Bool, true, false, slice_get}
+use Rattle.regex_meaning.specs.Text.{Text, Direction}
+use Rattle.regex_meaning.specs.CodeUnitOffsets.{HasRisingPlaceOffsets, units}
+use Rattle.regex_meaning.specs.CompilationRelation.{Program, LoopFields, Insn, Goal, JustFail, Alt, Jump, EnterLoop, LoopAgain, ResetCaptureGroup}
+use Rattle.regex_meaning.specs.CompilationRelation.{Loop1CharBody, BeginCaptureGroup, EndCaptureGroup, BackRef, Lookahead, Lookbehind}
+use Rattle.regress_machine.specs.Machine.{State, running}
+use Rattle.regress_machine.specs.InsnEffects.{body_entered_with_iteration_count}
+use Rattle.regress_machine.specs.ThreadSimulation.{Simulates}
+use Rattle.regress_memo.specs.Liveness.{left_from, ReadsAsBytes}
+
+-- The instruction, if it is a lookaround, continues at most at instruction `to`.
+abbrev pub EndsBy : (to : ℕ) → Insn → Type 0
+EndsBy to (Lookahead negate start_group end_group continuation) = continuation ≤ to
+EndsBy to (Lookbehind negate start_group end_group continuation) = continuation ≤ to
+EndsBy to _ = Unit {0}
+
+-- From instruction `from` on, each lookaround before instruction `to` continues at most there.
+abbrev pub LookaroundsEndBy : Program → (from to : ℕ) → Type 0
+LookaroundsEndBy program from to =
+    (ip : ℕ) → from ≤ ip → ip < to → (insn : Insn) → slice_get program.insns ip ≡ Some insn → EndsBy to insn
+
+-- A thread may continue from instruction `ip` at `to`: it is later, at most `stop`, and not in the
+-- contents of a lookaround in between.
+pub record MayContinue (program : Program) (stop ip to : ℕ) : Type 0 where
+  pub later : ip < to
+  pub within : to ≤ stop
+  pub whole : LookaroundsEndBy program ip to
+
+module _ (changes : Bool) (program : Program) where
+  -- The instruction continues at later instructions, at most at `stop`. It changes no loop data, and
+  -- groups only if they may be changed.
+  abbrev pub StaysInBody : (stop ip : ℕ) → Insn → Type 0
+  StaysInBody stop ip Goal = Unit {0}
+  StaysInBody stop ip JustFail = Unit {0}
+  StaysInBody stop ip (Alt other) = MayContinue program stop ip (ip + 1) × MayContinue program stop ip other
+  StaysInBody stop ip (Jump to) = MayContinue program stop ip to
+  StaysInBody stop ip (Loop1CharBody least most greedy) = MayContinue program stop ip (ip + 2)
+  StaysInBody stop ip (Lookahead negate start_group end_group continuation) = MayContinue program stop ip continuation
+  StaysInBody stop ip (Lookbehind negate start_group end_group continuation) = MayContinue program stop ip continuation
+  StaysInBody stop ip (ResetCaptureGroup id) = (changes ≡ true) × MayContinue program stop ip (ip + 1)
+  StaysInBody stop ip (BeginCaptureGroup id) = (changes ≡ true) × MayContinue program stop ip (ip + 1)
+  StaysInBody stop ip (EndCaptureGroup id) = (changes ≡ true) × MayContinue program stop ip (ip + 1)
+  StaysInBody stop ip (EnterLoop f) = ⊥
+  StaysInBody stop ip (LoopAgain begin) = ⊥
+  StaysInBody stop ip (BackRef group same) = ⊥
+  StaysInBody stop ip _ = MayContinue program stop ip (ip + 1)
+
+  -- From instruction `from` on, each instruction before `past` continues before `past`.
+  abbrev pub AllStayInContents : (from past : ℕ) → Type 0
+  AllStayInContents from past =
+      (ip : ℕ) → from ≤ ip → ip < past → (insn : Insn) → slice_get program.insns ip ≡ Some insn → StaysInBody (past - 1) ip insn
+
+  -- The contents of a lookaround are not empty, and do not continue after it. `Goal` is in the contents of a lookaround
+  -- that begins at instruction `from` or later.
+  abbrev pub HasClosedContents : (from ip : ℕ) → Insn → Type 0
+  HasClosedContents from ip Goal = LookaroundsEndBy program from ip → ⊥
+  HasClosedContents from ip (Lookahead negate start_group end_group continuation) = (ip + 1 < continuation) × AllStayInContents (ip + 1) continuation
+  HasClosedContents from ip (Lookbehind negate start_group end_group continuation) = (ip + 1 < continuation) × AllStayInContents (ip + 1) continuation
+  HasClosedContents from ip _ = Unit {0}
+
+  -- Both are true of each instruction from `from` on and before `stop`.
+  abbrev pub IsPlainBody : (from stop : ℕ) → Type 0
+  IsPlainBody from stop =
+      (ip : ℕ) → from ≤ ip → ip < stop → (insn : Insn) → slice_get program.insns ip ≡ Some insn → StaysInBody stop ip insn × HasClosedContents from ip insn
+
+-- The instruction is no backreference.
+abbrev pub IsNoBackreference : Insn → Type 0
+IsNoBackreference (BackRef group same) = ⊥
+IsNoBackreference _ = Unit {0}
+
+-- The program has no backreference.
+abbrev pub HasNoBackreference : Program → Type 0
+HasNoBackreference program = (ip : ℕ) (insn : Insn) → slice_get program.insns ip ≡ Some insn → IsNoBackreference insn
+
+-- The body from instruction `from` on and before `stop` has neither backreferences nor loops that
+-- count, and changes groups only if the program has no backreference.
+pub record IsRepeatableBody (program : Program) (from stop : ℕ) : Type 0 where
+  pub changes : Bool
+  pub plain : IsPlainBody changes program from stop
+  pub unread : changes ≡ true → HasNoBackreference program
+
+-- The loop that begins at `begin` has such a body.
+pub record HasRepeatableBody (program : Program) (begin : ℕ) (f : LoopFields) : Type 0 where
+  pub stop : ℕ
+  pub behind : begin < stop
+  pub enters : slice_get program.insns begin ≡ Some (EnterLoop f)
+  pub goes_back : slice_get program.insns stop ≡ Some (LoopAgain begin)
+  pub body : IsRepeatableBody program (begin + 1) stop
+
+-- Such a loop may begin iteration `to` in place of an earlier one if, from iteration `to` on, it
+-- requires more iterations than there are units left. Of that many iterations one is empty, and what
+-- may follow an empty one does not depend on it.
+abbrev pub LaterIterationReplacesSurplus : Type 0
+LaterIterationReplacesSurplus = (program : Program) (text : Text) → HasRisingPlaceOffsets text → ReadsAsBytes program text → (d : Direction) (begin : ℕ) (f : LoopFields) → HasRepeatableBody program begin f
+    → f.min_iters ≤ f.max_iters → (k to : ℕ) (s : State) → k ≤ to → to + left_from (units text) d s.pos + 2 ≤ f.min_iters
+    → Simulates program text false d 0 (running (body_entered_with_iteration_count f.loop_id begin to s) ∷ []) (running (body_entered_with_iteration_count f.loop_id begin k s) ∷ [])

@@ -1,7 +1,0 @@
-use Rattle.std.proofs.Common.{◌≡◌, map, string_bytes}
-use Rattle.regress_exec.specs.GroupIterators.{distinct_names_from}
-use Rattle.regress_exec.proofs.exec.group_iterators.new_name_from.Given as goal
-
--- no name between was new
-abbrev pub invariant-loop-id : goal.invariant-loop-id
-invariant-loop-id l = distinct_names_from (map string_bytes l.names) l.from ≡ distinct_names_from (map string_bytes l.names) l.id

@@ -1,9 +1,0 @@
-pub mod MatchesAsSpecAnswers
-pub mod RemainingAnswers
-pub mod AttemptResultsAndStartsToTry
-pub mod GroupIterators
-pub mod OffsetRangeOfPositions
-pub mod StepBudgetAndContinuationAfterSearch
-pub mod AttemptsAndMatchesWithinWork
-pub mod NewExecutorsAndAsciiTexts
-pub mod CostsOfSearches

@@ -1,8 +1,0 @@
-use Rattle.regex_meaning.specs.CodeUnitOffsets.{IsBoundary}
-use Rattle.regress_input_bench.proofs.count_left.Given as goal
-
-abbrev pub invariant-loop-c : goal.invariant-loop-c
-invariant-loop-c g l = IsBoundary (g.Input.InputIndexer.text l.input) (g.Input.Position.PositionType.offset l.pos)
-
-abbrev pub decreases-loop-c : goal.decreases-loop-c
-decreases-loop-c g l = g.Input.Position.PositionType.offset l.pos

@@ -1,8 +1,0 @@
-use Rattle.std.proofs.Common.{◌-◌, ◌≤◌}
-use Rattle.regress_input_bench.proofs.count_literals.Given as goal
-
-abbrev pub invariant-loop-offset : goal.invariant-loop-offset
-invariant-loop-offset g l = l.offset ≤ l.end
-
-abbrev pub decreases-loop-offset : goal.decreases-loop-offset
-decreases-loop-offset g l = l.end - l.offset

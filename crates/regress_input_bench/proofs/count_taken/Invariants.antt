@@ -1,9 +1,0 @@
-use Rattle.std.proofs.Common.{◌-◌}
-use Rattle.regex_meaning.specs.CodeUnitOffsets.{units, IsBoundary}
-use Rattle.regress_input_bench.proofs.count_taken.Given as goal
-
-abbrev pub invariant-loop-pos : goal.invariant-loop-pos
-invariant-loop-pos g l = IsBoundary (g.Input.InputIndexer.text l.input) (g.Input.Position.PositionType.offset l.pos)
-
-abbrev pub decreases-loop-pos : goal.decreases-loop-pos
-decreases-loop-pos g l = units (g.Input.InputIndexer.text l.input) - g.Input.Position.PositionType.offset l.pos

@@ -1,5 +1,0 @@
-use Rattle.regress_input.proofs.AsciiSets.{below_128}
-use Rattle.regress_input_bench.proofs.lower_letters.Goals as goal
-
-pub returns : goal.returns
-returns c = below_128 _

@@ -1,5 +1,0 @@
-use Rattle.regress_input.proofs.AsciiSets.{below_128}
-use Rattle.regress_input_rows.proofs.matches.ascii_set.Goals as goal
-
-pub returns : goal.returns
-returns c = below_128 _

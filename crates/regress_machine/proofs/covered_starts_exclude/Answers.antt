@@ -1,0 +1,5 @@
+use Rattle.regress_machine.proofs.Starts.{starts-bar}
+use Rattle.regress_machine.proofs.covered_starts_exclude.Goals as goal
+
+pub returns : goal.returns
+returns c = starts-bar

@@ -1,0 +1,5 @@
+use Rattle.regress_machine.proofs.Tables.{covered-nothing}
+use Rattle.regress_machine.proofs.covered_tables_exclude.Goals as goal
+
+pub returns : goal.returns
+returns c = covered-nothing

@@ -1,0 +1,5 @@
+use Rattle.regress_machine.proofs.Prefixes.{prefixes-exclude}
+use Rattle.regress_machine.proofs.required_prefixes_exclude.Goals as goal
+
+pub returns : goal.returns
+returns c = prefixes-exclude

@@ -1,0 +1,5 @@
+use Rattle.regress_machine.proofs.Simulates.{simulating-alike}
+use Rattle.regress_machine.proofs.simulating_threads_find_same_end.Goals as goal
+
+pub returns : goal.returns
+returns c = simulating-alike

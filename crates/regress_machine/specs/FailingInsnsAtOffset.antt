@@ -1,0 +1,70 @@
+-- Instructions that find nothing at an offset, decided by the text to the right of it.
+use Rattle.std.specs.Prelude.{◌≡◌, ℕ, ◌+◌, Bool, true, false, ◌&&◌, ◌||◌, ◌==◌, Option, Some, None, nat_lt, slice_get, encode_utf8_all}
+use Rattle.regex_meaning.specs.Tree.{start_of_line, end_of_line}
+use Rattle.regex_meaning.specs.Text.{Text, rightwards, next_character}
+use Rattle.regex_meaning.specs.CodeUnitOffsets.{HasRisingPlaceOffsets, place_at}
+use Rattle.regex_meaning.specs.Outcomes.{is_some_and, exclusive_or, anchor_holds, is_at_word_boundary}
+use Rattle.regex_meaning.specs.CompilationRelation.{Program, Insn, Goal, Char, CharSet, ByteSet, ByteSeq, AsciiBracket, Bracket, MatchAny}
+use Rattle.regex_meaning.specs.CompilationRelation.{MatchAnyExceptLineTerminator, StartOfLine, EndOfLine, WordBoundary, WordBoundaryUnicodeICase, Alt, Jump}
+use Rattle.regex_meaning.specs.CompilationRelation.{EnterLoop, LoopAgain, ResetCaptureGroup, Loop1CharBody, BeginCaptureGroup, EndCaptureGroup, BackRef}
+use Rattle.regex_meaning.specs.CompilationRelation.{Lookahead, Lookbehind}
+use Rattle.regress_machine.specs.Machine.{State, running, test_of, has_bytes}
+use Rattle.regress_machine.specs.ThreadSimulation.{FindsNothing}
+
+module _ (text : Text) (at : ℕ) where
+  -- Whether the offset is a boundary whose place satisfies the condition.
+  abbrev pub holds_there : (ℕ → Bool) → Bool
+  holds_there holds = is_some_and (place_at text at) holds
+
+  -- Whether a character that passes the test begins at the offset.
+  abbrev pub accepted_there : Option (ℕ → Bool) → Bool
+  accepted_there None = false
+  accepted_there (Some test) = holds_there (λ p. is_some_and (next_character text rightwards p) test)
+
+module _ (program : Program) (text : Text) (at : ℕ) (may : ℕ → Bool) where
+  -- Whether a loop may find something at its start, after an iteration.
+  abbrev pub may_repeat : Option Insn → (begin : ℕ) → Bool
+  may_repeat (Some (EnterLoop f)) begin = may (begin + 1) || may f.exit
+  may_repeat _ begin = false
+
+  -- Whether an instruction may find something at the offset, if `may` decides this for its
+  -- successors at that offset.
+  abbrev pub may_at : Option Insn → (ip : ℕ) → Bool
+  may_at (Some Goal) ip = true
+  may_at (Some (Char c)) ip = accepted_there text at (test_of program (Some (Char c)))
+  may_at (Some (CharSet members)) ip = accepted_there text at (test_of program (Some (CharSet members)))
+  may_at (Some (ByteSet members)) ip = accepted_there text at (test_of program (Some (ByteSet members)))
+  may_at (Some (ByteSeq bytes)) ip = has_bytes (encode_utf8_all text.characters) rightwards bytes at
+  may_at (Some (AsciiBracket members)) ip = accepted_there text at (test_of program (Some (AsciiBracket members)))
+  may_at (Some (Bracket index)) ip = accepted_there text at (test_of program (Some (Bracket index)))
+  may_at (Some MatchAny) ip = accepted_there text at (test_of program (Some MatchAny))
+  may_at (Some MatchAnyExceptLineTerminator) ip = accepted_there text at (test_of program (Some MatchAnyExceptLineTerminator))
+  may_at (Some (StartOfLine multiline)) ip = holds_there text at (anchor_holds text start_of_line multiline) && may (ip + 1)
+  may_at (Some (EndOfLine multiline)) ip = holds_there text at (anchor_holds text end_of_line multiline) && may (ip + 1)
+  may_at (Some (WordBoundary invert)) ip =
+      holds_there text at (λ p. exclusive_or invert (is_at_word_boundary text false p)) && may (ip + 1)
+  may_at (Some (WordBoundaryUnicodeICase invert)) ip =
+      holds_there text at (λ p. exclusive_or invert (is_at_word_boundary text true p)) && may (ip + 1)
+  may_at (Some (Alt secondary)) ip = may (ip + 1) || may secondary
+  may_at (Some (Jump target)) ip = may target
+  may_at (Some (EnterLoop f)) ip = may (ip + 1) || f.min_iters == 0 && may f.exit
+  may_at (Some (LoopAgain begin)) ip = may_repeat (slice_get program.insns begin) begin
+  may_at (Some (ResetCaptureGroup id)) ip = may (ip + 1)
+  may_at (Some (Loop1CharBody min_iters max_iters greedy)) ip =
+      nat_lt 0 max_iters && accepted_there text at (test_of program (slice_get program.insns (ip + 1)))
+      || min_iters == 0 && may (ip + 2)
+  may_at (Some (BeginCaptureGroup id)) ip = may (ip + 1)
+  may_at (Some (EndCaptureGroup id)) ip = may (ip + 1)
+  may_at (Some (BackRef group sameness)) ip = true
+  may_at (Some (Lookahead negate start_group end_group continuation)) ip = may continuation && (negate || may (ip + 1))
+  may_at (Some (Lookbehind negate start_group end_group continuation)) ip = may continuation
+  may_at _ ip = false
+
+-- `may` is closed: each instruction that it excludes at the offset is also excluded by `may_at`.
+pub record IsClosed (program : Program) (text : Text) (at : ℕ) (may : ℕ → Bool) : Type 0 where
+  pub closed : (ip : ℕ) → may ip ≡ false → may_at program text at may (slice_get program.insns ip) ip ≡ false
+
+-- A state whose instruction is excluded at its offset finds nothing, whatever its groups and loops.
+abbrev pub InsnsExcludedAtOffsetFindNothing : Type 0
+InsnsExcludedAtOffsetFindNothing = (program : Program) (text : Text) → HasRisingPlaceOffsets text → (may : ℕ → Bool) (s : State)
+    → IsClosed program text s.pos may → may s.ip ≡ false → FindsNothing program text rightwards (running s)

@@ -1,0 +1,5 @@
+use Rattle.regress_memo.proofs.Matches.{matches-together}
+use Rattle.regress_memo.proofs.all_matches_work_is_bounded.Goals as goal
+
+pub returns : goal.returns
+returns c = matches-together

@@ -1,0 +1,5 @@
+use Rattle.regress_memo.proofs.BoundLemmas.{ledgers-bound}
+use Rattle.regress_memo.proofs.analysis_laws.analyses_bound_total_work.Goals as goal
+
+pub returns : goal.returns
+returns c = ledgers-bound

@@ -1,0 +1,5 @@
+use Rattle.regress_memo.proofs.NoBodies.{bodies-apart}
+use Rattle.regress_memo.proofs.analysis_laws.bodies_are_unreached.Goals as goal
+
+pub returns : goal.returns
+returns c = bodies-apart

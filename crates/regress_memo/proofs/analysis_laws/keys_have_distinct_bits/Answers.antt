@@ -1,0 +1,5 @@
+use Rattle.regress_memo.proofs.Bits.{keys-have-bits}
+use Rattle.regress_memo.proofs.analysis_laws.keys_have_distinct_bits.Goals as goal
+
+pub returns : goal.returns
+returns c = keys-have-bits

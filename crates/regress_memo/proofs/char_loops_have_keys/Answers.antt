@@ -1,0 +1,5 @@
+use Rattle.regress_memo.proofs.RunKeys.{runs-have-keys}
+use Rattle.regress_memo.proofs.char_loops_have_keys.Goals as goal
+
+pub returns : goal.returns
+returns c = runs-have-keys

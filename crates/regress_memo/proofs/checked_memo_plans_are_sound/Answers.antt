@@ -1,0 +1,5 @@
+use Rattle.regress_memo.proofs.Plans.{plans-serve}
+use Rattle.regress_memo.proofs.checked_memo_plans_are_sound.Goals as goal
+
+pub returns : goal.returns
+returns c = plans-serve

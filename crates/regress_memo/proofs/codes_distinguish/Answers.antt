@@ -1,0 +1,5 @@
+use Rattle.regress_memo.proofs.Codes.{plans-tell}
+use Rattle.regress_memo.proofs.codes_distinguish.Goals as goal
+
+pub returns : goal.returns
+returns c = plans-tell

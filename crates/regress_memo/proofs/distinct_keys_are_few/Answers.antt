@@ -1,0 +1,5 @@
+use Rattle.regress_memo.proofs.Distinct.{distinct-few}
+use Rattle.regress_memo.proofs.distinct_keys_are_few.Goals as goal
+
+pub returns : goal.returns
+returns c = distinct-few

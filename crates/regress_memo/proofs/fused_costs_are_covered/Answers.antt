@@ -1,0 +1,5 @@
+use Rattle.regress_memo.proofs.Chains.{chains-pay}
+use Rattle.regress_memo.proofs.fused_costs_are_covered.Goals as goal
+
+pub returns : goal.returns
+returns c = chains-pay

@@ -1,0 +1,5 @@
+use Rattle.regress_memo.proofs.Turns.{reached-fail}
+use Rattle.regress_memo.proofs.key_fails_when_record_reached.Goals as goal
+
+pub returns : goal.returns
+returns c = reached-fail

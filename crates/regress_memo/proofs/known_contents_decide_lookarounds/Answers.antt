@@ -1,0 +1,5 @@
+use Rattle.regress_memo.proofs.Looks.{looks-decided}
+use Rattle.regress_memo.proofs.known_contents_decide_lookarounds.Goals as goal
+
+pub returns : goal.returns
+returns c = looks-decided

@@ -1,0 +1,5 @@
+use Rattle.regress_memo.proofs.Agree.{agreeing-alike}
+use Rattle.regress_memo.proofs.live_data_decide_search_result.Goals as goal
+
+pub returns : goal.returns
+returns c = agreeing-alike

@@ -1,0 +1,5 @@
+use Rattle.regress_memo.proofs.Keys.{places-decide}
+use Rattle.regress_memo.proofs.positions_decide_failure.Goals as goal
+
+pub returns : goal.returns
+returns c = places-decide

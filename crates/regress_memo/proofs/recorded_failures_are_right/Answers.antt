@@ -1,0 +1,5 @@
+use Rattle.regress_memo.proofs.Keys.{records-right}
+use Rattle.regress_memo.proofs.recorded_failures_are_right.Goals as goal
+
+pub returns : goal.returns
+returns c = records-right

@@ -1,0 +1,5 @@
+use Rattle.regress_memo.proofs.Weights.{runs-pay}
+use Rattle.regress_memo.proofs.recorded_loop_is_covered.Goals as goal
+
+pub returns : goal.returns
+returns c = runs-pay

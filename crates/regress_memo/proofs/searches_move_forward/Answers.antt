@@ -1,0 +1,5 @@
+use Rattle.regress_memo.proofs.Turns.{turns-onward}
+use Rattle.regress_memo.proofs.searches_move_forward.Goals as goal
+
+pub returns : goal.returns
+returns c = turns-onward

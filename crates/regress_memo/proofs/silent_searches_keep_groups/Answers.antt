@@ -1,0 +1,5 @@
+use Rattle.regress_memo.proofs.Silent.{groups-stay}
+use Rattle.regress_memo.proofs.silent_searches_keep_groups.Goals as goal
+
+pub returns : goal.returns
+returns c = groups-stay

@@ -1,0 +1,5 @@
+use Rattle.regress_memo.proofs.Looks.{soundness-stays}
+use Rattle.regress_memo.proofs.sound_states_leave_sound_threads.Goals as goal
+
+pub returns : goal.returns
+returns c = soundness-stays

@@ -1,0 +1,5 @@
+use Rattle.regress_memo.proofs.Weights.{turns-leave}
+use Rattle.regress_memo.proofs.steps_are_sound.Goals as goal
+
+pub returns : goal.returns
+returns c = turns-leave

@@ -1,0 +1,5 @@
+use Rattle.regress_memo.proofs.Looks.{success-shared}
+use Rattle.regress_memo.proofs.success_is_shared.Goals as goal
+
+pub returns : goal.returns
+returns c = success-shared

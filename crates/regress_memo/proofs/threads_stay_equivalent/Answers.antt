@@ -1,0 +1,5 @@
+use Rattle.regress_memo.proofs.Behind.{rows-at-hand}
+use Rattle.regress_memo.proofs.threads_stay_equivalent.Goals as goal
+
+pub returns : goal.returns
+returns c = rows-at-hand

@@ -1,0 +1,5 @@
+use Rattle.regress_memo.proofs.RunTurns.{runs-give}
+use Rattle.regress_memo.proofs.unbounded_char_loops_are_memo_steps.Goals as goal
+
+pub returns : goal.returns
+returns c = runs-give

@@ -1,0 +1,100 @@
+-- How the steps of a plan are covered: potentials and costs that are checked at each instruction.
+use Rattle.std.specs.Prelude.{◌≡◌, ◌≤◌, ℕ, ◌+◌, ◌-◌, Bool, true, false, List, [], ◌∷◌, ◌++◌}
+use Rattle.std.specs.List.{sum_by}
+use Rattle.regex_meaning.specs.Text.{Text, Direction, moved}
+use Rattle.regex_meaning.specs.CompilationRelation.{Program}
+use Rattle.regress_machine.specs.Machine.{State, Thread, running, waiting, goes, act}
+use Rattle.regress_machine.specs.CharLoopExitStatesByPreference.{behind}
+use Rattle.regress_memo.specs.Liveness.{Liveness}
+use Rattle.regress_memo.specs.MemoSearch.{Key, Entry, tried, kept, noted, tries, keys_in, entry_potential}
+use Rattle.regress_memo.specs.ThreadPotentials.{Potentials, potential_of, AreCovering, is_one_of, each_noted}
+use Rattle.regress_memo.specs.LoopDataKeyCodes.{Question, key_of}
+use Rattle.regress_memo.specs.CharLoopExitThreadLists.{greedy_loop_threads, pending_loop_threads}
+use Rattle.regress_memo.specs.UnboundedCharLoopsAsMemoSteps.{key_behind, placed}
+
+module _ (program : Program) (w : Potentials) (price : ℕ → ℕ) (ips : List ℕ) where
+  -- The potential of threads that wait together is that of the first one.
+  abbrev pub potential_by : List Thread → ℕ
+  potential_by [] = 0
+  potential_by (t ∷ ts) = potential_of w t
+
+  -- The work on the entries `front`, and the potential of the entries that replace them, are
+  -- covered by the potential of `front` and by the costs of the keys whose records are made.
+  abbrev pub IsCostCovered : (work : ℕ) (front entries : List Entry) → Type 0
+  IsCostCovered work front entries =
+      work + sum_by (entry_potential potential_by) entries
+      ≤ sum_by (entry_potential potential_by) front + sum_by (λ (k : Key). price k.ip) (keys_in entries)
+
+  -- ---- Checks of a table
+
+  -- The potential of what an instruction leaves is covered by its own potential and, if it records,
+  -- by its cost.
+  pub record AreCostsCovered : Type 0 where
+    pub enough : AreCovering w program
+    pub recorded : (ip : ℕ) → is_one_of ips ip ≡ true → w.left ip + 2 ≤ w.at ip + price ip
+    pub passed : (ip : ℕ) → is_one_of ips ip ≡ false → w.left ip + 1 ≤ w.at ip
+
+  -- A char loop without a maximum covers the characters that it requires. Each position covers
+  -- itself and one character.
+  pub record GreedyLoopIsCovered (least ip : ℕ) : Type 0 where
+    pub ready : least + 2 ≤ w.at ip
+    pub places : w.at (ip + 2) + 3 ≤ price (ip + 1)
+
+  -- A lazy char loop also covers its first position, and the others together.
+  pub record LazyLoopIsCovered (least ip : ℕ) : Type 0 where
+    pub ready : least + 2 + (w.at (ip + 2) + (w.at (ip + 2) + 1)) ≤ w.at ip
+    pub places : w.at (ip + 2) + 3 ≤ price (ip + 1)
+
+  -- ---- Steps
+
+  module _ (text : Text) (code : State → ℕ) (d : Direction) (s : State) where
+    -- The steps of a thread are covered: resuming it, and executing it without or with a record.
+    pub record ThreadIsPaid : Type 0 where
+      pub taken_up : IsCostCovered 1 (tried (waiting s) ∷ []) (tried (running s) ∷ [])
+      pub turned : (ts : List Thread) → act program text d s ≡ goes ts → is_one_of ips s.ip ≡ false
+          → IsCostCovered 1 (tried (running s) ∷ []) (tries ts)
+      pub recorded : (ts : List Thread) → act program text d s ≡ goes ts → is_one_of ips s.ip ≡ true
+          → IsCostCovered 1 (tried (running s) ∷ []) (tries ts ++ noted (key_of code s) (running s ∷ []) ∷ [])
+
+  module _ (text : Text) (a : Liveness) (questions : ℕ → List Question) (way : ℕ → Direction) (taken : Key → ℕ)
+      (d : Direction) (test : ℕ → Bool) (s : State) (place least : ℕ) where
+    -- The waiting positions of the char loop, with their keys.
+    abbrev pub places_from : (count : ℕ) → List (Thread × Key)
+    places_from count = placed program text a questions way ips taken d test s place least count
+
+    -- The key of the char loop from `n` characters further on.
+    abbrev pub key_on : (n : ℕ) → Key
+    key_on n = key_behind program text a questions way ips taken d test s place n
+
+    -- The step of a greedy char loop is covered: executing it, and reading each character up to one
+    -- that ends it.
+    pub record RunTurnsArePaid : Type 0 where
+      pub known : (n : ℕ) → least ≤ n
+          → IsCostCovered (n + 2) (tried (running s) ∷ [])
+          (each_noted (greedy_loop_threads text test d 0 (moved text d n place) s) (places_from (n - least)))
+      pub all : (n : ℕ) → least ≤ n
+          → IsCostCovered (n + 2) (tried (running s) ∷ [])
+          (each_noted [] ((running (behind text d place s n), key_on n) ∷ places_from (n - least)))
+
+    -- A lazy char loop reads the characters that it requires, and then one character in each step.
+    pub record LazyTurnsArePaid : Type 0 where
+      pub taken_up : IsCostCovered (least + 2) (tried (running s) ∷ [])
+          (tried (running (behind text d place s least)) ∷ kept (pending_loop_threads text test d (least + 1) place s) ∷ [])
+      pub again : IsCostCovered 2 (kept (pending_loop_threads text test d 0 place s) ∷ [])
+          (tried (running (behind text d place s 0)) ∷ kept (pending_loop_threads text test d 1 place s)
+          ∷ noted (key_on 0) (pending_loop_threads text test d 0 place s) ∷ [])
+
+-- ---- Laws
+
+-- A table that passes the checks covers the steps of a plan.
+pub record StepCostsAreCovered : Type 0 where
+  pub threads : (program : Program) (w : Potentials) (price : ℕ → ℕ) (ips : List ℕ) → AreCostsCovered program w price ips
+      → (text : Text) (code : State → ℕ) (d : Direction) (s : State) → ThreadIsPaid program w price ips text code d s
+  pub runs : (program : Program) (w : Potentials) (price : ℕ → ℕ) (ips : List ℕ) (text : Text) (a : Liveness)
+      (questions : ℕ → List Question) (way : ℕ → Direction) (taken : Key → ℕ) (d : Direction) (test : ℕ → Bool)
+      (s : State) (place least : ℕ) → GreedyLoopIsCovered program w price ips least s.ip
+      → RunTurnsArePaid program w price ips text a questions way taken d test s place least
+  pub lazy_runs : (program : Program) (w : Potentials) (price : ℕ → ℕ) (ips : List ℕ) (text : Text) (a : Liveness)
+      (questions : ℕ → List Question) (way : ℕ → Direction) (taken : Key → ℕ) (d : Direction) (test : ℕ → Bool)
+      (s : State) (place least : ℕ) → LazyLoopIsCovered program w price ips least s.ip
+      → LazyTurnsArePaid program w price ips text a questions way taken d test s place least

@@ -1,0 +1,175 @@
+-- The checks of a memo analysis at each instruction.
+use Rattle.std.specs.Prelude.{◌≡◌, ◌≢◌, ◌≤◌, ◌<◌, ℕ, ◌+◌, ◌-◌, ◌*◌, ◌^◌, Bool, true, false, ◌==◌, if◌then◌else◌, [], Option, Some, None, nat_lt}
+use Rattle.std.specs.Prelude.{slice_get}
+use Rattle.regex_meaning.specs.Text.{rightwards, leftwards}
+use Rattle.regex_meaning.specs.CompilationRelation.{Program, Insn, EnterLoop}
+use Rattle.regex_meaning.specs.CompilationRelation as layout
+use Rattle.regress_program.specs.InsnsAsSpecInsns.{loop_fields_as_spec}
+use Rattle.regress_memo.specs.Liveness.{IsConsistentEdge, none, Decides}
+use Rattle.regress_memo.specs.LoopDataKeyCodes.{plan_codes}
+use Rattle.regress_memo.specs.ThreadPotentials.{CoversOne, CoversTwo, CoversRepeat}
+use Rattle.regress_memo.specs.AmortizedStepCosts.{GreedyLoopIsCovered, LazyLoopIsCovered}
+use Rattle.regress_memo.specs.declared.analysis_result.EnclosingLoop.{EnclosingLoop}
+use Rattle.regress_memo.specs.declared.analysis_result.MemoAnalysis.{MemoAnalysis}
+use Rattle.regress_memo.specs.declared.analysis_result.EnclosingLoopProgressFactKind.TheVariants.{Inside, Moved}
+use Rattle.regress_memo.specs.declared.successors.Successors.{Successors}
+use Rattle.regress_memo.specs.declared.successors.Successors.TheVariants.{Ends, One, Two, Enter, Again, Run, LookaroundDirectionNegationAndContinuation, Same}
+use Rattle.regress_memo.specs.declared.successors.LookaroundDirectionNegationAndContinuation as look
+use Rattle.regress_memo.specs.declared.successors.CharLoopMinMaxAndGreed as bounds
+use Rattle.regress_memo.specs.AnalysisAsLivenessAndPotentials.{insn_analysis_of, enclosing_loops_of, states_loop_fact}
+use Rattle.regress_memo.specs.AnalysisAsLivenessAndPotentials.{iteration_char_read_known_or_distinguished}
+use Rattle.regress_memo.specs.AnalysisAsLivenessAndPotentials.{count_bound_of}
+use Rattle.regress_memo.specs.AnalysisAsLivenessAndPotentials.{analysis_as_liveness, key_code_questions_of, recorded, potentials_of, key_cost_of, insn_direction}
+use Rattle.regress_memo.specs.AnalysisAsLivenessAndPotentials.{groups_stay_unchanged_from, number_of_memo_codes_before_insn, number_of_memo_codes_at_insn}
+
+-- The loop is the one that is entered, if one is.
+abbrev pub is_entered : Option ℕ → (l : ℕ) → Bool
+is_entered None l = false
+is_entered (Some id) l = l == id
+
+-- The maximum of a loop that has none.
+abbrev pub unlimited : ℕ
+unlimited = 18446744073709551615
+
+-- The maximum number of codes at an instruction.
+abbrev pub max_codes_per_insn : ℕ
+max_codes_per_insn = 64
+
+module _ (t : MemoAnalysis) where
+  -- ---- From an instruction to a successor
+
+  -- What an entry of the successor states follows from the entries at `ip`.
+  pub record LoopFactsFlow (reads : Bool) (entered : Option ℕ) (ip : ℕ) (row : EnclosingLoop) : Type 0 where
+    pub fresh : is_entered entered row.id ≡ true → row.moved ≡ false
+    pub inside : is_entered entered row.id ≡ false → states_loop_fact Inside row.id (enclosing_loops_of t ip) ≡ true
+    pub moved : is_entered entered row.id ≡ false → reads ≡ false → row.moved ≡ true
+        → states_loop_fact Moved row.id (enclosing_loops_of t ip) ≡ true
+    pub empty : is_entered entered row.id ≡ false → reads ≡ false → row.empty ≡ true
+        → iteration_char_read_known_or_distinguished row.id (enclosing_loops_of t ip) ≡ true
+
+  -- All entries of the successor follow.
+  abbrev pub AllLoopFactsFlow : (reads : Bool) (entered : Option ℕ) (ip next : ℕ) → Type 0
+  AllLoopFactsFlow reads entered ip next = (k : ℕ) (row : EnclosingLoop) → slice_get (enclosing_loops_of t next) k ≡ Some row
+      → LoopFactsFlow reads entered ip row
+
+  -- The facts are consistent along this edge, the direction stays, and unchanged groups stay so.
+  pub record IsConsistentFlow (reads : Bool) (entered : Option ℕ) (ip next : ℕ) : Type 0 where
+    pub account : IsConsistentEdge (analysis_as_liveness t) reads (none (analysis_as_liveness t)) (is_entered entered) ip next
+    pub way : insn_direction t next ≡ insn_direction t ip
+    pub silent : groups_stay_unchanged_from t ip ≡ true → groups_stay_unchanged_from t next ≡ true
+
+  -- ---- Loops
+
+  -- The distinguished iteration counts decide how the loop continues, in each text.
+  abbrev pub CountDecides : (f : layout.LoopFields) (moved : Bool) → Type 0
+  CountDecides f moved = (top : ℕ) → top < 2 ^ 63 → Decides (analysis_as_liveness t) top f moved
+
+  -- An iteration may begin, or the loop may be left.
+  pub record MayBeginIteration (f : layout.LoopFields) (ip begin : ℕ) : Type 0 where
+    pub again : IsConsistentFlow false (Some f.loop_id) ip (begin + 1)
+    pub leave : IsConsistentFlow false None ip f.exit
+    pub writes : (insn_analysis_of t ip).from ≤ f.loop_id
+    pub few : (count_bound_of t f.loop_id).counted ≡ true → f.max_iters ≤ (count_bound_of t f.loop_id).up_to + 1
+
+  -- An iteration may end, and all is known that decides how the loop continues.
+  pub record MayEndIteration (f : layout.LoopFields) (ip : ℕ) : Type 0 where
+    pub inside : states_loop_fact Inside f.loop_id (enclosing_loops_of t ip) ≡ true
+    pub empty : iteration_char_read_known_or_distinguished f.loop_id (enclosing_loops_of t ip) ≡ true
+    pub decides : CountDecides f (states_loop_fact Moved f.loop_id (enclosing_loops_of t ip))
+
+  -- An iteration may end and another one may begin.
+  pub record MayRepeatLoop (f : layout.LoopFields) (ip begin : ℕ) : Type 0 where
+    pub begins : MayBeginIteration f ip begin
+    pub loop_iteration_state : MayEndIteration f ip
+
+  -- `MayRepeatLoop` if the instruction is a loop head.
+  abbrev pub MayRepeatLoopAt : Option Insn → (ip begin : ℕ) → Type 0
+  MayRepeatLoopAt (Some (EnterLoop f)) ip begin = MayRepeatLoop f ip begin
+  MayRepeatLoopAt _ ip begin = Unit {0}
+
+  -- ---- Lookarounds
+
+  -- All loops that enclose the instruction have numbers below `from`.
+  abbrev pub LoopsAreBefore : (ip from : ℕ) → Type 0
+  LoopsAreBefore ip from = (k : ℕ) (row : EnclosingLoop) → slice_get (enclosing_loops_of t ip) k ≡ Some row → row.id < from
+
+  -- The contents of a lookaround are isolated: they are in no loop around it and write none of
+  -- them, and those of a positive lookaround leave groups unchanged.
+  pub record IsolatesLookaround (l : look.LookaroundDirectionNegationAndContinuation) (ip : ℕ) : Type 0 where
+    pub on : IsConsistentFlow false None ip l.past
+    pub apart : enclosing_loops_of t (ip + 1) ≡ []
+    pub left : LoopsAreBefore l.past (insn_analysis_of t (ip + 1)).from
+    pub from : (insn_analysis_of t ip).from ≤ (insn_analysis_of t (ip + 1)).from
+    pub way : insn_direction t (ip + 1) ≡ (if l.forward then rightwards else leftwards)
+    pub silent : groups_stay_unchanged_from t ip ≡ true → groups_stay_unchanged_from t (ip + 1) ≡ true
+    pub quiet : l.negate ≡ false → groups_stay_unchanged_from t (ip + 1) ≡ true
+
+  -- ---- Char loops
+
+  -- The potential covers a char loop without a maximum, and the keys of its exits cover them.
+  pub record CoversUnboundedLoop (b : bounds.CharLoopMinMaxAndGreed) (ip : ℕ) : Type 0 where
+    pub greedy : b.greedy ≡ true → b.least + 2 ≤ (insn_analysis_of t ip).ready
+    pub lazy : b.greedy ≡ false
+        → b.least + 2 + ((insn_analysis_of t (ip + 2)).ready + ((insn_analysis_of t (ip + 2)).ready + 1)) ≤ (insn_analysis_of t ip).ready
+    pub places : (insn_analysis_of t (ip + 2)).ready + 3 ≤ (insn_analysis_of t (ip + 1)).price
+
+  -- The potential left covers each exit and each character of a char loop with a maximum.
+  abbrev pub CoversBoundedLoop : bounds.CharLoopMinMaxAndGreed → (ip : ℕ) → Type 0
+  CoversBoundedLoop b ip =
+      b.most + 1 + (b.most + 1 - b.least) * ((insn_analysis_of t (ip + 2)).ready + 1) ≤ (insn_analysis_of t ip).left
+
+  -- The body of a char loop without a maximum has its keys. One with a maximum leaves a thread for
+  -- each exit.
+  pub record IsCharLoopChecked (program : Program) (b : bounds.CharLoopMinMaxAndGreed) (ip : ℕ) : Type 0 where
+    pub way : insn_direction t (ip + 1) ≡ insn_direction t ip
+    pub records : b.most ≡ unlimited → (insn_analysis_of t (ip + 1)).records ≡ true
+    pub asks : b.most ≡ unlimited → key_code_questions_of t (ip + 1) ≡ key_code_questions_of t (ip + 2)
+    pub greedy : b.most ≡ unlimited → b.greedy ≡ true
+        → GreedyLoopIsCovered program (potentials_of t) (key_cost_of t) (recorded t) b.least ip
+    pub lazy : b.most ≡ unlimited → b.greedy ≡ false
+        → LazyLoopIsCovered program (potentials_of t) (key_cost_of t) (recorded t) b.least ip
+    pub limited : b.most ≢ unlimited → CoversBoundedLoop b ip
+
+  -- ---- Each instruction
+
+  -- A recording instruction is covered by the cost of its key, any other one by its potential.
+  pub record IsInsnCostCovered (ip : ℕ) : Type 0 where
+    pub recorded : (insn_analysis_of t ip).records ≡ true
+        → (insn_analysis_of t ip).left + 2 ≤ (insn_analysis_of t ip).ready + (insn_analysis_of t ip).price
+    pub passed : (insn_analysis_of t ip).records ≡ false → (insn_analysis_of t ip).left + 1 ≤ (insn_analysis_of t ip).ready
+
+  -- The codes of an instruction are counted and few, and its bits are before those of the next one.
+  pub record AreInsnCodesCountedAndDisjointAt (ip : ℕ) : Type 0 where
+    pub codes : plan_codes (key_code_questions_of t) ip ≡ (insn_analysis_of t ip).codes
+    pub few : (insn_analysis_of t ip).codes ≤ max_codes_per_insn
+    pub apart : number_of_memo_codes_before_insn t ip + number_of_memo_codes_at_insn t ip ≤ number_of_memo_codes_before_insn t (ip + 1)
+
+  module _ (program : Program) where
+    -- The facts at an instruction are consistent with those at its successors.
+    abbrev pub IsConsistentAt : Successors → (ip : ℕ) → Type 0
+    IsConsistentAt Ends ip = Unit {0}
+    IsConsistentAt (One n) ip = IsConsistentFlow n.reads None ip n.to × (groups_stay_unchanged_from t ip ≡ true → n.silent ≡ true)
+    IsConsistentAt (Two other) ip = IsConsistentFlow false None ip (ip + 1) × IsConsistentFlow false None ip other
+    IsConsistentAt (Enter f) ip = MayBeginIteration (loop_fields_as_spec f) ip ip
+    IsConsistentAt (Again begin) ip = MayRepeatLoopAt (slice_get program.insns begin) ip begin
+    IsConsistentAt (Run b) ip = IsConsistentFlow (nat_lt 0 b.least) None ip (ip + 2)
+    IsConsistentAt (LookaroundDirectionNegationAndContinuation l) ip = IsolatesLookaround l ip
+    IsConsistentAt Same ip = ⊥
+
+    -- The potential covers the successors of an instruction.
+    abbrev pub IsCoveredAt : Successors → (ip : ℕ) → Type 0
+    IsCoveredAt Ends ip = Unit {0}
+    IsCoveredAt (One n) ip = CoversOne (potentials_of t) ip n.to
+    IsCoveredAt (Two other) ip = CoversTwo (potentials_of t) ip (ip + 1) other
+    IsCoveredAt (Enter f) ip = CoversTwo (potentials_of t) ip (ip + 1) f.exit
+    IsCoveredAt (Again begin) ip = CoversRepeat (potentials_of t) (slice_get program.insns begin) ip begin
+    IsCoveredAt (Run b) ip = IsCharLoopChecked program b ip
+    IsCoveredAt (LookaroundDirectionNegationAndContinuation l) ip = CoversOne (potentials_of t) ip l.past
+    IsCoveredAt Same ip = CoversOne (potentials_of t) ip (ip + 1)
+
+    -- All checks of an instruction succeed.
+    pub record IsInsnChecked (step : Successors) (ip : ℕ) : Type 0 where
+      pub right : IsConsistentAt step ip
+      pub enough : IsCoveredAt step ip
+      pub paid : IsInsnCostCovered ip
+      pub codes : AreInsnCodesCountedAndDisjointAt ip

@@ -1,0 +1,116 @@
+-- What is checked of a plan, and what follows: its keys, the steps of its threads, and the work of
+-- all attempts.
+use Rattle.std.specs.Prelude.{◌≡◌, ◌≤◌, ℕ, ◌+◌, ◌*◌, Bool, true, false, List, [], ◌∷◌, ◌++◌, Option, Some, None, slice_get}
+use Rattle.std.specs.List.{sum_by}
+use Rattle.regex_meaning.specs.NumberListHelpers.{numbers_from}
+use Rattle.regex_meaning.specs.Text.{Text, Direction}
+use Rattle.regex_meaning.specs.CodeUnitOffsets.{units}
+use Rattle.regex_meaning.specs.CompilationRelation.{Program}
+use Rattle.regress_machine.specs.Machine.{State, Thread, running, waiting, goes, Found, after_lookaround, state_with_ip, state_at_next_ip, act, search}
+use Rattle.regress_machine.specs.ThreadSimulation.{FindNothing}
+use Rattle.regress_memo.specs.Liveness.{Liveness, Agree, outermost, IsLivenessFor}
+use Rattle.regress_memo.specs.MemoKeys.{AsksNoGroups}
+use Rattle.regress_memo.specs.DistinctLists.{IsNew}
+use Rattle.regress_memo.specs.MemoSearch.{Key, Entry, tried, noted, tries, FindEnd, AreKeys, IsMemoStep}
+use Rattle.regress_memo.specs.ThreadPotentials.{is_one_of}
+use Rattle.regress_memo.specs.AttemptsAndWorkOverSuccessiveMatches.{Attempted, ready_at}
+use Rattle.regress_memo.specs.LoopDataKeyCodes.{Question, plan_code, plan_codes, AsksAll, HasSlotsOfProgram, key_of}
+use Rattle.regress_memo.specs.UnboundedCharLoopMemoKeys.{char_loop_greediness_at, insn_before, plan_keys}
+use Rattle.regress_memo.specs.EquivalenceAfterSkippingSucceedingLookarounds.{LookaroundInsn, lookaround_at}
+
+module _ (program : Program) (text : Text) (a : Liveness) (questions : ℕ → List Question)
+    (way : ℕ → Direction) (ips : List ℕ) (taken : Key → ℕ) where
+  -- The liveness analysis is sound and needs no groups, and all live data are among the questions.
+  pub record IsPlan : Type 0 where
+    pub account : IsLivenessFor program text a
+    pub no_groups : AsksNoGroups a
+    pub asks : AsksAll questions a
+
+  -- ---- Steps of threads
+
+  -- A sound thread at an instruction that records and is not the body of a char loop. Its key is
+  -- new.
+  pub record IsRecorded (d : Direction) (memory : List Key) (s : State) : Type 0 where
+    pub records : is_one_of ips s.ip ≡ true
+    pub goes : way s.ip ≡ d
+    pub no_body : char_loop_greediness_at (insn_before program s.ip) ≡ None
+    pub of : HasSlotsOfProgram program s
+    pub sound : Agree a (units text) outermost d s s
+    pub one : taken (key_of (plan_code questions) s) ≡ 1
+    pub new : IsNew (key_of (plan_code questions) s) memory
+
+  module _ (d : Direction) (memory : List Key) where
+    -- The entries replace the threads in a memo step with the keys of the plan.
+    abbrev pub GivesByPlan : List Thread → List Entry → Type 0
+    GivesByPlan ts entries = IsMemoStep program text a (plan_keys program text a questions way ips taken) d memory ts entries
+
+    -- A thread that waits is resumed. One that runs is executed, with or without a record.
+    pub record ThreadGives (s : State) : Type 0 where
+      pub taken_up : GivesByPlan (waiting s ∷ []) (tried (running s) ∷ [])
+      pub turned : (ts : List Thread) → act program text d s ≡ goes ts → GivesByPlan (running s ∷ []) (tries ts)
+      pub recorded : (ts : List Thread) → act program text d s ≡ goes ts → IsRecorded d memory s
+          → GivesByPlan (running s ∷ []) (tries ts ++ noted (key_of (plan_code questions) s) (running s ∷ []) ∷ [])
+
+    -- A lookaround is decided by the result of a search of its contents, or by what is known of
+    -- them.
+    pub record LookGives (s : State) (look : LookaroundInsn) : Type 0 where
+      pub searched : (turns : ℕ) (f : Found) → search program text turns look.inner (running (state_at_next_ip s) ∷ []) ≡ Some f
+          → GivesByPlan (running s ∷ []) (tries (after_lookaround look.negate (state_with_ip look.continuation s) f.end))
+      pub fails : FindNothing program text look.inner (running (state_at_next_ip s) ∷ [])
+          → GivesByPlan (running s ∷ []) (tries (after_lookaround look.negate (state_with_ip look.continuation s) None))
+      pub reaches : look.negate ≡ true → FindEnd program text look.inner (running (state_at_next_ip s) ∷ [])
+          → GivesByPlan (running s ∷ []) []
+
+  -- ---- Work
+
+  -- The cost of the keys of all instructions that record.
+  abbrev pub plan_price : (price : ℕ → ℕ) → ℕ
+  plan_price price = sum_by (λ ip. price ip * plan_codes questions ip) ips * (units text + 1)
+
+  -- All attempts in a text together, up to the next start position, are linear in the text.
+  abbrev pub AttemptsAreLinear : Type 0
+  AttemptsAreLinear = (price : ℕ → ℕ) (weight : List Thread → ℕ) (row : ℕ → List Thread)
+      (from next looks work : ℕ) (memory : List Key) (starts : List ℕ)
+      → Attempted program text a (plan_keys program text a questions way ips taken) (λ k. price k.ip) weight row
+      from next looks work memory starts
+      → (last : ℕ) → next ≤ last
+      → work + looks
+      ≤ 2 * (sum_by (λ at. ready_at program text a (plan_keys program text a questions way ips taken)
+      (λ k. price k.ip) weight row at) (numbers_from 0 (last + 1)) + last)
+      + 3 * plan_price price
+
+  -- What a plan provides.
+  pub record PlanServes : Type 0 where
+    pub keys : AreKeys program text a (plan_keys program text a questions way ips taken)
+    pub gives : (d : Direction) (memory : List Key) (s : State) → ThreadGives d memory s
+    pub looks : (d : Direction) (memory : List Key) (s : State) (look : LookaroundInsn)
+        → lookaround_at (slice_get program.insns s.ip) ≡ Some look → LookGives d memory s look
+    pub linear : AttemptsAreLinear
+
+-- ---- Steps below records
+
+-- The steps below a record: 0 if it is of a greedy char loop, else 1.
+abbrev pub taken_at : Option Bool → ℕ
+taken_at (Some true) = 0
+taken_at _ = 1
+
+-- The value of `taken` that the laws on steps require: no step below the record of a greedy char
+-- loop's position, and one below any other.
+abbrev pub plan_taken : Program → Key → ℕ
+plan_taken program k = taken_at (char_loop_greediness_at (insn_before program k.ip))
+
+-- ---- Laws
+
+-- A plan takes these numbers of steps.
+pub record ZeroOrOneStepBelowRecord : Type 0 where
+  pub threads : (program : Program) (k : Key) → char_loop_greediness_at (insn_before program k.ip) ≡ None → plan_taken program k ≡ 1
+  pub greedy : (program : Program) (ip at code : ℕ) → char_loop_greediness_at (slice_get program.insns ip) ≡ Some true
+      → plan_taken program (record { ip = ip + 1; at = at; code = code }) ≡ 0
+  pub lazy : (program : Program) (ip at code : ℕ) → char_loop_greediness_at (slice_get program.insns ip) ≡ Some false
+      → plan_taken program (record { ip = ip + 1; at = at; code = code }) ≡ 1
+
+-- Each plan that passes its checks provides this.
+abbrev pub CheckedMemoPlansAreSound : Type 0
+CheckedMemoPlansAreSound = (program : Program) (text : Text) (a : Liveness) (questions : ℕ → List Question)
+    (way : ℕ → Direction) (ips : List ℕ) (taken : Key → ℕ) → IsPlan program text a questions way ips taken
+    → PlanServes program text a questions way ips taken

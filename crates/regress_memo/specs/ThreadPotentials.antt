@@ -1,0 +1,182 @@
+-- The potential that threads require, by a table that is checked at each instruction, and the costs
+-- of memo steps.
+use Rattle.std.specs.Prelude.{◌≡◌, ◌≤◌, ℕ, ◌+◌, ◌*◌, Bool, true, false, not, nat_le, nat_lt, ◌&&◌, ◌||◌, ◌==◌, List, [], ◌∷◌, ◌++◌, map, length}
+use Rattle.std.specs.Prelude.{flat_map, Option, Some, None, slice_get}
+use Rattle.std.specs.List.{sum_by}
+use Rattle.regex_meaning.specs.Laws.{Each}
+use Rattle.regex_meaning.specs.NumberListHelpers.{numbers_from}
+use Rattle.regex_meaning.specs.Text.{Text, Direction, rightwards, leftwards}
+use Rattle.regex_meaning.specs.CodeUnitOffsets.{HasRisingPlaceOffsets, units}
+use Rattle.regex_meaning.specs.CompilationRelation.{Program, Insn, Goal, JustFail, Alt, Jump, EnterLoop, LoopAgain, Loop1CharBody, Lookahead, Lookbehind}
+use Rattle.regress_machine.specs.Machine.{State, Thread, running, waiting, goes, scans, act}
+use Rattle.regress_machine.specs.ThreadSimulation.{Simulates, FindNothing}
+use Rattle.regress_memo.specs.Liveness.{Liveness, IsLivenessFor}
+use Rattle.regress_memo.specs.MemoKeys.{IsSoundState, SamePlace, SameKey, AsksNoGroups, AsksPlacesAlone}
+use Rattle.regress_memo.specs.DistinctLists.{IsNew, AreDistinct}
+use Rattle.regress_memo.specs.MemoSearch.{Key, Keys, Entry, tried, noted, tries, threads_in, keys_in, IsBare, entry_potential, AreOnward, GoesOnward, KeyStandsFor}
+use Rattle.regress_memo.specs.MemoSearch.{AreKeys, IsMemoStep}
+
+-- ---- Potentials
+
+-- The potential of a thread that runs at an instruction, and of what the instruction leaves.
+pub record Potentials : Type 0 where
+  pub at : ℕ → ℕ
+  pub left : ℕ → ℕ
+
+module _ (w : Potentials) where
+  -- The potential of a thread. Resuming one that waits costs one unit more.
+  abbrev pub potential_of : Thread → ℕ
+  potential_of (running s) = w.at s.ip
+  potential_of (waiting s) = w.at s.ip + 1
+
+  -- What the instruction leaves is enough for one thread.
+  abbrev pub CoversOne : (ip next : ℕ) → Type 0
+  CoversOne ip next = w.at next ≤ w.left ip
+
+  -- What the instruction leaves is enough for two threads, of which one waits.
+  abbrev pub CoversTwo : (ip next other : ℕ) → Type 0
+  CoversTwo ip next other = w.at next + w.at other + 1 ≤ w.left ip
+
+  -- What the end of an iteration leaves is enough for another iteration and for the exit.
+  abbrev pub CoversRepeat : Option Insn → (ip begin : ℕ) → Type 0
+  CoversRepeat (Some (EnterLoop f)) ip begin = CoversTwo ip (begin + 1) f.exit
+  CoversRepeat _ ip begin = Unit {0}
+
+  -- What the instruction leaves is enough for the threads at its successors.
+  abbrev pub CoversInsn : Program → Option Insn → (ip : ℕ) → Type 0
+  CoversInsn program (Some Goal) ip = Unit {0}
+  CoversInsn program (Some JustFail) ip = Unit {0}
+  CoversInsn program (Some (Alt secondary)) ip = CoversTwo ip (ip + 1) secondary
+  CoversInsn program (Some (Jump target)) ip = CoversOne ip target
+  CoversInsn program (Some (EnterLoop f)) ip = CoversTwo ip (ip + 1) f.exit
+  CoversInsn program (Some (LoopAgain begin)) ip = CoversRepeat (slice_get program.insns begin) ip begin
+  CoversInsn program (Some (Loop1CharBody least most greedy)) ip = Unit {0}
+  CoversInsn program (Some (Lookahead negate start_group end_group continuation)) ip = CoversOne ip continuation
+  CoversInsn program (Some (Lookbehind negate start_group end_group continuation)) ip = CoversOne ip continuation
+  CoversInsn program None ip = Unit {0}
+  CoversInsn program (Some x) ip = CoversOne ip (ip + 1)
+
+  -- The table is enough for each instruction of the program.
+  pub record AreCovering (program : Program) : Type 0 where
+    pub enough : (ip : ℕ) → CoversInsn program (slice_get program.insns ip) ip
+
+-- ---- Keys of positions
+
+-- Whether two directions are equal.
+abbrev pub is_way : Direction → Direction → Bool
+is_way rightwards rightwards = true
+is_way leftwards leftwards = true
+is_way _ _ = false
+
+-- Whether the instruction is in the list.
+abbrev pub is_one_of : List ℕ → ℕ → Bool
+is_one_of [] ip = false
+is_one_of (i ∷ ips) ip = (i == ip) || is_one_of ips ip
+
+-- The keys of an instruction at each offset up to `top` with each of `codes` codes.
+abbrev pub places_at : (ip top codes : ℕ) → List Key
+places_at ip top codes = flat_map (λ code. map (λ at. record { ip = ip; at = at; code = code }) (numbers_from 0 (top + 1))) (numbers_from 0 codes)
+
+-- The keys of each of these instructions, which have their own numbers of codes.
+abbrev pub places_of : (ips : List ℕ) (top : ℕ) (codes : ℕ → ℕ) → List Key
+places_of ips top codes = flat_map (λ ip. places_at ip top (codes ip)) ips
+
+-- The shape of a thread: whether it runs, its instruction and offset, and the code of the live data
+-- of its loops.
+pub record Shape : Type 0 where
+  pub runs : Bool
+  pub ip : ℕ
+  pub pos : ℕ
+  pub code : ℕ
+
+-- The code distinguishes all live loop data of sound states at one position.
+pub record Distinguishes (a : Liveness) (top : ℕ) (code : State → ℕ) : Type 0 where
+  pub tells : (d : Direction) (s t : State) → IsSoundState a top d s → IsSoundState a top d t → SamePlace s t → code s ≡ code t → SameKey a s t
+
+module _ (program : Program) (code : State → ℕ) where
+  -- A state of this program has the shape.
+  abbrev pub stands_there : Shape → State → Bool
+  stands_there x s =
+      (s.ip == x.ip) && ((s.pos == x.pos) && ((code s == x.code) && ((length s.groups == program.groups) && ((length s.starts == program.groups) && (length s.loops == program.loops)))))
+
+  -- The threads have these shapes, one by one.
+  abbrev pub has_shape : List Shape → List Thread → Bool
+  has_shape [] [] = true
+  has_shape (x ∷ xs) (running s ∷ ts) = x.runs && (stands_there x s && has_shape xs ts)
+  has_shape (x ∷ xs) (waiting s ∷ ts) = not x.runs && (stands_there x s && has_shape xs ts)
+  has_shape _ _ = false
+
+  -- Keys of instructions that record, each of which is searched in one direction. The threads of a
+  -- key are decided by their shapes: one that runs at the instruction and the offset, or all those
+  -- that a char loop leaves from the offset on.
+  module _ (way : ℕ → Direction) (ips : List ℕ) (top : ℕ) (codes : ℕ → ℕ) (rows : Key → List Shape) (taken : Key → ℕ) where
+    -- Whether a key stands for these threads.
+    abbrev pub is_place : Direction → Key → List Thread → Bool
+    is_place d k ts = nat_lt k.code (codes k.ip) && (nat_le k.at top && (is_one_of ips k.ip && (is_way (way k.ip) d && has_shape (rows k) ts)))
+
+    -- The keys of positions.
+    abbrev pub place_keys : Keys
+    place_keys = record { all = places_of ips top codes; is_of = is_place; taken = taken }
+
+-- ---- Char loops
+
+-- Each thread waits above a record of itself and of those before it.
+abbrev pub each_noted : (above : List Thread) → List (Thread × Key) → List Entry
+each_noted above [] = []
+each_noted above (x ∷ xs) = tried x.0 ∷ noted x.1 (above ++ x.0 ∷ []) ∷ each_noted (above ++ x.0 ∷ []) xs
+
+module _ (program : Program) (text : Text) (a : Liveness) (keys : Keys) (d : Direction) where
+  -- Each key is of the threads so far, is new, and requires no step below its record.
+  abbrev pub AreOfEach : (memory : List Key) (above : List Thread) → List (Thread × Key) → Type 0
+  AreOfEach memory above [] = Unit {0}
+  AreOfEach memory above (x ∷ xs) = (KeyStandsFor program text a keys d x.1 (above ++ x.0 ∷ []) × (keys.taken x.1 ≡ 0) × IsNew x.1 memory) × AreOfEach memory (above ++ x.0 ∷ []) xs
+
+-- ---- Laws
+
+module _ (program : Program) (text : Text) (a : Liveness) (keys : Keys) (d : Direction) (memory : List Key) where
+  -- The steps of an executor are memo steps.
+  pub record GivesOf : Type 0 where
+    -- A step without a record.
+    pub passed : (n : ℕ) (bare : List Entry) (ts : List Thread) → IsBare bare → Simulates program text false d n (threads_in bare) ts → GoesOnward d ts bare → IsMemoStep program text a keys d memory ts bare
+    -- A step with a record of what was current: a thread, or positions of a lazy char loop that
+    -- wait together, of which the first one is taken.
+    pub made : (n : ℕ) (bare : List Entry) (ts : List Thread) (k : Key) → IsBare bare → Simulates program text false d n (threads_in bare) ts → KeyStandsFor program text a keys d k ts → 1 ≤ keys.taken k → keys.taken k ≤ n → IsNew k memory
+        → GoesOnward d ts (bare ++ noted k ts ∷ []) → IsMemoStep program text a keys d memory ts (bare ++ noted k ts ∷ [])
+    -- A char loop. Its first positions are known to fail, and each other one has a record of the
+    -- positions so far.
+    pub run : (n : ℕ) (ts known : List Thread) (xs : List (Thread × Key)) → Simulates program text false d n (known ++ map (λ x. x.0) xs) ts → 1 ≤ n → FindNothing program text d known
+        → AreOfEach program text a keys d memory known xs → AreDistinct (map (λ x. x.1) xs) → GoesOnward d ts (each_noted known xs) → IsMemoStep program text a keys d memory ts (each_noted known xs)
+
+-- The steps of each executor are memo steps.
+abbrev pub StepsAreMemoSteps : Type 0
+StepsAreMemoSteps = (program : Program) (text : Text) (a : Liveness) (keys : Keys) (d : Direction) (memory : List Key) → GivesOf program text a keys d memory
+
+-- In a rightward search no instruction and no char loop moves to a smaller offset.
+pub record RightwardInsnsNeverMoveLeft : Type 0 where
+  pub goes : (program : Program) (text : Text) → HasRisingPlaceOffsets text → (s : State) (ts : List Thread) → act program text rightwards s ≡ goes ts → AreOnward s.pos (tries ts)
+  pub scans : (program : Program) (text : Text) → HasRisingPlaceOffsets text → (s : State) (n : ℕ) (ts : List Thread) → act program text rightwards s ≡ scans n ts → AreOnward s.pos (tries ts)
+  -- Nor does one with a record below.
+  pub noted : (from : ℕ) (ts us : List Thread) (k : Key) → AreOnward from (tries ts) → k.at ≡ from → AreOnward from (tries ts ++ noted k us ∷ [])
+
+-- The potential of the threads that an instruction leaves is at most that of the table.
+pub record ThreadsLeftFitInsnPotentials : Type 0 where
+  pub weighed : (program : Program) (text : Text) (w : Potentials) → AreCovering w program → (d : Direction) (s : State) (ts : List Thread) → act program text d s ≡ goes ts
+      → sum_by (potential_of w) ts ≤ w.left s.ip
+  -- One table covers every program. With it, four units cover a key.
+  pub each : (program : Program) → AreCovering (record { at = λ ip. 1; left = λ ip. 3 }) program
+
+-- A char loop that records each of its positions is covered by its potential and by these keys:
+-- each covers a character, a thread and a record.
+abbrev pub RecordedLoopExitsCoveredByKeys : Type 0
+RecordedLoopExitsCoveredByKeys = (price : Key → ℕ) (weight : List Thread → ℕ) (known : List Thread) (xs : List (Thread × Key)) (first ready more : ℕ) → first ≤ ready → more ≤ first + length xs
+    → Each (λ x. weight (x.0 ∷ []) + 2 ≤ price x.1) xs → more + sum_by (entry_potential weight) (each_noted known xs) ≤ ready + sum_by price (keys_in (each_noted known xs))
+
+-- If a code distinguishes live loop data, instructions, offsets and codes are keys, also of lists
+-- of threads. All of them cost as much as the instructions that record, each times its codes, at
+-- each offset. If positions alone decide, one code is enough.
+pub record OffsetsAndCodesAreKeys : Type 0 where
+  pub are : (program : Program) (text : Text) (a : Liveness) (way : ℕ → Direction) (ips : List ℕ) (code : State → ℕ) (codes : ℕ → ℕ) (rows : Key → List Shape) (taken : Key → ℕ) → IsLivenessFor program text a
+      → AsksNoGroups a → Distinguishes a (units text) code → AreKeys program text a (place_keys program code way ips (units text) codes rows taken)
+  pub cost : (ips : List ℕ) (top : ℕ) (codes price : ℕ → ℕ)
+      → sum_by (λ (k : Key). price k.ip) (places_of ips top codes) ≡ sum_by (λ ip. price ip * codes ip) ips * (top + 1)
+  pub alone : (a : Liveness) (top : ℕ) → AsksPlacesAlone a → Distinguishes a top (λ s. 0)

@@ -1,0 +1,327 @@
+//! Construction of a memo analysis. Nothing is proved of it, because its result is checked.
+
+ghost use Rattle.std.specs.Prelude.{◌<◌, ◌^◌, length, IfOk, IfSome};
+ghost use Rattle.regex_meaning.specs.CompilationRelation.{Program};
+ghost use Rattle.regress_memo.specs.{Successors.{AreInsnsOfProgram}, CheckedAnalysis.{IsAnalysisOf, AreInsnCodesCountedAndDisjoint}};
+
+use crate::analysis_result::{
+    EnclosingLoop, EnclosingLoopProgressFactKind, InsnAnalysis, LoopCountsDistinguishedUpTo,
+    MemoAnalysis, bound_of_undistinguished_loop_count, default_insn_analysis,
+};
+use crate::flow_edges::{
+    FlowEdge, edge_enters_loop, flow_edges_skipping_lookaround_contents, loop_ending_at,
+};
+use crate::successors::{Successors, successors_at};
+use regex_pattern_front::types::LoopID;
+use regress_program::instructions::{Insn, LoopFields};
+use std::alloc::{AllocError, Global};
+
+/// The maximum number of passes of each fixpoint iteration.
+pub(crate) const PASSES: usize = 8;
+
+/// The maximum nesting depth of loops and lookarounds.
+const DEEPEST: usize = 64;
+
+/// A loop or a lookaround that encloses an instruction.
+#[derive(Clone, Copy)]
+enum EnclosingLoopOrLookaround {
+    Loop(LoopID),
+    /// The analysis of the first instruction of the lookaround's contents.
+    LookaroundDirectionNegationAndContinuation(InsnAnalysis),
+}
+
+/// An open scope, which ends at instruction `end`.
+#[derive(Clone, Copy)]
+struct EnclosingScopeWithEnd {
+    open: EnclosingLoopOrLookaround,
+    end: usize,
+}
+
+impl MemoAnalysis {
+    /// Analyses a program with these instructions and `loops` loops.
+    ///
+    /// Returns `None` if the program has a backreference, if a positive lookaround contains capture
+    /// groups, if an instruction would need more than 64 codes, or if loops and lookarounds are
+    /// nested too deeply.
+    ///
+    /// # Errors
+    ///
+    /// `AllocError` if memory cannot be allocated.
+    pub fn new(
+        alloc: Global,
+        insns: &[Insn],
+        loops: usize,
+    ) -> Result<Option<MemoAnalysis>, AllocError>
+        ensures of { IfOk result (λ found. IfSome found (λ memo_analysis. (program : Program)
+            → AreInsnsOfProgram program insns.now → IsAnalysisOf program memo_analysis)) }
+        ensures coded { IfOk result (λ found. IfSome found AreInsnCodesCountedAndDisjoint) }
+    {
+        let made = MemoAnalysis::build_unchecked_analysis(alloc, insns, loops)?;
+        if made.is_analysis_of_program(insns) {
+            Ok(Some(made))
+        } else {
+            Ok(None)
+        }
+    }
+
+    // Builds an analysis, which is still to be checked.
+    fn build_unchecked_analysis(
+        alloc: Global,
+        insns: &[Insn],
+        loops: usize,
+    ) -> Result<MemoAnalysis, AllocError> {
+        let mut made = MemoAnalysis {
+            lines: Vec::with_capacity(alloc, insns.len())?,
+            rows: Vec::new(alloc),
+            counts: Vec::from_elem(alloc, bound_of_undistinguished_loop_count(), loops)?,
+            codes: 0,
+        };
+        made.open_all(alloc, insns)?;
+        made.say_moved(insns);
+        made.set_count_bounds(insns);
+        made.ask_empty(insns);
+        made.share_bodies(insns);
+        made.choose_memo_points(alloc, insns)?;
+        made.assign_costs(insns);
+        made.number_codes();
+        Ok(made)
+    }
+
+    // ---- Enclosing scopes
+
+    // Adds the analysis of each instruction, with an entry for each enclosing loop.
+    fn open_all(&mut self, alloc: Global, insns: &[Insn]) -> Result<(), AllocError> {
+        let mut levels = Vec::new(alloc);
+        let mut from = 0u32;
+        for ip in 0..insns.len() {
+            close_ended_scopes(&mut levels, ip);
+            self.add_line(&levels)?;
+            match successors_at(insns, ip) {
+                Successors::Enter(fields) => {
+                    from = from.max(u32::from(fields.loop_id) + 1);
+                    levels.push(EnclosingScopeWithEnd {
+                        open: EnclosingLoopOrLookaround::Loop(fields.loop_id),
+                        end: fields.exit as usize,
+                    })?;
+                }
+                Successors::LookaroundDirectionNegationAndContinuation(look) => {
+                    let mut line = self.insn_analysis_at(ip);
+                    line.from = from;
+                    line.forward = look.forward;
+                    line.silent |= !look.negate;
+                    levels.push(EnclosingScopeWithEnd {
+                        open: EnclosingLoopOrLookaround::LookaroundDirectionNegationAndContinuation(
+                            line,
+                        ),
+                        end: look.past,
+                    })?;
+                }
+                _ => {}
+            }
+        }
+        Ok(())
+    }
+
+    // Adds the analysis of an instruction in these scopes. Inside a lookaround, no entries are made
+    // for the loops around it.
+    fn add_line(&mut self, levels: &[EnclosingScopeWithEnd]) -> Result<(), AllocError> {
+        let first = self.rows.len();
+        let mut line = InsnAnalysis {
+            from: 0,
+            ..default_insn_analysis()
+        };
+        if levels.len() <= DEEPEST {
+            for level in levels {
+                match level.open {
+                    EnclosingLoopOrLookaround::Loop(id) => self.rows.push(EnclosingLoop {
+                        id,
+                        moved: true,
+                        empty: false,
+                    })?,
+                    EnclosingLoopOrLookaround::LookaroundDirectionNegationAndContinuation(inner) =>
+                        {
+                            self.rows.truncate(first);
+                            line = inner;
+                        }
+                }
+            }
+        }
+        line.first = first;
+        line.end = self.rows.len();
+        self.lines.push(line)?;
+        Ok(())
+    }
+
+    // ---- Facts about iterations
+
+    // Clears `moved` in entries where it does not follow from the preceding instructions.
+    fn say_moved(&mut self, insns: &[Insn]) {
+        for _pass in 0..PASSES {
+            let mut changed = false;
+            for ip in 0..insns.len() {
+                let [first, second] = flow_edges_skipping_lookaround_contents(insns, ip);
+                changed |= self.spread(first);
+                changed |= self.spread(second);
+            }
+            if !changed {
+                return;
+            }
+        }
+    }
+
+    // Clears `moved` in the entries at the target of an edge where it does not follow; returns
+    // whether anything changed.
+    fn spread(&mut self, edge: Option<FlowEdge>) -> bool {
+        let Some(edge) = edge else {
+            return false;
+        };
+        let line = self.insn_analysis_at(edge.to);
+        let mut changed = false;
+        for number in line.first..line.end.min(self.rows.len()) {
+            let row = self.rows[number];
+            if row.moved && !self.is_moved_along(edge, row.id) {
+                self.rows[number].moved = false;
+                changed = true;
+            }
+        }
+        changed
+    }
+
+    // Checks whether a character has been read in a loop's iteration after this edge is taken.
+    fn is_moved_along(&self, edge: FlowEdge, id: LoopID) -> bool {
+        !edge_enters_loop(edge, id)
+            && (edge.reads
+                || self.states_loop_fact(edge.ip, EnclosingLoopProgressFactKind::Moved, id))
+    }
+
+    // Sets the count bound of each loop.
+    fn set_count_bounds(&mut self, insns: &[Insn]) {
+        for ip in 0..insns.len() {
+            if let Some(fields) = loop_ending_at(insns, ip) {
+                let moved = self.states_loop_fact(
+                    ip,
+                    EnclosingLoopProgressFactKind::Moved,
+                    fields.loop_id,
+                );
+                if let Some(count) = self.counts.get_mut(usize::from(fields.loop_id)) {
+                    *count = count_for(&fields, moved);
+                }
+            }
+        }
+    }
+
+    // Sets `empty` where an iteration ends and at instructions before, where `moved` is not known.
+    fn ask_empty(&mut self, insns: &[Insn]) {
+        for _pass in 0..PASSES {
+            let mut changed = false;
+            for ip in (0..insns.len()).rev() {
+                let [first, second] = flow_edges_skipping_lookaround_contents(insns, ip);
+                changed |= self.ask_at_end(insns, ip);
+                changed |= self.ask_before(first);
+                changed |= self.ask_before(second);
+            }
+            if !changed {
+                return;
+            }
+        }
+    }
+
+    // Sets `empty` for the loop whose iteration ends here; returns whether anything changed.
+    fn ask_at_end(&mut self, insns: &[Insn], ip: usize) -> bool {
+        match loop_ending_at(insns, ip) {
+            Some(fields) => self.distinguish_empty_iterations(ip, fields.loop_id),
+            None => false,
+        }
+    }
+
+    // Propagates `empty` backward along an edge; returns whether anything changed.
+    fn ask_before(&mut self, edge: Option<FlowEdge>) -> bool {
+        let Some(edge) = edge else {
+            return false;
+        };
+        let line = self.insn_analysis_at(edge.to);
+        let mut changed = false;
+        for number in line.first..line.end {
+            if let Some(row) = self.rows.get(number).copied() {
+                let asks = row.empty && !edge.reads && !edge_enters_loop(edge, row.id);
+                changed |= asks && self.distinguish_empty_iterations(edge.ip, row.id);
+            }
+        }
+        changed
+    }
+
+    // Sets `empty` for a loop at an instruction where `moved` is not known; returns whether it was
+    // clear.
+    fn distinguish_empty_iterations(&mut self, ip: usize, id: LoopID) -> bool {
+        let line = self.insn_analysis_at(ip);
+        for number in line.first..line.end.min(self.rows.len()) {
+            let row = self.rows[number];
+            if row.id == id && !row.moved && !row.empty {
+                self.rows[number].empty = true;
+                return true;
+            }
+        }
+        false
+    }
+
+    // Gives the body of each char loop the entries of the instruction after the loop.
+    fn share_bodies(&mut self, insns: &[Insn]) {
+        for ip in 0..insns.len() {
+            if let Successors::Run(_) = successors_at(insns, ip) {
+                let behind = self.insn_analysis_at(ip + 2);
+                if let Some(line) = self.lines.get_mut(ip + 1) {
+                    line.first = behind.first;
+                    line.end = behind.end;
+                }
+            }
+        }
+    }
+
+    // ---- Codes
+
+    // Counts the codes of each instruction, and numbers those of the recording ones.
+    fn number_codes(&mut self) {
+        let mut base = 0usize;
+        for ip in 0..self.lines.len() {
+            let codes = self.code_count_at(ip).unwrap_or(0);
+            let line = &mut self.lines[ip];
+            line.codes = codes;
+            line.base = base;
+            if line.records {
+                base = base.saturating_add(codes);
+            }
+        }
+        self.codes = base;
+    }
+}
+
+// Closes the scopes that end at an instruction or before it.
+fn close_ended_scopes(levels: &mut Vec<EnclosingScopeWithEnd>, ip: usize) {
+    for _level in 0..levels.len() {
+        match levels.last() {
+            Some(last) if last.end <= ip => {
+                let _ = levels.pop();
+            }
+            _ => {
+                return;
+            }
+        }
+    }
+}
+
+// Computes the count bound of a loop; `moved` states whether each iteration has read a character at
+// its end.
+fn count_for(fields: &LoopFields, moved: bool) -> LoopCountsDistinguishedUpTo {
+    let counted = fields.max_iters != usize::MAX;
+    let up_to = if counted {
+        fields.max_iters.saturating_sub(1)
+    } else if moved {
+        fields.min_iters.saturating_sub(1)
+    } else {
+        fields.min_iters
+    };
+    LoopCountsDistinguishedUpTo {
+        up_to: u16::try_from(up_to).unwrap_or(u16::MAX),
+        counted,
+    }
+}

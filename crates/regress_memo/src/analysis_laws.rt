@@ -1,0 +1,31 @@
+//! Laws of memo analyses.
+
+ghost use Rattle.regress_memo.specs.{UnreachedCharLoopBodies.{CharLoopBodiesAreUnreached}, WorkBound.{AnalysesBoundTotalWork}};
+ghost use Rattle.regress_memo.specs.CheckedAnalysis.{AnalysesAreMemoPlans, DirectionsAreKept, KeysHaveDistinctBits};
+
+/// An analysis of a program is a memo plan in each text: its keys decide, its steps are steps with
+/// records, and the work of all attempts together is linear in the length of the text.
+pub fn analyses_are_memo_plans()
+    ensures { AnalysesAreMemoPlans }
+{}
+
+/// Different keys of a program have different bits.
+pub fn keys_have_distinct_bits()
+    ensures { KeysHaveDistinctBits }
+{}
+
+/// A step leaves threads at instructions that are searched in the same direction.
+pub fn directions_are_kept()
+    ensures { DirectionsAreKept }
+{}
+
+/// If no instruction leads to the body of a char loop, a step leaves no thread there.
+pub fn bodies_are_unreached()
+    ensures { CharLoopBodiesAreUnreached }
+{}
+
+/// Searches covered by an analysis of a program do no more work per position of a text than the
+/// analysis states.
+pub fn analyses_bound_total_work()
+    ensures { AnalysesBoundTotalWork }
+{}

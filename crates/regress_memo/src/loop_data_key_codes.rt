@@ -1,0 +1,176 @@
+//! Key codes: the loop states of a thread, as far as the memo key distinguishes them, encoded as
+//! one number.
+
+ghost use Rattle.std.specs.Prelude.{◌≡◌, ◌≤◌, ◌<◌, ◌+◌, ◌*◌, ◌^◌, true, List, option_map, map, length, slice_get, IfSome};
+ghost use Rattle.regress_machine.specs.Machine.{State, LoopData};
+ghost use Rattle.regress_memo.specs.LoopDataKeyCodes.{code_of, codes_of, plan_codes};
+ghost use Rattle.regress_memo.specs.AnalysisAsLivenessAndPotentials.{insn_analysis_of, count_bound_of, key_code_questions_of, number_of_memo_codes_before_insn};
+ghost use Rattle.regress_memo.specs.AnalysisAsLivenessAndPotentials.{number_of_memo_codes_at_insn, memo_bit_index_of_key};
+ghost use Rattle.regress_memo.specs.AnalysisChecks.{AreInsnCodesCountedAndDisjointAt, max_codes_per_insn};
+ghost use Rattle.regress_memo.specs.CheckedAnalysis.{loop_iteration_state_as_spec, digit_of, radix_of_loop_digit, AreInsnCodesCountedAndDisjoint};
+ghost use Rattle.regress_memo.specs.CheckedAnalysis.{IsRecordableMemoKey};
+
+use crate::analysis_result::{EnclosingLoop, MemoAnalysis};
+use regex_pattern_front::types::LoopID;
+
+/// The maximum number of codes at an instruction.
+pub const MOST_CODES: usize = 64;
+
+/// A loop's number of finished iterations, and the offset at which the current iteration began.
+#[derive(Clone, Copy)]
+pub struct LoopCountAndIterationStart {
+    pub iters: usize,
+    pub entry: usize,
+}
+
+/// The states of all loops.
+pub trait IterationStatesOfAllLoops {
+    ghost rounds: { Self → List LoopData };
+
+    /// Returns the state of a loop, if it exists.
+    fn iteration_state_of_loop(&self, id: LoopID) -> Option<LoopCountAndIterationStart>
+        ensures { option_map loop_iteration_state_as_spec result ≡ slice_get (rounds self.now) id };
+}
+
+impl IterationStatesOfAllLoops for Vec<LoopCountAndIterationStart> {
+    ghost rounds = { λ v. map loop_iteration_state_as_spec v.items };
+
+    fn iteration_state_of_loop(&self, id: LoopID) -> Option<LoopCountAndIterationStart> {
+        self.get(usize::from(id)).copied()
+    }
+}
+
+// The first digits of a code, and the number of codes with that many digits.
+#[derive(Clone, Copy)]
+struct KeyCodePrefix {
+    code: usize,
+    codes: usize,
+}
+
+impl MemoAnalysis {
+    /// Returns the code of a thread at an instruction and an offset with these loop states.
+    pub fn code_at<R: IterationStatesOfAllLoops>(&self, ip: usize, at: usize, rounds: &R) -> usize
+        requires { AreInsnCodesCountedAndDisjoint self.now }
+        ensures { (s : State) → s.pos ≡ at → s.loops ≡ R.rounds rounds.now
+            → result ≡ code_of (key_code_questions_of self.now ip) s }
+    {
+        let rows = self.enclosing_loops(ip);
+        let mut digits = KeyCodePrefix { code: 0, codes: 1 };
+        for row in rows {
+            let digit = self.digit(row, at, rounds.iteration_state_of_loop(row.id));
+            let answers = self.number_of_digit_values(row);
+            digits = digits.append_digit(digit, answers);
+        }
+        digits.code
+    }
+
+    // Returns the digit of an entry.
+    fn digit(
+        &self,
+        row: &EnclosingLoop,
+        at: usize,
+        loop_iteration_state: Option<LoopCountAndIterationStart>,
+    ) -> usize
+        ensures { result ≡ digit_of (count_bound_of self.now row.now.id).up_to at
+            (option_map loop_iteration_state_as_spec loop_iteration_state) row.now }
+    {
+        let Some(loop_iteration_state) = loop_iteration_state else {
+            return 0;
+        };
+        let count = loop_iteration_state
+            .iters
+            .min(usize::from(self.count_bound_of_loop(row.id).up_to));
+        if row.empty {
+            usize::from(loop_iteration_state.entry == at) + 2 * count
+        } else {
+            count
+        }
+    }
+
+    // Returns the number of digits that an entry may have.
+    fn number_of_digit_values(&self, row: &EnclosingLoop) -> usize
+        ensures answers { result ≡ radix_of_loop_digit (count_bound_of self.now row.now.id).up_to row.now }
+        ensures few { result ≤ 2 ^ 17 }
+    {
+        let counts = usize::from(self.count_bound_of_loop(row.id).up_to) + 1;
+        if row.empty { 2 * counts } else { counts }
+    }
+
+    // Returns the number of codes at an instruction, or `None` if there are more than `MOST_CODES`.
+    pub(crate) fn code_count_at(&self, ip: usize) -> Option<usize>
+        ensures codes { IfSome result (λ codes. plan_codes (key_code_questions_of self.now) ip ≡ codes) }
+        ensures few { IfSome result (λ codes. codes ≤ max_codes_per_insn) }
+    {
+        let rows = self.enclosing_loops(ip);
+        let mut codes = 1usize;
+        for row in rows {
+            let answers = self.number_of_digit_values(row);
+            codes *= answers;
+            if codes > MOST_CODES {
+                return None;
+            }
+        }
+        Some(codes)
+    }
+
+    // Checks that the codes of an instruction are counted, and that its bits are before those of
+    // the next instruction.
+    pub(crate) fn are_codes_counted_and_disjoint_at(&self, ip: usize) -> bool
+        requires { ip + 1 < 2 ^ 64 }
+        ensures { result ≡ true → AreInsnCodesCountedAndDisjointAt self.now ip }
+    {
+        let codes = self.insn_analysis_at(ip).codes;
+        self.code_count_at(ip) == Some(codes) && self.is_apart(ip)
+    }
+
+    // Checks that the bits of an instruction are before those of the next one.
+    fn is_apart(&self, ip: usize) -> bool
+        requires { ip + 1 < 2 ^ 64 }
+        ensures { result ≡ true → number_of_memo_codes_before_insn self.now ip + number_of_memo_codes_at_insn self.now
+            ip ≤ number_of_memo_codes_before_insn self.now (ip + 1) }
+    {
+        let line = self.insn_analysis_at(ip);
+        let width = if line.records { line.codes } else { 0 };
+        let (base, next) = (self.base(ip), self.base(ip + 1));
+        base <= next && width <= next - base
+    }
+
+    // Returns the number of codes at recording instructions before this one.
+    fn base(&self, ip: usize) -> usize
+        ensures { result ≡ number_of_memo_codes_before_insn self.now ip }
+    {
+        if ip < self.lines.len() {
+            self.insn_analysis_at(ip).base
+        } else {
+            self.codes
+        }
+    }
+
+    /// Returns the bit index of a key in a memo table for `places` offsets.
+    #[inline(always)]
+    pub fn key_bit_index_at(&self, places: usize, ip: usize, at: usize, code: usize) -> usize
+        requires coded { AreInsnCodesCountedAndDisjoint self.now }
+        requires key { IsRecordableMemoKey self.now places (record { ip = ip; at = at; code = code }) }
+        requires fits { self.now.codes * places < 2 ^ 64 }
+        ensures bit { result ≡ memo_bit_index_of_key self.now places ip at code }
+        ensures below { result < self.now.codes * places }
+    {
+        let line = self.insn_analysis_at(ip);
+        line.base * places + (at * line.codes + code)
+    }
+}
+
+impl KeyCodePrefix {
+    // Appends a digit with this base.
+    fn append_digit(self, digit: usize, base: usize) -> KeyCodePrefix
+        requires code { self.code < self.codes }
+        requires digit { digit < base }
+        requires few { self.codes * base ≤ max_codes_per_insn }
+        ensures { result ≡ record { code = self.code + self.codes * digit; codes = self.codes * base } }
+    {
+        KeyCodePrefix {
+            code: self.code + self.codes * digit,
+            codes: self.codes * base,
+        }
+    }
+}

@@ -1,0 +1,157 @@
+//! Successors of instructions.
+
+ghost use Rattle.std.specs.Prelude.{◌≡◌, ◌<◌, ◌^◌, ◌+◌, true, None, map, slice_get};
+ghost use Rattle.regress_program.specs.InsnsAsSpecInsns.{insn_as_spec_insn, literal_bytes_of_insn};
+ghost use Rattle.regress_memo.specs.Successors.{successors_of, successors_of_insn_if_any, is_fall_through_insn, fall_through as next_at};
+
+use regress_program::instructions::{Insn, LoopFields};
+
+/// A single successor; whether the instruction reads a character, and whether it leaves groups
+/// unchanged.
+#[derive(Clone, Copy)]
+pub struct SingleSuccessorReadAndCaptureEffects {
+    pub to: usize,
+    pub reads: bool,
+    pub silent: bool,
+}
+
+/// The minimum and the maximum number of characters of a char loop, and whether it is greedy.
+#[derive(Clone, Copy)]
+pub struct CharLoopMinMaxAndGreed {
+    pub least: usize,
+    pub most: usize,
+    pub greedy: bool,
+}
+
+/// A lookaround: its direction, whether it is negative, and the instruction after it.
+#[derive(Clone, Copy)]
+pub struct LookaroundDirectionNegationAndContinuation {
+    pub forward: bool,
+    pub negate: bool,
+    pub past: usize,
+}
+
+/// The successors of an instruction.
+#[derive(Clone, Copy)]
+pub enum Successors {
+    /// No successor.
+    Ends,
+    /// One successor.
+    One(SingleSuccessorReadAndCaptureEffects),
+    /// The next instruction or this one.
+    Two(usize),
+    /// The instruction after this loop head, or the loop's exit.
+    Enter(LoopFields),
+    /// Those of the loop head at this index.
+    Again(usize),
+    /// The instruction after a char loop.
+    Run(CharLoopMinMaxAndGreed),
+    /// The instruction after a lookaround, whose contents follow directly.
+    LookaroundDirectionNegationAndContinuation(LookaroundDirectionNegationAndContinuation),
+    /// The instruction after a backreference.
+    Same,
+}
+
+/// Returns the successors of an instruction; an index past the end has none.
+pub(crate) fn successors_at(insns: &[Insn], ip: usize) -> Successors
+    ensures { result ≡ successors_of_insn_if_any ip (slice_get (map insn_as_spec_insn insns.now) ip) }
+{
+    match insns.get(ip) {
+        Some(insn) => of_insn(insn, ip),
+        None => Successors::Ends,
+    }
+}
+
+// Returns the successors of an instruction at index `ip`.
+fn of_insn(insn: &Insn, ip: usize) -> Successors
+    requires { ip + 2 < 2 ^ 64 }
+    ensures { result ≡ successors_of ip (insn_as_spec_insn insn.now) }
+{
+    match insn.bytes_of_literal_insn() {
+        Some(bytes) => to_next(ip, !bytes.is_empty(), true),
+        None => other_step(insn, ip),
+    }
+}
+
+// Returns those of an instruction without bytes.
+fn other_step(insn: &Insn, ip: usize) -> Successors
+    requires { ip + 2 < 2 ^ 64 }
+    ensures { literal_bytes_of_insn (insn_as_spec_insn insn.now) ≡ None → result ≡ successors_of ip
+        (insn_as_spec_insn insn.now) }
+{
+    match insn {
+        Insn::Goal | Insn::JustFail => Successors::Ends,
+        Insn::Alt { secondary } => Successors::Two(*secondary as usize),
+        Insn::Jump { target } => Successors::One(SingleSuccessorReadAndCaptureEffects {
+            to: *target as usize,
+            reads: false,
+            silent: true,
+        }),
+        Insn::EnterLoop { .. } => Successors::Enter(insn.loop_fields()),
+        Insn::LoopAgain { begin } => Successors::Again(*begin as usize),
+        Insn::Loop1CharBody {
+            min_iters,
+            max_iters,
+            greedy,
+        } => Successors::Run(CharLoopMinMaxAndGreed {
+            least: *min_iters,
+            most: *max_iters,
+            greedy: *greedy,
+        }),
+        other => plain_step(other, ip),
+    }
+}
+
+// Returns those of an instruction that continues at the next one only, of a lookaround or of a
+// backreference.
+fn plain_step(insn: &Insn, ip: usize) -> Successors
+    requires { ip + 2 < 2 ^ 64 }
+    ensures { is_fall_through_insn (insn_as_spec_insn insn.now) ≡ true → result ≡ successors_of ip
+        (insn_as_spec_insn insn.now) }
+{
+    match insn {
+        Insn::StartOfLine { .. }
+        | Insn::EndOfLine { .. }
+        | Insn::WordBoundary { .. }
+        | Insn::WordBoundaryUnicodeICase { .. } => to_next(ip, false, true),
+        Insn::BeginCaptureGroup(_) | Insn::EndCaptureGroup(_) | Insn::ResetCaptureGroup(_) => {
+            to_next(ip, false, false)
+        }
+        Insn::BackRef { .. } => Successors::Same,
+        Insn::Lookahead {
+            negate,
+            continuation,
+            ..
+        } => around(true, *negate, *continuation),
+        Insn::Lookbehind {
+            negate,
+            continuation,
+            ..
+        } => around(false, *negate, *continuation),
+        _ => to_next(ip, true, true),
+    }
+}
+
+fn around(forward: bool, negate: bool, continuation: u32) -> Successors
+    ensures { result ≡ Successors.LookaroundDirectionNegationAndContinuation
+        (record { forward = forward; negate = negate; past = continuation }) }
+{
+    Successors::LookaroundDirectionNegationAndContinuation(
+        LookaroundDirectionNegationAndContinuation {
+            forward,
+            negate,
+            past: continuation as usize,
+        },
+    )
+}
+
+fn to_next(ip: usize, reads: bool, silent: bool) -> Successors
+    requires { ip + 2 < 2 ^ 64 }
+    ensures { result ≡ next_at ip reads silent }
+{
+    Successors::One(SingleSuccessorReadAndCaptureEffects {
+        to: ip + 1,
+        reads,
+        silent,
+    })
+}

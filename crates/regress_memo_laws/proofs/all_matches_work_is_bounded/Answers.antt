@@ -1,5 +1,0 @@
-use Rattle.regress_memo_laws.proofs.Matches.{matches-together}
-use Rattle.regress_memo_laws.proofs.all_matches_work_is_bounded.Goals as goal
-
-pub returns : goal.returns
-returns c = matches-together

@@ -1,5 +1,0 @@
-use Rattle.regress_memo_laws.proofs.Beside.{scans-give}
-use Rattle.regress_memo_laws.proofs.char_loop_scans_are_memo_steps.Goals as goal
-
-pub returns : goal.returns
-returns c = scans-give

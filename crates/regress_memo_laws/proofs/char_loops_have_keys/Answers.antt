@@ -1,5 +1,0 @@
-use Rattle.regress_memo_laws.proofs.RunKeys.{runs-have-keys}
-use Rattle.regress_memo_laws.proofs.char_loops_have_keys.Goals as goal
-
-pub returns : goal.returns
-returns c = runs-have-keys

@@ -1,5 +1,0 @@
-use Rattle.regress_memo_laws.proofs.Runs.{lazy-runs-go-on}
-use Rattle.regress_memo_laws.proofs.lazy_char_loop_threads_unfold.Goals as goal
-
-pub returns : goal.returns
-returns c = lazy-runs-go-on

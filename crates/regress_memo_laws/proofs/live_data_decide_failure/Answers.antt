@@ -1,5 +1,0 @@
-use Rattle.regress_memo_laws.proofs.Alone.{failure-shared}
-use Rattle.regress_memo_laws.proofs.live_data_decide_failure.Goals as goal
-
-pub returns : goal.returns
-returns c = failure-shared

@@ -1,5 +1,0 @@
-use Rattle.regress_memo_laws.proofs.Keys.{keys-decide}
-use Rattle.regress_memo_laws.proofs.memo_keys_decide_failure.Goals as goal
-
-pub returns : goal.returns
-returns c = keys-decide

@@ -1,5 +1,0 @@
-use Rattle.regress_memo_laws.proofs.Weights.{places-keys}
-use Rattle.regress_memo_laws.proofs.offsets_and_codes_are_keys.Goals as goal
-
-pub returns : goal.returns
-returns c = places-keys

@@ -1,5 +1,0 @@
-use Rattle.regress_memo_laws.proofs.Keys.{records-right}
-use Rattle.regress_memo_laws.proofs.recorded_failures_are_right.Goals as goal
-
-pub returns : goal.returns
-returns c = records-right

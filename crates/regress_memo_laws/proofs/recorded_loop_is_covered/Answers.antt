@@ -1,5 +1,0 @@
-use Rattle.regress_memo_laws.proofs.Weights.{runs-pay}
-use Rattle.regress_memo_laws.proofs.recorded_loop_is_covered.Goals as goal
-
-pub returns : goal.returns
-returns c = runs-pay

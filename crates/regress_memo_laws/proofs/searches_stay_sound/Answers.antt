@@ -1,5 +1,0 @@
-use Rattle.regress_memo_laws.proofs.Rests.{rows-rest}
-use Rattle.regress_memo_laws.proofs.searches_stay_sound.Goals as goal
-
-pub returns : goal.returns
-returns c = rows-rest

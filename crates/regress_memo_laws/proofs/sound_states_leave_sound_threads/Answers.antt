@@ -1,5 +1,0 @@
-use Rattle.regress_memo_laws.proofs.Looks.{soundness-stays}
-use Rattle.regress_memo_laws.proofs.sound_states_leave_sound_threads.Goals as goal
-
-pub returns : goal.returns
-returns c = soundness-stays

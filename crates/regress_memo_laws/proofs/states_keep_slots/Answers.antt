@@ -1,5 +1,0 @@
-use Rattle.regress_memo_laws.proofs.LaidOut.{states-stay}
-use Rattle.regress_memo_laws.proofs.states_keep_slots.Goals as goal
-
-pub returns : goal.returns
-returns c = states-stay

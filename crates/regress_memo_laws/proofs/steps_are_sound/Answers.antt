@@ -1,5 +1,0 @@
-use Rattle.regress_memo_laws.proofs.Weights.{turns-leave}
-use Rattle.regress_memo_laws.proofs.steps_are_sound.Goals as goal
-
-pub returns : goal.returns
-returns c = turns-leave

@@ -1,5 +1,0 @@
-use Rattle.regress_memo_laws.proofs.Reaching.{ends-reached}
-use Rattle.regress_memo_laws.proofs.thread_lists_succeed_if_part_does.Goals as goal
-
-pub returns : goal.returns
-returns c = ends-reached

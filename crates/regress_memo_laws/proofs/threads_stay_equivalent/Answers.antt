@@ -1,5 +1,0 @@
-use Rattle.regress_memo_laws.proofs.Behind.{rows-at-hand}
-use Rattle.regress_memo_laws.proofs.threads_stay_equivalent.Goals as goal
-
-pub returns : goal.returns
-returns c = rows-at-hand

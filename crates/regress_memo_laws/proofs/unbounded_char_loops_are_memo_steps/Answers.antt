@@ -1,5 +1,0 @@
-use Rattle.regress_memo_laws.proofs.RunTurns.{runs-give}
-use Rattle.regress_memo_laws.proofs.unbounded_char_loops_are_memo_steps.Goals as goal
-
-pub returns : goal.returns
-returns c = runs-give

@@ -1,5 +1,0 @@
-use Rattle.regress_memo_laws.proofs.Budget.{budgets-enough}
-use Rattle.regress_memo_laws.proofs.work_budgets_suffice.Goals as goal
-
-pub returns : goal.returns
-returns c = budgets-enough

@@ -1,5 +1,0 @@
-use Rattle.regress_plan.proofs.SetLemmas.{full-all}
-use Rattle.regress_plan.proofs.first_set_type.FirstSet.full.Goals as goal
-
-pub returns : goal.returns
-returns c = full-all 256

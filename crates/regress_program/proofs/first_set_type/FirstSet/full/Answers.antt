@@ -1,0 +1,5 @@
+use Rattle.regress_program.proofs.SetLemmas.{full-all}
+use Rattle.regress_program.proofs.first_set_type.FirstSet.full.Goals as goal
+
+pub returns : goal.returns
+returns c = full-all 256

@@ -1,0 +1,15 @@
+use Rattle.std.proofs.Common.{◌≡◌, ◌≤◌, ℕ, arith}
+use Rattle.regress_program.specs.Leaps.{is_passed_key}
+use Rattle.regress_program.proofs.ChoiceLemmas.{below-more}
+use Rattle.regress_program.proofs.leap.Leap.treats_high_keys_alike.Goals as goal
+
+pub loop-key-init : goal.loop-key-init
+loop-key-init c = λ k below from. absurd (omega (arith, below, from))
+
+pub loop-key-preserved : goal.loop-key-preserved
+loop-key-preserved c =
+    let P : ℕ → Type 0 = λ k. 128 ≤ k → is_passed_key c.args.self.now k ≡ is_passed_key c.args.self.now 128 in
+    below-more P c.loop-key.key c.loop-key.invariant (λ from. c.is_like_first_high_key.ensures c.if-not-is_like_first_high_key.false)
+
+pub returns : goal.returns
+returns c = λ yes k from below. c.loop-key.invariant k (omega (arith, below, c.loop-key-test.false)) from

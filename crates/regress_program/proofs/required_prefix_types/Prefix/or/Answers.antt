@@ -1,0 +1,15 @@
+use Rattle.std.proofs.Common.{rules, arith}
+use Rattle.regress_program.proofs.PrefixLemmas.{change-none, change-next, either-of}
+use Rattle.regress_program.proofs.required_prefix_types.Prefix.or.Goals as goal
+
+pub loop-key-init : goal.loop-key-init
+loop-key-init c = change-none c.args.self.now.masks _ (search rules)
+
+pub loop-key-preserved : goal.loop-key-preserved
+loop-key-preserved c =
+    change-next c.args.self.now.masks c.loop-key.self.masks _ c.loop-key.key c.join_masks.result c.loop-key.invariant c.loop-key-test.true c.join_masks.ensures
+
+pub returns : goal.returns
+returns c =
+    either-of c.args.self.now c.args.other.now _ c.loop-key.invariant.sized c.min-len.ensures
+    (λ k below. c.loop-key.invariant.changed k (omega (arith, below, c.loop-key-test.false)))

@@ -1,0 +1,87 @@
+-- Certificates of leaps: a set of instructions from which every way leads to the goal.
+use Rattle.std.specs.Prelude.{◌≡◌, ◌⊎◌, ℕ, ◌+◌, Bool, true, false, List, Option, Some, None, slice_get}
+use Rattle.std.specs.List.{list_all}
+use Rattle.regex_meaning.specs.CodeUnits.{Encoding, utf8, spelled_in}
+use Rattle.regex_meaning.specs.CompilationRelation.{Program, LoopFields, Insn, Goal, JustFail, Char, CharSet, ByteSet, ByteSeq, AsciiBracket, Bracket, MatchAny}
+use Rattle.regex_meaning.specs.CompilationRelation.{MatchAnyExceptLineTerminator, Alt, Jump, EnterLoop, LoopAgain, Loop1CharBody, BackRef, Lookahead}
+use Rattle.regex_meaning.specs.CompilationRelation.{Lookbehind}
+use Rattle.regress_machine.specs.Machine.{test_of}
+use Rattle.regress_machine.specs.FirstSetTables.{is_character_in_encoding}
+use Rattle.regress_program.specs.LeapsToGoals.{LeapToGoal}
+use Rattle.regress_program.specs.PrefixesAndPrefilters.{PrefixAt}
+use Rattle.regress_program.specs.TableKeysOfUnits.{key, is_16_bit_encoding}
+
+module _ (e : Encoding) (key : ℕ → ℕ) (program : Program) (over way : ℕ → Bool) where
+  -- All units have keys in `over`.
+  abbrev pub are_over : List ℕ → Bool
+  are_over units = list_all (λ unit. over (key unit)) units
+
+  -- The units of each character that the test accepts have keys in `over`, if there is a test.
+  abbrev pub AcceptsOver : Option (ℕ → Bool) → Type 0
+  AcceptsOver None = Unit {0}
+  AcceptsOver (Some test) = (c : ℕ) → is_character_in_encoding e c ≡ true → test c ≡ true → are_over (spelled_in e c) ≡ true
+
+  -- An instruction that reads one character, and continues at the next one.
+  pub record ReadsOver (insn : Insn) (ip : ℕ) : Type 0 where
+    pub accepts : AcceptsOver (test_of program (Some insn))
+    pub leads : way (ip + 1) ≡ true
+
+  -- A byte sequence is read in UTF-8.
+  abbrev pub ReadsBytesOver : Encoding → List ℕ → (ip : ℕ) → Type 0
+  ReadsBytesOver utf8 bytes ip = (are_over bytes ≡ true) × (way (ip + 1) ≡ true)
+  ReadsBytesOver _ bytes ip = ⊥
+
+  -- A loop over one character.
+  pub record LoopsOver (ip : ℕ) : Type 0 where
+    pub accepts : AcceptsOver (test_of program (slice_get program.insns (ip + 1)))
+    pub leads : way (ip + 2) ≡ true
+
+  -- The head of a loop leads to its body and, if the minimum is 0, to its exit.
+  pub record EntersLoop (f : LoopFields) (ip : ℕ) : Type 0 where
+    pub inside : way (ip + 1) ≡ true
+    pub outside : f.min_iters ≡ 0 → way f.exit ≡ true
+
+  -- The end of a loop's body leads to its body and its exit.
+  abbrev pub RepeatsLoop : Option Insn → (begin : ℕ) → Type 0
+  RepeatsLoop (Some (EnterLoop f)) begin = (way (begin + 1) ≡ true) × (way f.exit ≡ true)
+  RepeatsLoop _ begin = Unit {0}
+
+  -- A lookahead is passed over. The contents of a positive one may lead to the goal instead.
+  abbrev pub LooksAhead : (negate : Bool) (ip continuation : ℕ) → Type 0
+  LooksAhead negate ip continuation = (way continuation ≡ true) ⊎ ((negate ≡ false) × (way (ip + 1) ≡ true))
+
+  -- The instruction leads only to members, and reads only units with keys in `over`. The successor
+  -- of the remaining instructions is the next one.
+  abbrev pub LeadsOn : Option Insn → (ip : ℕ) → Type 0
+  LeadsOn None ip = Unit {0}
+  LeadsOn (Some Goal) ip = ⊥
+  LeadsOn (Some JustFail) ip = Unit {0}
+  LeadsOn (Some (Char c)) ip = ReadsOver (Char c) ip
+  LeadsOn (Some (CharSet members)) ip = ReadsOver (CharSet members) ip
+  LeadsOn (Some (ByteSet members)) ip = ReadsOver (ByteSet members) ip
+  LeadsOn (Some (ByteSeq bytes)) ip = ReadsBytesOver e bytes ip
+  LeadsOn (Some (AsciiBracket members)) ip = ReadsOver (AsciiBracket members) ip
+  LeadsOn (Some (Bracket index)) ip = ReadsOver (Bracket index) ip
+  LeadsOn (Some MatchAny) ip = ReadsOver MatchAny ip
+  LeadsOn (Some MatchAnyExceptLineTerminator) ip = ReadsOver MatchAnyExceptLineTerminator ip
+  LeadsOn (Some (Alt secondary)) ip = (way (ip + 1) ≡ true) × (way secondary ≡ true)
+  LeadsOn (Some (Jump target)) ip = way target ≡ true
+  LeadsOn (Some (EnterLoop f)) ip = EntersLoop f ip
+  LeadsOn (Some (LoopAgain begin)) ip = RepeatsLoop (slice_get program.insns begin) begin
+  LeadsOn (Some (Loop1CharBody min_iters max_iters greedy)) ip = LoopsOver ip
+  LeadsOn (Some (BackRef group sameness)) ip = ⊥
+  LeadsOn (Some (Lookahead negate start_group end_group continuation)) ip = LooksAhead negate ip continuation
+  LeadsOn (Some (Lookbehind negate start_group end_group continuation)) ip = way continuation ≡ true
+  LeadsOn (Some _) ip = way (ip + 1) ≡ true
+
+module _ (wide : Bool) (program : Program) (leap : LeapToGoal) (way : ℕ → Bool) where
+  -- Each member requires the goal, or leads only to members.
+  abbrev pub MembersLeadToGoal : Type 0
+  MembersLeadToGoal = (ip : ℕ) → way ip ≡ true
+      → PrefixAt wide program ip 1 (λ ahead. leap.goal)
+      ⊎ ((e : Encoding) → is_16_bit_encoding e ≡ wide → LeadsOn e (key wide) program leap.over way (slice_get program.insns ip) ip)
+
+  -- The instructions certify the leap.
+  pub record CertifiesLeap : Type 0 where
+    pub first : way 0 ≡ true
+    pub lead : MembersLeadToGoal

@@ -1,0 +1,85 @@
+-- Required prefixes: which units may occur where a match begins, and what is searched for first.
+use Rattle.std.specs.Prelude.{◌≡◌, ◌<◌, ◌≤◌, ℕ, ◌==◌, ◌%◌, Bool, true, false, ◌&&◌, List, length, Some, bit_and, slice_get, slice_index, ◌+◌, zero, suc}
+use Rattle.std.specs.Prelude.{IfSome}
+use Rattle.std.specs.Int.{bit_at}
+use Rattle.regex_meaning.specs.CodeUnits.{Encoding}
+use Rattle.regex_meaning.specs.CompilationRelation.{Program}
+use Rattle.regress_machine.specs.RequiredPrefixes.{Allowed, unit_is_allowed, IsPrefix}
+use Rattle.regress_program.specs.declared.required_prefix_types.Prefix.{Prefix}
+use Rattle.regress_program.specs.declared.required_prefix_prefilters.RequiredPrefixPrefilter.{RequiredPrefixPrefilter}
+use Rattle.regress_program.specs.declared.required_prefix_prefilters.RequiredPrefixPrefilter.TheVariants as filter
+use Rattle.regress_program.specs.declared.required_prefix_prefilters.MaskedUnitProbe.{MaskedUnitProbe}
+use Rattle.regress_program.specs.declared.required_prefix_types.RequiredUnitAndOffset.{RequiredUnitAndOffset}
+use Rattle.regress_program.specs.declared.required_prefix_types.Literal.{Literal}
+use Rattle.regress_program.specs.declared.required_prefix_prefilters.LiteralPrefilter.{LiteralPrefilter}
+use Rattle.regress_program.specs.TableKeysOfUnits.{key, is_16_bit_encoding}
+
+-- The units that a prefix allows: bit `ahead` of the mask of their key is clear.
+abbrev pub units_allowed_by_prefix : Prefix → Allowed
+units_allowed_by_prefix prefix ahead k = bit_at (slice_index prefix.masks k) ahead == 0
+
+-- At `ip`, a thread finds nothing unless each of the next `len` units is allowed.
+abbrev pub PrefixAt : (wide : Bool) → Program → (ip len : ℕ) → Allowed → Type 0
+PrefixAt wide program ip len allowed = (e : Encoding) → is_16_bit_encoding e ≡ wide → IsPrefix e (key wide) program ip len allowed
+
+-- The prefix is a required prefix at `ip`.
+abbrev pub IsRequiredPrefixFromInsn : (wide : Bool) → Program → (ip : ℕ) → Prefix → Type 0
+IsRequiredPrefixFromInsn wide program ip prefix = PrefixAt wide program ip prefix.len (units_allowed_by_prefix prefix)
+
+-- Whether the `len` units of a list from index `at` on are allowed.
+abbrev pub prefix_allows_units_at : Allowed → (units : List ℕ) → (at len : ℕ) → Bool
+prefix_allows_units_at allowed units at zero = true
+prefix_allows_units_at allowed units at (suc len) = prefix_allows_units_at allowed units at len && unit_is_allowed allowed len (slice_get units (at + len))
+
+-- No unit with a key in `from..end` is allowed `ahead` units after the start.
+abbrev pub ExcludesKeys : Prefix → (from end ahead : ℕ) → Type 0
+ExcludesKeys prefix from end ahead = (k : ℕ) → from ≤ k → k < end → units_allowed_by_prefix prefix ahead k ≡ false
+
+-- This unit is the only one that is allowed at its position.
+pub record IsOnlyUnitAllowedAtPosition (prefix : Prefix) (rare : RequiredUnitAndOffset) : Type 0 where
+  pub inside : rare.ahead < prefix.len
+  pub stands : units_allowed_by_prefix prefix rare.ahead rare.unit ≡ true
+  pub only : (k : ℕ) → k < 256 → units_allowed_by_prefix prefix rare.ahead k ≡ true → k ≡ rare.unit
+
+-- Each unit of the literal is the only one that is allowed at its position.
+pub record IsLiteralForcedByPrefix (prefix : Prefix) (literal : Literal) : Type 0 where
+  pub some : 0 < literal.len
+  pub inside : literal.ahead + literal.len ≤ prefix.len
+  pub alone : (i : ℕ) → i < literal.len → IsOnlyUnitAllowedAtPosition prefix (record { unit = slice_index literal.units i; ahead = literal.ahead + i })
+
+-- Only units below 128 are allowed `ahead` units after the start.
+abbrev pub AllowsOnlyAsciiAt : Prefix → (ahead : ℕ) → Type 0
+AllowsOnlyAsciiAt prefix ahead = (k : ℕ) → k < 256 → units_allowed_by_prefix prefix ahead k ≡ true → k < 128
+
+-- Only units below 128 are allowed first.
+abbrev pub PrefixAllowsOnlyAsciiFirst : Prefix → Type 0
+PrefixAllowsOnlyAsciiFirst prefix = AllowsOnlyAsciiAt prefix 0
+
+-- ---- What is searched for first
+
+-- Whether a unit has the bits of a probe.
+abbrev pub unit_passes_probe : MaskedUnitProbe → (unit : ℕ) → Bool
+unit_passes_probe probe unit = bit_and (unit % 256) probe.mask == probe.bits
+
+-- Only units below 128 that pass the probe are allowed at its position.
+pub record ProbePassesAllUnitsPrefixAllows (prefix : Prefix) (probe : MaskedUnitProbe) : Type 0 where
+  pub inside : probe.ahead < prefix.len
+  pub low : AllowsOnlyAsciiAt prefix probe.ahead
+  pub only : (k : ℕ) → k < 256 → units_allowed_by_prefix prefix probe.ahead k ≡ true → unit_passes_probe probe k ≡ true
+
+-- There are four probes, and each of them is right for the prefix.
+pub record ProbesPassAllUnitsPrefixAllows (prefix : Prefix) (probes : List MaskedUnitProbe) : Type 0 where
+  pub four : length probes ≡ 4
+  pub each : (i : ℕ) (probe : MaskedUnitProbe) → slice_get probes i ≡ Some probe → ProbePassesAllUnitsPrefixAllows prefix probe
+
+-- The literal is right for the prefix, and so are the rare unit and the probes, if any.
+pub record IsLiteralPrefilterOfPrefix (prefix : Prefix) (known : LiteralPrefilter) : Type 0 where
+  pub literal : IsLiteralForcedByPrefix prefix known.literal
+  pub rare : IfSome known.rare (IsOnlyUnitAllowedAtPosition prefix)
+  pub probes : IfSome known.probes (ProbesPassAllUnitsPrefixAllows prefix)
+
+-- The prefilter is right for the prefix. Without one, or with a literal, units are bytes.
+abbrev pub IsPrefilterOfPrefix : (wide : Bool) → Prefix → RequiredPrefixPrefilter → Type 0
+IsPrefilterOfPrefix wide prefix filter.Absent = wide ≡ false
+IsPrefilterOfPrefix wide prefix (filter.ByLiteral known) = (wide ≡ false) × IsLiteralPrefilterOfPrefix prefix known
+IsPrefilterOfPrefix wide prefix (filter.Probes probes) = ProbesPassAllUnitsPrefixAllows prefix probes

@@ -1,0 +1,636 @@
+//! Leaps: what each match comes to, if that is rarer than where a match may begin.
+//!
+//! A walk over the operations from the first one proposes a leap. One pass over the operations of
+//! the walk then checks it, so the walk may propose anything.
+
+ghost use Rattle.std.specs.Prelude.{◌≡◌, ◌≢◌, ◌<◌, ◌+◌, ◌^◌, true, false, length, slice_get, slice_index_or, Some, IfOk, IfSome, if◌then◌else◌};
+ghost use Rattle.regex_meaning.specs.CompilationRelation.{Program};
+ghost use Rattle.regress_program.specs.RequiredPrefixAnalysis.{AreOpsOfProgram};
+ghost use Rattle.regress_program.specs.TableKeysOfUnits.{is_16_bit_width, unit_table_of_set};
+ghost use Rattle.regress_program.specs.Leaps.{is_goal_key, is_passed_key, AreHighKeysAlike, AreGoalsFewAscii, IsLeap};
+ghost use Rattle.regress_program.specs.LeapOps.{is_on_way, AreGoals, PassesUnits, PassesReadLengths, ArrivesAtGoal, PassesByteSeq};
+ghost use Rattle.regress_program.specs.LeapOps.{PassesClass, LoopLeads, LookaroundLeads, OpLeads, LeadsIfOnWay, AllLead};
+
+use crate::char_class_tables::Class;
+use crate::first_set_type::FirstSet;
+use crate::ops::{CharLoop, LookaroundAndNextOp, Op};
+use crate::plan::{CandidateStarts, Plan};
+use crate::required_prefix_analysis::{OpPrefixContribution, said_at};
+use crate::required_prefix_prefilters::{RequiredPrefixPrefilter, frequency};
+use crate::table_keys_of_units::{KEYS, UnitWidth};
+use std::alloc::{AllocError, Global};
+
+/// What each match comes to: one of a few units, its goal. The goal may occur before the end of a
+/// match or, by a lookahead, after it. All units from the start of the match to the goal are in
+/// `over`.
+#[derive(Clone, Copy)]
+pub struct Leap {
+    /// For each key, whether a match may read such a unit before its goal. Keys from 128 on are all
+    /// alike.
+    pub over: [bool; 256],
+    /// The first `len` of these units are the goal. All are below 128.
+    pub units: [u8; 3],
+    pub len: usize,
+}
+
+impl Leap {
+    // Checks whether a unit with this key is the goal.
+    fn is_goal(&self, key: usize) -> bool
+        ensures { result ≡ is_goal_key self.now key }
+    {
+        let [a, b, c] = self.units;
+        match self.len {
+            0 => false,
+            1 => key == usize::from(a),
+            2 => key == usize::from(a) || key == usize::from(b),
+            _ => key == usize::from(a) || key == usize::from(b) || key == usize::from(c),
+        }
+    }
+
+    // Checks whether a key is the goal's, if a set has it.
+    fn is_goal_if_in(&self, set: &FirstSet, key: usize) -> bool
+        requires { key < 256 }
+        ensures { result ≡ true → (unit_table_of_set set.now).keys key ≡ true → is_goal_key self.now key ≡ true }
+    {
+        !set.keys[key] || self.is_goal(key)
+    }
+
+    // Checks whether the keys of a set are all the goal's.
+    fn has_as_goals(&self, set: &FirstSet) -> bool
+        ensures { result ≡ true → AreGoals self.now (unit_table_of_set set.now) }
+    {
+        for key in 0..KEYS {
+            if !self.is_goal_if_in(set, key) {
+                return false;
+            }
+        }
+        true
+    }
+
+    // Checks whether a unit with this key may be passed.
+    #[inline(always)]
+    fn passes_key(&self, key: usize) -> bool
+        requires { key < 256 }
+        ensures { result ≡ is_passed_key self.now key }
+    {
+        self.over[key]
+    }
+
+    // Checks whether all of these bytes may be passed.
+    fn passes_bytes(&self, bytes: &[u8]) -> bool
+        ensures { result ≡ true → PassesUnits self.now bytes.now }
+    {
+        for i in 0..bytes.len() {
+            if !self.passes_key(usize::from(bytes[i])) {
+                return false;
+            }
+        }
+        true
+    }
+
+    // Checks whether the characters of a class that begin with a key may be passed.
+    fn passes_class_at(&self, class: &Class, key: usize) -> bool
+        requires { key < 256 }
+        ensures { result ≡ true → slice_index_or class.now.steps key 0 ≢ 0 → is_passed_key self.now key ≡ true }
+    {
+        class.steps[key] == 0 || self.passes_key(key)
+    }
+
+    // Checks whether all characters of a class may be passed.
+    fn passes_class(&self, class: &Class) -> bool
+        ensures { result ≡ true → PassesReadLengths self.now class.now.steps }
+    {
+        for key in 0..KEYS {
+            if !self.passes_class_at(class, key) {
+                return false;
+            }
+        }
+        true
+    }
+
+    // Checks whether a key is passed as the key 128 is.
+    fn is_like_first_high_key(&self, key: usize) -> bool
+        requires { key < 256 }
+        ensures { result ≡ true → is_passed_key self.now key ≡ is_passed_key self.now 128 }
+    {
+        self.passes_key(key) == self.passes_key(128)
+    }
+
+    // Checks whether the keys from 128 on are alike.
+    fn treats_high_keys_alike(&self) -> bool
+        ensures { result ≡ true → AreHighKeysAlike self.now }
+    {
+        for key in 128..KEYS {
+            if !self.is_like_first_high_key(key) {
+                return false;
+            }
+        }
+        true
+    }
+
+    // Checks whether the goal is at most three units, all below 128.
+    fn has_few_ascii_goals(&self) -> bool
+        ensures { result ≡ true → AreGoalsFewAscii self.now }
+    {
+        let [a, b, c] = self.units;
+        self.len <= 3 && a < 128 && b < 128 && c < 128
+    }
+}
+
+/// A leap of a plan, and for each operation whether it is on the way to the goal: it has been
+/// reached, and the goal has not.
+#[derive(Clone, Copy)]
+struct LeapAndWay<'p> {
+    plan: &'p Plan,
+    units: UnitWidth,
+    leap: &'p Leap,
+    on_way: &'p [bool],
+}
+
+impl LeapAndWay<'_> {
+    // Checks whether an operation is on the way.
+    fn has(self, ip: usize) -> bool
+        ensures { result ≡ is_on_way self.entry.on_way.now ip }
+    {
+        match self.on_way.get(ip) {
+            Some(on_way) => *on_way,
+            None => false,
+        }
+    }
+
+    // Checks whether the first unit that an operation reads is the goal.
+    fn arrives(self, ip: usize) -> bool
+        ensures { result ≡ true → ArrivesAtGoal self.entry.plan.now self.entry.leap.now ip }
+    {
+        match said_at(self.plan, ip) {
+            OpPrefixContribution::OneUnit { key, .. } => self.leap.is_goal(usize::from(key)),
+            OpPrefixContribution::Units { set, count, .. } => {
+                count > 0 && self.leap.has_as_goals(&set)
+            }
+            _ => false,
+        }
+    }
+
+    // Checks whether all bytes of a byte sequence may be passed.
+    fn passes_bytes(self, number: u32) -> bool
+        ensures { result ≡ true → PassesByteSeq self.entry.plan.now self.entry.leap.now number }
+    {
+        match self.plan.parts.get(number as usize) {
+            Some(part) => match self
+                .plan
+                .bytes
+                .get(part.at..part.at.saturating_add(part.len))
+            {
+                Some(bytes) => self.leap.passes_bytes(bytes),
+                None => false,
+            },
+            None => false,
+        }
+    }
+
+    // Checks whether units are bytes and all bytes of a byte sequence may be passed. Programs for
+    // 16-bit units have no byte sequences.
+    fn passes_byte_seq(self, number: u32) -> bool
+        ensures { result ≡ true → (is_16_bit_width self.entry.units ≡ false)
+            × PassesByteSeq self.entry.plan.now self.entry.leap.now number }
+    {
+        match self.units {
+            UnitWidth::Bytes => self.passes_bytes(number),
+            UnitWidth::Wide => false,
+        }
+    }
+
+    // Checks whether all characters of a class may be passed.
+    fn passes_class(self, number: u32) -> bool
+        ensures { result ≡ true → PassesClass self.entry.plan.now self.entry.leap.now number }
+    {
+        match self.plan.classes.get(number as usize) {
+            Some(class) => self.leap.passes_class(class),
+            None => false,
+        }
+    }
+
+    // Checks whether each operation at which a loop continues is on the way: its body and, unless
+    // it has to iterate, the operation after it.
+    fn loop_leads(self, number: u32, entered: bool) -> bool
+        ensures { result ≡ true
+            → LoopLeads self.entry.plan.now (is_on_way self.entry.on_way.now) number (λ c. if entered then c.min else 0) }
+    {
+        match self.plan.counted.get(number as usize) {
+            Some(counted) => {
+                self.has(counted.begin as usize + 1)
+                    && (entered && counted.min > 0 || self.has(counted.exit as usize))
+            }
+            None => false,
+        }
+    }
+
+    // Checks whether the operation after a lookaround is on the way or, of a positive lookahead,
+    // the first one of its contents.
+    fn lookaround_leads(self, look: LookaroundAndNextOp, ip: usize) -> bool
+        requires { ip + 1 < 2 ^ 64 }
+        ensures { result ≡ true → LookaroundLeads (is_on_way self.entry.on_way.now) look ip }
+    {
+        self.has(look.past as usize) || look.forward && !look.negate && self.has(ip + 1)
+    }
+
+    // Checks whether an operation reads only units that may be passed, and leads only to operations
+    // on the way.
+    fn leads(self, ip: usize) -> bool
+        requires { ip < length self.plan.now.ops.items }
+        ensures { (op : Op) → slice_get self.entry.plan.now.ops.items ip ≡ Some op → result ≡ true
+            → OpLeads (is_16_bit_width self.entry.units) self.entry.plan.now self.entry.leap.now
+            (is_on_way self.entry.on_way.now) op ip }
+    {
+        let op = self.plan.ops[ip];
+        if let Some(run) = op.as_char_loop() {
+            return self.passes_class(run.class) && self.has(ip + 2);
+        }
+        match op {
+            Op::Fail => true,
+            Op::UnitChar(c) | Op::Char(c) => self.leap.over[c.min(128) as usize]
+                && self.has(ip + 1),
+            Op::Bytes(number) => self.passes_byte_seq(number) && self.has(ip + 1),
+            Op::One(number) => self.passes_class(number) && self.has(ip + 1),
+            Op::LineStart { .. }
+            | Op::LineEnd { .. }
+            | Op::WordEdge(_)
+            | Op::OpenGroup(_)
+            | Op::CloseGroup(_)
+            | Op::ResetGroup(_) => self.has(ip + 1),
+            Op::Goto(to) => self.has(to as usize),
+            Op::Either(other) => self.has(ip + 1) && self.has(other as usize),
+            Op::Enter(number) => self.loop_leads(number, true),
+            Op::LoopEnd(number) => self.loop_leads(number, false),
+            Op::Look(look) => self.lookaround_leads(look, ip),
+            // A match ends without the goal. A backreference may read any units.
+            _ => false,
+        }
+    }
+
+    // Checks whether an operation, if it is on the way, reads the goal first, or leads only to
+    // operations on the way.
+    fn leads_if_on_way(self, ip: usize) -> bool
+        requires { ip < length self.plan.now.ops.items }
+        ensures { (op : Op) → slice_get self.entry.plan.now.ops.items ip ≡ Some op → result ≡ true
+            → LeadsIfOnWay (is_16_bit_width self.entry.units) self.entry.plan.now self.entry.leap.now
+            (is_on_way self.entry.on_way.now) op ip }
+    {
+        !self.has(ip) || self.leads(ip) || self.arrives(ip)
+    }
+
+    // Checks whether each operation on the way reads the goal first, or leads only to such.
+    fn all_lead(self) -> bool
+        ensures { result ≡ true → AllLead (is_16_bit_width self.entry.units) self.entry.plan.now
+            self.entry.leap.now (is_on_way self.entry.on_way.now) }
+    {
+        for ip in 0..self.plan.ops.len() {
+            if !self.leads_if_on_way(ip) {
+                return false;
+            }
+        }
+        true
+    }
+
+    // Checks whether each match comes to the goal.
+    fn is_leap(self) -> bool
+        ensures { let wide = is_16_bit_width self.entry.units in result ≡ true → (program : Program)
+            → AreOpsOfProgram wide program self.entry.plan.now → IsLeap wide program self.entry.leap.now }
+    {
+        if !self.has(0) {
+            return false;
+        }
+        if !self.leap.treats_high_keys_alike() {
+            return false;
+        }
+        if !self.leap.has_few_ascii_goals() {
+            return false;
+        }
+        self.all_lead()
+    }
+}
+
+// ---- Proposing a leap
+
+/// The maximum number of operations of a walk.
+const MOST_STEPS: usize = 512;
+
+/// The maximum frequency of a unit of the goal, in a thousand.
+const RARE: u8 = 16;
+
+// Checks whether a unit with this key may be the goal.
+fn is_rare(key: usize) -> bool {
+    key < 128 && frequency(key as u8) <= RARE
+}
+
+/// A walk over all operations to which the first one leads. It stops at each one that reads only a
+/// few rare units, which become the goal.
+#[derive(Drop)]
+struct Walk<'p> {
+    plan: &'p Plan,
+    // Whether the contents of positive lookaheads are walked over, not what comes after.
+    into_lookaheads: bool,
+    leap: Leap,
+    on_way: Vec<bool>,
+    // The operations on the way that are not walked over yet.
+    ahead: Vec<usize>,
+}
+
+impl<'p> Walk<'p> {
+    // Returns a walk that has only reached the first operation.
+    fn new(alloc: Global, plan: &'p Plan, into_lookaheads: bool) -> Result<Self, AllocError> {
+        let mut walk = Walk {
+            plan,
+            into_lookaheads,
+            leap: Leap {
+                over: [false; 256],
+                units: [0; 3],
+                len: 0,
+            },
+            on_way: Vec::from_elem(alloc, false, plan.ops.len())?,
+            ahead: Vec::new(alloc),
+        };
+        walk.reach(0)?;
+        Ok(walk)
+    }
+
+    // Puts an operation on the way.
+    fn reach(&mut self, ip: usize) -> Result<(), AllocError> {
+        if let Some(on_way) = self.on_way.get_mut(ip) {
+            if !*on_way {
+                *on_way = true;
+                self.ahead.push(ip)?;
+            }
+        }
+        Ok(())
+    }
+
+    // Lets units with this key be passed.
+    fn pass_key(&mut self, key: usize) {
+        if key < 128 {
+            self.leap.over[key] = true;
+        } else {
+            self.leap.over[128..].fill(true);
+        }
+    }
+
+    // Adds a unit to the goal, if that has room.
+    fn add_to_goal(&mut self, unit: u8) -> bool {
+        if self.leap.is_goal(usize::from(unit)) {
+            return true;
+        }
+        if self.leap.len >= 3 {
+            return false;
+        }
+        self.leap.units[self.leap.len] = unit;
+        self.leap.len += 1;
+        true
+    }
+
+    // Returns whether a character is made a part of the goal. Else it may be passed.
+    fn arrives_by_char(&mut self, c: u32) -> bool {
+        let key = c.min(128) as usize;
+        if is_rare(key) && self.add_to_goal(key as u8) {
+            return true;
+        }
+        self.pass_key(key);
+        false
+    }
+
+    // Returns whether the characters of a class are made a part of the goal, if they may be. Else
+    // they may be passed.
+    fn arrives_by_class(&mut self, number: u32, may_be_goal: bool) -> bool {
+        let Some(class) = self.plan.classes.get(number as usize) else {
+            return false;
+        };
+        let mut arrives = may_be_goal && are_few_and_rare(class);
+        for key in 0..KEYS {
+            if class.steps[key] != 0 {
+                arrives = arrives && self.add_to_goal(key as u8);
+                if !arrives {
+                    self.pass_key(key);
+                }
+            }
+        }
+        arrives
+    }
+
+    // Lets the bytes of a byte sequence be passed.
+    fn pass_bytes(&mut self, number: u32) {
+        if let Some(part) = self.plan.parts.get(number as usize) {
+            for i in part.at..part.at.saturating_add(part.len) {
+                if let Some(byte) = self.plan.bytes.get(i).copied() {
+                    self.pass_key(usize::from(byte));
+                }
+            }
+        }
+    }
+
+    // Walks over a char loop.
+    fn step_over_char_loop(&mut self, run: CharLoop, ip: usize) -> Result<(), AllocError> {
+        let reads = match self.plan.bounds.get(run.bounds as usize) {
+            Some(bounds) => bounds.min > 0,
+            None => false,
+        };
+        if self.arrives_by_class(run.class, reads) {
+            Ok(())
+        } else {
+            self.reach(ip.saturating_add(2))
+        }
+    }
+
+    // Walks into the body of a loop and over the loop.
+    fn step_over_loop(&mut self, number: u32, entered: bool) -> Result<(), AllocError> {
+        if let Some(counted) = self.plan.counted.get(number as usize).copied() {
+            self.reach(counted.begin as usize + 1)?;
+            if !entered || counted.min == 0 {
+                self.reach(counted.exit as usize)?;
+            }
+        }
+        Ok(())
+    }
+
+    // Walks over a lookaround, or into it.
+    fn step_over_lookaround(
+        &mut self,
+        look: LookaroundAndNextOp,
+        ip: usize,
+    ) -> Result<(), AllocError> {
+        if self.into_lookaheads && look.forward && !look.negate {
+            self.reach(ip.saturating_add(1))
+        } else {
+            self.reach(look.past as usize)
+        }
+    }
+
+    // Walks over one operation. Returns whether a match may still come to the goal.
+    fn step_over(&mut self, ip: usize) -> Result<bool, AllocError> {
+        let Some(op) = self.plan.ops.get(ip).copied() else {
+            return Ok(false);
+        };
+        if let Some(run) = op.as_char_loop() {
+            self.step_over_char_loop(run, ip)?;
+            return Ok(true);
+        }
+        match op {
+            Op::Goal | Op::MatchBackref(_) => return Ok(false),
+            Op::UnitChar(c) | Op::Char(c) => {
+                if !self.arrives_by_char(c) {
+                    self.reach(ip.saturating_add(1))?;
+                }
+            }
+            Op::One(number) => {
+                if !self.arrives_by_class(number, true) {
+                    self.reach(ip.saturating_add(1))?;
+                }
+            }
+            Op::Bytes(number) => {
+                self.pass_bytes(number);
+                self.reach(ip.saturating_add(1))?;
+            }
+            Op::Goto(to) => self.reach(to as usize)?,
+            Op::Either(other) => {
+                self.reach(ip.saturating_add(1))?;
+                self.reach(other as usize)?;
+            }
+            Op::Enter(number) => self.step_over_loop(number, true)?,
+            Op::LoopEnd(number) => self.step_over_loop(number, false)?,
+            Op::Look(look) => self.step_over_lookaround(look, ip)?,
+            Op::Fail => {}
+            _ => self.reach(ip.saturating_add(1))?,
+        }
+        Ok(true)
+    }
+
+    // Walks over all operations. Returns whether each match comes to a goal, as far as the walk
+    // tells.
+    fn walk(&mut self) -> Result<bool, AllocError> {
+        for _step in 0..MOST_STEPS {
+            let Some(ip) = self.ahead.pop() else {
+                return Ok(self.leap.len > 0);
+            };
+            if !self.step_over(ip)? {
+                return Ok(false);
+            }
+        }
+        Ok(false)
+    }
+}
+
+// Checks whether a class accepts at most three units, all of which are rare.
+fn are_few_and_rare(class: &Class) -> bool {
+    let mut count = 0usize;
+    for key in 0..KEYS {
+        if class.steps[key] != 0 {
+            count = count.saturating_add(1);
+            if count > 3 || !is_rare(key) {
+                return false;
+            }
+        }
+    }
+    class.single_unit && count > 0
+}
+
+// Estimates how often one of a few units occurs in texts, in a thousand.
+fn frequency_of(units: &[u8; 3], len: usize) -> u32 {
+    let mut sum = 0u32;
+    for i in 0..len.min(3) {
+        sum = sum.saturating_add(u32::from(frequency(units[i])));
+    }
+    sum
+}
+
+// Checks whether a start is searched for by vectors, as a goal is.
+fn is_start_fast(start: &CandidateStarts) -> bool {
+    match start {
+        CandidateStarts::FewUnits { .. } => true,
+        CandidateStarts::Prefix { prefilter, .. } => match prefilter {
+            RequiredPrefixPrefilter::Absent => false,
+            _ => true,
+        },
+        _ => false,
+    }
+}
+
+// Checks whether the goal of a leap is rarer than what must precede a match, if that is known.
+fn is_rarer(leap: &Leap, start: &CandidateStarts) -> bool {
+    match start {
+        CandidateStarts::Behind(before) => {
+            frequency_of(&leap.units, leap.len) < frequency_of(&before.keys, before.len)
+        }
+        _ => true,
+    }
+}
+
+// Checks whether an operation is a positive lookahead.
+fn is_positive_lookahead(op: &Op) -> bool {
+    match op {
+        Op::Look(look) => look.forward && !look.negate,
+        _ => false,
+    }
+}
+
+// Checks whether a plan has a positive lookahead.
+fn has_positive_lookahead(plan: &Plan) -> bool {
+    for op in &plan.ops {
+        if is_positive_lookahead(op) {
+            return true;
+        }
+    }
+    false
+}
+
+// Returns a leap that a walk proposes, if it is one.
+fn leap_of_walk(
+    alloc: Global,
+    plan: &Plan,
+    units: UnitWidth,
+    into_lookaheads: bool,
+) -> Result<Option<Leap>, AllocError>
+    ensures { let wide = is_16_bit_width units in IfOk result (λ found. IfSome found (λ leap.
+        (program : Program) → AreOpsOfProgram wide program plan.now → IsLeap wide program leap)) }
+{
+    let mut walk = Walk::new(alloc, plan, into_lookaheads)?;
+    if !walk.walk()? {
+        return Ok(None);
+    }
+    let leap = walk.leap;
+    if !is_rarer(&leap, &plan.start) {
+        return Ok(None);
+    }
+    let way = LeapAndWay {
+        plan,
+        units,
+        leap: &leap,
+        on_way: &walk.on_way,
+    };
+    if way.is_leap() {
+        Ok(Some(leap))
+    } else {
+        Ok(None)
+    }
+}
+
+/// Returns the leap of a plan for texts of these units, unless the plan's start is searched for as
+/// fast.
+///
+/// # Errors
+///
+/// Returns `Err` if an allocation fails.
+pub(crate) fn leap_of(
+    alloc: Global,
+    plan: &Plan,
+    units: UnitWidth,
+) -> Result<Option<Leap>, AllocError>
+    ensures { let wide = is_16_bit_width units in IfOk result (λ found. IfSome found (λ leap.
+        (program : Program) → AreOpsOfProgram wide program plan.now → IsLeap wide program leap)) }
+{
+    if is_start_fast(&plan.start) {
+        return Ok(None);
+    }
+    let leap = leap_of_walk(alloc, plan, units, false)?;
+    if leap.is_some() || !has_positive_lookahead(plan) {
+        return Ok(leap);
+    }
+    leap_of_walk(alloc, plan, units, true)
+}

@@ -1,0 +1,358 @@
+//! Prefilters: what is searched for before the units of a required prefix are checked.
+
+ghost use Rattle.std.specs.Prelude.{◌≡◌, ◌<◌, ◌≤◌, ℕ, true, IfSome};
+ghost use Rattle.regress_program.specs.PrefixesAndPrefilters.{units_allowed_by_prefix, unit_passes_probe as has_bits, IsOnlyUnitAllowedAtPosition};
+ghost use Rattle.regress_program.specs.PrefixesAndPrefilters.{IsLiteralForcedByPrefix, ProbePassesAllUnitsPrefixAllows, ProbesPassAllUnitsPrefixAllows, IsPrefilterOfPrefix};
+ghost use Rattle.regress_program.specs.TableKeysOfUnits.{is_16_bit_width};
+
+use crate::required_prefix_types::{
+    Literal, MOST, Prefix, RequiredUnitAndOffset, is_mask_bit_clear,
+};
+use crate::table_keys_of_units::{KEYS, UnitWidth};
+
+/// A test of the unit `ahead` units after the start: of the bits in `mask`, exactly those in `bits`
+/// are set in its low eight bits.
+#[derive(Clone, Copy)]
+pub struct MaskedUnitProbe {
+    pub ahead: usize,
+    pub mask: u8,
+    pub bits: u8,
+}
+
+impl MaskedUnitProbe {
+    /// Checks whether a unit passes the test.
+    #[inline(always)]
+    pub fn passes_bit_probe(&self, unit: u32) -> bool
+        ensures { result ≡ has_bits self.now unit }
+    {
+        (unit % 256) as u8 & self.mask == self.bits
+    }
+}
+
+/// A literal to search for. In short texts, this takes longer than searching for a rare unit or for
+/// probes.
+#[derive(Clone, Copy)]
+pub struct LiteralPrefilter {
+    pub literal: Literal,
+    pub rare: Option<RequiredUnitAndOffset>,
+    pub probes: Option<[MaskedUnitProbe; 4]>,
+}
+
+/// What is searched for before the units of a required prefix are checked.
+#[derive(Clone, Copy)]
+pub enum RequiredPrefixPrefilter {
+    /// Nothing.
+    Absent,
+    /// A literal, in bytes.
+    ByLiteral(LiteralPrefilter),
+    /// Bits of some units.
+    Probes([MaskedUnitProbe; 4]),
+}
+
+/// A unit at least as frequent as this, in a thousand, is not searched for alone.
+const OFTEN: u32 = 15;
+
+/// The maximum frequency of a unit, in a thousand.
+const ALWAYS: u32 = 1000;
+
+/// The maximum number of positions, in a million, that may pass all probes.
+const MOST_THAT_PASS: u32 = 100_000;
+
+/// What the units that may occur at a position have in common: the bits that all of them have, and
+/// the bits that some have. Also their number, and how often they occur in texts.
+#[derive(Clone, Copy)]
+struct CommonBitsOfUnits {
+    all: u8,
+    some: u8,
+    count: u32,
+    often: u32,
+}
+
+const NO_UNIT: CommonBitsOfUnits = CommonBitsOfUnits {
+    all: 0xFF,
+    some: 0,
+    count: 0,
+    often: 0,
+};
+
+impl CommonBitsOfUnits {
+    // Adds a unit that occurs in texts with this frequency.
+    #[inline(always)]
+    fn with(self, unit: u8, often: u8) -> CommonBitsOfUnits {
+        CommonBitsOfUnits {
+            all: self.all & unit,
+            some: self.some | unit,
+            count: self.count.saturating_add(1),
+            often: self.often.saturating_add(u32::from(often)),
+        }
+    }
+
+    // Checks whether it is one unit alone.
+    fn is_unit(self) -> bool {
+        self.count == 1
+    }
+
+    // Estimates how often units with these bits occur in texts, in a thousand. Each is taken to be
+    // as frequent as the units that may occur are on average.
+    fn frequency(self) -> u32 {
+        if self.some >= 128 || self.count == 0 {
+            return ALWAYS;
+        }
+        let free = (self.all ^ self.some).count_ones().min(8);
+        (self.often.min(ALWAYS) << free).min(1_000_000) / self.count.max(1)
+    }
+
+    // Returns the probe for these bits, `ahead` units after the start.
+    fn probe(self, ahead: usize) -> MaskedUnitProbe {
+        MaskedUnitProbe {
+            ahead,
+            mask: !(self.all ^ self.some),
+            bits: self.all,
+        }
+    }
+}
+
+impl Prefix {
+    /// Chooses the prefilter: in bytes a literal, if there is one; otherwise probes, if few
+    /// positions pass them. Not inlined, since most patterns have no prefilter, and its buffers
+    /// would be cleared in the caller.
+    #[inline(never)]
+    pub(crate) fn choose_literal_or_probe_prefilter(
+        &self,
+        units: UnitWidth,
+    ) -> Option<RequiredPrefixPrefilter>
+        ensures { IfSome result (IsPrefilterOfPrefix (is_16_bit_width units) self.now) }
+    {
+        let commons = self.commons();
+        let probes = self.probes(&commons);
+        if let UnitWidth::Bytes = units {
+            if let Some(literal) = self.literal(&commons) {
+                let rare = self.rare(&commons);
+                return Some(RequiredPrefixPrefilter::ByLiteral(LiteralPrefilter {
+                    literal,
+                    rare,
+                    probes,
+                }));
+            }
+        }
+        if let Some(probes) = probes {
+            return Some(RequiredPrefixPrefilter::Probes(probes));
+        }
+        match units {
+            UnitWidth::Bytes => Some(RequiredPrefixPrefilter::Absent),
+            UnitWidth::Wide => None,
+        }
+    }
+
+    // Returns, for each position, what the units that may occur there have in common; `NO_UNIT`
+    // where some are not below 128.
+    fn commons(&self) -> [CommonBitsOfUnits; 16] {
+        let others = !self.mask_of_positions_excluding_keys(128, KEYS);
+        let mut commons = [NO_UNIT; 16];
+        for block in 0..8 {
+            let from = block * 16;
+            if self.mask_of_positions_excluding_keys(from, from + 16) | others != u16::MAX {
+                self.add_keys(from, others, &mut commons);
+            }
+        }
+        commons
+    }
+
+    // Adds the units of 16 keys from `from` on, except at positions in the mask `others`.
+    fn add_keys(&self, from: usize, others: u16, commons: &mut [CommonBitsOfUnits; 16])
+        requires { from ≤ 240 }
+    {
+        for key in from..from + 16 {
+            let mask = self.masks[key] | others;
+            if mask != u16::MAX {
+                add_key(commons, self.len, mask, key as u8);
+            }
+        }
+    }
+
+    // Returns the longest literal, unless it is a single unit of a longer prefix.
+    fn literal(&self, commons: &[CommonBitsOfUnits; 16]) -> Option<Literal>
+        ensures { IfSome result (IsLiteralForcedByPrefix self.now) }
+    {
+        let literal = longest_literal(commons, self.len);
+        if (literal.len > 1 || literal.len == self.len) && self.has_literal(&literal) {
+            Some(literal)
+        } else {
+            None
+        }
+    }
+
+    // Checks whether each unit of the literal is the only one that may occur at its position.
+    fn has_literal(&self, literal: &Literal) -> bool
+        ensures { result ≡ true → IsLiteralForcedByPrefix self.now literal.now }
+    {
+        let Literal { units, len, ahead } = *literal;
+        if len == 0 || len > self.len || ahead > self.len - len {
+            return false;
+        }
+        for i in 0..len {
+            let unit = RequiredUnitAndOffset {
+                unit: units[i],
+                ahead: ahead + i,
+            };
+            if !self.has_alone(unit) {
+                return false;
+            }
+        }
+        true
+    }
+
+    // Returns the rarest unit, if each position allows one unit alone and this one is rare.
+    fn rare(&self, commons: &[CommonBitsOfUnits; 16]) -> Option<RequiredUnitAndOffset>
+        ensures { IfSome result (λ rare. IsOnlyUnitAllowedAtPosition self.now rare) }
+    {
+        let mut rare = RequiredUnitAndOffset { unit: 0, ahead: 0 };
+        let mut least = OFTEN;
+        for ahead in 0..self.len {
+            let common = commons[ahead];
+            if !common.is_unit() {
+                return None;
+            }
+            if common.frequency() < least {
+                least = common.frequency();
+                rare = RequiredUnitAndOffset {
+                    unit: common.all,
+                    ahead,
+                };
+            }
+        }
+        if self.has_alone(rare) {
+            Some(rare)
+        } else {
+            None
+        }
+    }
+
+    // Checks whether this unit may occur at its position, and no other.
+    fn has_alone(&self, rare: RequiredUnitAndOffset) -> bool
+        ensures { result ≡ true → IsOnlyUnitAllowedAtPosition self.now rare }
+    {
+        if rare.ahead >= self.len {
+            return false;
+        }
+        let unit = usize::from(rare.unit);
+        self.is_key_allowed(unit, rare.ahead)
+            && self.excludes_key_range_at(0, unit, rare.ahead)
+            && self.excludes_key_range_at(unit + 1, KEYS, rare.ahead)
+    }
+
+    // Returns the probes to search for, if they are rare.
+    fn probes(&self, commons: &[CommonBitsOfUnits; 16]) -> Option<[MaskedUnitProbe; 4]>
+        ensures { IfSome result (λ probes. ProbesPassAllUnitsPrefixAllows self.now probes) }
+    {
+        let [a, b, c, d] = seldom(commons)?;
+        if self.has_probe(a) && self.has_probe(b) && self.has_probe(c) && self.has_probe(d) {
+            Some([a, b, c, d])
+        } else {
+            None
+        }
+    }
+
+    // Checks whether only units below 128 that pass the probe may occur at its position.
+    fn has_probe(&self, probe: MaskedUnitProbe) -> bool
+        ensures { result ≡ true → ProbePassesAllUnitsPrefixAllows self.now probe }
+    {
+        probe.ahead < self.len && self.allows_only_ascii_at(probe.ahead) && self.ascii_passes(probe)
+    }
+
+    // Checks whether, of the units below 128, only those that pass the probe may occur at its
+    // position.
+    fn ascii_passes(&self, probe: MaskedUnitProbe) -> bool
+        requires { probe.ahead < 16 }
+        ensures { result ≡ true → (k : ℕ) → k < 128
+            → units_allowed_by_prefix self.now probe.ahead k ≡ true → has_bits probe k ≡ true }
+    {
+        let mut others = false;
+        for key in 0..128 {
+            others |= self.is_key_allowed(key, probe.ahead) & !probe.passes_bit_probe(key as u32);
+        }
+        !others
+    }
+}
+
+// Returns the longest sequence of positions below `len` that allow one unit each.
+fn longest_literal(commons: &[CommonBitsOfUnits; 16], len: usize) -> Literal {
+    let none = Literal {
+        units: [0; 15],
+        len: 0,
+        ahead: 0,
+    };
+    let mut longest_literal = none;
+    let mut row = none;
+    for ahead in 0..MOST {
+        if ahead < len && commons[ahead].is_unit() && row.len < MOST {
+            row.units[row.len] = commons[ahead].all;
+            row.len += 1;
+        } else {
+            row = Literal {
+                ahead: ahead + 1,
+                ..none
+            };
+        }
+        if row.len > longest_literal.len {
+            longest_literal = row;
+        }
+    }
+    longest_literal
+}
+
+// Adds a key at each position below `len` at which its mask allows it.
+fn add_key(commons: &mut [CommonBitsOfUnits; 16], len: usize, mask: u16, key: u8) {
+    let often = frequency(key);
+    for ahead in 0..len.min(16) {
+        if is_mask_bit_clear(mask, ahead) {
+            commons[ahead] = commons[ahead].with(key, often);
+        }
+    }
+}
+
+// Returns the four rarest probes, the rarest one first, if they are rare enough.
+fn seldom(commons: &[CommonBitsOfUnits; 16]) -> Option<[MaskedUnitProbe; 4]> {
+    let mut often = [ALWAYS; 16];
+    for ahead in 0..16 {
+        often[ahead] = commons[ahead].frequency().min(ALWAYS);
+    }
+    let mut probes = [commons[0].probe(0); 4];
+    let mut pass = 1_000_000u32;
+    for i in 0..4 {
+        let ahead = least(&often);
+        pass = pass.saturating_mul(often[ahead]) / 1000;
+        probes[i] = commons[ahead].probe(ahead);
+        often[ahead] = ALWAYS;
+    }
+    if pass > MOST_THAT_PASS {
+        None
+    } else {
+        Some(probes)
+    }
+}
+
+// Returns the index of the smallest number.
+fn least(numbers: &[u32; 16]) -> usize
+    ensures { result < 16 }
+{
+    let mut at = 0;
+    'numbers: for i in 1..16 {
+        if numbers[i] < numbers[at] {
+            at = i;
+        }
+    }
+    at
+}
+
+/// Estimates how often a unit occurs in texts, in a thousand.
+pub(crate) fn frequency(unit: u8) -> u8 {
+    match unit {
+        b' ' => 150,
+        b'e' | b't' | b'a' | b'o' | b'i' | b'n' | b's' | b'r' | b'h' | b'l' | b'd' | b'u' => 50,
+        b'c' | b'm' | b'f' | b'p' | b'g' | b'w' | b'y' | b'b' | b'0'..=b'9' | b'\n' => 20,
+        b'v' | b'k' | b'.' | b',' => 10,
+        b'A'..=b'Z' => 3,
+        _ => 5,
+    }
+}

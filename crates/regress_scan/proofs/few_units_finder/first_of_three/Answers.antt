@@ -1,6 +1,0 @@
-use Rattle.std.proofs.Common.{rules}
-use Rattle.regress_scan.proofs.Starting.{found-three}
-use Rattle.regress_scan.proofs.few_units_finder.first_of_three.Goals as goal
-
-pub returns : goal.returns
-returns c = found-three c.args.units c.args.bytes.now c.memchr3.result (search rules) c.memchr3.ensures

@@ -1,7 +1,0 @@
-use Rattle.regress_scan.proofs.Marked.{marks-either}
-use Rattle.regress_scan.proofs.few_wide_units.EitherOffsetTest.marks.Goals as goal
-
-pub returns : goal.returns
-returns g c =
-    let w = g.W.SearchContext.searching c.args.planned.now in
-    marks-either (g.A.OffsetTest.passes_at c.args.self.now.a w) (g.B.OffsetTest.passes_at c.args.self.now.b w) c.args.at c.marks.result c.marks-2.result c.marks.ensures c.marks-2.ensures

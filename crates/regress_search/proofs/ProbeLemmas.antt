@@ -1,0 +1,95 @@
+-- Where the first units of a match may stand: their keys, bits of them, and places in a row.
+use Rattle.std.proofs.Common.{◌≡◌, ℕ, suc, ◌+◌, ◌-◌, ◌%◌, ◌<◌, ◌≤◌, Bool, true, false, List, length, take, Option, Some, None, ap, sym, ◌∙◌, subst, arith}
+use Rattle.std.proofs.Common.{slice_get}
+use Rattle.std.specs.Prelude.{slice_index}
+use Rattle.std.specs.Int.{bit_at}
+use Rattle.std.proofs.lemmas.Bool.{cases_lt, eqb-true}
+use Rattle.std.proofs.lemmas.Option.{slice_get-map, slice_get_within, slice_get-get_or, get_or_from_slice_get}
+use Rattle.std.proofs.lemmas.List.{length-map, length-take, get_or-take}
+use mathlib.Core.Logic.{inl, inr}
+use Rattle.regex_meaning.specs.CodeUnitOffsets.{units}
+use Rattle.regex_meaning.specs.CodeUnits.{text_units_in_encoding}
+use Rattle.regex_meaning.proofs.Options.{some-same}
+use Rattle.regress_input.specs.TextCodeUnits.{has_bits, MarksUnitsWithBits}
+use Rattle.regress_input.proofs.Boundaries.{units-length}
+use Rattle.regress_machine.specs.FirstSetTables.{HasUnitsForTables, unit_key_at}
+use Rattle.regress_machine.specs.RequiredPrefixes.{unit_is_allowed}
+use Rattle.regress_program.specs.declared.required_prefix_types.Prefix.{Prefix}
+use Rattle.regress_program.specs.declared.required_prefix_prefilters.MaskedUnitProbe.{MaskedUnitProbe}
+use Rattle.regress_program.specs.PrefixesAndPrefilters.{units_allowed_by_prefix, prefix_allows_units_at, unit_passes_probe, ProbePassesAllUnitsPrefixAllows}
+use Rattle.regress_program.specs.PrefixesAndPrefilters.{PrefixAllowsOnlyAsciiFirst}
+use Rattle.regress_program.specs.TableKeysOfUnits.{key, is_16_bit_encoding}
+use Rattle.regress_search.specs.TreePlanAndText.{SearchInput}
+use Rattle.regress_search.specs.StartSearch.{keys_in, prefix_fits_at, IsFirstBoundaryWhere}
+use Rattle.regress_search.specs.MarkedOffsets.{MarksAllPassing}
+use Rattle.regress_search.specs.PrefixCandidatesInRange.{IsFirstPrefixFitInRange}
+use Rattle.regress_search.proofs.FirstUnits.{fits-fails, fits-past, fits-more}
+use Rattle.regress_search.proofs.LowUnits.{fit-unit, fit-boundary}
+
+-- ---- Keys
+
+module _ (w : SearchInput) where
+  pub key-got : (at k : ℕ) → unit_key_at w.encoding (key (is_16_bit_encoding w.encoding)) w.text at ≡ Some k → slice_get (keys_in w) at ≡ Some k
+  key-got at k there = slice_get-map (key (is_16_bit_encoding w.encoding)) (text_units_in_encoding w.encoding w.text) at ∙ there
+
+  -- one unit more, which may stand there
+  pub fits-goes : (prefix : Prefix) (at ahead k : ℕ) (may : Bool) → unit_key_at w.encoding (key (is_16_bit_encoding w.encoding)) w.text (at + ahead) ≡ Some k
+      → may ≡ units_allowed_by_prefix prefix ahead k → may ≡ true → prefix_allows_units_at (units_allowed_by_prefix prefix) (keys_in w) at ahead ≡ true → prefix_allows_units_at (units_allowed_by_prefix prefix) (keys_in w) at (ahead + 1) ≡ true
+  fits-goes prefix at ahead k may there asked holds all =
+      ap (prefix_allows_units_at (units_allowed_by_prefix prefix) (keys_in w) at) (let z : ahead + 1 ≡ suc ahead = omega arith in z)
+      ∙ fits-more (units_allowed_by_prefix prefix) (keys_in w) at ahead all (ap (unit_is_allowed (units_allowed_by_prefix prefix) ahead) (key-got (at + ahead) k there) ∙ sym asked ∙ holds)
+
+  -- one that may not
+  pub fits-stops : (prefix : Prefix) (at ahead k : ℕ) (may : Bool) → ahead < prefix.len → unit_key_at w.encoding (key (is_16_bit_encoding w.encoding)) w.text (at + ahead) ≡ Some k
+      → may ≡ units_allowed_by_prefix prefix ahead k → may ≡ false → prefix_fits_at w prefix at ≡ false
+  fits-stops prefix at ahead k may less there asked fails =
+      fits-fails (units_allowed_by_prefix prefix) (keys_in w) at prefix.len ahead less
+      (ap (unit_is_allowed (units_allowed_by_prefix prefix) ahead) (key-got (at + ahead) k there) ∙ sym asked ∙ fails)
+
+-- ---- Bits
+
+-- where the first units may stand a probe passes
+pub probe-passes : (w : SearchInput) → HasUnitsForTables w.encoding w.text → (prefix : Prefix) (at : ℕ) → prefix_fits_at w prefix at ≡ true → (probe : MaskedUnitProbe) → ProbePassesAllUnitsPrefixAllows prefix probe
+    → (u : ℕ) → slice_get (text_units_in_encoding w.encoding w.text) (at + probe.ahead) ≡ Some u → unit_passes_probe probe u ≡ true
+probe-passes w has prefix at fit probe is u there =
+    let one = fit-unit w has prefix at fit probe.ahead is.inside is.low in
+    let small = one.2 in
+    let same : one.0 ≡ u = some-same one.0 u (sym one.1 ∙ there) in
+    ap (unit_passes_probe probe) (sym same) ∙ is.only one.0 (omega (arith, small)) one.3
+
+-- it passes at each of the offsets that are marked
+pub probe-marks : (w : SearchInput) → HasUnitsForTables w.encoding w.text → (prefix : Prefix) (probe : MaskedUnitProbe) → ProbePassesAllUnitsPrefixAllows prefix probe → (at marks : ℕ)
+    → at + probe.ahead + 32 ≤ units w.text → MarksUnitsWithBits (text_units_in_encoding w.encoding w.text) (at + probe.ahead) probe.mask probe.bits marks
+    → MarksAllPassing (prefix_fits_at w prefix) at marks
+probe-marks w has prefix probe is at marks room are = record {
+  each = λ i less fit.
+      let us = text_units_in_encoding w.encoding w.text in
+      let one = fit-unit w has prefix (at + i) fit probe.ahead is.inside is.low in
+      let small = one.2 in
+      let place : at + i + probe.ahead ≡ at + probe.ahead + i = omega arith in
+      let same : slice_index us (at + probe.ahead + i) ≡ one.0 = get_or_from_slice_get us (at + probe.ahead + i) one.0 0 (sym (ap (slice_get us) place) ∙ one.1) in
+      let low : one.0 % 256 ≡ one.0 = omega (arith, small) in
+      let passes : has_bits probe.mask probe.bits one.0 ≡ true = ap (has_bits probe.mask probe.bits) (sym low) ∙ is.only one.0 (omega (arith, small)) one.3 in
+      eqb-true (bit_at marks i) 1 (sym (are.each i less) ∙ ap (has_bits probe.mask probe.bits) same ∙ passes);
+  within = are.within;
+}
+
+-- ---- Places in a row
+
+module _ (w : SearchInput) (prefix : Prefix) where
+  -- it is a place to try
+  pub found-where : HasUnitsForTables w.encoding w.text → 0 < prefix.len → PrefixAllowsOnlyAsciiFirst prefix → (from to at : ℕ) → IsFirstPrefixFitInRange w prefix from to (Some at)
+      → IsFirstBoundaryWhere w (prefix_fits_at w prefix) from (Some at)
+  found-where has some ascii from to at first =
+      (fit-boundary w has prefix at first.2 some ascii, first.0, first.2, λ x on le less. first.3 x le less)
+
+  -- behind these places there is no room
+  pub first-where : HasUnitsForTables w.encoding w.text → 0 < prefix.len → PrefixAllowsOnlyAsciiFirst prefix → (from to : ℕ) (found : Option ℕ) → units w.text + 1 ≤ to + prefix.len
+      → IsFirstPrefixFitInRange w prefix from to found → IsFirstBoundaryWhere w (prefix_fits_at w prefix) from found
+  first-where has some ascii from to None all first = λ at on le less. elim (cases_lt at to) [
+    | inl before ↦ first at le before
+    | inr after ↦
+        let count : length (keys_in w) ≡ units w.text = length-map (text_units_in_encoding w.encoding w.text) (key (is_16_bit_encoding w.encoding)) ∙ sym (units-length w.encoding w.text has.spelled) in
+        fits-past (units_allowed_by_prefix prefix) (keys_in w) at prefix.len (prefix.len - 1) (omega (arith, some)) (omega (arith, after, all, some, count))
+  ]
+  first-where has some ascii from to (Some at) all first = found-where has some ascii from to at first

@@ -1,0 +1,30 @@
+use Rattle.regress_input.proofs.Places.{boundary_inside}
+use Rattle.regress_search.proofs.Leaps.{occurs-at, absent-between, absent-from}
+use Rattle.regress_search.proofs.leaping.leap_from.Goals as goal
+
+pub behind_barrier-to-requires-clause-goal : goal.behind_barrier-to-requires-clause-goal
+behind_barrier-to-requires-clause-goal g c = c.in-Some.ensures.0
+
+pub behind_barrier-to-requires-clause-ahead : goal.behind_barrier-to-requires-clause-ahead
+behind_barrier-to-requires-clause-ahead g c = c.in-Some.ensures.1
+
+pub behind_barrier-to-requires-clause-inside : goal.behind_barrier-to-requires-clause-inside
+behind_barrier-to-requires-clause-inside g c =
+    let w = g.W.SearchContext.searching c.args.planned.now in
+    boundary_inside w.text (g.met.W.SearchContext.is_text c.args.planned.now) c.in-Some.goal c.in-Some.ensures.0
+
+pub returns-in-Some : goal.returns-in-Some
+returns-in-Some g c =
+    let w = g.W.SearchContext.searching c.args.planned.now in
+    let has = g.met.W.SearchContext.has_units c.args.planned.now in
+    record {
+      occurs = occurs-at w has c.args.leap.now c.requires.ascii c.in-Some.goal c.in-Some.ensures.2;
+      absent = absent-between w has c.args.leap.now c.requires.ascii c.args.from c.in-Some.goal c.in-Some.ensures.3;
+      behind = c.behind_barrier-to.ensures;
+    }
+
+pub returns-in-None : goal.returns-in-None
+returns-in-None g c =
+    let w = g.W.SearchContext.searching c.args.planned.now in
+    absent-from w (g.met.W.SearchContext.has_units c.args.planned.now) c.args.leap.now c.requires.ascii c.args.from c.in-None.ensures
+    (λ at on. boundary_inside w.text (g.met.W.SearchContext.is_text c.args.planned.now) at on)

@@ -1,0 +1,40 @@
+use Rattle.std.proofs.Common.{◌≡◌, ◌<◌, false, take, ap, sym, ◌∙◌, arith}
+use Rattle.std.proofs.lemmas.Bool.{false_from_ne_true}
+use Rattle.regex_meaning.specs.NumberListHelpers.{contains}
+use Rattle.regress_input.specs.CharAndByteReadsFromOffset.{is_byte_encoding}
+use Rattle.regress_input.proofs.Places.{boundary_inside}
+use Rattle.regress_program.specs.TableKeysOfUnits.{is_16_bit_encoding}
+use Rattle.regress_search.proofs.Starting.{low-leads, low-listed}
+use Rattle.regress_search.proofs.WideLemmas.{unit-wide, low-told, wide-found}
+use Rattle.regress_search.proofs.leaping.next_goal.Goals as goal
+
+pub next_of_few_units-requires-clause-leads : goal.next_of_few_units-requires-clause-leads
+next_of_few_units-requires-clause-leads g c =
+    let w = g.W.SearchContext.searching c.args.planned.now in
+    low-leads c.args.leap.now.units c.args.leap.now.len (is_16_bit_encoding w.encoding) c.requires.ascii.low
+
+pub next_wide-requires-clause-wide : goal.next_wide-requires-clause-wide
+next_wide-requires-clause-wide g c =
+    let w = g.W.SearchContext.searching c.args.planned.now in
+    let no : g.W.Input.Units.CodeUnitEncoding.ARE_BYTES ≡ false = cc (c.ARE_BYTES.ensures, c.if-ARE_BYTES.false) in
+    unit-wide w.encoding (ap is_byte_encoding (g.met.W.SearchContext.encoding c.args.planned.now) ∙ sym g.W.Input.Units.CodeUnitEncoding.by_encoding ∙ no)
+
+pub next_wide-requires-clause-told : goal.next_wide-requires-clause-told
+next_wide-requires-clause-told g c =
+    let leap = c.args.leap.now in
+    false_from_ne_true (contains (take leap.len leap.units) 128) (λ listed.
+    let low : 128 < 128 = low-listed leap.units leap.len 128 c.requires.ascii.low listed in
+    omega (arith, low))
+
+pub next_wide-requires-clause-at : goal.next_wide-requires-clause-at
+next_wide-requires-clause-at g c =
+    boundary_inside (g.W.SearchContext.searching c.args.planned.now).text (g.met.W.SearchContext.is_text c.args.planned.now) c.args.from c.requires.at
+
+pub returns-else-ARE_BYTES : goal.returns-else-ARE_BYTES
+returns-else-ARE_BYTES g c =
+    let w = g.W.SearchContext.searching c.args.planned.now in
+    let leap = c.args.leap.now in
+    let no : g.W.Input.Units.CodeUnitEncoding.ARE_BYTES ≡ false = cc (c.ARE_BYTES.ensures, c.if-ARE_BYTES.false) in
+    let wide = unit-wide w.encoding (ap is_byte_encoding (g.met.W.SearchContext.encoding c.args.planned.now) ∙ sym g.W.Input.Units.CodeUnitEncoding.by_encoding ∙ no) in
+    wide-found w (g.met.W.SearchContext.has_units c.args.planned.now) wide leap.units leap.len
+    (λ k listed. low-told k (low-listed leap.units leap.len k c.requires.ascii.low listed)) c.args.from c.next_wide.result c.next_wide.ensures

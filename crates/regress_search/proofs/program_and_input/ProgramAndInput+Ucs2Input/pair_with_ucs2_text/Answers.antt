@@ -1,0 +1,6 @@
+use Rattle.std.proofs.Common.{refl}
+use Rattle.regress_search.proofs.FirstMatch.{read-as}
+use Rattle.regress_search.proofs.program_and_input.ProgramAndInput+Ucs2Input.pair_with_ucs2_text.Goals as goal
+
+pub pair_with_units-requires : goal.pair_with_units-requires
+pair_with_units-requires c = read-as c.new.ensures refl c.flags.ensures c.program_common_to_both_unit_kinds.ensures.tree

@@ -1,0 +1,26 @@
+use Rattle.std.proofs.Common.{◌≡◌, ◌≤◌, option_map, true}
+use Rattle.regress_search.specs.AttemptsAndMatchesWithinWork.{IsOrderedAttempt, is_work_enough}
+use Rattle.regress_search.specs.CostsOfSearches.{IfCounted}
+use Rattle.regress_search.proofs.Costing.{Failing}
+use Rattle.regress_search.proofs.Skips.{untried}
+use Rattle.regress_search.proofs.Walking.{Walk}
+use Rattle.regress_search.proofs.search_loop.AnyMatchProducer.next_match.Given as goal
+
+abbrev pub invariant-places : goal.invariant-places
+invariant-places g l =
+    let a = g.A.SingleAttemptExecutor in
+    let offset = g.A.Input.Position.PositionType.offset in
+    record {
+      walk : Walk (a.tree l.initial.self) (a.text l.initial.self) (offset l.fn.pos) (a.budget l.initial.self) (a.budget l.self) (option_map offset l.next);
+      same_tree : a.tree l.self ≡ a.tree l.initial.self;
+      same_text : a.text l.self ≡ a.text l.initial.self;
+      turn : IsOrderedAttempt (a.enough l.initial.self) (a.ahead l.initial.self) (offset l.fn.pos) → is_work_enough (a.enough l.self) (a.ahead l.self) (option_map offset l.next) ≡ true;
+      next_start : l.next_start ≡ l.initial.next_start;
+      left : a.left l.self ≤ a.left l.initial.self;
+      course :
+          IfCounted a.counts_work (Failing a.attempt_costs (a.tree l.initial.self) (a.text l.initial.self) (a.failures l.initial.self) (offset l.fn.pos) (a.left l.initial.self)
+          (a.failures l.self) (a.left l.self) (option_map offset l.next));
+    }
+
+abbrev pub decreases-places : goal.decreases-places
+decreases-places g l = untried (g.A.SingleAttemptExecutor.text l.initial.self) (option_map g.A.Input.Position.PositionType.offset l.next)

@@ -1,0 +1,23 @@
+use Rattle.std.proofs.Common.{◌≡◌, Some, arith, slice_get, slice_index_or}
+use Rattle.std.proofs.lemmas.Option.{slice_get-get_or}
+use Rattle.regress_program.specs.declared.required_prefix_prefilters.MaskedUnitProbe.{MaskedUnitProbe}
+use Rattle.regress_search.proofs.start_search_by_bit_probes.RarestProbeFirstOffsetTest.marks.Goals as goal
+
+-- what stands for a probe where there is none
+abbrev no_probe : MaskedUnitProbe
+no_probe = record { ahead = 0; mask = 0; bits = 0 }
+
+pub marks_of_probe-requires : goal.marks_of_probe-requires
+marks_of_probe-requires g c =
+    let probed = c.args.self.now.probed in
+    let four = probed.are_probes.four in
+    let is = probed.are_probes.each 0 (slice_index_or probed.probes.now 0 no_probe) (slice_get-get_or probed.probes.now 0 no_probe (omega (arith, four))) in
+    let inside = is.inside in
+    omega (arith, inside, c.requires)
+
+pub returns : goal.returns
+returns g c =
+    let probed = c.args.self.now.probed in
+    let four = probed.are_probes.four in
+    c.marks_of_probe.ensures probed.prefix.now
+    (probed.are_probes.each 0 (slice_index_or probed.probes.now 0 no_probe) (slice_get-get_or probed.probes.now 0 no_probe (omega (arith, four))))

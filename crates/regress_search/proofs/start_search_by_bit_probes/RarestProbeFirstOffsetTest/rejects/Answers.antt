@@ -1,0 +1,52 @@
+use Rattle.std.proofs.Common.{◌≡◌, Some, arith, bit_and, slice_get, slice_index_or}
+use Rattle.std.proofs.lemmas.Option.{slice_get-get_or}
+use Rattle.std.proofs.lemmas.Bool.{eqb-true}
+use Rattle.regress_program.specs.declared.required_prefix_prefilters.MaskedUnitProbe.{MaskedUnitProbe}
+use Rattle.regress_search.specs.StartSearch.{prefix_fits_at}
+use Rattle.regress_search.proofs.Marked.{marks-both, none-marked}
+use Rattle.regress_search.proofs.start_search_by_bit_probes.RarestProbeFirstOffsetTest.rejects.Goals as goal
+
+-- what stands for a probe where there is none
+abbrev no_probe : MaskedUnitProbe
+no_probe = record { ahead = 0; mask = 0; bits = 0 }
+
+pub marks_of_probe-second-requires : goal.marks_of_probe-second-requires
+marks_of_probe-second-requires g c =
+    let probed = c.args.self.now.probed in
+    let four = probed.are_probes.four in
+    let is = probed.are_probes.each 1 (slice_index_or probed.probes.now 1 no_probe) (slice_get-get_or probed.probes.now 1 no_probe (omega (arith, four))) in
+    let inside = is.inside in
+    omega (arith, inside, c.requires)
+
+pub marks_of_probe-requires : goal.marks_of_probe-requires
+marks_of_probe-requires g c =
+    let probed = c.args.self.now.probed in
+    let four = probed.are_probes.four in
+    let is = probed.are_probes.each 2 (slice_index_or probed.probes.now 2 no_probe) (slice_get-get_or probed.probes.now 2 no_probe (omega (arith, four))) in
+    let inside = is.inside in
+    omega (arith, inside, c.requires)
+
+pub marks_of_probe-requires-2 : goal.marks_of_probe-requires-2
+marks_of_probe-requires-2 g c =
+    let probed = c.args.self.now.probed in
+    let four = probed.are_probes.four in
+    let is = probed.are_probes.each 3 (slice_index_or probed.probes.now 3 no_probe) (slice_get-get_or probed.probes.now 3 no_probe (omega (arith, four))) in
+    let inside = is.inside in
+    omega (arith, inside, c.requires)
+
+pub returns : goal.returns
+returns g c clear =
+    let probed = c.args.self.now.probed in
+    let four = probed.are_probes.four in
+    let prefix = probed.prefix.now in
+    let test = prefix_fits_at (g.W.SearchContext.searching c.args.planned.now) prefix in
+    let second = probed.are_probes.each 1 (slice_index_or probed.probes.now 1 no_probe) (slice_get-get_or probed.probes.now 1 no_probe (omega (arith, four))) in
+    let third = probed.are_probes.each 2 (slice_index_or probed.probes.now 2 no_probe) (slice_get-get_or probed.probes.now 2 no_probe (omega (arith, four))) in
+    let fourth = probed.are_probes.each 3 (slice_index_or probed.probes.now 3 no_probe) (slice_get-get_or probed.probes.now 3 no_probe (omega (arith, four))) in
+    let two = bit_and c.marks_of_probe-second.result c.marks_of_probe.result in
+    let all = bit_and two c.marks_of_probe-2.result in
+    none-marked test c.args.at all
+    (marks-both test c.args.at two c.marks_of_probe-2.result
+    (marks-both test c.args.at c.marks_of_probe-second.result c.marks_of_probe.result (c.marks_of_probe-second.ensures prefix second) (c.marks_of_probe.ensures prefix third))
+    (c.marks_of_probe-2.ensures prefix fourth))
+    (eqb-true all 0 clear)

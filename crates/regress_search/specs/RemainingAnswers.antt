@@ -1,0 +1,62 @@
+-- What an iterator over matches has still to yield.
+use Rattle.std.specs.Prelude.{◌≡◌, ℕ, ◌+◌, ◌==◌, Bool, true, false, not, List, [], ◌∷◌, length, Option, Some, None, Result, Ok, Err, is_none}
+use Rattle.std.specs.Prelude.{if◌then◌else◌}
+use Rattle.regex_meaning.specs.Tree.{Tree}
+use Rattle.regex_meaning.specs.Text.{Text}
+use Rattle.regex_meaning.specs.CodeUnitOffsets.{units}
+use Rattle.regex_meaning.specs.MatchGroupsByNumberAndName.{Answer}
+use Rattle.regex_meaning.specs.StepBudget.{answers_next, end_next}
+use Rattle.regress_search.specs.declared.exec.Match.{Match}
+use Rattle.regress_search.specs.declared.exec.SearchError.{SearchError}
+use Rattle.regress_search.specs.declared.exec.SearchError.TheVariants.{Memory, StepLimit}
+use Rattle.regress_search.specs.MatchesAsSpecAnswers.{answer_of}
+use Rattle.regress_search.specs.StepBudgetAndContinuationAfterSearch.{step_limit_error_else_memory_error}
+
+-- The answers still to come, and whether a step limit follows them instead of the end of the list.
+-- An iterator that has ended yields no more. The view also has the end of the text, in code units,
+-- and whether the step limit was reached.
+pub record RemainingView : Type 0 where
+  pub answers : List Answer
+  pub limited : Bool
+  pub ended : Bool
+  pub text_end : ℕ
+  pub out_of_steps : Bool
+
+-- nothing is still to be yielded
+abbrev pub HasEnded : RemainingView → Type 0
+HasEnded t = (t.answers ≡ []) × (t.limited ≡ false) × (t.ended ≡ true)
+
+-- what is still to be yielded within a budget, where the list continues at `position` or has ended
+abbrev pub remaining_answers_from : Tree → Text → (budget position : Option ℕ) → (out_of_steps : Bool) → RemainingView
+remaining_answers_from tree text budget position out_of_steps = record {
+  answers = answers_next tree text budget position;
+  limited = not (end_next tree text budget position);
+  ended = is_none position;
+  text_end = units text;
+  out_of_steps = out_of_steps;
+}
+
+-- when an error may be returned: the step limit only where it follows, an allocation failure
+-- anywhere
+abbrev pub MayRefuse : SearchError → RemainingView → Type 0
+MayRefuse Memory s = Unit {0}
+MayRefuse StepLimit s = (s.answers ≡ []) × (s.limited ≡ true)
+
+-- The effect of one call. It returns the head of the list and leaves its tail, and the list ends if
+-- the match begins at the end of the text. It returns none exactly if the list is empty and no
+-- limit follows. It returns an error only if the list had not ended, and then the list ends.
+abbrev pub NextYields : RemainingView → Option (Result Match SearchError) → RemainingView → Type 0
+NextYields s None t = (s.answers ≡ []) × (s.limited ≡ false) × HasEnded t
+NextYields s (Some (Ok m)) t =
+    (s.answers ≡ answer_of m ∷ t.answers) × (s.limited ≡ t.limited) × (s.ended ≡ false)
+    × (t.text_end ≡ s.text_end) × (t.ended ≡ (m.range.start == s.text_end))
+NextYields s (Some (Err e)) t = MayRefuse e s × (s.ended ≡ false) × HasEnded t × (e ≡ step_limit_error_else_memory_error t.out_of_steps)
+
+-- an upper bound of the number of items still to be yielded, where an error counts as an item
+abbrev pub items_left : RemainingView → ℕ
+items_left s = if s.ended then 0 else length s.answers + 1
+
+-- after a match that begins at the end of the text, the next call returns none
+abbrev pub EndsAfterMatchStartingAtTextEnd : Type 0
+EndsAfterMatchStartingAtTextEnd = (before behind later : RemainingView) (m : Match) (next : Option (Result Match SearchError))
+    → NextYields before (Some (Ok m)) behind → m.range.start ≡ before.text_end → NextYields behind next later → next ≡ None

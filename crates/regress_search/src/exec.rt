@@ -1,0 +1,300 @@
+//! Finding matches one after another.
+
+ghost use Rattle.std.specs.Prelude.{◌≡◌, ◌<◌, ◌≤◌, ◌⊎◌, ℕ, ⊤, Bool, true, false, Option, map, option_map, IfOk, IfErr, OnErr, OnSome, IfNone, if◌then◌else◌, nat_le, not};
+ghost use Rattle.std.specs.Prelude.{Some, None, string_bytes};
+ghost use Rattle.std.specs.Iterator.{at_most};
+ghost use Rattle.std.specs.Option.{ForSome};
+ghost use Rattle.regex_meaning.specs.{Tree.{Tree}, Text.{Text}, CodeUnitOffsets.{HasRisingPlaceOffsets, IsBoundary, units}, SearchAnswers.{first_answer}};
+ghost use Rattle.regex_meaning.specs.StepBudget.{answers_within, finishes_within, need_from};
+ghost use Rattle.regex_pattern_front.specs.AstToSpecTree.{tree_of};
+ghost use Rattle.regress_search.specs.StepBudgetAndContinuationAfterSearch.{IsNextStartAfterFirstMatch, SpendsNeedOrReachesLimit, step_limit_error_else_memory_error};
+ghost use Rattle.regress_search.specs.RemainingAnswers.{RemainingView, remaining_answers_from, NextYields, EndsAfterMatchStartingAtTextEnd, items_left};
+ghost use Rattle.regress_search.specs.AttemptsAndMatchesWithinWork.{CallKeepsWorkEnough, OrderedSearchKeepsWorkEnough, is_work_enough};
+ghost use Rattle.regress_search.specs.CostsOfSearches.{CallSpendsExactCost, ContinuesAfterCall, Failures, IfCounted, SearchCosts, SpendsExactCost};
+
+use regress_input::position::PositionType;
+use regress_program::insn::{CompiledRegex, GroupNames};
+use std::alloc::AllocError;
+use std::marker::Model;
+use std::ops::Range;
+use thiserror::Error;
+
+mod group_iterators;
+mod match_methods;
+mod work_matches;
+
+pub use self::group_iterators::{Groups, NamedGroups};
+pub use self::work_matches::{WorkError, WorkLimitedProducer, WorkMatches};
+
+/// Why a search failed.
+#[derive(Clone, Copy, Debug, PartialEq, Eq, Error)]
+pub enum SearchError {
+    /// An allocation failed.
+    #[error("out of memory")]
+    Memory,
+    /// The step limit is reached. This never occurs without a limit.
+    #[error("the steps are used up")]
+    StepLimit,
+}
+
+impl From<AllocError> for SearchError {
+    ghost use Rattle.regress_search.specs.declared.exec.SearchError.TheVariants.{Memory};
+
+    ghost from_gives = { λ _ e. e ≡ Memory };
+
+    fn from(_: AllocError) -> SearchError {
+        SearchError::Memory
+    }
+}
+
+/// A match: its range in the text and the ranges of its groups, in code units.
+#[derive(Debug, Drop)]
+pub struct Match {
+    /// The range of the whole match.
+    pub range: Range<usize>,
+    /// The ranges of the groups by id, `None` for a group that did not match.
+    pub captures: Vec<Option<Range<usize>>>,
+    names: GroupNames,
+}
+
+impl Match {
+    ghost use Rattle.regress_search.specs.MatchesAsSpecAnswers.{answer_of, range_as_pair};
+
+    /// Makes a match from its range, the ranges of its groups and the names by id, as they are
+    /// given.
+    pub fn from_parts(
+        range: Range<usize>,
+        captures: Vec<Option<Range<usize>>>,
+        names: Vec<String>,
+    ) -> Self
+        ensures { answer_of result ≡ record {
+          range = range_as_pair range;
+          captures = map (option_map range_as_pair) captures.items;
+          names = map string_bytes names.items;
+        } }
+    {
+        Match::from_parts_with_shared_names(range, captures, GroupNames::from_owned_names(names))
+    }
+
+    // Makes a match from its parts, with names that others may share.
+    pub(crate) fn from_parts_with_shared_names(
+        range: Range<usize>,
+        captures: Vec<Option<Range<usize>>>,
+        names: GroupNames,
+    ) -> Self
+        ensures { answer_of result ≡ record {
+          range = range_as_pair range;
+          captures = map (option_map range_as_pair) captures.items;
+          names = names;
+        } }
+    {
+        Match {
+            range,
+            captures,
+            names,
+        }
+    }
+}
+
+/// A searcher for the matches of a pattern in a text, one at a time. Contracts see the pattern's
+/// tree, the text, the steps that it may still take (none if there is no limit), and whether its
+/// last search reached the step limit.
+pub trait MatchProducer {
+    ghost use Rattle.regress_search.specs.MatchesAsSpecAnswers.{answer_of};
+
+    /// A position at which a search can continue.
+    type Position: PositionType;
+
+    ghost tree: { Self → Tree };
+
+    ghost text: { Self → Text };
+
+    ghost budget: { Self → Option ℕ } = { λ _. None };
+
+    ghost out_of_steps: { Self → Bool } = { λ _. false };
+
+    // the work limit is enough for attempts in ascending order of offsets, each at `ahead` or later
+    ghost enough: { Self → Bool } = { λ _. true };
+
+    ghost ahead: { Self → ℕ } = { λ _. 0 };
+
+    ghost out_of_work: { Self → Bool } = { λ _. false };
+
+    // the amount of work that may still be done, where work is counted
+    ghost left: { Self → ℕ } = { λ _. 0 };
+
+    // whether work is counted
+    ghost counts_work: { Bool } = { false };
+
+    // the failures that are known, on which the costs of attempts depend
+    ghost failures: { Self → Failures } = { λ _ _ _ _. false };
+
+    // what an attempt costs (`CostsOfSearches`), where work is counted
+    ghost attempt_costs: { Tree → Text → Failures → (at cost : ℕ) → Option Failures → Type 0 } = { λ _ _ _ _ _ _. ⊤ };
+
+    /// Returns the position of an offset in code units, which is a boundary or past the end.
+    /// Returns `None` if it is past the end.
+    fn initial_position(&self, offset: usize) -> Option<Self::Position>
+        requires { IsBoundary (text self.now) offset ⊎ (units (text self.now) < offset) }
+        ensures { option_map Self.Position.offset result
+            ≡ (if nat_le offset (units (text self.now)) then Some offset else None) };
+
+    /// Finds the first match from a position on. `next_start` becomes the position at which the
+    /// list of matches continues, or `None` if it ends. It is unchanged if there is no match or an
+    /// error occurs.
+    ///
+    /// # Errors
+    ///
+    /// Returns `StepLimit` if more steps are needed than are left, and then none are left. Returns
+    /// `Memory` if an allocation fails, and the steps taken until then stay spent.
+    fn next_match(
+        &mut self,
+        pos: Self::Position,
+        next_start: &mut Option<Self::Position>,
+    ) -> Result<Option<Match>, SearchError>
+        requires { IsBoundary (text self.old) (Self.Position.offset pos) }
+        ensures found { let at = Self.Position.offset in IfOk result (λ m.
+            (option_map answer_of m ≡ first_answer (tree self.old).root (text self.old) (at pos))
+            × OnSome m (IsNextStartAfterFirstMatch (tree self.old) (text self.old) (at pos)
+            (option_map at next_start.new))) }
+        ensures stays { IfOk result (λ m. IfNone m (next_start.new ≡ next_start.old))
+            × OnErr result (next_start.new ≡ next_start.old) }
+        ensures steps { SpendsNeedOrReachesLimit (need_from (tree self.old) (text self.old) (Self.Position.offset pos))
+            (budget self.old) result (budget self.new) }
+        ensures cause { IfErr result (λ e. e ≡ step_limit_error_else_memory_error (out_of_steps self.new)) }
+        ensures work { let at = Self.Position.offset in OrderedSearchKeepsWorkEnough (enough self.old)
+            (ahead self.old) (at pos)
+            result (enough self.new) (ahead self.new) (option_map at next_start.new) (out_of_work self.new) }
+        ensures left { left self.new ≤ left self.old }
+        ensures cost { IfCounted counts_work (SpendsExactCost (SearchCosts attempt_costs (tree self.old)
+            (text self.old) (failures self.old) (Some (Self.Position.offset pos)))
+            (left self.old) result (out_of_work self.new) (left self.new) (failures self.new)) }
+        ensures same { (tree self.new ≡ tree self.old) × (text self.new ≡ text self.old) };
+
+    ghost is_text: { (it : Self) → HasRisingPlaceOffsets (text it) };
+}
+
+/// A producer of matches that is made of a program and a text. `can_search` says which texts it
+/// takes. `text_of` gives the characters that it reads in a text, depending on the flag `unicode`.
+pub trait ProducerFromProgramAndText<'r>: MatchProducer {
+    /// The text as it is given, with its lifetime.
+    type Text;
+
+    ghost can_search: { Self.Text → Type 0 };
+
+    ghost text_of: { Self.Text → (unicode : Bool) → Text };
+
+    /// Searches `text` with the program `re`.
+    ///
+    /// # Errors
+    ///
+    /// Returns `Err` if the allocation of what the producer holds from the start fails.
+    fn new(re: &'r CompiledRegex, text: Self::Text) -> Result<Self, AllocError>
+    where
+        Self: Sized,
+        requires { can_search text }
+        ensures tree { IfOk result (λ e. Self.tree e ≡ tree_of re.now) }
+        ensures text { IfOk result (λ e. Self.text e ≡ text_of text (tree_of re.now).flags.unicode) }
+        ensures unlimited { IfOk result (λ e. Self.budget e ≡ None) };
+}
+
+/// An executor that runs a program for bytes over a `str`. `new` of `ProducerFromProgramAndText` makes one.
+pub trait Executor<'r, 't>: ProducerFromProgramAndText<'r, Text = &'t str> {
+    /// The executor of this kind over ASCII texts. A function that needs it to be an executor says
+    /// so in its bounds.
+    type AsAscii;
+}
+
+/// An iterator over the matches of a pattern in a text from a start on. Contracts see the answers
+/// still to come.
+#[derive(Drop)]
+pub struct Matches<P: MatchProducer> {
+    mp: P,
+    position: Option<P::Position>,
+}
+
+impl<P: MatchProducer> Model for Matches<P> {
+    ghost Value = { RemainingView };
+
+    ghost view = { λ m. remaining_answers_from (P.tree m.mp) (P.text m.mp) (P.budget m.mp)
+        (option_map P.Position.offset m.position) (P.out_of_steps m.mp) };
+
+    ghost invariant = { λ m. ForSome m.position (λ p. IsBoundary (P.text m.mp) (P.Position.offset p)) };
+}
+
+impl<P: MatchProducer> Matches<P> {
+    /// Iterates over the matches from an offset in code units on, which is a boundary or past the
+    /// end. Past the end there are none.
+    pub fn new(mp: P, start: usize) -> Self
+        requires { IsBoundary (P.text mp) start ⊎ (units (P.text mp) < start) }
+        ensures answers { result.answers ≡ answers_within (P.tree mp) (P.text mp) (P.budget mp) start }
+        ensures limited { result.limited ≡ not (finishes_within (P.tree mp) (P.text mp) (P.budget mp) start) }
+        ensures ended { result.ended ≡ not (nat_le start (units (P.text mp))) }
+        ensures text_end { result.text_end ≡ units (P.text mp) }
+    {
+        let position = mp.initial_position(start);
+        Matches { mp, position }
+    }
+}
+
+impl<P: MatchProducer + Drop> Iterator for Matches<P> {
+    type Item = Result<Match, SearchError>;
+
+    ghost next_gives = { NextYields };
+
+    ghost remaining = { λ s. at_most (items_left s) };
+
+    /// Returns the next match. Once there is no other match, or after an error, it always returns
+    /// `None`.
+    fn next(&mut self) -> Option<Result<Match, SearchError>> {
+        advance_matches(&mut self.mp, &mut self.position)
+    }
+}
+
+// Returns the next match from a position on, if there is one. The position becomes the one at which
+// the list continues, or `None` if it ends.
+fn advance_matches<P: MatchProducer>(
+    mp: &mut P,
+    position: &mut Option<P::Position>,
+) -> Option<Result<Match, SearchError>>
+    requires at { ForSome position.old (λ p. IsBoundary (P.text mp.old) (P.Position.offset p)) }
+    ensures at { ForSome position.new (λ p. IsBoundary (P.text mp.new) (P.Position.offset p)) }
+    ensures gives { let offset = option_map P.Position.offset in
+        let before = remaining_answers_from (P.tree mp.old) (P.text mp.old) (P.budget mp.old) (offset position.old)
+        (P.out_of_steps mp.old) in
+        let behind = remaining_answers_from (P.tree mp.new) (P.text mp.new) (P.budget mp.new) (offset position.new)
+        (P.out_of_steps mp.new) in
+        NextYields before result behind }
+    ensures work { let offset = option_map P.Position.offset in
+        let before = is_work_enough (P.enough mp.old) (P.ahead mp.old) (offset position.old) in
+        let behind = is_work_enough (P.enough mp.new) (P.ahead mp.new) (offset position.new) in
+        CallKeepsWorkEnough before result behind (P.out_of_work mp.new) }
+    ensures left { P.left mp.new ≤ P.left mp.old }
+    ensures cost { let offset = option_map P.Position.offset in
+        let costs = SearchCosts P.attempt_costs (P.tree mp.old) (P.text mp.old) (P.failures mp.old)
+        (offset position.old) in
+        IfCounted P.counts_work (CallSpendsExactCost costs (P.left mp.old) result (P.out_of_work mp.new)
+        (P.left mp.new) (P.failures mp.new)) }
+    ensures continues { let offset = option_map P.Position.offset in ContinuesAfterCall (P.tree mp.old) (P.text mp.old)
+        (offset position.old) result (offset position.new) }
+    ensures same { (P.tree mp.new ≡ P.tree mp.old) × (P.text mp.new ≡ P.text mp.old) }
+{
+    let pos = (*position)?;
+    match mp.next_match(pos, position) {
+        Ok(Some(found)) => Some(Ok(found)),
+        Ok(None) => {
+            *position = None;
+            None
+        }
+        Err(refused) => {
+            *position = None;
+            Some(Err(refused))
+        }
+    }
+}
+
+/// After a match at the end of the text, which is empty, nothing more is searched: the next call
+/// returns `None` and allocates no memory.
+pub fn match_at_text_end_is_last()
+    ensures { EndsAfterMatchStartingAtTextEnd }
+{}

@@ -1,0 +1,211 @@
+//! Search for one of a few 16-bit code units.
+
+ghost use Rattle.std.specs.Prelude.{◌≡◌, ◌≢◌, ◌≤◌, ◌||◌, max, true, false};
+ghost use Rattle.std.specs.List.{list_all};
+ghost use Rattle.regex_meaning.specs.Outcomes.{is_some_and};
+ghost use Rattle.regex_meaning.specs.CodeUnitOffsets.{units};
+ghost use Rattle.regress_input.specs.TextCodeUnits.{has_bits};
+ghost use Rattle.regress_program.specs.TableKeysOfUnits.{is_16_bit_encoding};
+ghost use Rattle.regress_search.specs.MarkedOffsets.{IsFirstPassing};
+ghost use Rattle.regress_search.specs.UnitsAndInsnReadsAtOffset.{unit_in};
+ghost use Rattle.regress_search.specs.WideUnits.{TellsUnitsOfKey, AreListedKeysTold, unit_has_listed_key, is_told_by_bits as is_told};
+
+use crate::class_char_and_table_lookups::unit_at_offset;
+use crate::few_units_finder::FewUnitsFinder;
+use crate::search_by_marks::{OffsetTest, first_by_marks, units_with_bits};
+use crate::search_context::{SearchContext, text_end};
+
+/// The units that have, of the bits in `mask`, exactly those in `bits`.
+#[derive(Clone, Copy)]
+struct UnitBits {
+    mask: u16,
+    bits: u16,
+}
+
+impl<W: SearchContext> OffsetTest<W> for UnitBits {
+    ghost passes_at = { λ kind w at. is_some_and (unit_in w at) (has_bits kind.mask kind.bits) };
+
+    ghost reach = { λ _. 1 };
+
+    #[inline(always)]
+    fn marks(&self, planned: &W, at: usize) -> u64 {
+        units_with_bits(planned, at, self.mask, self.bits)
+    }
+
+    #[inline(always)]
+    fn passes(&self, planned: &W, at: usize) -> bool {
+        unit_at_offset(planned, at) & u32::from(self.mask) == u32::from(self.bits)
+    }
+}
+
+/// The unit with this number. A mask that is known at compile time takes fewer instructions.
+#[derive(Clone, Copy)]
+struct OneUnit {
+    unit: u16,
+}
+
+impl<W: SearchContext> OffsetTest<W> for OneUnit {
+    ghost passes_at = { λ one w at. is_some_and (unit_in w at) (has_bits 0xFFFF one.unit) };
+
+    ghost reach = { λ _. 1 };
+
+    #[inline(always)]
+    fn marks(&self, planned: &W, at: usize) -> u64 {
+        units_with_bits(planned, at, 0xFFFF, self.unit)
+    }
+
+    #[inline(always)]
+    fn passes(&self, planned: &W, at: usize) -> bool {
+        unit_at_offset(planned, at) & 0xFFFF == u32::from(self.unit)
+    }
+}
+
+/// A test that passes where one of two tests passes.
+#[derive(Clone, Copy)]
+struct Either<A, B> {
+    a: A,
+    b: B,
+}
+
+impl<W: SearchContext, A: OffsetTest<W>, B: OffsetTest<W>> OffsetTest<W> for Either<A, B> {
+    ghost passes_at = { λ either w at. A.passes_at either.a w at || B.passes_at either.b w at };
+
+    ghost reach = { λ either. max (A.reach either.a) (B.reach either.b) };
+
+    #[inline(always)]
+    fn marks(&self, planned: &W, at: usize) -> u64 {
+        self.a.marks(planned, at) | self.b.marks(planned, at)
+    }
+
+    #[inline(always)]
+    fn passes(&self, planned: &W, at: usize) -> bool {
+        self.a.passes(planned, at) || self.b.passes(planned, at)
+    }
+}
+
+/// The units that may begin a surrogate pair: those from 0xD800 to 0xDBFF.
+const PAIRS: UnitBits = UnitBits {
+    mask: 0xFC00,
+    bits: 0xD800,
+};
+
+// Returns the 16-bit units with a key other than 128. Bits do not tell the units from 128 to 511.
+#[inline(always)]
+fn units_of_key(key: u8) -> UnitBits
+    ensures { key ≢ 128 → TellsUnitsOfKey result key }
+{
+    if key < 128 {
+        UnitBits {
+            mask: 0xFFFF,
+            bits: u16::from(key),
+        }
+    } else {
+        UnitBits {
+            mask: 0xFE00,
+            bits: u16::from(key - 128) << 9,
+        }
+    }
+}
+
+/// Checks whether bits tell the 16-bit units with these keys, and none of the units ends a pair.
+#[inline(always)]
+pub(crate) fn are_told_by_bits(few: FewUnitsFinder) -> bool
+    ensures { result ≡ list_all is_told few.units }
+{
+    let [a, b, c] = few.units;
+    is_told_by_bits(a) && is_told_by_bits(b) && is_told_by_bits(c)
+}
+
+// Checks whether bits tell the 16-bit units with a key, and none of them ends a pair.
+#[inline(always)]
+fn is_told_by_bits(key: u8) -> bool
+    ensures { result ≡ is_told key }
+{
+    key != 128 && key != 238 && key != 239
+}
+
+// Returns the first of the offsets `from..to` of a unit with these bits.
+#[inline(always)]
+fn first_with_bits<W: SearchContext>(
+    planned: &W,
+    kind: UnitBits,
+    from: usize,
+    to: usize,
+) -> Option<usize>
+    requires order { from ≤ to }
+    requires inside { to ≤ units (W.searching planned.now).text }
+    ensures { let w = W.searching planned.now in
+        IsFirstPassing (λ at. is_some_and (unit_in w at) (has_bits kind.mask kind.bits)) from to result }
+{
+    if kind.mask == 0xFFFF {
+        first_by_marks(planned, &OneUnit { unit: kind.bits }, from, to)
+    } else {
+        first_by_marks(planned, &kind, from, to)
+    }
+}
+
+/// Returns the first offset from `from` on of a 16-bit unit with one of these keys.
+#[inline(always)]
+pub(crate) fn next_wide<W: SearchContext>(
+    planned: &W,
+    few: FewUnitsFinder,
+    from: usize,
+) -> Option<usize>
+    requires wide { is_16_bit_encoding (W.searching planned.now).encoding ≡ true }
+    requires told { AreListedKeysTold few.units few.len }
+    requires at { from ≤ units (W.searching planned.now).text }
+    ensures { let w = W.searching planned.now in
+        IsFirstPassing (unit_has_listed_key false few.units few.len w) from (units w.text) result }
+{
+    let end = text_end(planned);
+    let [a, b, c] = few.units;
+    match few.len {
+        0 => None,
+        1 => first_with_bits(planned, units_of_key(a), from, end),
+        2 => {
+            let a = units_of_key(a);
+            let b = units_of_key(b);
+            first_by_marks(planned, &Either { a, b }, from, end)
+        }
+        _ => {
+            let a = units_of_key(a);
+            let b = units_of_key(b);
+            let c = units_of_key(c);
+            let a = Either { a, b };
+            first_by_marks(planned, &Either { a, b: c }, from, end)
+        }
+    }
+}
+
+/// Returns the first offset from `from` on of a 16-bit unit with one of these keys, or of one that may
+/// begin a surrogate pair.
+#[inline(always)]
+pub(crate) fn next_wide_or_pair<W: SearchContext>(
+    planned: &W,
+    few: FewUnitsFinder,
+    from: usize,
+) -> Option<usize>
+    requires wide { is_16_bit_encoding (W.searching planned.now).encoding ≡ true }
+    requires told { AreListedKeysTold few.units few.len }
+    requires at { from ≤ units (W.searching planned.now).text }
+    ensures { let w = W.searching planned.now in
+        IsFirstPassing (unit_has_listed_key true few.units few.len w) from (units w.text) result }
+{
+    let end = text_end(planned);
+    let [a, b, c] = few.units;
+    let a = Either {
+        a: PAIRS,
+        b: units_of_key(a),
+    };
+    let b = units_of_key(b);
+    let c = units_of_key(c);
+    match few.len {
+        0 => first_by_marks(planned, &PAIRS, from, end),
+        1 => first_by_marks(planned, &a, from, end),
+        2 => first_by_marks(planned, &Either { a, b }, from, end),
+        _ => {
+            let a = Either { a, b };
+            first_by_marks(planned, &Either { a, b: c }, from, end)
+        }
+    }
+}

@@ -1,0 +1,28 @@
+//! What all executors share: matches and the iterators over them, executor traits, the search loop
+//! over start positions, the search for candidate starts, and the reading of texts by plans.
+#![tactic(auto)]
+
+pub mod assertions;
+pub mod class_char_and_table_lookups;
+pub mod class_scan;
+pub mod consecutive_must_iterate_units;
+pub mod exec;
+pub mod exit_range_types_and_char_step;
+mod few_units_finder;
+mod few_wide_units;
+pub mod follow_set_checks;
+pub mod given_char_and_byte_seq_reads;
+pub mod insns_that_read_or_test_text;
+pub mod lazy_char_loops;
+pub mod leading_char_loop;
+pub mod leaping;
+pub mod literal_finder;
+pub mod loop_body_reads_nothing_check;
+mod prefix_search;
+pub mod program_and_input;
+mod search_by_marks;
+pub mod search_context;
+pub mod search_loop;
+pub mod start_search;
+mod start_search_by_bit_probes;
+mod unit_runs;

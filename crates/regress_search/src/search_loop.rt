@@ -1,0 +1,311 @@
+//! The search loop over the candidate starts of a text, shared by all executors.
+
+ghost use Rattle.std.specs.Prelude.{◌≡◌, ◌+◌, ◌<◌, ◌≤◌, ◌⊎◌, ℕ, ⊤, Bool, true, false, IfErr, IfOk, IsSome, None, Some, Option, map, option_map, length};
+ghost use Rattle.regex_meaning.specs.{Tree.{Tree}, Text.{Text}, CodeUnitOffsets.{HasRisingPlaceOffsets, IsBoundary, units}, SearchAnswers.{answer_at}};
+ghost use Rattle.regex_meaning.specs.{Outcomes.{Groups, group_range}, MatchGroupsByNumberAndName.{group_names_by_id}};
+ghost use Rattle.regex_pattern_front.specs.AstToSpecTree.{tree_of};
+ghost use Rattle.regress_search.specs.MatchesAsSpecAnswers.{answer_from_parts, answer_of, range_as_pair};
+ghost use Rattle.regress_search.specs.AttemptResultsAndStartsToTry.{NextStartSkipsNoMatch, NoMatchAt, end_with_groups, match_end_and_groups_at, first_filtered_start};
+ghost use Rattle.regress_search.specs.AttemptResultsAndStartsToTry.{next_filtered_start};
+ghost use Rattle.regress_search.specs.AttemptResultsAndStartsToTry.{next_search_offset, ticks_of_attempt_at};
+ghost use Rattle.regress_search.specs.OffsetRangeOfPositions.{offset_range_of_positions};
+ghost use Rattle.regress_search.specs.StepBudgetAndContinuationAfterSearch.{SpendsNeedOrReachesLimit, AllocFailureCostsAtLeastOneStep, ResultTellsIfStepLimitReached};
+ghost use Rattle.regress_search.specs.StepBudgetAndContinuationAfterSearch.{step_limit_error_else_memory_error};
+ghost use Rattle.regress_search.specs.AttemptsAndMatchesWithinWork.{OrderedAttemptKeepsWorkEnough};
+ghost use Rattle.regress_search.specs.CostsOfSearches.{Failures, IfCounted, SpendsExactCost, next_attempt_offset};
+
+use crate::exec::{Match, MatchProducer, SearchError};
+use regress_input::indexing::InputIndexer;
+use regress_input::position::PositionType;
+use regress_program::insn::Program;
+use std::alloc::AllocError;
+use std::ops::Range;
+
+/// An executor that tries one start position at a time. Contracts see the tree whose program it
+/// runs, the text, the steps that it may still take where they are counted, and whether the last
+/// attempt reached the step limit. They also see whether the last attempt had begun, which also
+/// allocates memory, and the groups of the last attempt that found an end. Where work is counted,
+/// they see how much is left, what an attempt costs, whether the work left is enough for attempts in
+/// ascending order of offsets, the least offset of the next such attempt, and whether the last
+/// attempt reached the work limit.
+///
+/// Where steps are counted, the positions that are tried are those that the start predicate admits.
+/// Where work is counted, each position is tried.
+pub trait SingleAttemptExecutor {
+    /// The text that is searched.
+    type Input: InputIndexer;
+
+    ghost tree: { Self → Tree };
+
+    ghost text: { Self → Text };
+
+    ghost budget: { Self → Option ℕ } = { λ _. None };
+
+    ghost out_of_steps: { Self → Bool } = { λ _. false };
+
+    ghost has_begun: { Self → Type 0 } = { λ _. ⊤ };
+
+    // the work limit is enough for attempts in ascending order of offsets, each at `ahead` or later
+    ghost enough: { Self → Bool } = { λ _. true };
+
+    ghost ahead: { Self → ℕ } = { λ _. 0 };
+
+    ghost out_of_work: { Self → Bool } = { λ _. false };
+
+    // the amount of work that may still be done, where work is counted
+    ghost left: { Self → ℕ } = { λ _. 0 };
+
+    // whether work is counted
+    ghost counts_work: { Bool } = { false };
+
+    // the failures that are known, on which the costs of attempts depend
+    ghost failures: { Self → Failures } = { λ _ _ _ _. false };
+
+    // what an attempt costs (`CostsOfSearches`), where work is counted
+    ghost attempt_costs: { Tree → Text → Failures → (at cost : ℕ) → Option Failures → Type 0 } = { λ _ _ _ _ _ _. ⊤ };
+
+    ghost groups: { Self → Groups };
+
+    /// Returns the program that is run.
+    fn program(&self) -> &Program
+        ensures { tree_of result.now ≡ tree self.now };
+
+    /// Returns the input that is read.
+    fn input(&self) -> &Self::Input
+        ensures { Self.Input.text result.now ≡ text self.now };
+
+    /// Returns the end of the match of highest priority that begins at a position. Its groups can
+    /// be read afterwards.
+    ///
+    /// # Errors
+    ///
+    /// Returns `StepLimit` if more steps are needed than are left, and then none are left. Returns
+    /// `Memory` if an allocation fails, and the steps taken until then stay spent: at least one if
+    /// the attempt had begun.
+    fn attempt(
+        &mut self,
+        pos: <Self::Input as InputIndexer>::Position,
+    ) -> Result<Option<<Self::Input as InputIndexer>::Position>, SearchError>
+        requires { IsBoundary (text self.old) (Self.Input.Position.offset pos) }
+        ensures found { let at = Self.Input.Position.offset in IfOk result (λ end.
+            end_with_groups at end (groups self.new) ≡ match_end_and_groups_at (tree self.old)
+            (text self.old) (at pos)) }
+        ensures steps { let ticks = ticks_of_attempt_at (tree self.old) (text self.old) in
+            SpendsNeedOrReachesLimit (ticks (Self.Input.Position.offset pos)) (budget self.old) result
+            (budget self.new) }
+        ensures begun { AllocFailureCostsAtLeastOneStep (has_begun self.new) (budget self.old) result
+            (budget self.new) }
+        ensures cause { ResultTellsIfStepLimitReached result (out_of_steps self.new) }
+        ensures work { let at = Self.Input.Position.offset in OrderedAttemptKeepsWorkEnough at (enough self.old)
+            (ahead self.old)
+            (at pos) result (enough self.new) (ahead self.new) (out_of_work self.new) }
+        ensures left { left self.new ≤ left self.old }
+        ensures within { IfCounted counts_work (IfOk result (λ _. out_of_work self.new ≡ false)) }
+        ensures cost { IfCounted counts_work (SpendsExactCost (attempt_costs (tree self.old) (text self.old)
+            (failures self.old) (Self.Input.Position.offset pos))
+            (left self.old) result (out_of_work self.new) (left self.new) (failures self.new)) }
+        ensures same { (tree self.new ≡ tree self.old) × (text self.new ≡ text self.old) };
+
+    /// Returns the number of groups of the last attempt that found an end.
+    fn group_count(&self) -> usize
+        ensures { result ≡ length (groups self.now) };
+
+    /// Returns the range of a group in the last attempt that found an end, or `None` if it did not
+    /// match.
+    fn group(
+        &self,
+        id: usize,
+    ) -> Option<
+        (
+            <Self::Input as InputIndexer>::Position,
+            <Self::Input as InputIndexer>::Position,
+        ),
+    >
+        ensures { option_map (offset_range_of_positions Self.Input.Position.offset) result
+            ≡ group_range (groups self.now) id };
+
+    /// Returns the first position to try from one on. No match begins before it. Returns `None` if
+    /// no match begins from there on.
+    fn first_start_to_try_from(
+        &self,
+        pos: <Self::Input as InputIndexer>::Position,
+    ) -> Option<<Self::Input as InputIndexer>::Position>
+        requires { IsBoundary (text self.now) (Self.Input.Position.offset pos) }
+        ensures next { let at = Self.Input.Position.offset in
+            NextStartSkipsNoMatch (tree self.now) (text self.now) (at pos) (option_map at result) }
+        ensures counted { let at = Self.Input.Position.offset in IsSome (budget self.now)
+            → option_map at result ≡ first_filtered_start (tree self.now) (text self.now) (at pos) }
+        ensures at_work { let at = Self.Input.Position.offset in
+            IfCounted counts_work (option_map at result ≡ Some (at pos)) };
+
+    /// Returns the first position to try after one where no match begins. No match begins between
+    /// them. Returns `None` if no match begins after it.
+    fn next_start_after_failed_attempt(
+        &self,
+        tried: <Self::Input as InputIndexer>::Position,
+    ) -> Option<<Self::Input as InputIndexer>::Position>
+        requires at { IsBoundary (text self.now) (Self.Input.Position.offset tried) }
+        requires vain { NoMatchAt (tree self.now) (text self.now) (Self.Input.Position.offset tried) }
+        ensures next { let at = Self.Input.Position.offset in
+            NextStartSkipsNoMatch (tree self.now) (text self.now) (at tried + 1) (option_map at result) }
+        ensures counted { let at = Self.Input.Position.offset in IsSome (budget self.now)
+            → option_map at result ≡ next_filtered_start (tree self.now) (text self.now) (at tried) }
+        ensures at_work { let at = Self.Input.Position.offset in IfCounted counts_work (option_map at result
+            ≡ next_attempt_offset (tree self.now) (text self.now) (at tried)) };
+
+    ghost is_text: { (it : Self) → HasRisingPlaceOffsets (text it) };
+}
+
+/// Returns the range of a group by id, or `None` if it did not match or there is no such group.
+#[inline(always)]
+pub fn group_at<P: PositionType>(groups: &[Option<(P, P)>], id: usize) -> Option<(P, P)>
+    ensures { option_map (offset_range_of_positions P.offset) result
+        ≡ group_range (map (option_map (offset_range_of_positions P.offset)) groups.now) id }
+{
+    match groups.get(id) {
+        Some(range) => *range,
+        None => None,
+    }
+}
+
+// Returns a group's range in offsets.
+fn range_in_offsets<Input: InputIndexer>(
+    input: &Input,
+    range: Option<(Input::Position, Input::Position)>,
+) -> Option<Range<usize>>
+    ensures { option_map range_as_pair result ≡ option_map (offset_range_of_positions Input.Position.offset) range }
+{
+    match range {
+        None => None,
+        Some((start, end)) => Some(input.pos_to_offset(start)..input.pos_to_offset(end)),
+    }
+}
+
+// Returns the groups of the last attempt that found an end, in offsets.
+fn captures_of<A: SingleAttemptExecutor>(
+    executor: &A,
+) -> Result<Vec<Option<Range<usize>>>, AllocError>
+    ensures { IfOk result (λ v. map (option_map range_as_pair) v.items ≡ A.groups executor.now) }
+{
+    let input = executor.input();
+    let count = executor.group_count();
+    let mut captures = Vec::with_capacity(executor.program().allocator(), count)?;
+    for id in 0..count {
+        captures.push(range_in_offsets(input, executor.group(id)))?;
+    }
+    Ok(captures)
+}
+
+// Returns the match between two positions, with the groups of the last attempt.
+fn successful_match<A: SingleAttemptExecutor>(
+    executor: &A,
+    start: <A::Input as InputIndexer>::Position,
+    end: <A::Input as InputIndexer>::Position,
+) -> Result<Match, AllocError>
+    ensures { let at = A.Input.Position.offset in IfOk result (λ m. answer_of m
+        ≡ answer_from_parts (at start) (at end) (A.groups executor.now)
+        (group_names_by_id (A.tree executor.now).root)) }
+{
+    let captures = captures_of(executor)?;
+    let names = executor.program().shared_names().clone()?;
+    let input = executor.input();
+    let range = input.pos_to_offset(start)..input.pos_to_offset(end);
+    Ok(Match::from_parts_with_shared_names(range, captures, names))
+}
+
+// Returns the position at which the list continues after a match: its end, or one character further
+// if the match is empty.
+fn next_search_pos<Input: InputIndexer>(
+    input: &Input,
+    start: Input::Position,
+    end: Input::Position,
+) -> Option<Input::Position>
+    requires { IsBoundary (Input.text input.now) (Input.Position.offset end) }
+    ensures { let at = Input.Position.offset in
+        option_map at result ≡ next_search_offset (Input.text input.now) (at start) (at end) }
+{
+    if input.pos_to_offset(start) < input.pos_to_offset(end) {
+        Some(end)
+    } else {
+        input.next_right_pos(end)
+    }
+}
+
+impl<A: SingleAttemptExecutor> MatchProducer for A {
+    type Position = <A::Input as InputIndexer>::Position;
+
+    ghost tree = { A.tree };
+
+    ghost text = { A.text };
+
+    ghost budget = { A.budget };
+
+    ghost out_of_steps = { A.out_of_steps };
+
+    ghost enough = { A.enough };
+
+    ghost ahead = { A.ahead };
+
+    ghost out_of_work = { A.out_of_work };
+
+    ghost left = { A.left };
+
+    ghost counts_work = { A.counts_work };
+
+    ghost failures = { A.failures };
+
+    ghost attempt_costs = { A.attempt_costs };
+
+    ghost is_text = { A.is_text };
+
+    fn initial_position(&self, offset: usize) -> Option<<A::Input as InputIndexer>::Position> {
+        let input = self.input();
+        input.try_move_right(input.left_end(), offset)
+    }
+
+    fn next_match(
+        &mut self,
+        pos: <A::Input as InputIndexer>::Position,
+        next_start: &mut Option<<A::Input as InputIndexer>::Position>,
+    ) -> Result<Option<Match>, SearchError> {
+        let mut next = self.first_start_to_try_from(pos);
+        'places: while let Some(start) = next {
+            if let Some(end) = self.attempt(start)? {
+                let found = successful_match(self, start, end)?;
+                *next_start = next_search_pos(self.input(), start, end);
+                return Ok(Some(found));
+            }
+            next = self.next_start_after_failed_attempt(start);
+        }
+        Ok(None)
+    }
+}
+
+/// Returns the match of highest priority that begins at an offset in code units, which is a
+/// boundary or past the end. Returns `None` if no match begins there. No other position is tried,
+/// so it takes the steps of one attempt.
+///
+/// # Errors
+///
+/// Returns `StepLimit` if more steps are needed than are left, and then none are left. Returns
+/// `Memory` if an allocation fails, and the steps taken until then stay spent.
+pub fn match_at<A: SingleAttemptExecutor>(
+    executor: &mut A,
+    at: usize,
+) -> Result<Option<Match>, SearchError>
+    requires { IsBoundary (A.text executor.old) at ⊎ (units (A.text executor.old) < at) }
+    ensures found { IfOk result (λ m. option_map answer_of m
+        ≡ answer_at (A.tree executor.old).root (A.text executor.old) at) }
+    ensures steps { SpendsNeedOrReachesLimit (ticks_of_attempt_at (A.tree executor.old) (A.text executor.old) at)
+        (A.budget executor.old) result (A.budget executor.new) }
+    ensures cause { IfErr result (λ e. e ≡ step_limit_error_else_memory_error (A.out_of_steps executor.new)) }
+{
+    let Some(start) = executor.initial_position(at) else {
+        return Ok(None);
+    };
+    let Some(end) = executor.attempt(start)? else {
+        return Ok(None);
+    };
+    let found = successful_match(executor, start, end)?;
+    Ok(Some(found))
+}

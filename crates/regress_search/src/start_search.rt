@@ -1,0 +1,419 @@
+//! Search for candidate starts: no match begins at any other offset.
+
+ghost use Rattle.std.specs.Prelude.{◌≡◌, ◌<◌, true, false, IfSome};
+ghost use Rattle.regex_meaning.specs.CodeUnitOffsets.{IsBoundary, units};
+ghost use Rattle.regress_input.specs.CharAndByteReadsFromOffset.{is_byte_encoding};
+ghost use Rattle.regress_program.specs.LookbehindFilter.{LookbehindFilterKeysAreLeadBytes, allows_start};
+ghost use Rattle.regress_program.specs.PrefixesAndPrefilters.{PrefixAllowsOnlyAsciiFirst, IsLiteralForcedByPrefix, IsOnlyUnitAllowedAtPosition, IsLiteralPrefilterOfPrefix};
+ghost use Rattle.regress_program.specs.PrefixesAndPrefilters.{IsPrefilterOfPrefix};
+ghost use Rattle.regress_program.specs.TableKeysOfUnits.{is_16_bit_encoding};
+ghost use Rattle.regress_program.specs.Plans.{unit_table_of_set_number};
+ghost use Rattle.regress_machine.specs.FirstSetTables.{AllowedNextKeys};
+ghost use Rattle.regress_search.specs.StartSearch.{IsFirstAllowedBoundary, IsFirstBoundaryWhere, IsFirstBoundaryWherePrefixFits, IsFirstCandidate, IsFirstByteSearchHit};
+ghost use Rattle.regress_search.specs.StartSearch.{AllowsOnlyLeadBytes, SkipsNoBoundary, IsPastFirstAllowedChar, table_of_listed_units, may_start_at};
+
+use crate::class_char_and_table_lookups::{set_allows_next_unit, unit_key_at_offset};
+use crate::few_units_finder::FewUnitsFinder;
+use crate::few_wide_units::{are_told_by_bits, next_wide};
+use crate::literal_finder::LONG;
+use crate::prefix_search::{PrefixAndItsRequiredUnit, PrefixAndLiteralFinder};
+use crate::search_context::{
+    SearchContext, offset_in_searched_text, position_in_searched_text, text_end,
+};
+use crate::start_search_by_bit_probes::{PrefixAndBitProbes, next_by_bit_probes, prefix_fits};
+use regress_input::front::ByteSearcher;
+use regress_input::indexing::{CodeUnitEncoding, HasUnitType, InputIndexer};
+use regress_program::first_set_type::FirstSet;
+use regress_program::lookbehind_filter::PrecedingCharFilter;
+use regress_program::plan::CandidateStarts;
+use regress_program::required_prefix_prefilters::{LiteralPrefilter, RequiredPrefixPrefilter};
+use regress_program::required_prefix_types::{Literal, Prefix, RequiredUnitAndOffset};
+
+/// A set of code units with which a match may start. Contracts see its table.
+pub(crate) trait StartSet {
+    ghost table: { Self → AllowedNextKeys };
+
+    /// Checks whether a code unit with this key is in the set.
+    fn has_key(&self, key: usize) -> bool
+        requires { key < 256 }
+        ensures { result ≡ (table self.now).keys key };
+
+    /// Checks whether the end of the text is in the set.
+    fn has_end(&self) -> bool
+        ensures { result ≡ (table self.now).end };
+}
+
+impl StartSet for FirstSet {
+    ghost use Rattle.regress_program.specs.TableKeysOfUnits.{unit_table_of_set};
+
+    ghost table = { unit_table_of_set };
+
+    #[inline(always)]
+    fn has_key(&self, key: usize) -> bool {
+        self.keys[key]
+    }
+
+    #[inline(always)]
+    fn has_end(&self) -> bool {
+        self.end
+    }
+}
+
+impl StartSet for FewUnitsFinder {
+    ghost use Rattle.regress_search.specs.StartSearch.{table_of_listed_units};
+
+    ghost table = { λ few. table_of_listed_units few.units few.len };
+
+    #[inline(always)]
+    fn has_key(&self, key: usize) -> bool {
+        self.has(key)
+    }
+
+    #[inline(always)]
+    fn has_end(&self) -> bool {
+        false
+    }
+}
+
+// Returns the offset past a code unit, or past a character if units are not bytes.
+#[inline(always)]
+fn past_unit<W: SearchContext>(planned: &W, at: usize) -> usize
+    requires inside { at < units (W.searching planned.now).text }
+    requires at { let w = W.searching planned.now in
+        is_byte_encoding w.encoding ≡ false → IsBoundary w.text at }
+    ensures { let w = W.searching planned.now in SkipsNoBoundary w.text (is_byte_encoding w.encoding) at result }
+{
+    let input = planned.input();
+    if <<W::Input as HasUnitType>::Units as CodeUnitEncoding>::ARE_BYTES {
+        at + 1
+    } else {
+        offset_in_searched_text(planned, input.past(position_in_searched_text(planned, at)))
+    }
+}
+
+// Returns the first offset from `from` on that the set allows.
+#[inline(always)]
+fn first_place<W: SearchContext, Set: StartSet>(
+    planned: &W,
+    set: &Set,
+    from: usize,
+) -> Option<usize>
+    requires at { IsBoundary (W.searching planned.now).text from }
+    requires leads { AllowsOnlyLeadBytes (is_16_bit_encoding (W.searching planned.now).encoding) (Set.table set.now) }
+    ensures { IsFirstAllowedBoundary (W.searching planned.now) (Set.table set.now) from result }
+{
+    let end = text_end(planned);
+    let mut at = from;
+    'units: while at < end {
+        if set.has_key(unit_key_at_offset(planned, at)) {
+            return Some(at);
+        }
+        at = past_unit(planned, at);
+    }
+    if set.has_end() { Some(at) } else { None }
+}
+
+// Returns the first offset from `from` on that the set with this number allows.
+#[inline(always)]
+fn next_among<W: SearchContext>(planned: &W, number: u32, from: usize) -> Option<usize>
+    requires { IsBoundary (W.searching planned.now).text from }
+    ensures { let w = W.searching planned.now in IsFirstAllowedBoundary w (unit_table_of_set_number w.plan number)
+        from result }
+{
+    planned.lemma_plan_fits_program();
+    match planned.first_set_with_number(number) {
+        Some(set) => first_place(planned, set, from),
+        None => Some(from),
+    }
+}
+
+// Returns the first offset from `from` on where the searcher finds something in bytes.
+#[inline(always)]
+fn find<W: SearchContext, Search: ByteSearcher>(
+    planned: &W,
+    search: &Search,
+    from: usize,
+) -> Option<usize>
+    requires { IsBoundary (W.searching planned.now).text from }
+    ensures { IsFirstByteSearchHit (W.searching planned.now) (Search.stands_at search.now) from result }
+{
+    let pos = position_in_searched_text(planned, from);
+    match planned.input().find_bytes(pos, search) {
+        Some(pos) => Some(offset_in_searched_text(planned, pos)),
+        None => None,
+    }
+}
+
+/// Returns the first offset from `from` on of one of a few code units.
+#[inline(never)]
+pub(crate) fn next_of_few_units<W: SearchContext>(
+    planned: &W,
+    few: FewUnitsFinder,
+    from: usize,
+) -> Option<usize>
+    requires at { IsBoundary (W.searching planned.now).text from }
+    requires leads { let wide = is_16_bit_encoding (W.searching planned.now).encoding in
+        AllowsOnlyLeadBytes wide (table_of_listed_units few.units few.len) }
+    ensures { IsFirstAllowedBoundary (W.searching planned.now) (table_of_listed_units few.units few.len) from result }
+{
+    if <<W::Input as HasUnitType>::Units as CodeUnitEncoding>::ARE_BYTES {
+        find(planned, &few, from)
+    } else {
+        next_of_few_wide_units(planned, few, from)
+    }
+}
+
+// Returns that offset in 16-bit units, by vectors if bits tell the units.
+#[inline(always)]
+fn next_of_few_wide_units<W: SearchContext>(
+    planned: &W,
+    few: FewUnitsFinder,
+    from: usize,
+) -> Option<usize>
+    requires wide { is_16_bit_encoding (W.searching planned.now).encoding ≡ true }
+    requires at { IsBoundary (W.searching planned.now).text from }
+    ensures { IsFirstAllowedBoundary (W.searching planned.now) (table_of_listed_units few.units few.len) from result }
+{
+    if are_told_by_bits(few) {
+        next_wide(planned, few, from)
+    } else {
+        first_place(planned, &few, from)
+    }
+}
+
+// ---- By a prefix
+
+// Returns the first offset from `from` on where the prefix may occur in bytes, by a rare required
+// unit, or else by the masks of its units.
+#[inline(never)]
+fn next_prefix_match<W: SearchContext>(
+    planned: &W,
+    prefix: &Prefix,
+    rare: Option<RequiredUnitAndOffset>,
+    from: usize,
+) -> Option<usize>
+    requires at { IsBoundary (W.searching planned.now).text from }
+    requires bytes { is_16_bit_encoding (W.searching planned.now).encoding ≡ false }
+    requires prefix { (0 < prefix.now.len) × PrefixAllowsOnlyAsciiFirst prefix.now }
+    requires rare { IfSome rare (λ r. IsOnlyUnitAllowedAtPosition prefix.now r) }
+    ensures { IsFirstBoundaryWherePrefixFits (W.searching planned.now) prefix.now from result }
+{
+    let fitting = PrefixAndItsRequiredUnit { prefix, rare };
+    find(planned, &fitting, from)
+}
+
+// Returns that offset by the required literal.
+#[inline(never)]
+fn next_literal<W: SearchContext>(
+    planned: &W,
+    prefix: &Prefix,
+    literal: &Literal,
+    from: usize,
+) -> Option<usize>
+    requires at { IsBoundary (W.searching planned.now).text from }
+    requires bytes { is_16_bit_encoding (W.searching planned.now).encoding ≡ false }
+    requires prefix { (0 < prefix.now.len) × PrefixAllowsOnlyAsciiFirst prefix.now }
+    requires literal { IsLiteralForcedByPrefix prefix.now literal.now }
+    ensures { IsFirstBoundaryWherePrefixFits (W.searching planned.now) prefix.now from result }
+{
+    let in_row = PrefixAndLiteralFinder {
+        kept: planned.cached_literal_finder(),
+        prefix,
+        literal,
+    };
+    find(planned, &in_row, from)
+}
+
+// Returns that offset by known units: in a long text by the literal.
+#[inline(always)]
+fn next_known<W: SearchContext>(
+    planned: &W,
+    prefix: &Prefix,
+    known: &LiteralPrefilter,
+    from: usize,
+) -> Option<usize>
+    requires at { IsBoundary (W.searching planned.now).text from }
+    requires bytes { is_16_bit_encoding (W.searching planned.now).encoding ≡ false }
+    requires some { 0 < prefix.now.len }
+    requires ascii { PrefixAllowsOnlyAsciiFirst prefix.now }
+    requires known { IsLiteralPrefilterOfPrefix prefix.now known.now }
+    ensures { IsFirstBoundaryWherePrefixFits (W.searching planned.now) prefix.now from result }
+{
+    if known.literal.len < 3 && known.literal.len < prefix.len {
+        if let Some(probes) = &known.probes {
+            return next_by_bit_probes(planned, PrefixAndBitProbes { prefix, probes }, from);
+        }
+    }
+    if text_end(planned).saturating_sub(from) > LONG {
+        return next_literal(planned, prefix, &known.literal, from);
+    }
+    next_in_short_text(planned, prefix, known, from)
+}
+
+// Returns that offset in a short text: by a rare unit, otherwise by bit probes if there are any.
+#[inline(always)]
+fn next_in_short_text<W: SearchContext>(
+    planned: &W,
+    prefix: &Prefix,
+    known: &LiteralPrefilter,
+    from: usize,
+) -> Option<usize>
+    requires at { IsBoundary (W.searching planned.now).text from }
+    requires bytes { is_16_bit_encoding (W.searching planned.now).encoding ≡ false }
+    requires some { 0 < prefix.now.len }
+    requires ascii { PrefixAllowsOnlyAsciiFirst prefix.now }
+    requires known { IsLiteralPrefilterOfPrefix prefix.now known.now }
+    ensures { IsFirstBoundaryWherePrefixFits (W.searching planned.now) prefix.now from result }
+{
+    if known.rare.is_none() {
+        if let Some(probes) = &known.probes {
+            return next_by_bit_probes(planned, PrefixAndBitProbes { prefix, probes }, from);
+        }
+    }
+    next_prefix_match(planned, prefix, known.rare, from)
+}
+
+// Returns that offset by the prefilter.
+#[inline(always)]
+fn first_filtered<W: SearchContext>(
+    planned: &W,
+    prefix: &Prefix,
+    prefilter: &RequiredPrefixPrefilter,
+    from: usize,
+) -> Option<usize>
+    requires at { IsBoundary (W.searching planned.now).text from }
+    requires some { 0 < prefix.now.len }
+    requires ascii { PrefixAllowsOnlyAsciiFirst prefix.now }
+    requires filter { IsPrefilterOfPrefix (is_16_bit_encoding (W.searching planned.now).encoding) prefix.now
+        prefilter.now }
+    ensures { IsFirstBoundaryWherePrefixFits (W.searching planned.now) prefix.now from result }
+{
+    match prefilter {
+        RequiredPrefixPrefilter::Probes(probes) => next_by_bit_probes(
+            planned,
+            PrefixAndBitProbes { prefix, probes },
+            from,
+        ),
+        RequiredPrefixPrefilter::ByLiteral(known) => next_known(planned, prefix, known, from),
+        RequiredPrefixPrefilter::Absent => next_prefix_match(planned, prefix, None, from),
+    }
+}
+
+// ---- By the character before
+
+// Returns the offset past the first character from `from` on that begins with one of a few code
+// units.
+#[inline(always)]
+fn next_past<W: SearchContext>(planned: &W, few: FewUnitsFinder, from: usize) -> Option<usize>
+    requires at { IsBoundary (W.searching planned.now).text from }
+    requires leads { let wide = is_16_bit_encoding (W.searching planned.now).encoding in
+        AllowsOnlyLeadBytes wide (table_of_listed_units few.units few.len) }
+    ensures { IsPastFirstAllowedChar (W.searching planned.now) (table_of_listed_units few.units few.len) from result }
+{
+    let hit = next_of_few_units(planned, few, from)?;
+    Some(offset_in_searched_text(
+        planned,
+        planned
+            .input()
+            .past(position_in_searched_text(planned, hit)),
+    ))
+}
+
+// Returns the first offset from `from` on where the character before lets a match begin.
+#[inline(never)]
+fn next_by_lookbehind<W: SearchContext>(
+    planned: &W,
+    before: PrecedingCharFilter,
+    from: usize,
+) -> Option<usize>
+    requires at { IsBoundary (W.searching planned.now).text from }
+    requires leads { LookbehindFilterKeysAreLeadBytes (is_16_bit_encoding (W.searching planned.now).encoding) before }
+    ensures { let w = W.searching planned.now in
+        IsFirstBoundaryWhere w (may_start_at w (CandidateStarts.Behind before)) from result }
+{
+    let PrecedingCharFilter { keys, len, edge } = before;
+    let few = FewUnitsFinder { units: keys, len };
+    match planned
+        .input()
+        .next_left_pos(position_in_searched_text(planned, from))
+    {
+        Some(start) => next_past(planned, few, offset_in_searched_text(planned, start)),
+        None => {
+            if edge {
+                Some(from)
+            } else {
+                next_past(planned, few, from)
+            }
+        }
+    }
+}
+
+// ---- By the plan
+
+/// Checks whether an offset is a candidate start, by the plan.
+#[inline(always)]
+pub fn is_candidate<W: SearchContext>(planned: &W, at: usize) -> bool
+    requires { IsBoundary (W.searching planned.now).text at }
+    ensures { let w = W.searching planned.now in result ≡ may_start_at w w.plan.start at }
+{
+    match planned.candidate_start_filter_of_plan() {
+        CandidateStarts::Anywhere => true,
+        CandidateStarts::InSet { set } => match planned.first_set_with_number(*set) {
+            Some(set) => set_allows_next_unit(planned, set, at),
+            None => true,
+        },
+        CandidateStarts::FewUnits { units, len } => {
+            let few = FewUnitsFinder {
+                units: *units,
+                len: *len,
+            };
+            at < text_end(planned) && few.has(unit_key_at_offset(planned, at))
+        }
+        CandidateStarts::Behind(before) => is_behind(planned, *before, at),
+        CandidateStarts::Prefix { prefix, .. } => prefix_fits(planned, prefix, at),
+    }
+}
+
+// Checks whether the character before an offset lets a match begin there.
+#[inline(never)]
+fn is_behind<W: SearchContext>(planned: &W, before: PrecedingCharFilter, at: usize) -> bool
+    requires { IsBoundary (W.searching planned.now).text at }
+    ensures { let w = W.searching planned.now in result ≡ allows_start w.encoding before w.text at }
+{
+    let PrecedingCharFilter { keys, len, edge } = before;
+    let few = FewUnitsFinder { units: keys, len };
+    match planned
+        .input()
+        .next_left_pos(position_in_searched_text(planned, at))
+    {
+        Some(start) => few.has(unit_key_at_offset(
+            planned,
+            offset_in_searched_text(planned, start),
+        )),
+        None => edge,
+    }
+}
+
+/// Returns the first candidate start from `from` on, by the plan.
+#[inline(always)]
+pub fn first_candidate<W: SearchContext>(planned: &W, from: usize) -> Option<usize>
+    requires { IsBoundary (W.searching planned.now).text from }
+    ensures { IsFirstCandidate (W.searching planned.now) from result }
+{
+    planned.lemma_plan_fits_program();
+    match planned.candidate_start_filter_of_plan() {
+        CandidateStarts::Anywhere => Some(from),
+        CandidateStarts::InSet { set } => next_among(planned, *set, from),
+        CandidateStarts::FewUnits { units, len } => {
+            let few = FewUnitsFinder {
+                units: *units,
+                len: *len,
+            };
+            next_of_few_units(planned, few, from)
+        }
+        CandidateStarts::Behind(before) => next_by_lookbehind(planned, *before, from),
+        CandidateStarts::Prefix { prefix, prefilter } => first_filtered(
+            planned, prefix, prefilter, from,
+        ),
+    }
+}

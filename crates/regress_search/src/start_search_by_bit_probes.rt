@@ -1,0 +1,168 @@
+//! Start search by bit probes: finds offsets where a prefix may occur by testing bits of some of
+//! its units.
+
+ghost use Rattle.std.specs.Prelude.{◌≡◌, ◌≤◌, ◌<◌, ◌+◌, ◌-◌, ◌^◌};
+ghost use Rattle.std.proofs.Props.{props};
+ghost use Rattle.regex_meaning.specs.CodeUnitOffsets.{IsBoundary, units};
+ghost use Rattle.regress_program.specs.PrefixesAndPrefilters.{ProbePassesAllUnitsPrefixAllows, ProbesPassAllUnitsPrefixAllows, PrefixAllowsOnlyAsciiFirst};
+ghost use Rattle.regress_program.specs.declared.required_prefix_types.Prefix as prefix;
+ghost use Rattle.regress_search.specs.MarkedOffsets.{MarksAllPassing};
+ghost use Rattle.regress_search.specs.StartSearch.{prefix_fits_at, IsFirstBoundaryWherePrefixFits};
+
+use crate::class_char_and_table_lookups::unit_key_at_offset;
+use crate::search_by_marks::{OffsetTest, first_by_marks, units_with_bits};
+use crate::search_context::{SearchContext, text_end};
+use regress_program::required_prefix_prefilters::MaskedUnitProbe;
+use regress_program::required_prefix_types::Prefix;
+
+/// A prefix of matches, and probes that test bits of some of its units.
+#[derive(Clone, Copy)]
+pub(crate) struct PrefixAndBitProbes<'p> {
+    pub(crate) prefix: &'p Prefix,
+    pub(crate) probes: &'p [MaskedUnitProbe; 4],
+    ghost some: { 0 < prefix.now.len },
+    ghost are_probes: { ProbesPassAllUnitsPrefixAllows prefix.now probes.now } by { Prim.hlevel props },
+}
+
+// Checks whether each unit of the prefix may occur at an offset.
+#[inline(always)]
+fn fits_here<W: SearchContext>(planned: &W, prefix: &Prefix, at: usize) -> bool
+    requires { at + prefix.now.len ≤ units (W.searching planned.now).text }
+    ensures { result ≡ prefix_fits_at (W.searching planned.now) prefix.now at }
+{
+    let mut ahead = 0;
+    'units: while ahead < prefix.len {
+        let key = unit_key_at_offset(planned, at + ahead);
+        if !prefix.is_key_allowed(key, ahead) {
+            return false;
+        }
+        ahead += 1;
+    }
+    true
+}
+
+/// Checks whether the prefix may occur at an offset.
+#[inline(never)]
+pub(crate) fn prefix_fits<W: SearchContext>(planned: &W, prefix: &Prefix, at: usize) -> bool
+    requires { IsBoundary (W.searching planned.now).text at }
+    ensures { result ≡ prefix_fits_at (W.searching planned.now) prefix.now at }
+{
+    text_end(planned) - at >= prefix.len && fits_here(planned, prefix, at)
+}
+
+// Marks the 32 offsets from `at` on where a probe passes.
+#[inline(always)]
+fn marks_of_probe<W: SearchContext>(planned: &W, at: usize, probe: MaskedUnitProbe) -> u64
+    requires { at + probe.ahead + 32 ≤ units (W.searching planned.now).text }
+    ensures { (f : prefix.Prefix) → ProbePassesAllUnitsPrefixAllows f probe
+        → MarksAllPassing (prefix_fits_at (W.searching planned.now) f) at result }
+{
+    units_with_bits(
+        planned,
+        at + probe.ahead,
+        u16::from(probe.mask),
+        u16::from(probe.bits),
+    )
+}
+
+impl<W: SearchContext> OffsetTest<W> for PrefixAndBitProbes<'_> {
+    ghost passes_at = { λ probed w at. prefix_fits_at w probed.prefix.now at };
+
+    ghost reach = { λ probed. probed.prefix.now.len };
+
+    // Tests the rarest two probes.
+    #[inline(always)]
+    fn marks(&self, planned: &W, at: usize) -> u64 {
+        let [a, b, _, _] = *self.probes;
+        marks_of_probe(planned, at, a) & marks_of_probe(planned, at, b)
+    }
+
+    // Tests all probes.
+    #[inline(always)]
+    fn strict_marks(&self, planned: &W, at: usize) -> u64 {
+        let [_, _, c, d] = *self.probes;
+        let seldom = self.marks(planned, at);
+        seldom & marks_of_probe(planned, at, c) & marks_of_probe(planned, at, d)
+    }
+
+    #[inline(always)]
+    fn passes(&self, planned: &W, at: usize) -> bool {
+        fits_here(planned, self.prefix, at)
+    }
+}
+
+/// A test by the same probes, in which the rarest one is asked first, and the others where it passes.
+#[derive(Clone, Copy)]
+struct RarestProbeFirst<'p> {
+    probed: PrefixAndBitProbes<'p>,
+}
+
+impl<W: SearchContext> OffsetTest<W> for RarestProbeFirst<'_> {
+    ghost passes_at = { λ first w at. prefix_fits_at w first.probed.prefix.now at };
+
+    ghost reach = { λ first. first.probed.prefix.now.len };
+
+    #[inline(always)]
+    fn marks(&self, planned: &W, at: usize) -> u64 {
+        let [a, _, _, _] = *self.probed.probes;
+        marks_of_probe(planned, at, a)
+    }
+
+    #[inline(always)]
+    fn strict_marks(&self, planned: &W, at: usize) -> u64 {
+        self.probed.strict_marks(planned, at)
+    }
+
+    // The marks of the rarest probe are not asked for, so that no vector is kept from one block of
+    // instructions to the next.
+    #[inline(always)]
+    fn rejects(&self, planned: &W, at: usize) -> bool {
+        let [_, b, c, d] = *self.probed.probes;
+        let second = marks_of_probe(planned, at, b);
+        second & marks_of_probe(planned, at, c) & marks_of_probe(planned, at, d) == 0
+    }
+
+    #[inline(always)]
+    fn passes(&self, planned: &W, at: usize) -> bool {
+        fits_here(planned, self.probed.prefix, at)
+    }
+}
+
+// Checks whether a probe passes for a rare letter alone: a capital letter, or in both cases one of
+// those that are rare in words. Few blocks have one. Other rare units are frequent in logs and programs.
+fn is_of_rare_letter(probe: MaskedUnitProbe) -> bool {
+    let is_rare = matches!(probe.bits | 0x20, b'j' | b'k' | b'q' | b'v' | b'x' | b'z');
+    match probe.mask {
+        0xFF => is_rare || probe.bits.is_ascii_uppercase(),
+        0xDF => is_rare,
+        _ => false,
+    }
+}
+
+// Returns the number of offsets from `at` on that are followed by at least `len` units.
+#[inline(always)]
+fn places_left(units: usize, at: usize, len: usize) -> usize
+    requires { units + 1 < 2 ^ 64 }
+    ensures { result ≡ units + 1 - (at + len) }
+{
+    (units + 1).saturating_sub(at).saturating_sub(len)
+}
+
+/// Returns the first offset from `from` on where the prefix may occur, by bit probes.
+#[inline(never)]
+pub(crate) fn next_by_bit_probes<W: SearchContext>(
+    planned: &W,
+    probed: PrefixAndBitProbes<'_>,
+    from: usize,
+) -> Option<usize>
+    requires at { IsBoundary (W.searching planned.now).text from }
+    requires ascii { PrefixAllowsOnlyAsciiFirst probed.prefix.now }
+    ensures { IsFirstBoundaryWherePrefixFits (W.searching planned.now) probed.entry.prefix.now from result }
+{
+    let to = from + places_left(text_end(planned), from, probed.prefix.len);
+    if is_of_rare_letter(probed.probes[0]) {
+        first_by_marks(planned, &RarestProbeFirst { probed }, from, to)
+    } else {
+        first_by_marks(planned, &probed, from, to)
+    }
+}

@@ -1,0 +1,70 @@
+//! Runs of code units that pass a test by their keys.
+
+ghost use Rattle.std.specs.Prelude.{◌≡◌, ◌≤◌, ◌<◌, ◌+◌, ℕ, Bool, false};
+ghost use Rattle.regex_meaning.specs.CodeUnitOffsets.{units};
+ghost use Rattle.regress_search.specs.UnitRuns.{IsKeyTestAt, IsRunOfUnits};
+
+use crate::class_char_and_table_lookups::{unit_at_offset, unit_key_at_offset};
+use crate::search_context::SearchContext;
+use regress_input::indexing::{CodeUnitEncoding, HasUnitType};
+
+/// A test of code units by their keys. Contracts see which keys pass.
+pub(crate) trait KeyTest {
+    ghost key_passes: { Self → (key : ℕ) → Bool };
+
+    /// Checks whether a code unit with this key passes.
+    fn passes_key(&self, key: usize) -> bool
+        requires { key < 256 }
+        ensures { result ≡ key_passes self.now key };
+}
+
+/// Counts the consecutive code units from an offset on that pass, at most `most`.
+#[inline(always)]
+pub(crate) fn count_passing<W: SearchContext, Test: KeyTest>(
+    planned: &W,
+    test: &Test,
+    from: usize,
+    most: usize,
+) -> usize
+    requires { from + most ≤ units (W.searching planned.now).text }
+    ensures run { IsRunOfUnits (W.searching planned.now) (Test.key_passes test.now) from most result }
+    ensures stop { result < most
+        → IsKeyTestAt (W.searching planned.now) (Test.key_passes test.now) (from + result) false }
+{
+    let mut count = count_passing_ascii(planned, test, from, most);
+    'units: while count < most {
+        if !test.passes_key(unit_key_at_offset(planned, from + count)) {
+            return count;
+        }
+        count += 1;
+    }
+    count
+}
+
+// Counts like `count_passing`. In 16-bit units it may stop at one that is not below 128: the others are
+// their own keys.
+#[inline(always)]
+fn count_passing_ascii<W: SearchContext, Test: KeyTest>(
+    planned: &W,
+    test: &Test,
+    from: usize,
+    most: usize,
+) -> usize
+    requires { from + most ≤ units (W.searching planned.now).text }
+    ensures { IsRunOfUnits (W.searching planned.now) (Test.key_passes test.now) from most result }
+{
+    let mut count = 0;
+    'units: while count < most && is_own_key::<W>(unit_at_offset(planned, from + count)) {
+        if !test.passes_key(unit_key_at_offset(planned, from + count)) {
+            return count;
+        }
+        count += 1;
+    }
+    count
+}
+
+// Checks whether a unit is its own key.
+#[inline(always)]
+fn is_own_key<W: SearchContext>(unit: u32) -> bool {
+    <<W::Input as HasUnitType>::Units as CodeUnitEncoding>::ARE_BYTES || unit < 128
+}

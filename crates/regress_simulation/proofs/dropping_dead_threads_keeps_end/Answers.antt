@@ -1,5 +1,0 @@
-use Rattle.regress_simulation.proofs.Simulates.{dropping-keeps}
-use Rattle.regress_simulation.proofs.dropping_dead_threads_keeps_end.Goals as goal
-
-pub returns : goal.returns
-returns c = dropping-keeps

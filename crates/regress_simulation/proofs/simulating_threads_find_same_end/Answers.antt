@@ -1,5 +1,0 @@
-use Rattle.regress_simulation.proofs.Simulates.{simulating-alike}
-use Rattle.regress_simulation.proofs.simulating_threads_find_same_end.Goals as goal
-
-pub returns : goal.returns
-returns c = simulating-alike

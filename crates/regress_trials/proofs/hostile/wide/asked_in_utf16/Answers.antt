@@ -1,5 +1,0 @@
-use Rattle.regress_match.proofs.Starts.{utf16_start}
-use Rattle.regress_trials.proofs.hostile.wide.asked_in_utf16.Goals as goal
-
-pub finds-requires : goal.finds-requires
-finds-requires c = utf16_start _ c.args.units.now _ c.in_ok-executor.ensures.1 (λ k _. (c.type_inv.units k).fits) c.args.start c.requires

@@ -1,0 +1,5 @@
+use Rattle.regress_input.proofs.AsciiSets.{below_128}
+use Rattle.test_inputs.proofs.matches.ascii_set.Goals as goal
+
+pub returns : goal.returns
+returns c = below_128 _

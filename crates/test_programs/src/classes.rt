@@ -1,0 +1,64 @@
+//! The tables of the classes of plans, in words.
+
+use crate::predicates::write_bytes;
+use regex_pattern_front::ir::Regex;
+use regress_program::char_class_tables::Class;
+use regress_program::emit::{emit, emit_units};
+use regress_program::plan::Plan;
+use std::alloc::{AllocError, Global};
+
+// The classes of the plan of a tree for texts in bytes.
+pub(crate) fn write_classes(
+    alloc: Global,
+    text: &mut String,
+    tree: &Regex,
+) -> Result<(), AllocError> {
+    match emit(alloc, tree) {
+        Ok(program) => write_each(text, program.plan()),
+        Err(_) => Ok(()),
+    }
+}
+
+// The same for texts of 16-bit units.
+pub(crate) fn write_unit_classes(
+    alloc: Global,
+    text: &mut String,
+    tree: &Regex,
+) -> Result<(), AllocError> {
+    match emit_units(alloc, tree) {
+        Ok(program) => write_each(text, program.plan()),
+        Err(_) => Ok(()),
+    }
+}
+
+fn write_each(text: &mut String, plan: &Plan) -> Result<(), AllocError> {
+    for class in &plan.classes {
+        if !text.is_empty() {
+            text.push_str("; ")?;
+        }
+        write_class(text, class)?;
+    }
+    Ok(())
+}
+
+// Whether the class is of single units, the steps, and the bytes at which a run may end.
+fn write_class(text: &mut String, class: &Class) -> Result<(), AllocError> {
+    text.push_str(if class.single_unit { "single" } else { "wide" })?;
+    write_steps(text, &class.steps)?;
+    match &class.stops {
+        Some(stops) => write_bytes(text, " stops", stops.bytes.get(..stops.len).unwrap_or(&[])),
+        None => Ok(()),
+    }
+}
+
+// Each step behind the first key of a row of keys that have it. Keys before the first one have 0.
+fn write_steps(text: &mut String, steps: &[u8; 256]) -> Result<(), AllocError> {
+    let mut before = 0;
+    for (key, step) in steps.iter().enumerate() {
+        if *step != before {
+            write!(text, " {key}:{step}")?;
+        }
+        before = *step;
+    }
+    Ok(())
+}

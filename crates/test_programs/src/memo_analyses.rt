@@ -1,0 +1,108 @@
+//! Which instructions of programs record, with how many codes, and what a place pays for all of them; and codes of threads.
+
+ghost use Rattle.regress_memo.specs.CheckedAnalysis.{AreInsnCodesCountedAndDisjoint};
+
+use regex_pattern_front::ir::Regex;
+use regress_memo::analysis_result::MemoAnalysis;
+use regress_memo::loop_data_key_codes::LoopCountAndIterationStart;
+use regress_program::emit::emit;
+use std::alloc::{AllocError, Global};
+
+// The memo analysis of the program of a tree for texts in bytes, if it has one.
+pub(crate) fn write_memo_analysis(
+    alloc: Global,
+    text: &mut String,
+    tree: &Regex,
+) -> Result<(), AllocError> {
+    let Ok(program) = emit(alloc, tree) else {
+        return text.push_str("no program");
+    };
+    let loops = program.program_common_to_both_unit_kinds().loops() as usize;
+    match MemoAnalysis::new(alloc, program.insns(), loops)? {
+        Some(memo_analysis) => write_records(text, &memo_analysis),
+        None => text.push_str("none"),
+    }
+}
+
+// Each instruction that records and its codes, and the prices of all these together.
+fn write_records(text: &mut String, memo_analysis: &MemoAnalysis) -> Result<(), AllocError> {
+    let mut all = 0u64;
+    for (ip, line) in memo_analysis.lines.iter().enumerate() {
+        if line.records {
+            write!(text, "{ip}x{} ", line.codes)?;
+            let price = u64::from(line.price).saturating_mul(line.codes as u64);
+            all = all.saturating_add(price);
+        }
+    }
+    write!(text, "for {all}")
+}
+
+// The codes of threads at the instructions of a program that record and have several, if it has a memo analysis.
+pub(crate) fn write_codes(
+    alloc: Global,
+    text: &mut String,
+    tree: &Regex,
+) -> Result<(), AllocError> {
+    let Ok(program) = emit(alloc, tree) else {
+        return text.push_str("no program");
+    };
+    let loops = program.program_common_to_both_unit_kinds().loops() as usize;
+    match MemoAnalysis::new(alloc, program.insns(), loops)? {
+        Some(memo_analysis) => write_each(alloc, text, &memo_analysis, loops),
+        None => text.push_str("none"),
+    }
+}
+
+// Those of one instruction after another.
+fn write_each(
+    alloc: Global,
+    text: &mut String,
+    memo_analysis: &MemoAnalysis,
+    loops: usize,
+) -> Result<(), AllocError>
+    requires { AreInsnCodesCountedAndDisjoint memo_analysis.now }
+{
+    for ip in 0..memo_analysis.lines.len() {
+        let line = memo_analysis.insn_analysis_at(ip);
+        if line.records && line.codes > 1 {
+            if !text.is_empty() {
+                text.push_str("; ")?;
+            }
+            write!(text, "{ip}:")?;
+            write_codes_at(alloc, text, memo_analysis, loops, ip)?;
+        }
+    }
+    if text.is_empty() {
+        text.push_str("one each")
+    } else {
+        Ok(())
+    }
+}
+
+// The codes behind none to four iterations of each loop, where the current one has read a character, and where it has not; with
+// a mark where that is not sound at the end of a text of one unit.
+fn write_codes_at(
+    alloc: Global,
+    text: &mut String,
+    memo_analysis: &MemoAnalysis,
+    loops: usize,
+    ip: usize,
+) -> Result<(), AllocError>
+    requires { AreInsnCodesCountedAndDisjoint memo_analysis.now }
+{
+    for number in 0..10usize {
+        let round = LoopCountAndIterationStart {
+            iters: number / 2,
+            entry: number % 2,
+        };
+        let rounds = Vec::from_elem(alloc, round, loops)?;
+        let code = memo_analysis.code_at(ip, 1, &rounds);
+        let mark = if memo_analysis.is_reachable_loop_state(ip, 1, 1, &rounds) {
+            ""
+        } else {
+            "!"
+        };
+        write!(text, " {code}{mark}")?;
+    }
+    Ok(())
+}

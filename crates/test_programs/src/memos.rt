@@ -1,0 +1,114 @@
+//! Memories of three places: how many keys there are, each of which is noted by itself.
+
+ghost use Rattle.std.specs.Prelude.{IfOk, IfSome};
+ghost use Rattle.regress_memo.specs.CheckedAnalysis.{AreInsnCodesCountedAndDisjoint};
+
+use regex_pattern_front::ir::Regex;
+use regress_memo::analysis_result::MemoAnalysis;
+use regress_memo::memo::{MemoTable, ThreadMemoKey};
+use regress_program::emit::emit;
+use std::alloc::{AllocError, Global};
+
+/// So many places there are, and so many codes are tried.
+const PLACES: usize = 3;
+
+const CODES: usize = 7;
+
+// How many keys the program of a tree for texts in bytes has, if it has a memo analysis; and whether there may be a memory of all
+// places that can be counted.
+pub(crate) fn write_memo(alloc: Global, text: &mut String, tree: &Regex) -> Result<(), AllocError> {
+    let Some(memo_analysis) = memo_analysis_of(alloc, tree)? else {
+        return text.push_str("none");
+    };
+    match MemoTable::new(alloc, memo_analysis, PLACES, true)? {
+        Some(mut memo) => write_keys(text, &mut memo)?,
+        None => text.push_str("too many")?,
+    }
+    let Some(memo_analysis) = memo_analysis_of(alloc, tree)? else {
+        return text.push_str("none");
+    };
+    match MemoTable::new(alloc, memo_analysis, usize::MAX, false) {
+        Ok(Some(_memo)) => text.push_str(", in all places"),
+        Ok(None) => text.push_str(", too many"),
+        Err(_) => text.push_str(", refused"),
+    }
+}
+
+// The memo analysis of a program, if it has one.
+fn memo_analysis_of(alloc: Global, tree: &Regex) -> Result<Option<MemoAnalysis>, AllocError>
+    ensures { IfOk result (λ found. IfSome found AreInsnCodesCountedAndDisjoint) }
+{
+    let Ok(program) = emit(alloc, tree) else {
+        return Ok(None);
+    };
+    let loops = program.program_common_to_both_unit_kinds().loops() as usize;
+    MemoAnalysis::new(alloc, program.insns(), loops)
+}
+
+// Notes all keys, one by one, that they fail, and then that they find an end. Each is counted, unless more or others are known
+// then.
+fn write_keys(text: &mut String, memo: &mut MemoTable) -> Result<(), AllocError> {
+    let mut noted = 0usize;
+    for ip in 0..memo.memo_analysis().lines.len() {
+        for at in 0..PLACES + 1 {
+            for code in 0..CODES {
+                if fails_alone(memo, ThreadMemoKey { ip, at, code }) {
+                    noted = noted.wrapping_add(1);
+                }
+            }
+        }
+    }
+    write!(text, "{noted} fail")?;
+    let mut noted = 0usize;
+    for ip in 0..memo.memo_analysis().lines.len() {
+        for at in 0..PLACES + 1 {
+            for code in 0..CODES {
+                if reaches_alone(memo, ThreadMemoKey { ip, at, code }) {
+                    noted = noted.wrapping_add(1);
+                }
+            }
+        }
+    }
+    write!(text, ", {noted} find an end")
+}
+
+// Whether a key was not known to fail and is now, and no other one besides.
+fn fails_alone(memo: &mut MemoTable, key: ThreadMemoKey) -> bool {
+    if !memo.has(key) || memo.fails(key) {
+        return false;
+    }
+    let before = known(memo);
+    memo.record_failure(key);
+    let after = known(memo);
+    memo.fails(key) && after.0 == before.0.wrapping_add(1) && after.1 == before.1
+}
+
+// The same of ends.
+fn reaches_alone(memo: &mut MemoTable, key: ThreadMemoKey) -> bool {
+    if !memo.has(key) || memo.is_known_to_reach_end(key) || !memo.records_successes() {
+        return false;
+    }
+    let before = known(memo);
+    memo.record_success(key);
+    let after = known(memo);
+    memo.is_known_to_reach_end(key) && after.1 == before.1.wrapping_add(1) && after.0 == before.0
+}
+
+// How many keys are known to fail, and how many to find an end.
+fn known(memo: &MemoTable) -> (usize, usize) {
+    let (mut failures, mut ends) = (0usize, 0usize);
+    for ip in 0..memo.memo_analysis().lines.len() {
+        for at in 0..PLACES + 1 {
+            for code in 0..CODES {
+                let key = ThreadMemoKey { ip, at, code };
+                if memo.has(key) && memo.fails(key) {
+                    failures = failures.wrapping_add(1);
+                }
+                if memo.has(key) && memo.is_known_to_reach_end(key) {
+                    ends = ends.wrapping_add(1);
+                }
+            }
+        }
+    }
+    (failures, ends)
+}

@@ -1,0 +1,173 @@
+//! What plans say of what may stand next, in words.
+
+ghost use Rattle.std.specs.Prelude.{◌<◌};
+
+use regex_pattern_front::codepointset::Interval;
+use regex_pattern_front::ir::Regex;
+use regress_program::emit::{emit, emit_units};
+use regress_program::first_set_type::FirstSet;
+use regress_program::lookbehind_filter::PrecedingCharFilter;
+use regress_program::ops::Op;
+use regress_program::plan::{ANYTHING, CandidateStarts, Plan};
+use regress_program::required_prefix_prefilters::{
+    LiteralPrefilter, MaskedUnitProbe, RequiredPrefixPrefilter,
+};
+use regress_program::required_prefix_types::{Literal, Prefix};
+use regress_program::table_keys_of_units::KEYS;
+use std::alloc::{AllocError, Global};
+
+// The plan of a tree for texts in bytes.
+pub(crate) fn write_plan(alloc: Global, text: &mut String, tree: &Regex) -> Result<(), AllocError> {
+    match emit(alloc, tree) {
+        Ok(program) => write_sets(text, program.plan()),
+        Err(_) => Ok(()),
+    }
+}
+
+// The same for texts of 16-bit units.
+pub(crate) fn write_unit_plan(
+    alloc: Global,
+    text: &mut String,
+    tree: &Regex,
+) -> Result<(), AllocError> {
+    match emit_units(alloc, tree) {
+        Ok(program) => write_sets(text, program.plan()),
+        Err(_) => Ok(()),
+    }
+}
+
+// Where a search has to try, and what may stand behind each run.
+fn write_sets(text: &mut String, plan: &Plan) -> Result<(), AllocError> {
+    match plan.start {
+        CandidateStarts::Anywhere => text.push_str("anywhere")?,
+        CandidateStarts::InSet { set } => write_set(text, plan, "among", set)?,
+        CandidateStarts::FewUnits { units, len } => write!(text, "few {len} {units:?}")?,
+        CandidateStarts::Behind(before) => write_before(text, before)?,
+        CandidateStarts::Prefix { prefix, prefilter } => write_prefix(text, &prefix, prefilter)?,
+    }
+    for op in &plan.ops {
+        match op {
+            Op::PossessiveCharLoop(run) => write_set(text, plan, ", apart", run.next)?,
+            Op::GreedyCharLoop(run) => write_set(text, plan, ", run", run.next)?,
+            Op::LazyCharLoop(run) => write_set(text, plan, ", lazy", run.next)?,
+            _ => {}
+        }
+    }
+    write_rows(text, plan)?;
+    write_leap(text, plan)
+}
+
+// The rows of characters that the plan's classes know.
+fn write_rows(text: &mut String, plan: &Plan) -> Result<(), AllocError> {
+    for class in &plan.classes {
+        let Interval { first, last } = class.known;
+        if first <= last {
+            write!(text, ", knows {first} to {last}")?;
+        }
+    }
+    Ok(())
+}
+
+// The units of the goal to which a search leaps, and the edges of what a match may read before it.
+fn write_leap(text: &mut String, plan: &Plan) -> Result<(), AllocError> {
+    match &plan.leap {
+        Some(leap) => {
+            write!(text, ", leap {} {:?} over", leap.len, leap.units)?;
+            write_key_edges(text, &leap.over)
+        }
+        None => Ok(()),
+    }
+}
+
+// The keys of which one must begin the character before, and whether the left end serves too.
+fn write_before(text: &mut String, before: PrecedingCharFilter) -> Result<(), AllocError> {
+    let PrecedingCharFilter { keys, len, edge } = before;
+    write!(text, "behind {len} {keys:?}")?;
+    if edge { text.push_str(" edge") } else { Ok(()) }
+}
+
+// Which keys may stand first, second and so on, and what is looked for first.
+fn write_prefix(
+    text: &mut String,
+    prefix: &Prefix,
+    prefilter: RequiredPrefixPrefilter,
+) -> Result<(), AllocError> {
+    text.push_str("prefix")?;
+    for ahead in 0..prefix.len {
+        if ahead > 0 {
+            text.push_str(" /")?;
+        }
+        write_edges(text, &keys_at(prefix, ahead))?;
+    }
+    match prefilter {
+        RequiredPrefixPrefilter::Absent => Ok(()),
+        RequiredPrefixPrefilter::ByLiteral(known) => write_known(text, &known),
+        RequiredPrefixPrefilter::Probes(probes) => write_probes(text, &probes),
+    }
+}
+
+// The units that are looked for in a row, and how many units on, and what is looked for in a short text.
+fn write_known(text: &mut String, known: &LiteralPrefilter) -> Result<(), AllocError> {
+    let Literal { units, len, ahead } = &known.literal;
+    write!(text, " row {len} of {units:?} at {ahead}")?;
+    if let Some(rare) = known.rare {
+        write!(text, " rare {} at {}", rare.unit, rare.ahead)?;
+    }
+    match &known.probes {
+        Some(probes) => write_probes(text, probes),
+        None => Ok(()),
+    }
+}
+
+// The masks that are looked through, with the bits that stay, and how many units on.
+fn write_probes(text: &mut String, probes: &[MaskedUnitProbe]) -> Result<(), AllocError> {
+    for probe in probes {
+        let MaskedUnitProbe { ahead, mask, bits } = *probe;
+        write!(text, " bits {bits} of {mask} at {ahead}")?;
+    }
+    Ok(())
+}
+
+// The keys of units that may stand so many units on.
+fn keys_at(prefix: &Prefix, ahead: usize) -> FirstSet
+    requires { ahead < 16 }
+{
+    let mut keys = [false; 256];
+    for key in 0..KEYS {
+        keys[key] = prefix.is_key_allowed(key, ahead);
+    }
+    FirstSet { keys, end: false }
+}
+
+fn write_set(text: &mut String, plan: &Plan, name: &str, number: u32) -> Result<(), AllocError> {
+    text.push_str(name)?;
+    if number == ANYTHING {
+        return text.push_str(" anything");
+    }
+    match plan.sets.get(number as usize) {
+        Some(set) => write_edges(text, set),
+        None => text.push_str(" no set"),
+    }
+}
+
+// The first key of each row of keys that are in the set, or are not; and whether the end is in it.
+fn write_edges(text: &mut String, set: &FirstSet) -> Result<(), AllocError> {
+    write_key_edges(text, &set.keys)?;
+    if set.end {
+        text.push_str(" end")
+    } else {
+        Ok(())
+    }
+}
+
+// The keys from which on a table has another value than for the key before.
+fn write_key_edges(text: &mut String, keys: &[bool; 256]) -> Result<(), AllocError> {
+    let mut before = false;
+    for (key, here) in keys.iter().enumerate() {
+        if *here != before {
+            write!(text, " {key}")?;
+        }
+        before = *here;
+    }
+    Ok(())
+}

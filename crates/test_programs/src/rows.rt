@@ -1,0 +1,100 @@
+//! What is answered for trees, row by row.
+
+use crate::choices::{write_choices, write_unit_choices};
+use crate::classes::{write_classes, write_unit_classes};
+use crate::listing::{write_program, write_units};
+use crate::memo_analyses::{write_codes, write_memo_analysis};
+use crate::memos::write_memo;
+use crate::parts::{write_parts, write_shown_names, write_unit_parts};
+use crate::plans::{write_plan, write_unit_plan};
+use crate::predicates::write_predicate;
+use crate::rounds::{write_rounds, write_unit_rounds};
+use crate::table::ROWS;
+use crate::verdicts::{write_unit_verdicts, write_verdicts};
+use regex_parser::parse::try_parse;
+use regex_pattern_front::flags::Flags;
+use regex_pattern_front::ir::Regex;
+use regex_pattern_front::optimizer::optimize;
+use std::alloc::{AllocError, Global};
+use std::process::Abort;
+use std::test::Fail;
+use test_trees::tree_of;
+
+// Writes what is answered to a question about a tree.
+fn write_answer(
+    alloc: Global,
+    text: &mut String,
+    question: &str,
+    tree: &mut Regex,
+) -> Result<(), AllocError> {
+    match question {
+        "program" => write_program(alloc, text, tree),
+        "optimized" => {
+            optimize(tree);
+            write_program(alloc, text, tree)
+        }
+        "units" => write_units(alloc, text, tree),
+        "predicate" => write_predicate(alloc, text, tree),
+        "parts" => write_parts(alloc, text, tree),
+        "unit_parts" => write_unit_parts(alloc, text, tree),
+        "names" => write_shown_names(alloc, text, tree),
+        "plan" => write_plan(alloc, text, tree),
+        "unit_plan" => write_unit_plan(alloc, text, tree),
+        "choices" => write_choices(alloc, text, tree),
+        "unit_choices" => write_unit_choices(alloc, text, tree),
+        "verdicts" => write_verdicts(alloc, text, tree),
+        "unit_verdicts" => write_unit_verdicts(alloc, text, tree),
+        "rounds" => write_rounds(alloc, text, tree),
+        "unit_rounds" => write_unit_rounds(alloc, text, tree),
+        "classes" => write_classes(alloc, text, tree),
+        "unit_classes" => write_unit_classes(alloc, text, tree),
+        "memo_analysis" => write_memo_analysis(alloc, text, tree),
+        "codes" => write_codes(alloc, text, tree),
+        "memo" => write_memo(alloc, text, tree),
+        _ => text.push_str("no question"),
+    }
+}
+
+// The tree of a pattern with the letters of its flags, which is optimized; none where it is no pattern.
+fn parsed(alloc: Global, pattern: &str, letters: &str) -> Option<Regex> {
+    let code_points: Vec<u32> = pattern.chars().map(u32::from).collect(alloc).ok()?;
+    let flags = Flags {
+        icase: letters.contains('i'),
+        multiline: letters.contains('m'),
+        dot_all: letters.contains('s'),
+        unicode: letters.contains('u'),
+        ..Flags::default()
+    };
+    let mut tree = try_parse(alloc, &code_points, flags).ok()?;
+    optimize(&mut tree);
+    Some(tree)
+}
+
+// The tree of these words, or of a pattern between strokes and the letters of its flags.
+fn asked_tree(alloc: Global, words: &str) -> Option<Regex> {
+    let Some(pattern) = words.strip_prefix('/') else {
+        return tree_of(alloc, words);
+    };
+    let (pattern, letters) = pattern.rsplit_once('/')?;
+    parsed(alloc, pattern, letters)
+}
+
+// The same for a question, a blank and a tree in words, or a pattern.
+fn write_answer_to(alloc: Global, text: &mut String, asked: &str) -> Result<(), AllocError> {
+    let (question, words) = asked.split_once(' ').unwrap_or((asked, ""));
+    match asked_tree(alloc, words) {
+        Some(mut tree) => write_answer(alloc, text, question, &mut tree),
+        None => text.push_str("no tree"),
+    }
+}
+
+#[test]
+fn trees_have_these_answers(rt: HostRuntime) -> Result<(), Fail> {
+    for line in ROWS.lines() {
+        let (asked, wanted) = line.split_once(" → ").unwrap_or((line, "no answer"));
+        let mut found = String::new(rt.alloc());
+        write_answer_to(rt.alloc(), &mut found, asked)?;
+        assert!(rt; found.as_str() == wanted, "{found} at {line}");
+    }
+    Ok(())
+}

@@ -1,0 +1,87 @@
+//! Searches that end in time only because failures are memoized, or because empty iterations are skipped.
+
+use crate::lines::write_utf8;
+use crate::rows::{Row, compare};
+use regex_parser::parse::try_parse;
+use regex_pattern_front::flags::Flags;
+use regress_match::SearchError;
+use regress_match::backends::{DefaultExecutor, emit};
+use regress_pikevm::exec::{Matches, ProducerFromProgramAndText};
+use regress_program::insn::CompiledRegex;
+use std::alloc::Global;
+
+// Rows of three fields: a pattern, a text, and its matches. A search that tried all paths, or made all iterations,
+// would not end.
+pub const MEMOIZED: &str = "\
+(?:a|a)*b~aaaaaaaaaaaaaaaaaaaaaaaaaaaaaaaaaaaaaaaaaaaaaaaaaaaaaaaaaaaa~
+(a*)*b~aaaaaaaaaaaaaaaaaaaaaaaaaaaaaaaaaaaaaaaaaaaaaaaaaaaaaaaaaaaa~
+.*.*.*.*.*.*.*.*x~aaaaaaaaaaaaaaaaaaaaaaaaaaaaaaaaaaaaaaaaaaaaaaaaaaaaaaaaaaaa~
+.*?.*?.*?.*?.*?.*?.*?.*?x~aaaaaaaaaaaaaaaaaaaaaaaaaaaaaaaaaaaaaaaaaaaaaaaaaaaaaaaaaaaa~
+(x+x+)+y~xxxxxxxxxxxxxxxxxxxxxxxxxxxxxxxxxxxxxxxxxxxxxxxxxxxxxxxxxxxx~
+(?:){4294967295}~~0..0
+(){4294967295}~a~0..0 0..0; 1..1 1..1
+(?:|){4294967295}~a~0..0; 1..1
+(?:()|(?:|){4294967295,}b){2,}~b~0..1 -; 1..1 1..1
+a(?:()()){4294967294,4294967295}?b~ab~0..2 1..1 1..1
+(?<=(){4294967295}a)~a~1..1 0..0
+(?:\\b|a){4294967295}~aac~0..0; 3..3
+(?:\\b|a){4294967295}c~aac~0..3
+(?:a|\\b){4294967295,}?(?!$)~aac~0..2
+(?:(?=)){4294967295}~a~0..0; 1..1
+(?:(?=)|a){4294967295}~aa~0..0; 1..1; 2..2
+(?:(?=())){4294967295}~aa~0..0 0..0; 1..1 1..1; 2..2 2..2
+(?:ab|){4294967295}~abab~0..4; 4..4
+(?:()|){4294967295}~a~0..0 0..0; 1..1 1..1
+(?:(a)|){4294967295}~aa~0..2 -; 2..2 -
+(?<=(?:(a)|){4294967295}b)~aab~3..3 -
+(?:(?=(a)).??|b){4294967295}c~aabc~0..4 -
+(?:(a)|(?=(b))|\\b){4294967295}(?!$)~aab~0..2 - 2..3; 2..2 - 2..3
+(?:(?=(?=(a).)|)(?:\\b|.)){4294967295}c~aac~0..3 1..2
+(?:(?!a*b)a|b)*~aabaa~0..0; 1..1; 2..5; 5..5
+(?:(?!a*b)(?!a*c)a|[bc])*~aacab~0..0; 1..1; 2..3; 3..3; 4..5; 5..5
+(?<!^a*)b~aabb~3..4
+(?:(?!(a*)b)a|b)*~aabaa~0..0 -; 1..1 -; 2..5 -; 5..5 -
+(?:(?!(?:ab)*c)ab|c)*~ababcab~0..0; 1..1; 2..2; 3..3; 4..7; 7..7
+(?:(a|aa)+?c|b)~aaaaaaaaaaaaaaaaaaaaaaaaaaaaaaaaaaaaaaaaaaaaaaaaaaaaaaaaaaaab~60..61 -
+";
+
+// Returns the program of a pattern's tree, which is not optimized.
+fn program_of(alloc: Global, pattern: &str) -> Option<CompiledRegex> {
+    let points: Vec<u32> = pattern.chars().map(u32::from).collect(alloc).ok()?;
+    let tree = try_parse(alloc, &points, Flags::default()).ok()?;
+    emit(alloc, &tree).ok()
+}
+
+// Writes the matches that an executor finds which memoizes failures after some work.
+fn write_memoizing(line: &mut String, re: &CompiledRegex, text: &str) -> Result<(), SearchError> {
+    let executor = DefaultExecutor::new(re, text)?;
+    write_utf8(line, &mut Matches::new(executor, 0), false)
+}
+
+// Writes the matches that an executor finds which memoizes failures from the first attempt on.
+fn write_always_memoizing(
+    line: &mut String,
+    re: &CompiledRegex,
+    text: &str,
+) -> Result<(), SearchError> {
+    let mut executor = DefaultExecutor::new(re, text)?;
+    executor.always_memoize();
+    write_utf8(line, &mut Matches::new(executor, 0), false)
+}
+
+pub fn check_memoized(
+    alloc: Global,
+    differing: &mut String,
+    row: Row<'_>,
+) -> Result<(), SearchError> {
+    let (pattern, text) = row.asked.split_once('~').unwrap_or((row.asked, ""));
+    let Some(re) = program_of(alloc, pattern) else {
+        return Ok(compare(differing, row, "no program", "")?);
+    };
+    let mut found = String::new(alloc);
+    write_memoizing(&mut found, &re, text)?;
+    compare(differing, row, &found, "after some work")?;
+    let mut found = String::new(alloc);
+    write_always_memoizing(&mut found, &re, text)?;
+    Ok(compare(differing, row, &found, "from the first attempt on")?)
+}

@@ -1,0 +1,43 @@
+//! Runs cases that another engine judged, every short text by every constructor, patterns made from a seed, and odd rows by
+//! every call (these alone: `test_trials hostile`).
+//!
+//! The status is 1 where a judged case or a constructor differs.
+#![tactic(auto)]
+
+mod bounded;
+mod checks;
+mod explosions;
+mod fault;
+mod hostile;
+mod judged;
+mod limits;
+mod lists;
+mod patterns;
+mod seed;
+mod seeded;
+mod sweep;
+mod texts;
+
+use anyhow::Result;
+use std::env;
+use std::process::ExitCode;
+
+// Whether the odd rows alone are asked for. Where memory is refused to it this cannot be told.
+fn asks_for_hostile(rt: &HostRuntime) -> bool {
+    match env::args(rt) {
+        Ok(mut words) => words.nth(1).is_some_and(|word| word.as_str() == "hostile"),
+        Err(_) => false,
+    }
+}
+
+fn main(rt: HostRuntime) -> Result<ExitCode> {
+    if asks_for_hostile(&rt) || asks_for_hostile(&rt) {
+        hostile::tell_all(&rt)?;
+        return Ok(ExitCode::SUCCESS);
+    }
+    let judged = judged::agree(&rt)?;
+    let constructed = sweep::agrees(&rt)?;
+    seeded::tell_all(&rt)?;
+    hostile::tell_all(&rt)?;
+    Ok(ExitCode::from(u8::from(!judged || !constructed)))
+}

@@ -3,7 +3,7 @@ use Rattle.std.proofs.Common.{◌≡◌, ℕ, ◌<◌, ◌≤◌, List, ◌∷�
 use Rattle.regex_meaning.specs.Tree.{Node}
 use Rattle.regex_meaning.specs.Text.{Text, last_place}
 use Rattle.regex_meaning.specs.CodeUnitOffsets.{HasRisingPlaceOffsets, offset, place_at, IsBoundary}
-use Rattle.regex_meaning.specs.FirstAndAllMatches.{Found, first_match, place_behind, match_list}
+use Rattle.regex_meaning.specs.FirstAndAllMatches.{Found, first_match, place_after_match, match_list}
 use Rattle.regex_meaning.specs.MatchGroupsByNumberAndName.{Answer, answer, answers_from}
 use Rattle.regex_meaning.specs.SearchAnswers.{first_answer, next_start, answers_on, answer_then_list}
 use Rattle.regex_meaning.specs.Laws.{list_from, match_then_list, IsRange}
@@ -23,10 +23,10 @@ module _ (root : Node) (text : Text) (is : HasRisingPlaceOffsets text) where
 
   answers-then : (place : ℕ) (m : Option Found) → StandsFrom root text place m
       → map (answer root text) (match_then_list root text m)
-      ≡ answer_then_list root text (option_map (answer root text) m) (option_map (offset text) (option_and_then (place_behind root text) m))
+      ≡ answer_then_list root text (option_map (answer root text) m) (option_map (offset text) (option_and_then (place_after_match root text) m))
   answers-then place None h = refl
   answers-then place (Some m) h =
-      ap (λ (ms : List Answer). answer root text m ∷ ms) (answers-on place (place_behind root text m) (goes-inside root text place m h))
+      ap (λ (ms : List Answer). answer root text m ∷ ms) (answers-on place (place_after_match root text m) (goes-inside root text place m h))
 
   -- the same at what is known of the start's place
   abbrev found-at : Option ℕ → Option Found
@@ -34,7 +34,7 @@ module _ (root : Node) (text : Text) (is : HasRisingPlaceOffsets text) where
 
   from-place : (start : ℕ) (at : Option ℕ) → place_at text start ≡ at
       → answers_from root text start
-      ≡ answer_then_list root text (option_map (answer root text) (found-at at)) (option_map (offset text) (option_and_then (place_behind root text) (found-at at)))
+      ≡ answer_then_list root text (option_map (answer root text) (found-at at)) (option_map (offset text) (option_and_then (place_after_match root text) (found-at at)))
   unfolding answers_from
   from-place start None e = rw e refl
   from-place start (Some p) e =
@@ -56,12 +56,12 @@ module _ (root : Node) (text : Text) (is : HasRisingPlaceOffsets text) where
       (omega arith, rw (← same) at_q)
 
   next-found : (start p next : ℕ) → offset text p ≡ start → p ≤ last_place text → (m : Option Found) → StandsFrom root text p m
-      → option_map (offset text) (option_and_then (place_behind root text) m) ≡ Some next → (start < next) × IsBoundary text next
+      → option_map (offset text) (option_and_then (place_after_match root text) m) ≡ Some next → (start < next) × IsBoundary text next
   next-found start p next at inside None h e = absurd (cc e)
-  next-found start p next at inside (Some m) h e = next-of start p next at inside (place_behind root text m) (goes-inside root text p m h) e
+  next-found start p next at inside (Some m) h e = next-of start p next at inside (place_after_match root text m) (goes-inside root text p m h) e
 
   next-from : (start next : ℕ) (at : Option ℕ) → place_at text start ≡ at
-      → option_map (offset text) (option_and_then (place_behind root text) (found-at at)) ≡ Some next → (start < next) × IsBoundary text next
+      → option_map (offset text) (option_and_then (place_after_match root text) (found-at at)) ≡ Some next → (start < next) × IsBoundary text next
   next-from start next None e n = absurd (cc n)
   next-from start next (Some p) e n =
       let o = offset-place_at text start p is e in

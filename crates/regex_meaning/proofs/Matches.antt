@@ -7,7 +7,7 @@ use Rattle.regex_meaning.specs.Laws.{Each, IsOnward, list_from, match_then_list}
 use Rattle.regex_meaning.specs.Tree.{Node}
 use Rattle.regex_meaning.specs.Text.{Text, rightwards, last_place}
 use Rattle.regex_meaning.specs.Outcomes.{Outcome}
-use Rattle.regex_meaning.specs.FirstAndAllMatches.{Found, no_groups, first_outcome, match_at, first_match, first_match_among, place_behind, matches_from, match_list}
+use Rattle.regex_meaning.specs.FirstAndAllMatches.{Found, no_groups, first_outcome, match_at, first_match, first_match_among, place_after_match, matches_from, match_list}
 use Rattle.regex_meaning.proofs.Onward.{outcomes-onward}
 use Rattle.std.proofs.lemmas.Bool.{ltb-true}
 
@@ -61,7 +61,7 @@ module _ (root : Node) (text : Text) where
   GoesOn place None = Unit {0}
   GoesOn place (Some next) = place < next
 
-  goes-behind : (place : ℕ) (m : Found) → StandsFrom place (Some m) → GoesOn place (place_behind root text m)
+  goes-behind : (place : ℕ) (m : Found) → StandsFrom place (Some m) → GoesOn place (place_after_match root text m)
   goes-behind place m h =
       if-cases (GoesOn place) (nat_lt m.start m.end) (Some m.end) (if nat_lt m.end (last_place text) then Some (m.end + 1) else None)
       (λ e. let less = ltb-true m.start m.end e in omega arith)
@@ -72,7 +72,7 @@ module _ (root : Node) (text : Text) where
   GoesOnInside place None = Unit {0}
   GoesOnInside place (Some next) = (place < next) × (next ≤ last_place text)
 
-  pub goes-inside : (place : ℕ) (m : Found) → StandsFrom place (Some m) → GoesOnInside place (place_behind root text m)
+  pub goes-inside : (place : ℕ) (m : Found) → StandsFrom place (Some m) → GoesOnInside place (place_after_match root text m)
   goes-inside place m h =
       if-cases (GoesOnInside place) (nat_lt m.start m.end) (Some m.end) (if nat_lt m.end (last_place text) then Some (m.end + 1) else None)
       (λ e. let less = ltb-true m.start m.end e in (omega arith, omega arith))
@@ -102,7 +102,7 @@ module _ (root : Node) (text : Text) where
   unfolding matches_from
   same-list place a b h None s = refl
   same-list place a b h (Some m) s =
-      ap (λ (ms : List Found). m ∷ ms) (same-behind place a b h (place_behind root text m) (goes-behind place m s))
+      ap (λ (ms : List Found). m ∷ ms) (same-behind place a b h (place_after_match root text m) (goes-behind place m s))
 
   enough : (a b place : ℕ) → last_place text + 1 - place ≤ a → last_place text + 1 - place ≤ b
       → matches_from root text a (first_match root text place) ≡ matches_from root text b (first_match root text place)
@@ -115,7 +115,7 @@ module _ (root : Node) (text : Text) where
       → matches_from root text (suc (last_place text)) m ≡ match_then_list root text m
   unfolding matches_from match_list
   unfolds place None s = refl
-  unfolds place (Some m) s = ap (λ (ms : List Found). m ∷ ms) (go (place_behind root text m) (goes-behind place m s))
+  unfolds place (Some m) s = ap (λ (ms : List Found). m ∷ ms) (go (place_after_match root text m) (goes-behind place m s))
     where
       go : (next : Option ℕ) → GoesOn place next
           → matches_from root text (last_place text) (option_and_then (first_match root text) next) ≡ list_from root text next

@@ -45,15 +45,15 @@ back : {p q : ParseState} → p.opened ≡ q.opened → Later p q
 back e = stays (sym e)
 
 mutual
-  later-disjunction : {S : PatternDialect} {w : PatternContext} {behind : Bool} {p q : ParseState} {n : Node} → Disjunction S w behind p q n → Later p q
+  later-disjunction : {S : PatternDialect} {w : PatternContext} {in_lookbehind : Bool} {p q : ParseState} {n : Node} → Disjunction S w in_lookbehind p q n → Later p q
   later-disjunction (last_alternative a) = later-alternative a
   later-disjunction (alternatives a bar d) = then-later (later-alternative a) (then-later (back (ap (λ x. x.opened) bar)) (later-disjunction d))
 
-  later-alternative : {S : PatternDialect} {w : PatternContext} {behind : Bool} {p q : ParseState} {ns : List Node} → Alternative S w behind p q ns → Later p q
+  later-alternative : {S : PatternDialect} {w : PatternContext} {in_lookbehind : Bool} {p q : ParseState} {ns : List Node} → Alternative S w in_lookbehind p q ns → Later p q
   later-alternative no_terms = stays refl
   later-alternative (terms t a) = then-later (later-term t) (later-alternative a)
 
-  later-term : {S : PatternDialect} {w : PatternContext} {behind : Bool} {p q : ParseState} {n : Node} → Term S w behind p q n → Later p q
+  later-term : {S : PatternDialect} {w : PatternContext} {in_lookbehind : Bool} {p q : ParseState} {n : Node} → Term S w in_lookbehind p q n → Later p q
   later-term (assertion a k) = later-assertion a
   later-term (repeated_assertion a may k) = then-later (later-assertion a) (stays refl)
   later-term (atom a k) = later-atom a
@@ -65,7 +65,7 @@ mutual
   later-assertion (boundary invert e) = back (ap (λ x. x.opened) e)
   later-assertion (look negate backwards e d f) = then-later (back (ap (λ x. x.opened) e)) (then-later (later-disjunction d) (back (ap (λ x. x.opened) f)))
 
-  later-atom : {S : PatternDialect} {w : PatternContext} {behind : Bool} {p q : ParseState} {n : Node} → Atom S w behind p q n → Later p q
+  later-atom : {S : PatternDialect} {w : PatternContext} {in_lookbehind : Bool} {p q : ParseState} {n : Node} → Atom S w in_lookbehind p q n → Later p q
   later-atom (leaf a) = stays refl
   later-atom (group e o d f) = then-later (opens [] (ap (λ x. x.opened ++ [] ∷ []) (sym e))) (then-later (later-disjunction d) (back (ap (λ x. x.opened) f)))
   later-atom (named_group {name = name} e g d f) = then-later (opens name (ap (λ x. x.opened ++ name ∷ []) (sym e))) (then-later (later-disjunction d) (back (ap (λ x. x.opened) f)))
@@ -113,7 +113,7 @@ row-named : (names : Names) (ns : List Node) → Each (AreNamed names) ns → Ar
 row-named names [] h = tt
 row-named names (n ∷ ns) h = Each-append (Stands names) (capturing_group_ids_and_names n) (capturing_group_ids_and_names (sequence_node ns)) h.0 (row-named names ns h.1)
 
-arm-named : (names : Names) (behind : Bool) (ns : List Node) → Each (AreNamed names) ns → AreNamed names (arm behind ns)
+arm-named : (names : Names) (in_lookbehind : Bool) (ns : List Node) → Each (AreNamed names) ns → AreNamed names (arm in_lookbehind ns)
 arm-named names true ns h = row-named names (reverse ns) (Each-reverse (AreNamed names) ns h)
 arm-named names false ns h = row-named names ns h
 
@@ -131,16 +131,16 @@ same-groups {names} e g = (g.0, g.1 ∙ ap (λ x. x ++ g.0) (sym e))
 
 module _ (S : PatternDialect) (sound : AtomsAreSound S) where
   mutual
-    named-disjunction : {names : Names} {w : PatternContext} {behind : Bool} {p q : ParseState} {n : Node} → Disjunction S w behind p q n → GoesOn names q.opened → AreNamed names n
-    named-disjunction {names} (last_alternative {behind = behind} a) g = arm-named names behind _ (named-alternative a g)
-    named-disjunction {names} (alternatives {behind = behind} a bar d) g =
-        Each-append (Stands names) _ _ (arm-named names behind _ (named-alternative a (same-groups (ap (λ x. x.opened) bar) (before (later-disjunction d) g)))) (named-disjunction d g)
+    named-disjunction : {names : Names} {w : PatternContext} {in_lookbehind : Bool} {p q : ParseState} {n : Node} → Disjunction S w in_lookbehind p q n → GoesOn names q.opened → AreNamed names n
+    named-disjunction {names} (last_alternative {in_lookbehind = in_lookbehind} a) g = arm-named names in_lookbehind _ (named-alternative a g)
+    named-disjunction {names} (alternatives {in_lookbehind = in_lookbehind} a bar d) g =
+        Each-append (Stands names) _ _ (arm-named names in_lookbehind _ (named-alternative a (same-groups (ap (λ x. x.opened) bar) (before (later-disjunction d) g)))) (named-disjunction d g)
 
-    named-alternative : {names : Names} {w : PatternContext} {behind : Bool} {p q : ParseState} {ns : List Node} → Alternative S w behind p q ns → GoesOn names q.opened → Each (AreNamed names) ns
+    named-alternative : {names : Names} {w : PatternContext} {in_lookbehind : Bool} {p q : ParseState} {ns : List Node} → Alternative S w in_lookbehind p q ns → GoesOn names q.opened → Each (AreNamed names) ns
     named-alternative no_terms g = tt
     named-alternative (terms t a) g = (named-term t (before (later-alternative a) g), named-alternative a g)
 
-    named-term : {names : Names} {w : PatternContext} {behind : Bool} {p q : ParseState} {n : Node} → Term S w behind p q n → GoesOn names q.opened → AreNamed names n
+    named-term : {names : Names} {w : PatternContext} {in_lookbehind : Bool} {p q : ParseState} {n : Node} → Term S w in_lookbehind p q n → GoesOn names q.opened → AreNamed names n
     named-term (assertion a k) g = named-assertion a g
     named-term (repeated_assertion a may k) g = named-assertion a g
     named-term (atom a k) g = named-atom a g
@@ -152,7 +152,7 @@ module _ (S : PatternDialect) (sound : AtomsAreSound S) where
     named-assertion (boundary invert e) g = tt
     named-assertion (look negate backwards e d f) g = named-disjunction d (same-groups (ap (λ x. x.opened) f) g)
 
-    named-atom : {names : Names} {w : PatternContext} {behind : Bool} {p q : ParseState} {n : Node} → Atom S w behind p q n → GoesOn names q.opened → AreNamed names n
+    named-atom : {names : Names} {w : PatternContext} {in_lookbehind : Bool} {p q : ParseState} {n : Node} → Atom S w in_lookbehind p q n → GoesOn names q.opened → AreNamed names n
     named-atom {names} {w} (leaf {p = p} {there = there} {n = n} a) g = unnamed names n (sound w p.text there n a).ids
     named-atom {names} (group {q = q} e o d f) g =
         let h = same-groups (ap (λ x. x.opened) f) g in (opened-here names q _ [] (ap groups_at e) (later-disjunction d) h, named-disjunction d h)

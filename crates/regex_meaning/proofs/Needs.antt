@@ -3,15 +3,15 @@ use Rattle.std.proofs.Common.{◌≡◌, ℕ, zero, suc, ◌+◌, ◌<◌, ◌�
 use Rattle.std.specs.Option.{option_map_or}
 use Rattle.regex_meaning.specs.Tree.{Tree}
 use Rattle.regex_meaning.specs.Text.{Text, last_place}
-use Rattle.regex_meaning.specs.FirstAndAllMatches.{Found, first_match, place_behind}
+use Rattle.regex_meaning.specs.FirstAndAllMatches.{Found, first_match, place_after_match}
 use Rattle.regex_meaning.specs.OutcomesWithStepTicks.{need, needs_from}
-use Rattle.regex_meaning.specs.Laws.{needs_on, needs_behind}
+use Rattle.regex_meaning.specs.Laws.{needs_on, needs_after_match}
 use Rattle.regex_meaning.proofs.Matches.{StandsFrom, stands-first, GoesOnInside, goes-inside}
 
 module _ (tree : Tree) (text : Text) where
   -- the needs behind a match, where at most so many are left
   abbrev behind : (count spent : ℕ) → Option Found → List ℕ
-  behind count spent m = option_map_or (λ n. needs_from tree text count spent (place_behind tree.root text n)) m []
+  behind count spent m = option_map_or (λ n. needs_from tree text count spent (place_after_match tree.root text n)) m []
 
   end-only : (count spent : ℕ) → needs_from tree text count spent None ≡ spent ∷ []
   end-only zero spent = refl
@@ -28,7 +28,7 @@ module _ (tree : Tree) (text : Text) where
       → ((next : ℕ) → place < next → next ≤ last_place text → needs_from tree text a spent (Some next) ≡ needs_from tree text b spent (Some next))
       → (m : Option Found) → StandsFrom tree.root text place m → behind a spent m ≡ behind b spent m
   same-needs place a b spent h None s = refl
-  same-needs place a b spent h (Some m) s = same-behind place a b spent h (place_behind tree.root text m) (goes-inside tree.root text place m s)
+  same-needs place a b spent h (Some m) s = same-behind place a b spent h (place_after_match tree.root text m) (goes-inside tree.root text place m s)
 
   -- more than places are left changes nothing
   enough : (a b spent place : ℕ) → place ≤ last_place text → last_place text < place + a → last_place text < place + b
@@ -42,9 +42,9 @@ module _ (tree : Tree) (text : Text) where
       (first_match tree.root text place) (stands-first tree.root text place))
 
   behind-unfolds : (place spent : ℕ) (m : Option Found) → StandsFrom tree.root text place m
-      → behind (last_place text) spent m ≡ needs_behind tree text spent m
+      → behind (last_place text) spent m ≡ needs_after_match tree text spent m
   behind-unfolds place spent None s = refl
-  behind-unfolds place spent (Some m) s = go (place_behind tree.root text m) (goes-inside tree.root text place m s)
+  behind-unfolds place spent (Some m) s = go (place_after_match tree.root text m) (goes-inside tree.root text place m s)
     where
       go : (next : Option ℕ) → GoesOnInside tree.root text place next → needs_from tree text (last_place text) spent next ≡ needs_on tree text spent next
       go None g = end-only (last_place text) spent
@@ -52,7 +52,7 @@ module _ (tree : Tree) (text : Text) where
 
   pub needs-unfold : (spent place : ℕ)
       → needs_on tree text spent (Some place)
-      ≡ (spent + need tree text place) ∷ needs_behind tree text (spent + need tree text place) (first_match tree.root text place)
+      ≡ (spent + need tree text place) ∷ needs_after_match tree text (spent + need tree text place) (first_match tree.root text place)
   needs-unfold spent place =
       ap (λ (count : ℕ). needs_from tree text count spent (Some place)) (add-one (last_place text))
       ∙ ap (λ (more : List ℕ). (spent + need tree text place) ∷ more)

@@ -63,7 +63,7 @@ pub places_differ : {p q r : ParseState} (char_at : RemainingCodePoints → ℕ)
 places_differ {p} {q} {r} char_at e f g = unlike (char_at q.text) (char_at r.text) g (ap (λ x. char_at x.text) (sym e ∙ f))
 
 -- an atom that is no leaf begins with a parenthesis
-no_group : {S : PatternDialect} {behind : Bool} {p r : ParseState} {m : Node} (u : PatternContext) → Atom S u behind p r m → ((there : RemainingCodePoints) (n : Node) → S.simple_atom u p.text there n → ⊥) → nat_eq (first p.text) 40 ≡ false → ⊥
+no_group : {S : PatternDialect} {in_lookbehind : Bool} {p r : ParseState} {m : Node} (u : PatternContext) → Atom S u in_lookbehind p r m → ((there : RemainingCodePoints) (n : Node) → S.simple_atom u p.text there n → ⊥) → nat_eq (first p.text) 40 ≡ false → ⊥
 no_group u (leaf {there = there} {n = n} a) never f = never there n a
 no_group {p = p} u (group e o d g) never f = unlike (first p.text) 40 f (ap (λ x. first x.text) e)
 no_group {p = p} u (named_group e o d g) never f = unlike (first p.text) 40 f (ap (λ x. first x.text) e)
@@ -140,18 +140,18 @@ pub record IsReadInOneWay (S : PatternDialect) : Type 0 where
       → here ≡ codes (if invert then "\\B" else "\\b") ++ rest → ⊥
 
 module _ {S : PatternDialect} {w : PatternContext} {p q : ParseState} where
-  from_here : {behind : Bool} {r : ParseState} {n : Node} → p ≡ q → Disjunction S w behind q r n → Disjunction S w behind p r n
-  from_here {behind} {r} {n} e d = subst (λ x. Disjunction S w behind x r n) (sym e) d
+  from_here : {in_lookbehind : Bool} {r : ParseState} {n : Node} → p ≡ q → Disjunction S w in_lookbehind q r n → Disjunction S w in_lookbehind p r n
+  from_here {in_lookbehind} {r} {n} e d = subst (λ x. Disjunction S w in_lookbehind x r n) (sym e) d
 
-  terms_from : {behind : Bool} {r : ParseState} {ns : List Node} → p ≡ q → Alternative S w behind q r ns → Alternative S w behind p r ns
-  terms_from {behind} {r} {ns} e a = subst (λ x. Alternative S w behind x r ns) (sym e) a
+  terms_from : {in_lookbehind : Bool} {r : ParseState} {ns : List Node} → p ≡ q → Alternative S w in_lookbehind q r ns → Alternative S w in_lookbehind p r ns
+  terms_from {in_lookbehind} {r} {ns} e a = subst (λ x. Alternative S w in_lookbehind x r ns) (sym e) a
 
-  from_inside : {behind : Bool} {r : ParseState} {n : Node} → p ≡ q → Disjunction S w behind (with_opened_group [] q) r n → Disjunction S w behind (with_opened_group [] p) r n
-  from_inside {behind} {r} {n} e d = subst (λ x. Disjunction S w behind (with_opened_group [] x) r n) (sym e) d
+  from_inside : {in_lookbehind : Bool} {r : ParseState} {n : Node} → p ≡ q → Disjunction S w in_lookbehind (with_opened_group [] q) r n → Disjunction S w in_lookbehind (with_opened_group [] p) r n
+  from_inside {in_lookbehind} {r} {n} e d = subst (λ x. Disjunction S w in_lookbehind (with_opened_group [] x) r n) (sym e) d
 
-  from_named : {behind : Bool} {r : ParseState} {n : Node} {a b x y : RemainingCodePoints} → p ≡ q → a ≡ b → x ≡ y → Disjunction S w behind (with_opened_group y (state_with_text_left b q)) r n → Disjunction S w behind (with_opened_group x (state_with_text_left a p)) r n
-  from_named {behind} {r} {n} {a} {b} {x} {y} e f g d =
-      let h : with_opened_group x (state_with_text_left a p) ≡ with_opened_group y (state_with_text_left b q) = rw (e, f, g) refl in subst (λ z. Disjunction S w behind z r n) (sym h) d
+  from_named : {in_lookbehind : Bool} {r : ParseState} {n : Node} {a b x y : RemainingCodePoints} → p ≡ q → a ≡ b → x ≡ y → Disjunction S w in_lookbehind (with_opened_group y (state_with_text_left b q)) r n → Disjunction S w in_lookbehind (with_opened_group x (state_with_text_left a p)) r n
+  from_named {in_lookbehind} {r} {n} {a} {b} {x} {y} e f g d =
+      let h : with_opened_group x (state_with_text_left a p) ≡ with_opened_group y (state_with_text_left b q) = rw (e, f, g) refl in subst (λ z. Disjunction S w in_lookbehind z r n) (sym h) d
 
 quantified_from : {p q : ParseState} {there : RemainingCodePoints} {n : Quantifier} → p ≡ q → ValidQuantifier q.text there n → ValidQuantifier p.text there n
 quantified_from {there = there} {n = n} e k = subst (λ x. ValidQuantifier x.text there n) (sym e) k
@@ -186,7 +186,7 @@ module _ (S : PatternDialect) (one : IsReadInOneWay S) (one_quantifier : Quantif
   no_name false {there = there} {name = name} rest g e = one.no_sign 61 there name rest refl (subst (λ x. S.group_name x there name) (ap (λ x. rest_of (rest_of (rest_of x))) e) g)
   no_name true {there = there} {name = name} rest g e = one.no_sign 33 there name rest refl (subst (λ x. S.group_name x there name) (ap (λ x. rest_of (rest_of (rest_of x))) e) g)
 
-  pub assertion_or_atom : {behind : Bool} {p q r : ParseState} {n m : Node} → Assertion S w p q n → Atom S w behind p r m → ⊥
+  pub assertion_or_atom : {in_lookbehind : Bool} {p q r : ParseState} {n m : Node} → Assertion S w p q n → Atom S w in_lookbehind p r m → ⊥
   assertion_or_atom (start e) a = no_group w a (λ there n l. no_anchor (ap (λ x. x.text) e) l refl) (subst (λ x. nat_eq (first x.text) 40 ≡ false) (sym e) refl)
   assertion_or_atom (end e) a = no_group w a (λ there n l. no_anchor (ap (λ x. x.text) e) l refl) (subst (λ x. nat_eq (first x.text) 40 ≡ false) (sym e) refl)
   assertion_or_atom (boundary false e) a = no_group w a (λ there n l. one.leaf_no_boundary w _ _ _ _ false l (ap (λ x. x.text) e)) (subst (λ x. nat_eq (first x.text) 40 ≡ false) (sym e) refl)
@@ -219,7 +219,7 @@ module _ (S : PatternDialect) (one : IsReadInOneWay S) (one_quantifier : Quantif
       at_end c (inl f) e = unlike_true (subst (λ d. leaf_begins (d ∷ []) ≡ true) (eqb-true c 124 f) e)
       at_end c (inr f) e = ⊎_elim (λ g. unlike_true (subst (λ d. leaf_begins (d ∷ []) ≡ true) (eqb-true c 41 g) e)) (λ g. unlike_true g) (or_cases (nat_eq c 41) false f)
 
-  atom_begins : {behind : Bool} {p q : ParseState} {n : Node} → Atom S w behind p q n → ends_here p.text ≡ true → ⊥
+  atom_begins : {in_lookbehind : Bool} {p q : ParseState} {n : Node} → Atom S w in_lookbehind p q n → ends_here p.text ≡ true → ⊥
   atom_begins {p = p} (leaf a) e = leaf_ended p.text (one.leaf_apart w _ _ _ a) e
   atom_begins (group f o d g) e = not_ended (ap (λ x. x.text) f) refl e
   atom_begins (named_group f o d g) e = not_ended (ap (λ x. x.text) f) refl e
@@ -235,7 +235,7 @@ module _ (S : PatternDialect) (one : IsReadInOneWay S) (one_quantifier : Quantif
   assertion_begins (look false true f d g) e = not_ended (ap (λ x. x.text) f) refl e
   assertion_begins (look true true f d g) e = not_ended (ap (λ x. x.text) f) refl e
 
-  pub term_begins : {behind : Bool} {p q : ParseState} {n : Node} → Term S w behind p q n → ends_here p.text ≡ true → ⊥
+  pub term_begins : {in_lookbehind : Bool} {p q : ParseState} {n : Node} → Term S w in_lookbehind p q n → ends_here p.text ≡ true → ⊥
   term_begins (assertion a k) e = assertion_begins a e
   term_begins (repeated_assertion a may k) e = assertion_begins a e
   term_begins (atom a k) e = atom_begins a e
@@ -251,7 +251,7 @@ module _ (S : PatternDialect) (one : IsReadInOneWay S) (one_quantifier : Quantif
   only_one e none k = none (subst (λ x. BeginsQuantifier x.text) (sym e) (is_quantified k))
 
   mutual
-    pub one_disjunction : {behind : Bool} {p q r : ParseState} {n m : Node} → Disjunction S w behind p q n → Disjunction S w behind p r m → closes_here q.text ≡ true → closes_here r.text ≡ true → Agree q r n m
+    pub one_disjunction : {in_lookbehind : Bool} {p q r : ParseState} {n m : Node} → Disjunction S w in_lookbehind p q n → Disjunction S w in_lookbehind p r m → closes_here q.text ≡ true → closes_here r.text ≡ true → Agree q r n m
     one_disjunction {q = q} {r = r} (last_alternative a) (last_alternative b) e f =
         let h = one_alternative a b (close_ends q.text e) (close_ends r.text f) in (h.0, ap (arm _) h.1)
     one_disjunction {q = q} {r = r} (last_alternative a) (alternatives b bar d) e f =
@@ -264,7 +264,7 @@ module _ (S : PatternDialect) (one : IsReadInOneWay S) (one_quantifier : Quantif
         let k = one_disjunction d (from_here here d') e f in
         (k.0, rw (h.1, k.1) refl)
 
-    one_alternative : {behind : Bool} {p q r : ParseState} {ns ms : List Node} → Alternative S w behind p q ns → Alternative S w behind p r ms → ends_here q.text ≡ true → ends_here r.text ≡ true → Agree q r ns ms
+    one_alternative : {in_lookbehind : Bool} {p q r : ParseState} {ns ms : List Node} → Alternative S w in_lookbehind p q ns → Alternative S w in_lookbehind p r ms → ends_here q.text ≡ true → ends_here r.text ≡ true → Agree q r ns ms
     one_alternative no_terms no_terms e f = (refl, refl)
     one_alternative no_terms (terms t a) e f = absurd (term_begins t e)
     one_alternative (terms t a) no_terms e f = absurd (term_begins t f)
@@ -273,7 +273,7 @@ module _ (S : PatternDialect) (one : IsReadInOneWay S) (one_quantifier : Quantif
         let k = one_alternative a (terms_from h.0 b) e f in
         (k.0, rw (h.1, k.1) refl)
 
-    pub one_term : {behind : Bool} {p q r : ParseState} {n m : Node} → Term S w behind p q n → Term S w behind p r m → Agree q r n m
+    pub one_term : {in_lookbehind : Bool} {p q r : ParseState} {n m : Node} → Term S w in_lookbehind p q n → Term S w in_lookbehind p r m → Agree q r n m
     one_term (assertion a k) (assertion b l) = one_assertion a b
     one_term (assertion a k) (repeated_assertion b may l) = absurd (only_one (one_assertion a b).0 k l)
     one_term (repeated_assertion a may k) (assertion b l) = absurd (only_one (sym (one_assertion a b).0) l k)
@@ -306,7 +306,7 @@ module _ (S : PatternDialect) (one : IsReadInOneWay S) (one_quantifier : Quantif
         let h = one_look negate backwards e m.3 f m.5 (λ g. one_disjunction d (from_here g m.4) (closes f) (closes m.5)) in
         (h.0, h.1 ∙ sym m.6)
 
-    one_atom : {behind : Bool} {p q r : ParseState} {n m : Node} → Atom S w behind p q n → Atom S w behind p r m → Agree q r n m
+    one_atom : {in_lookbehind : Bool} {p q r : ParseState} {n m : Node} → Atom S w in_lookbehind p q n → Atom S w in_lookbehind p r m → Agree q r n m
     one_atom {p = p} (leaf a) (leaf b) = let h = one.one_leaf w _ _ _ _ _ a b in (ap (λ t. state_with_text_left t p) h.0, h.1)
     one_atom (leaf a) (group e o d f) = absurd (no_leaf (ap (λ x. x.text) e) a)
     one_atom (leaf a) (named_group e o d f) = absurd (no_leaf (ap (λ x. x.text) e) a)

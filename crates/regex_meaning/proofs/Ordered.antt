@@ -8,7 +8,7 @@ use Rattle.regex_meaning.specs.Tree.{Node, group_ids}
 use Rattle.regex_meaning.specs.Text.{Text, Direction, rightwards, leftwards, last_place}
 use Rattle.regex_meaning.specs.CodeUnitOffsets.{HasRisingPlaceOffsets, offset, place_at}
 use Rattle.regex_meaning.specs.Outcomes.{Groups, Outcome, outcomes}
-use Rattle.regex_meaning.specs.FirstAndAllMatches.{Found, no_groups, first_outcome, match_at, first_match, first_match_among, place_behind, matches_from, match_list}
+use Rattle.regex_meaning.specs.FirstAndAllMatches.{Found, no_groups, first_outcome, match_at, first_match, first_match_among, place_after_match, matches_from, match_list}
 use Rattle.regex_meaning.specs.MatchGroupsByNumberAndName.{Answer, answer, answers_from}
 use Rattle.regex_meaning.specs.SearchAnswers.{first_answer, next_start, answers_on, answer_then_list}
 use Rattle.regex_meaning.specs.Laws.{IsOnward, IsWithinText, IsRange, IsAnswerOf, AreAscendingDisjointAnswersFrom}
@@ -106,7 +106,7 @@ module _ (root : Node) (text : Text) where
   GoesBehind m None = Unit {0}
   GoesBehind m (Some next) = (m.start < next) × (m.end ≤ next)
 
-  goes-behind : (m : Found) → m.start ≤ m.end → GoesBehind m (place_behind root text m)
+  goes-behind : (m : Found) → m.start ≤ m.end → GoesBehind m (place_after_match root text m)
   goes-behind m h =
       if-cases (GoesBehind m) (nat_lt m.start m.end) (Some m.end) (if nat_lt m.end (last_place text) then Some (m.end + 1) else None)
       (λ e. let less = ltb-true m.start m.end e in (less, le_refl m.end))
@@ -126,7 +126,7 @@ module _ (root : Node) (text : Text) where
   order-from zero place m h g = tt
   order-from (suc count) place None h g = tt
   order-from (suc count) place (Some m) h g =
-      (h.0, h.1, h.2, g, order-behind count m (order-from count) (place_behind root text m) (goes-behind m h.1))
+      (h.0, h.1, h.2, g, order-behind count m (order-from count) (place_after_match root text m) (goes-behind m h.1))
 
   pub match_list-order : (place : ℕ) → InOrder place (match_list root text place)
   unfolding match_list
@@ -203,7 +203,7 @@ module _ (root : Node) (text : Text) (is : HasRisingPlaceOffsets text) where
   -- ---- The list from the end of a match
 
   resume-behind : (p : ℕ) (a : Answer) (m : Option Found) → StandsFrom root text p m → option_map (answer root text) m ≡ Some a
-      → a.range.0 < a.range.1 → option_map (offset text) (option_and_then (place_behind root text) m) ≡ Some a.range.1
+      → a.range.0 < a.range.1 → option_map (offset text) (option_and_then (place_after_match root text) m) ≡ Some a.range.1
   resume-behind p a None h e less = absurd (cc e)
   resume-behind p a (Some m) h e less =
       let same : answer root text m ≡ a = cc e in
@@ -214,7 +214,7 @@ module _ (root : Node) (text : Text) (is : HasRisingPlaceOffsets text) where
 
   resume-from : (a : Answer) (at : Option ℕ) → option_map (answer root text) (option_and_then (first_match root text) at) ≡ Some a
       → a.range.0 < a.range.1
-      → option_map (offset text) (option_and_then (place_behind root text) (option_and_then (first_match root text) at)) ≡ Some a.range.1
+      → option_map (offset text) (option_and_then (place_after_match root text) (option_and_then (first_match root text) at)) ≡ Some a.range.1
   resume-from a None e less = absurd (cc e)
   resume-from a (Some p) e less = resume-behind p a (first_match root text p) (stands-first root text p) e less
 

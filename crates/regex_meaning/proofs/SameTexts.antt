@@ -10,7 +10,7 @@ use Rattle.regex_meaning.specs.Tree.{end_of_line, word_boundary, capture_group, 
 use Rattle.regex_meaning.specs.Text.{Text, Direction, rightwards, leftwards}
 use Rattle.regex_meaning.specs.Outcomes.{is_same, Groups, Outcome, Repetition, repetition, repeat, outcomes, captured, cleared, one_character, spelled}
 use Rattle.regex_meaning.specs.Outcomes.{backref_outcomes, group_range, lookaround_outcomes, direction_of}
-use Rattle.regex_meaning.specs.FirstAndAllMatches.{Found, no_groups, first_match, first_match_among, place_behind, matches_from, match_list}
+use Rattle.regex_meaning.specs.FirstAndAllMatches.{Found, no_groups, first_match, first_match_among, place_after_match, matches_from, match_list}
 use Rattle.regex_meaning.proofs.Each.{Each, Each-take, Each-drop}
 use Rattle.regex_meaning.proofs.Lists.{flat_map-same}
 
@@ -119,8 +119,8 @@ module _ (characters : List ℕ) (unicode : Bool) (s_offsets t_offsets : List �
   matches-same root (suc count) None = refl
   matches-same root (suc count) (Some m) =
       ap (λ (ms : List Found). m ∷ ms)
-      (matches-same root count (option_and_then (first_match root s) (place_behind root s m))
-      ∙ ap (matches_from root t count) (behind-same root (place_behind root s m)))
+      (matches-same root count (option_and_then (first_match root s) (place_after_match root s m))
+      ∙ ap (matches_from root t count) (behind-same root (place_after_match root s m)))
 
   pub match_list-same : (root : Node) (place : ℕ) → match_list root s place ≡ match_list root t place
   unfolding match_list

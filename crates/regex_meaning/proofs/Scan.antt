@@ -240,15 +240,15 @@ module _ (S : PatternDialect) where
         }
 
     mutual
-      opens_disjunction : {w : PatternContext} {behind : Bool} {p q : ParseState} {n : Node} → Disjunction S w behind p q n → Opens p q
+      opens_disjunction : {w : PatternContext} {in_lookbehind : Bool} {p q : ParseState} {n : Node} → Disjunction S w in_lookbehind p q n → Opens p q
       opens_disjunction (last_alternative a) = opens_alternative a
       opens_disjunction (alternatives a bar d) = both (opens_alternative a) (both (past_word "|" refl bar) (opens_disjunction d))
 
-      opens_alternative : {w : PatternContext} {behind : Bool} {p q : ParseState} {ns : List Node} → Alternative S w behind p q ns → Opens p q
+      opens_alternative : {w : PatternContext} {in_lookbehind : Bool} {p q : ParseState} {ns : List Node} → Alternative S w in_lookbehind p q ns → Opens p q
       opens_alternative no_terms = stay refl refl
       opens_alternative (terms t a) = both (opens_term t) (opens_alternative a)
 
-      opens_term : {w : PatternContext} {behind : Bool} {p q : ParseState} {n : Node} → Term S w behind p q n → Opens p q
+      opens_term : {w : PatternContext} {in_lookbehind : Bool} {p q : ParseState} {n : Node} → Term S w in_lookbehind p q n → Opens p q
       opens_term (assertion a k) = opens_assertion a
       opens_term (repeated_assertion a may k) = both (opens_assertion a) (stay refl (past_quantifier false k))
       opens_term (atom a k) = opens_atom a
@@ -261,7 +261,7 @@ module _ (S : PatternDialect) where
       opens_assertion (boundary false e) = stay (sym (ap (λ x. x.opened) e)) (past_slash false {c = 98} (ap (λ x. x.text) e))
       opens_assertion (look negate backwards e d f) = both (past_opener negate backwards e) (both (opens_disjunction d) (past_word ")" refl f))
 
-      opens_atom : {w : PatternContext} {behind : Bool} {p q : ParseState} {n : Node} → Atom S w behind p q n → Opens p q
+      opens_atom : {w : PatternContext} {in_lookbehind : Bool} {p q : ParseState} {n : Node} → Atom S w in_lookbehind p q n → Opens p q
       opens_atom {w} (leaf a) = stay refl (scan.past_leaf w _ _ _ a)
       opens_atom (group e o d f) = both (past_group e o) (both (opens_disjunction d) (past_word ")" refl f))
       opens_atom (named_group e o d f) = both (past_named e o) (both (opens_disjunction d) (past_word ")" refl f))

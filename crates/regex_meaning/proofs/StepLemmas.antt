@@ -8,11 +8,11 @@ use Rattle.std.specs.List.{list_all}
 use Rattle.regex_meaning.specs.Tree.{Tree}
 use Rattle.regex_meaning.specs.Text.{Text, last_place}
 use Rattle.regex_meaning.specs.CodeUnitOffsets.{HasRisingPlaceOffsets, IsBoundary, offset, place_at}
-use Rattle.regex_meaning.specs.FirstAndAllMatches.{Found, first_match, place_behind}
+use Rattle.regex_meaning.specs.FirstAndAllMatches.{Found, first_match, place_after_match}
 use Rattle.regex_meaning.specs.MatchGroupsByNumberAndName.{Answer, answer, answers_from}
 use Rattle.regex_meaning.specs.SearchAnswers.{first_answer, first_found, next_start, answers_on, answer_then_list}
 use Rattle.regex_meaning.specs.OutcomesWithStepTicks.{need, needs, needs_from}
-use Rattle.regex_meaning.specs.Laws.{needs_on, needs_behind}
+use Rattle.regex_meaning.specs.Laws.{needs_on, needs_after_match}
 use Rattle.regex_meaning.specs.StepBudget.{is_within, remaining_budget, those_within, need_from, needs_of_answers, answers_within, finishes_within, answers_next}
 use Rattle.regex_meaning.specs.StepBudget.{end_next}
 use Rattle.regex_meaning.proofs.AnswerLemmas.{answers-go_on}
@@ -53,11 +53,11 @@ module _ (tree : Tree) (text : Text) where
     where
       by : spent + more + need tree text place ≡ spent + (more + need tree text place) → (m : Option Found)
           → ((next : Option ℕ) → needs_from tree text count (spent + (more + need tree text place)) next ≡ map (λ n. spent + n) (needs_from tree text count (more + need tree text place) next))
-          → option_map_or (λ m. needs_from tree text count (spent + more + need tree text place) (place_behind tree.root text m)) m []
-          ≡ map (λ n. spent + n) (option_map_or (λ m. needs_from tree text count (more + need tree text place) (place_behind tree.root text m)) m [])
+          → option_map_or (λ m. needs_from tree text count (spent + more + need tree text place) (place_after_match tree.root text m)) m []
+          ≡ map (λ n. spent + n) (option_map_or (λ m. needs_from tree text count (more + need tree text place) (place_after_match tree.root text m)) m [])
       by e None before = refl
       by e (Some m) before =
-          ap (λ n. needs_from tree text count n (place_behind tree.root text m)) e ∙ before (place_behind tree.root text m)
+          ap (λ n. needs_from tree text count n (place_after_match tree.root text m)) e ∙ before (place_after_match tree.root text m)
 
   -- the needs from where the list goes on, if it does
   abbrev pub needs_next : (next : Option ℕ) → List ℕ
@@ -82,7 +82,7 @@ module _ (tree : Tree) (text : Text) where
       let found : first_found tree.root text start ≡ first_match tree.root text place = ap (option_and_then (first_match tree.root text)) p.1 in
       here ∙ needs-unfold tree text 0 place
       ∙ behind k (first_match tree.root text place) (stands-first tree.root text place)
-      ∙ ap₂ (λ n m. n ∷ map (λ x. n + x) (needs_then (option_map (answer tree.root text) m) (option_map (offset text) (option_and_then (place_behind tree.root text) m)))) (sym needed) (sym found)
+      ∙ ap₂ (λ n m. n ∷ map (λ x. n + x) (needs_then (option_map (answer tree.root text) m) (option_map (offset text) (option_and_then (place_after_match tree.root text) m)))) (sym needed) (sym found)
     where
       spend : (k : ℕ) (place : ℕ) (next : Option ℕ) → GoesOnInside tree.root text place next
           → needs_on tree text (0 + k) next ≡ map (λ n. k + n) (needs_next (option_map (offset text) next))
@@ -94,12 +94,12 @@ module _ (tree : Tree) (text : Text) where
           ∙ ap (λ o. map (λ n. k + n) (option_map_or (needs tree text) o [])) (sym (place_at-offset text q is g.1))
 
       behind : (k : ℕ) (m : Option Found) → StandsFrom tree.root text (IsBoundary-place text start is on).0 m
-          → ((0 + k) ∷ needs_behind tree text (0 + k) m)
-          ≡ (k ∷ map (λ n. k + n) (needs_then (option_map (answer tree.root text) m) (option_map (offset text) (option_and_then (place_behind tree.root text) m))))
+          → ((0 + k) ∷ needs_after_match tree text (0 + k) m)
+          ≡ (k ∷ map (λ n. k + n) (needs_then (option_map (answer tree.root text) m) (option_map (offset text) (option_and_then (place_after_match tree.root text) m))))
       behind k None s = let e : 0 + k ≡ k = omega arith in ap (λ n. n ∷ []) e
       behind k (Some m) s =
           let e : 0 + k ≡ k = omega arith in
-          ap₂ (λ n l. n ∷ l) e (spend k (IsBoundary-place text start is on).0 (place_behind tree.root text m) (goes-inside tree.root text (IsBoundary-place text start is on).0 m s))
+          ap₂ (λ n l. n ∷ l) e (spend k (IsBoundary-place text start is on).0 (place_after_match tree.root text m) (goes-inside tree.root text (IsBoundary-place text start is on).0 m s))
 
 -- ---- One search after another
 

@@ -59,8 +59,8 @@ flags-read_back f = read-back f.no_opt f.icase f.multiline f.dot_all f.unicode f
 -- ---- Escaped texts
 
 -- the text that is escaped so; behind a backslash each character is itself
-unescape : (behind : Bool) → List ℕ → List ℕ
-unescape behind [] = []
+unescape : (in_lookbehind : Bool) → List ℕ → List ℕ
+unescape in_lookbehind [] = []
 unescape true (c ∷ cs) = c ∷ unescape false cs
 unescape false (c ∷ cs) = if c == 92 then unescape true cs else c ∷ unescape false cs
 

@@ -126,12 +126,12 @@ snoc-sound greatest (x ∷ xs) y h k =
 joined-snoc : (xs : List Node) (y : Node) → IsJoined (sequence_node (xs ++ y ∷ [])) y (sequence_node xs)
 joined-snoc xs y = record { goals = snoc-goals xs y; count = snoc-count xs y; ids = λ id. snoc-ids id xs y; sound = λ greatest. snoc-sound greatest xs y }
 
-arm-none : (behind : Bool) (first greatest : ℕ) → IsSoundSubtreeWithGroupIds first first greatest (arm behind [])
+arm-none : (in_lookbehind : Bool) (first greatest : ℕ) → IsSoundSubtreeWithGroupIds first first greatest (arm in_lookbehind [])
 arm-none true first greatest = part-leaf first greatest end_of_cat (record { goals = refl; ids = refl; sound = refl })
 arm-none false first greatest = part-leaf first greatest end_of_cat (record { goals = refl; ids = refl; sound = refl })
 
-arm-more : (behind : Bool) (first middle last greatest : ℕ) (n : Node) (ns : List Node) → IsSoundSubtreeWithGroupIds first middle greatest n → IsSoundSubtreeWithGroupIds middle last greatest (arm behind ns)
-    → IsSoundSubtreeWithGroupIds first last greatest (arm behind (n ∷ ns))
+arm-more : (in_lookbehind : Bool) (first middle last greatest : ℕ) (n : Node) (ns : List Node) → IsSoundSubtreeWithGroupIds first middle greatest n → IsSoundSubtreeWithGroupIds middle last greatest (arm in_lookbehind ns)
+    → IsSoundSubtreeWithGroupIds first last greatest (arm in_lookbehind (n ∷ ns))
 arm-more false first middle last greatest n ns h k = part-joined first middle last greatest (cat n (sequence_node ns)) n (sequence_node ns) (joined-cat n (sequence_node ns)) h k
 arm-more true first middle last greatest n ns h k =
     subst (λ x. IsSoundSubtreeWithGroupIds first last greatest (sequence_node x)) (sym (reverse-append (n ∷ []) ns))
@@ -160,17 +160,17 @@ group-between greatest before {a = a} {c = c} {n = n} name e f h =
 
 module _ (S : PatternDialect) (sound : AtomsAreSound S) where
   mutual
-    pub part-disjunction : {w : PatternContext} {behind : Bool} {p q : ParseState} {n : Node} → Disjunction S w behind p q n → Reads w p q n
+    pub part-disjunction : {w : PatternContext} {in_lookbehind : Bool} {p q : ParseState} {n : Node} → Disjunction S w in_lookbehind p q n → Reads w p q n
     part-disjunction (last_alternative a) = part-alternative a
     part-disjunction {w} (alternatives {p = p} {q = q} {r = r} {t = t} a bar d) =
         part-joined (groups_at p) (groups_at q) (groups_at t) (groups_in w) _ _ _ (joined-alt _ _) (part-alternative a) (between (groups_in w) (ap groups_at bar) refl (part-disjunction d))
 
-    part-alternative : {w : PatternContext} {behind : Bool} {p q : ParseState} {ns : List Node} → Alternative S w behind p q ns → Reads w p q (arm behind ns)
-    part-alternative {w} (no_terms {behind = behind} {p = p}) = arm-none behind (groups_at p) (groups_in w)
-    part-alternative {w} (terms {behind = behind} {p = p} {q = q} {r = r} {n = n} {ns = ns} t a) =
-        arm-more behind (groups_at p) (groups_at q) (groups_at r) (groups_in w) n ns (part-term t) (part-alternative a)
+    part-alternative : {w : PatternContext} {in_lookbehind : Bool} {p q : ParseState} {ns : List Node} → Alternative S w in_lookbehind p q ns → Reads w p q (arm in_lookbehind ns)
+    part-alternative {w} (no_terms {in_lookbehind = in_lookbehind} {p = p}) = arm-none in_lookbehind (groups_at p) (groups_in w)
+    part-alternative {w} (terms {in_lookbehind = in_lookbehind} {p = p} {q = q} {r = r} {n = n} {ns = ns} t a) =
+        arm-more in_lookbehind (groups_at p) (groups_at q) (groups_at r) (groups_in w) n ns (part-term t) (part-alternative a)
 
-    part-term : {w : PatternContext} {behind : Bool} {p q : ParseState} {n : Node} → Term S w behind p q n → Reads w p q n
+    part-term : {w : PatternContext} {in_lookbehind : Bool} {p q : ParseState} {n : Node} → Term S w in_lookbehind p q n → Reads w p q n
     part-term (assertion a k) = part-assertion a
     part-term {w} (repeated_assertion {p = p} {q = q} {l = l} {n = n} {quantifier = quantifier} a may k) =
         part-loop (groups_at p) (groups_at q) (groups_in w) quantifier (lookaround l n) (in-order k) (part-assertion a)
@@ -185,7 +185,7 @@ module _ (S : PatternDialect) (sound : AtomsAreSound S) where
     part-assertion {w} (look {p = p} {t = t} {n = n} negate backwards e d f) =
         part-lookaround (groups_at p) (groups_at t) (groups_in w) negate backwards n (between (groups_in w) (ap groups_at e) (ap groups_at f) (part-disjunction d))
 
-    part-atom : {w : PatternContext} {behind : Bool} {p q : ParseState} {n : Node} → Atom S w behind p q n → Reads w p q n
+    part-atom : {w : PatternContext} {in_lookbehind : Bool} {p q : ParseState} {n : Node} → Atom S w in_lookbehind p q n → Reads w p q n
     part-atom {w} (leaf {p = p} {n = n} a) = part-leaf (groups_at p) (groups_in w) n (sound w _ _ _ a)
     part-atom {w} (group {q = q} e o d f) = group-between (groups_in w) q.opened [] (ap groups_at e) (ap groups_at f) (part-disjunction d)
     part-atom {w} (named_group {q = q} {name = name} e g d f) = group-between (groups_in w) q.opened name (ap groups_at e) (ap groups_at f) (part-disjunction d)

@@ -22,17 +22,17 @@ canonicalize false c = if nat_lt 0xFFFF c then c else uppercase_or_itself c (to_
 abbrev pub canonical_character : (icase unicode : Bool) → ℕ → ℕ
 canonical_character icase unicode c = if icase then canonicalize unicode c else c
 
--- whether the two characters match each other
+-- Whether the two characters match each other.
 abbrev pub are_alike : (icase unicode : Bool) → ℕ → ℕ → Bool
 are_alike icase unicode c d = nat_eq (canonical_character icase unicode c) (canonical_character icase unicode d)
 
--- the numbers are in increasing order
+-- The numbers are in increasing order.
 abbrev pub AreIncreasing : List ℕ → Type 0
 AreIncreasing [] = Unit {0}
 AreIncreasing (c ∷ []) = Unit {0}
 AreIncreasing (c ∷ d ∷ more) = IsTrue (nat_lt c d) × AreIncreasing (d ∷ more)
 
--- the list is of all characters that match c, in increasing order
+-- The list is of all characters that match c, in increasing order.
 pub record AreCaseVariants (icase unicode : Bool) (c : ℕ) (members : List ℕ) : Type 0 where
   pub increasing : AreIncreasing members
   pub same : (d : ℕ) → contains members d ≡ are_alike icase unicode c d

@@ -9,25 +9,25 @@ use Rattle.regex_meaning.specs.Outcomes.{in_intervals}
 use Rattle.regex_meaning.specs.ReadingStatesAndDigits.{RemainingCodePoints, ◌∈◌, begins_with_characters}
 use Rattle.regex_meaning.specs.EscapesNamesQuantifiers.{CharacterEscape}
 
--- a member of a class: a character, a range, or the set of a class escape, which may be inverted
+-- A member of a class: a character, a range, or the set of a class escape, which may be inverted.
 pub data ClassMember : Type 0 where
   character : ℕ → ClassMember
   range : (first last : ℕ) → ClassMember
   class : Intervals → (invert : Bool) → ClassMember
 
--- the interval of one code point
+-- The interval of one code point.
 abbrev pub single_code_point_interval : ℕ → ℕ × ℕ
 single_code_point_interval c = (c, c)
 
--- the set of `\d`
+-- The set of `\d`.
 abbrev pub digit_class : Intervals
 digit_class = (0x30, 0x39) ∷ []
 
--- the set of `\w`, before case is ignored
+-- The set of `\w`, before case is ignored.
 abbrev pub word_class : Intervals
 word_class = (0x30, 0x39) ∷ (0x41, 0x5A) ∷ single_code_point_interval 0x5F ∷ (0x61, 0x7A) ∷ []
 
--- the set of `\s`: WhiteSpace and LineTerminator
+-- The set of `\s`: WhiteSpace and LineTerminator.
 abbrev pub space_class : Intervals
 space_class =
     (0x09, 0x0D) ∷ single_code_point_interval 0x20 ∷ single_code_point_interval 0xA0 ∷ single_code_point_interval 0x1680 ∷ (0x2000, 0x200A) ∷ (0x2028, 0x2029) ∷ single_code_point_interval 0x202F ∷ single_code_point_interval 0x205F
@@ -42,26 +42,26 @@ class_escape c =
 
 -- ---- Sets
 
--- whether c is in the set of the test; with `icase`, whether any code point that folds as c does is
--- in it
+-- Whether c is in the set of the test; with `icase`, whether any code point that folds as c does is
+-- in it.
 abbrev pub closed_under_case_folding : Flags → (ℕ → Bool) → ℕ → Bool
 closed_under_case_folding flags test c = list_any test (expand_code_point c flags.icase flags.unicode)
 
--- whether c is in the set of a member; an inverted class escape is the complement of its closed set
+-- Whether c is in the set of a member; an inverted class escape is the complement of its closed set.
 abbrev pub class_member_contains : Flags → ℕ → ClassMember → Bool
 class_member_contains flags c (character d) = c == d
 class_member_contains flags c (range first last) = is_in_range first last c
 class_member_contains flags c (class set invert) =
     let test = closed_under_case_folding flags (in_intervals set) c in if invert then nat_le c 0x10_FFFF && not test else test
 
--- no interval is empty, they are in order, and between any two of them a number is left out
+-- No interval is empty, they are in order, and between any two of them a number is left out.
 abbrev pub AreCanonicalIntervals : Intervals → Type 0
 AreCanonicalIntervals [] = Unit {0}
 AreCanonicalIntervals (i ∷ []) = i.0 ≤ i.1
 AreCanonicalIntervals (i ∷ j ∷ more) = (i.0 ≤ i.1) × (suc i.1 < j.0) × AreCanonicalIntervals (j ∷ more)
 
--- the set is that of all members, in canonical form; with `icase` also of all code points that fold
--- as a member does
+-- The set is that of all members, in canonical form; with `icase` also of all code points that fold
+-- as a member does.
 pub record IsSetOf (flags : Flags) (members : List ClassMember) (set : Intervals) : Type 0 where
   pub apart : AreCanonicalIntervals set
   pub same : (c : ℕ) → in_intervals set c ≡ closed_under_case_folding flags (λ d. list_any (class_member_contains flags d) members) c
@@ -84,18 +84,18 @@ pub data ClassAtom (flags : Flags) (here : RemainingCodePoints) : (there : Remai
       → here ≡ codes "\\" ++ a → CharacterEscape flags.unicode a there c
       → ClassAtom flags here there (character c)
 
--- both ends of a range are characters
+-- Both ends of a range are characters.
 abbrev pub are_characters : ClassMember → ClassMember → Bool
 are_characters (character c) (character d) = true
 are_characters _ _ = false
 
--- a `-` is here, and is not the last character of the class
+-- A `-` is here, and is not the last character of the class.
 abbrev pub IsRangeDash : RemainingCodePoints → Type 0
 IsRangeDash here = (c : ℕ) × (there : RemainingCodePoints) × (here ≡ codes "-" ++ c ∷ there) × (c ≢ 93)
 
--- the members of one atom, or of two atoms with a `-` between them
+-- The members of one atom, or of two atoms with a `-` between them.
 pub data ClassMembers (flags : Flags) (here : RemainingCodePoints) : (there : RemainingCodePoints) → List ClassMember → Type 0 where
-  -- one ClassAtom
+  -- One ClassAtom.
   alone : {m : ClassMember} {there : RemainingCodePoints}
       → ClassAtom flags here there m → ¬ (IsRangeDash there)
       → ClassMembers flags here there (m ∷ [])
@@ -104,7 +104,7 @@ pub data ClassMembers (flags : Flags) (here : RemainingCodePoints) : (there : Re
       → ClassAtom flags here a (character first) → a ≡ codes "-" ++ b → ClassAtom flags b there (character last)
       → first ≤ last
       → ClassMembers flags here there (range first last ∷ [])
-  -- with every flag, a `-` beside a class escape denotes itself (B.1.4 has this without `u` only)
+  -- With every flag, a `-` beside a class escape denotes itself (B.1.4 has this without `u` only).
   no_range : {m n : ClassMember} {a b there : RemainingCodePoints}
       → ClassAtom flags here a m → a ≡ codes "-" ++ b → ClassAtom flags b there n
       → are_characters m n ≡ false
@@ -117,7 +117,7 @@ pub data ClassRanges (flags : Flags) : (here there : RemainingCodePoints) → Li
       → ClassMembers flags here a ms → ClassRanges flags a there others
       → ClassRanges flags here there (ms ++ others)
 
--- whether a `[`, `&&` or `--` occurs before the class ends
+-- Whether a `[`, `&&` or `--` occurs before the class ends.
 abbrev pub has_set_operation : RemainingCodePoints → Bool
 has_set_operation [] = false
 has_set_operation (c ∷ []) = c ∈ "["

@@ -9,23 +9,23 @@ pub data Encoding : Type 0 where
   utf16 : Encoding
   ucs2 : Encoding
 
--- whether a number can be a character of a text in this encoding
+-- Whether a number can be a character of a text in this encoding.
 abbrev pub is_character_in_encoding : Encoding → ℕ → Bool
 is_character_in_encoding utf8 c = is_scalar c
 is_character_in_encoding utf16 c = nat_lt c 0x11_0000
 is_character_in_encoding ucs2 c = nat_lt c 0x1_0000
 
--- the surrogate pair of a code point from U+10000 on, the high surrogate first
+-- The surrogate pair of a code point from U+10000 on, the high surrogate first.
 abbrev pub surrogate_pair : ℕ → List ℕ
 surrogate_pair c = (0xD800 + (c - 0x1_0000) / 0x400) ∷ (0xDC00 + (c - 0x1_0000) % 0x400) ∷ []
 
--- the code units of one character
+-- The code units of one character.
 abbrev pub spelled_in : Encoding → ℕ → List ℕ
 spelled_in utf8 c = encode_utf8_all (c ∷ [])
 spelled_in utf16 c = if nat_lt c 0x1_0000 then c ∷ [] else surrogate_pair c
 spelled_in ucs2 c = c ∷ []
 
--- the code units of a text
+-- The code units of a text.
 abbrev pub text_units_in_encoding : Encoding → Text → List ℕ
 text_units_in_encoding e text = flat_map (spelled_in e) text.characters
 

@@ -14,13 +14,13 @@ use Rattle.regex_meaning.specs.CharacterClasses.{digit_class, space_class, AreCa
 use Rattle.regex_meaning.specs.UnicodeProperties.{has_property, Property}
 use Rattle.regex_meaning.specs.EcmaEscapesAndNames.{GrammarParameters, CharacterEscape, PropertyExpression}
 
--- a member of a class: a character, a range, or the set of a class escape, as a test
+-- A member of a class: a character, a range, or the set of a class escape, as a test.
 pub data ClassMember : Type 0 where
   character : ℕ → ClassMember
   range : (first last : ℕ) → ClassMember
   class : (ℕ → Bool) → ClassMember
 
--- whether c is in the set of a member
+-- Whether c is in the set of a member.
 abbrev pub class_member_contains : ClassMember → ℕ → Bool
 class_member_contains (character d) c = c == d
 class_member_contains (range first last) c = is_in_range first last c
@@ -28,11 +28,11 @@ class_member_contains (class test) c = test c
 
 -- ---- CharacterClassEscape, after the backslash
 
--- a set, and whether its complement is meant
+-- A set, and whether its complement is meant.
 abbrev pub InvertibleSet : Type 0
 InvertibleSet = (ℕ → Bool) × Bool
 
--- whether the code point is in the set or, if inverted, in its complement
+-- Whether the code point is in the set or, if inverted, in its complement.
 abbrev pub is_in_invertible_set : InvertibleSet → ℕ → Bool
 is_in_invertible_set s c = if s.1 then nat_le c 0x10_FFFF && not (s.0 c) else s.0 c
 
@@ -40,7 +40,7 @@ is_in_invertible_set s c = if s.1 then nat_le c 0x10_FFFF && not (s.0 c) else s.
 abbrev pub word_characters : Flags → ℕ → Bool
 word_characters flags c = is_word_char (flags.icase && flags.unicode) c
 
--- the set of one letter (21.2.2.12)
+-- The set of one letter (21.2.2.12).
 abbrev pub class_escape_set : Flags → (letter : ℕ) → Option InvertibleSet
 class_escape_set flags c =
     if c ∈ "d" then Some (in_intervals digit_class, false) else if c ∈ "D" then Some (in_intervals digit_class, true)
@@ -56,7 +56,7 @@ pub data CharacterClassEscape (flags : Flags) (here : RemainingCodePoints) : (th
       → IsTrue flags.unicode → here ≡ codes (if invert then "P" else "p") ++ a → PropertyExpression a there p
       → CharacterClassEscape flags here there (is_in_invertible_set (has_property p, invert))
 
--- a CharacterClassEscape is here
+-- A CharacterClassEscape is here.
 abbrev pub BeginsCharacterClassEscape : Flags → RemainingCodePoints → Type 0
 BeginsCharacterClassEscape flags here = (there : RemainingCodePoints) × (test : ℕ → Bool) × CharacterClassEscape flags here there test
 
@@ -72,7 +72,7 @@ pub record IsSetOf (flags : Flags) (members : List ClassMember) (set : Intervals
 
 -- ---- ClassRanges
 
--- the parameters of the grammar, given whether a group has a name
+-- The parameters of the grammar, given whether a group has a name.
 abbrev pub grammar_parameters : Flags → (named_groups : Bool) → GrammarParameters
 grammar_parameters flags named_groups = record { unicode = flags.unicode; named_groups = named_groups }
 
@@ -91,7 +91,7 @@ pub data SimpleClassEscape (flags : Flags) (here : RemainingCodePoints) : (there
       → flags.unicode ≡ false → here ≡ codes "c" ++ letter ∷ there → IsTrue (is_class_control_letter letter)
       → SimpleClassEscape flags here there (letter % 32)
 
--- one of those alternatives is here
+-- One of those alternatives is here.
 abbrev pub BeginsSimpleClassEscape : Flags → RemainingCodePoints → Type 0
 BeginsSimpleClassEscape flags here = (there : RemainingCodePoints) × (c : ℕ) × SimpleClassEscape flags here there c
 
@@ -110,7 +110,7 @@ pub data ClassEscape (flags : Flags) (named_groups : Bool) (here : RemainingCode
       → ¬ (BeginsSimpleClassEscape flags here) → ¬ (BeginsCharacterClassEscape flags here)
       → ClassEscape flags named_groups here there (character c)
 
--- a ClassEscape is here
+-- A ClassEscape is here.
 abbrev pub BeginsClassEscape : Flags → (named_groups : Bool) → RemainingCodePoints → Type 0
 BeginsClassEscape flags named_groups here = (there : RemainingCodePoints) × (m : ClassMember) × ClassEscape flags named_groups here there m
 
@@ -129,14 +129,14 @@ pub data ClassAtom (flags : Flags) (named_groups : Bool) (here : RemainingCodePo
       → flags.unicode ≡ false → here ≡ codes "\\" ++ a → IsTrue (begins_with_characters "c" a) → ¬ (BeginsClassEscape flags named_groups a)
       → ClassAtom flags named_groups here a (character 92)
 
--- both ends of a range are characters
+-- Both ends of a range are characters.
 abbrev pub are_characters : ClassMember → ClassMember → Bool
 are_characters (character c) (character d) = true
 are_characters _ _ = false
 
--- the members of one atom, or of two atoms with a `-` between them
+-- The members of one atom, or of two atoms with a `-` between them.
 pub data ClassMembers (flags : Flags) (named_groups : Bool) (here : RemainingCodePoints) : (there : RemainingCodePoints) → List ClassMember → Type 0 where
-  -- one ClassAtom
+  -- One ClassAtom.
   alone : {m : ClassMember} {there : RemainingCodePoints}
       → ClassAtom flags named_groups here there m → ¬ (IsRangeDash there)
       → ClassMembers flags named_groups here there (m ∷ [])
@@ -145,8 +145,8 @@ pub data ClassMembers (flags : Flags) (named_groups : Bool) (here : RemainingCod
       → ClassAtom flags named_groups here a (character first) → a ≡ codes "-" ++ b → ClassAtom flags named_groups b there (character last)
       → first ≤ last
       → ClassMembers flags named_groups here there (range first last ∷ [])
-  -- without `u`, a `-` beside a class escape denotes itself (*CharacterRangeOrUnion*, B.1.4); with `u`
-  -- it is an early error
+  -- Without `u`, a `-` beside a class escape denotes itself (*CharacterRangeOrUnion*, B.1.4); with `u`
+  -- it is an early error.
   no_range : {m n : ClassMember} {a b there : RemainingCodePoints}
       → flags.unicode ≡ false → ClassAtom flags named_groups here a m → a ≡ codes "-" ++ b → ClassAtom flags named_groups b there n
       → are_characters m n ≡ false

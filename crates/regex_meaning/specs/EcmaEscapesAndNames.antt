@@ -10,12 +10,12 @@ use Rattle.regex_meaning.specs.ReadingStatesAndDigits.{RemainingCodePoints, ◌�
 use Rattle.regex_meaning.specs.EscapesNamesQuantifiers.{FixedHexDigits, UnicodeEscape, control_escape_code_point, is_lead_surrogate, is_trail_surrogate}
 use Rattle.regex_meaning.specs.UnicodeProperties.{Property, property_named, property_with_value}
 
--- the parameters of the grammar: U, the flag `u`; and N, that a group has a name
+-- The parameters of the grammar: U, the flag `u`; and N, that a group has a name.
 pub record GrammarParameters : Type 0 where
   pub unicode : Bool
   pub named_groups : Bool
 
--- whether the next character passes the test
+-- Whether the next character passes the test.
 abbrev pub next_code_point_passes : (ℕ → Bool) → RemainingCodePoints → Bool
 next_code_point_passes test [] = false
 next_code_point_passes test (c ∷ cs) = test c
@@ -80,7 +80,7 @@ pub data NonIdentityEscape (g : GrammarParameters) (here : RemainingCodePoints) 
       → g.unicode ≡ false → LegacyOctalEscape here there c
       → NonIdentityEscape g here there c
 
--- one of those alternatives is here
+-- One of those alternatives is here.
 abbrev pub BeginsNonIdentityEscape : GrammarParameters → RemainingCodePoints → Type 0
 BeginsNonIdentityEscape g here = (there : RemainingCodePoints) × (c : ℕ) × NonIdentityEscape g here there c
 
@@ -97,7 +97,7 @@ pub data CharacterEscape (g : GrammarParameters) (here : RemainingCodePoints) : 
       → here ≡ c ∷ there → IsTrue (is_identity_escape g c) → ¬ (BeginsNonIdentityEscape g here)
       → CharacterEscape g here there c
 
--- a CharacterEscape is here
+-- A CharacterEscape is here.
 abbrev pub BeginsCharacterEscape : GrammarParameters → RemainingCodePoints → Type 0
 BeginsCharacterEscape g here = (there : RemainingCodePoints) × (c : ℕ) × CharacterEscape g here there c
 
@@ -139,7 +139,7 @@ pub data NameCharacter (test : ℕ → Bool) (here : RemainingCodePoints) : (the
       → IsTrue (test (0x1_0000 + (lead - 0xD800) * 0x400 + (trail - 0xDC00)))
       → NameCharacter test here there (0x1_0000 + (lead - 0xD800) * 0x400 + (trail - 0xDC00))
 
--- the rest of the characters of a RegExpIdentifierName, up to and including the `>`
+-- The rest of the characters of a RegExpIdentifierName, up to and including the `>`.
 pub data NameRest : (here : RemainingCodePoints) → (there characters : RemainingCodePoints) → Type 0 where
   name_end : {here there : RemainingCodePoints} → here ≡ codes ">" ++ there → NameRest here there []
   name_part : {here a there characters : RemainingCodePoints} {c : ℕ}

@@ -13,13 +13,13 @@ use Rattle.regex_meaning.specs.Canonical.{canonical_character}
 use Rattle.regex_meaning.specs.EcmaClasses.{InvertibleSet, class_escape_set}
 use Rattle.regex_meaning.specs.EcmaGrammarWithAnnexB.{ecmascript, ParsesEcmaScript}
 
--- the text is read from its beginning to its end, and these groups open
+-- The text is read from its beginning to its end, and these groups open.
 abbrev pub IsPatternDisjunction : PatternContext → (pattern : RemainingCodePoints) → (groups : List RemainingCodePoints) → Node → Type 0
 IsPatternDisjunction w pattern groups n =
     Disjunction ecmascript w false (record { text = pattern; opened = [] }) (record { text = []; opened = groups }) n
 
--- the groups that have opened at the end of a pattern are those of the parentheses that the scan
--- finds
+-- The groups that have opened at the end of a pattern are those of the parentheses that the scan
+-- finds.
 abbrev pub EcmaScriptGroupsAreFound : Type 0
 EcmaScriptGroupsAreFound =
     (w : PatternContext) (pattern : RemainingCodePoints) (groups : List RemainingCodePoints) (n : Node)
@@ -32,13 +32,13 @@ EcmaScriptGroupsIndependentOfContext =
     (w v : PatternContext) (pattern : RemainingCodePoints) (groups others : List RemainingCodePoints) (n m : Node)
     → IsPatternDisjunction w pattern groups n → IsPatternDisjunction v pattern others m → groups ≡ others
 
--- a pattern has at most one tree
+-- A pattern has at most one tree.
 abbrev pub EcmaScriptOneTree : Type 0
 EcmaScriptOneTree =
     (flags : Flags) (pattern : RemainingCodePoints) (t u : Tree) → ParsesEcmaScript flags pattern t → ParsesEcmaScript flags pattern u → t ≡ u
 
--- the tree of a pattern has its flags, is well formed, reads no bytes, and has no loop over one
--- character
+-- The tree of a pattern has its flags, is well formed, reads no bytes, and has no loop over one
+-- character.
 abbrev pub EcmaScriptTreesAreWellFormed : Type 0
 EcmaScriptTreesAreWellFormed =
     (flags : Flags) (pattern : RemainingCodePoints) (t : Tree) → ParsesEcmaScript flags pattern t

@@ -14,19 +14,19 @@ use Rattle.regex_meaning.specs.EcmaEscapesAndNames.{GrammarParameters, Character
 use Rattle.regex_meaning.specs.EcmaClasses.{InvertibleSet, class, class_escape_set, is_in_invertible_set, IsSetOf, BeginsCharacterClassEscape, CharacterClass}
 use Rattle.regex_meaning.specs.EcmaClasses.{grammar_parameters}
 
--- the grammar's parameter N: with `u`, or where a group has a name, `\k` begins a reference
+-- The grammar's parameter N: with `u`, or where a group has a name, `\k` begins a reference.
 abbrev pub has_named_groups : PatternContext → Bool
 has_named_groups w = w.flags.unicode || list_any (λ name. nat_lt 0 (length name)) w.groups
 
--- the parameters of the grammar for this pattern
+-- The parameters of the grammar for this pattern.
 abbrev pub grammar_parameters_of : PatternContext → GrammarParameters
 grammar_parameters_of w = grammar_parameters w.flags (has_named_groups w)
 
--- the node of a character with these case variants: the set of them if there are several
+-- The node of a character with these case variants: the set of them if there are several.
 abbrev pub node_of_case_variants : (c : ℕ) → (members : List ℕ) → Node
 node_of_case_variants c members = if nat_lt 1 (length members) then char_set members else char c
 
--- the node of a backreference
+-- The node of a backreference.
 abbrev pub reference_node : PatternContext → (group : ℕ) → Node
 reference_node w n = back_ref n (by_canonical_case w.flags.icase w.flags.unicode)
 
@@ -37,7 +37,7 @@ pub data GroupNumber (w : PatternContext) (here : RemainingCodePoints) : (there 
       → begins_with_characters "0" here ≡ false → Digits 10 here there n → n ≤ length w.groups
       → GroupNumber w here there n
 
--- the number of a group is here
+-- The number of a group is here.
 abbrev pub BeginsGroupNumber : PatternContext → RemainingCodePoints → Type 0
 BeginsGroupNumber w here = (there : RemainingCodePoints) × (n : ℕ) × GroupNumber w here there n
 
@@ -96,7 +96,7 @@ pub data SimpleAtom (w : PatternContext) (here : RemainingCodePoints) : (there :
       → here ≡ codes "[" ++ a → CharacterClass w.flags (has_named_groups w) a there contents
       → SimpleAtom w here there (bracket contents)
 
--- the whole language: without `u`, a lookahead may have a quantifier (QuantifiableAssertion)
+-- The whole language: without `u`, a lookahead may have a quantifier (QuantifiableAssertion).
 abbrev pub ecmascript : PatternDialect
 ecmascript =
     record {
@@ -105,6 +105,6 @@ ecmascript =
       may_repeat = λ flags backwards. not flags.unicode && not backwards;
     }
 
--- the tree of a pattern of the whole language
+-- The tree of a pattern of the whole language.
 abbrev pub ParsesEcmaScript : Flags → (pattern : RemainingCodePoints) → Tree → Type 0
 ParsesEcmaScript = ParsesBy ecmascript

@@ -11,18 +11,18 @@ use Rattle.regex_meaning.specs.ReadingStatesAndDigits.{RemainingCodePoints, ◌�
 
 -- ---- CharacterEscape, after the backslash
 
--- a fixed number of hexadecimal digits and their value: Hex4Digits, or the two digits of
--- HexEscapeSequence
+-- A fixed number of hexadecimal digits and their value: Hex4Digits, or the two digits of
+-- HexEscapeSequence.
 pub data FixedHexDigits (saturated_count : ℕ) (here : RemainingCodePoints) : (there : RemainingCodePoints) (c : ℕ) → Type 0 where
   hex : {there : RemainingCodePoints} (ds : RemainingCodePoints)
       → here ≡ ds ++ there → length ds ≡ saturated_count → IsTrue (list_all (λ d. is_digit d 16) ds)
       → FixedHexDigits saturated_count here there (value_of_digits 16 ds)
 
--- the condition on LeadSurrogate
+-- The condition on LeadSurrogate.
 abbrev pub is_lead_surrogate : ℕ → Bool
 is_lead_surrogate c = is_in_range 0xD800 0xDBFF c
 
--- the condition on TrailSurrogate
+-- The condition on TrailSurrogate.
 abbrev pub is_trail_surrogate : ℕ → Bool
 is_trail_surrogate c = is_in_range 0xDC00 0xDFFF c
 
@@ -35,9 +35,9 @@ pub data SurrogatePair (here : RemainingCodePoints) : (there : RemainingCodePoin
 
 -- RegExpUnicodeEscapeSequence, after the `u`
 pub data UnicodeEscape (unicode : Bool) (here : RemainingCodePoints) : (there : RemainingCodePoints) (c : ℕ) → Type 0 where
-  -- with `u` two surrogates make one code point
+  -- With `u` two surrogates make one code point.
   surrogates : {there : RemainingCodePoints} {c : ℕ} → IsTrue unicode → SurrogatePair here there c → UnicodeEscape unicode here there c
-  -- four digits by themselves; with `u` only where they do not begin a pair
+  -- Four digits by themselves; with `u` only where they do not begin a pair.
   four_digits : {there : RemainingCodePoints} {c : ℕ}
       → FixedHexDigits 4 here there c → ¬ (IsTrue unicode × ((end : RemainingCodePoints) × (d : ℕ) × SurrogatePair here end d))
       → UnicodeEscape unicode here there c
@@ -77,12 +77,12 @@ pub data CharacterEscape (unicode : Bool) (here : RemainingCodePoints) : (there 
 
 -- ---- GroupName, after the `<`
 
--- the first character of a name: an ASCII letter, `_` or `$` (the standard has all of
--- RegExpIdentifierStart)
+-- The first character of a name: an ASCII letter, `_` or `$` (the standard has all of
+-- RegExpIdentifierStart).
 abbrev pub is_ascii_identifier_start : ℕ → Bool
 is_ascii_identifier_start c = is_ascii_alphabetic c || c ∈ "_$"
 
--- a later character of a name: also an ASCII digit
+-- A later character of a name: also an ASCII digit.
 abbrev pub is_ascii_identifier_part : ℕ → Bool
 is_ascii_identifier_part c = is_ascii_identifier_start c || is_ascii_digit c
 
@@ -99,7 +99,7 @@ pub data GroupName (here : RemainingCodePoints) : (there name : RemainingCodePoi
 
 -- ---- Quantifier
 
--- the value of DecimalDigits in a quantifier; a number past 2^64 - 1 counts as 2^64 - 1
+-- The value of DecimalDigits in a quantifier; a number past 2^64 - 1 counts as 2^64 - 1.
 abbrev pub saturated_count : ℕ → ℕ
 saturated_count n = min n (2 ^ 64 - 1)
 
@@ -119,7 +119,7 @@ pub data QuantifierPrefix (here : RemainingCodePoints) : (there : RemainingCodeP
       → d ≡ codes "}" ++ there
       → QuantifierPrefix here there (saturated_count n) (Some (saturated_count m))
 
--- a quantifier begins here
+-- A quantifier begins here.
 abbrev pub BeginsQuantifier : RemainingCodePoints → Type 0
 BeginsQuantifier here = (there : RemainingCodePoints) × (least : ℕ) × (most : Option ℕ) × QuantifierPrefix here there least most
 

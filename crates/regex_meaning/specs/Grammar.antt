@@ -15,8 +15,8 @@ use Rattle.regex_meaning.specs.EscapesNamesQuantifiers.{CharacterEscape, GroupNa
 use Prim.Native.String.{String}
 use Rattle.regex_meaning.specs.CharacterClasses.{class, class_escape, CharacterClass, IsSetOf}
 
--- the node of one character; if several code points fold as it does, with `icase` it is the set of
--- them
+-- The node of one character; if several code points fold as it does, with `icase` it is the set of
+-- them.
 abbrev pub character_node : Flags → ℕ → Node
 character_node flags c =
     let members = expand_code_point c flags.icase flags.unicode in
@@ -58,58 +58,58 @@ pub data SimpleAtom (w : PatternContext) (here : RemainingCodePoints) : (there :
       → here ≡ codes "[" ++ a → CharacterClass w.flags a there contents
       → SimpleAtom w here there (bracket contents)
 
--- the characters that open a lookaround
+-- The characters that open a lookaround.
 abbrev pub lookaround_opener : (negate backwards : Bool) → String
 lookaround_opener false false = "(?="
 lookaround_opener true false = "(?!"
 lookaround_opener false true = "(?<="
 lookaround_opener true true = "(?<!"
 
--- what differs between languages of patterns
+-- What differs between languages of patterns.
 pub record PatternDialect : Type 1 where
   -- Atom, as far as it contains no group
   pub simple_atom : PatternContext → (here there : RemainingCodePoints) → Node → Type 0
   -- GroupName, after the `<`
   pub group_name : (here there name : RemainingCodePoints) → Type 0
-  -- whether a lookaround may have a quantifier (QuantifiableAssertion of B.1.4)
+  -- Whether a lookaround may have a quantifier (QuantifiableAssertion of B.1.4).
   pub may_repeat : Flags → (backwards : Bool) → Bool
 
 mutual
   -- Disjunction, from one state to another; `behind` says whether it is inside a lookbehind
-  pub data Disjunction (s : PatternDialect) (w : PatternContext) : (behind : Bool) → ParseState → ParseState → Node → Type 0 where
-    last_alternative : {behind : Bool} {p q : ParseState} {terms : List Node}
-        → Alternative s w behind p q terms
-        → Disjunction s w behind p q (arm behind terms)
-    alternatives : {behind : Bool} {p q r t : ParseState} {terms : List Node} {right : Node}
-        → Alternative s w behind p q terms → q ≡ "|" ▸ r → Disjunction s w behind r t right
-        → Disjunction s w behind p t (alt (arm behind terms) right)
+  pub data Disjunction (s : PatternDialect) (w : PatternContext) : (in_lookbehind : Bool) → ParseState → ParseState → Node → Type 0 where
+    last_alternative : {in_lookbehind : Bool} {p q : ParseState} {terms : List Node}
+        → Alternative s w in_lookbehind p q terms
+        → Disjunction s w in_lookbehind p q (arm in_lookbehind terms)
+    alternatives : {in_lookbehind : Bool} {p q r t : ParseState} {terms : List Node} {right : Node}
+        → Alternative s w in_lookbehind p q terms → q ≡ "|" ▸ r → Disjunction s w in_lookbehind r t right
+        → Disjunction s w in_lookbehind p t (alt (arm in_lookbehind terms) right)
 
   -- Alternative, with the nodes of its terms in the order of the text
-  pub data Alternative (s : PatternDialect) (w : PatternContext) : (behind : Bool) → ParseState → ParseState → List Node → Type 0 where
-    no_terms : {behind : Bool} {p : ParseState} → Alternative s w behind p p []
-    terms : {behind : Bool} {p q r : ParseState} {n : Node} {ns : List Node}
-        → Term s w behind p q n → Alternative s w behind q r ns
-        → Alternative s w behind p r (n ∷ ns)
+  pub data Alternative (s : PatternDialect) (w : PatternContext) : (in_lookbehind : Bool) → ParseState → ParseState → List Node → Type 0 where
+    no_terms : {in_lookbehind : Bool} {p : ParseState} → Alternative s w in_lookbehind p p []
+    terms : {in_lookbehind : Bool} {p q r : ParseState} {n : Node} {ns : List Node}
+        → Term s w in_lookbehind p q n → Alternative s w in_lookbehind q r ns
+        → Alternative s w in_lookbehind p r (n ∷ ns)
 
   -- Term
-  pub data Term (s : PatternDialect) (w : PatternContext) : (behind : Bool) → ParseState → ParseState → Node → Type 0 where
+  pub data Term (s : PatternDialect) (w : PatternContext) : (in_lookbehind : Bool) → ParseState → ParseState → Node → Type 0 where
     -- Assertion, where no quantifier follows; the standard has this since no Term begins with a
     -- quantifier
-    assertion : {behind : Bool} {p q : ParseState} {n : Node}
+    assertion : {in_lookbehind : Bool} {p q : ParseState} {n : Node}
         → Assertion s w p q n → ¬ (BeginsQuantifier q.text)
-        → Term s w behind p q n
+        → Term s w in_lookbehind p q n
     -- `QuantifiableAssertion Quantifier` (B.1.4): a lookaround, if the dialect allows it
-    repeated_assertion : {behind : Bool} {p q : ParseState} {there : RemainingCodePoints} {l : Lookaround} {n : Node} {quantifier : Quantifier}
+    repeated_assertion : {in_lookbehind : Bool} {p q : ParseState} {there : RemainingCodePoints} {l : Lookaround} {n : Node} {quantifier : Quantifier}
         → Assertion s w p q (lookaround l n) → IsTrue (s.may_repeat w.flags l.backwards) → ValidQuantifier q.text there quantifier
-        → Term s w behind p (state_with_text_left there q) (loop quantifier (groups_at p) (groups_at q) (lookaround l n))
+        → Term s w in_lookbehind p (state_with_text_left there q) (loop quantifier (groups_at p) (groups_at q) (lookaround l n))
     -- Atom, where no quantifier follows
-    atom : {behind : Bool} {p q : ParseState} {n : Node}
-        → Atom s w behind p q n → ¬ (BeginsQuantifier q.text)
-        → Term s w behind p q n
+    atom : {in_lookbehind : Bool} {p q : ParseState} {n : Node}
+        → Atom s w in_lookbehind p q n → ¬ (BeginsQuantifier q.text)
+        → Term s w in_lookbehind p q n
     -- `Atom Quantifier`; the loop names the groups that open inside it
-    quantified : {behind : Bool} {p q : ParseState} {there : RemainingCodePoints} {n : Node} {quantifier : Quantifier}
-        → Atom s w behind p q n → ValidQuantifier q.text there quantifier
-        → Term s w behind p (state_with_text_left there q) (loop quantifier (groups_at p) (groups_at q) n)
+    quantified : {in_lookbehind : Bool} {p q : ParseState} {there : RemainingCodePoints} {n : Node} {quantifier : Quantifier}
+        → Atom s w in_lookbehind p q n → ValidQuantifier q.text there quantifier
+        → Term s w in_lookbehind p (state_with_text_left there q) (loop quantifier (groups_at p) (groups_at q) n)
 
   -- Assertion: `^`, `$`, `\b`, `\B`, and the lookarounds
   pub data Assertion (s : PatternDialect) (w : PatternContext) : ParseState → ParseState → Node → Type 0 where
@@ -125,27 +125,27 @@ mutual
         (record { negate = negate; backwards = backwards; start_group = groups_at p; end_group = groups_at t }) n)
 
   -- Atom
-  pub data Atom (s : PatternDialect) (w : PatternContext) : (behind : Bool) → ParseState → ParseState → Node → Type 0 where
-    -- an atom that contains no group
-    leaf : {behind : Bool} {p : ParseState} {there : RemainingCodePoints} {n : Node}
+  pub data Atom (s : PatternDialect) (w : PatternContext) : (in_lookbehind : Bool) → ParseState → ParseState → Node → Type 0 where
+    -- An atom that contains no group.
+    leaf : {in_lookbehind : Bool} {p : ParseState} {there : RemainingCodePoints} {n : Node}
         → s.simple_atom w p.text there n
-        → Atom s w behind p (state_with_text_left there p) n
+        → Atom s w in_lookbehind p (state_with_text_left there p) n
     -- `( GroupSpecifier Disjunction )` without a name, where no `?` follows the parenthesis
-    group : {behind : Bool} {p q r t : ParseState} {n : Node}
+    group : {in_lookbehind : Bool} {p q r t : ParseState} {n : Node}
         → p ≡ "(" ▸ q → begins_with_characters "?" q.text ≡ false
-        → Disjunction s w behind (with_opened_group [] q) r n → r ≡ ")" ▸ t
-        → Atom s w behind p t (capture_group (groups_at p) [] n)
+        → Disjunction s w in_lookbehind (with_opened_group [] q) r n → r ≡ ")" ▸ t
+        → Atom s w in_lookbehind p t (capture_group (groups_at p) [] n)
     -- `( GroupSpecifier Disjunction )` with a name
-    named_group : {behind : Bool} {p q r t : ParseState} {there name : RemainingCodePoints} {n : Node}
-        → p ≡ "(?<" ▸ q → s.group_name q.text there name → Disjunction s w behind (with_opened_group name (state_with_text_left there q)) r n
+    named_group : {in_lookbehind : Bool} {p q r t : ParseState} {there name : RemainingCodePoints} {n : Node}
+        → p ≡ "(?<" ▸ q → s.group_name q.text there name → Disjunction s w in_lookbehind (with_opened_group name (state_with_text_left there q)) r n
         → r ≡ ")" ▸ t
-        → Atom s w behind p t (capture_group (groups_at p) name n)
+        → Atom s w in_lookbehind p t (capture_group (groups_at p) name n)
     -- `(?: Disjunction )`
-    plain_group : {behind : Bool} {p q r t : ParseState} {n : Node}
-        → p ≡ "(?:" ▸ q → Disjunction s w behind q r n → r ≡ ")" ▸ t
-        → Atom s w behind p t n
+    plain_group : {in_lookbehind : Bool} {p q r t : ParseState} {n : Node}
+        → p ≡ "(?:" ▸ q → Disjunction s w in_lookbehind q r n → r ≡ ")" ▸ t
+        → Atom s w in_lookbehind p t n
 
--- no two groups have the same name (early error); the empty name is none
+-- No two groups have the same name (early error); the empty name is none.
 abbrev pub AreDistinct : List RemainingCodePoints → Type 0
 AreDistinct names = AllPairs (λ a b. a ≡ b → a ≡ []) names
 
@@ -157,7 +157,7 @@ pub data ParsesBy (s : PatternDialect) (flags : Flags) (pattern : RemainingCodeP
       → AreDistinct groups
       → ParsesBy s flags pattern (record { root = cat n (cat goal end_of_cat); flags = flags })
 
--- the dialect of this profile: no lookaround has a quantifier
+-- The dialect of this profile: no lookaround has a quantifier.
 abbrev pub profile : PatternDialect
 profile =
     record {
@@ -166,6 +166,6 @@ profile =
       may_repeat = λ flags backwards. false;
     }
 
--- the tree of a pattern of this profile
+-- The tree of a pattern of this profile.
 abbrev pub Parses : Flags → (pattern : RemainingCodePoints) → Tree → Type 0
 Parses = ParsesBy profile

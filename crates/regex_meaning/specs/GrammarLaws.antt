@@ -16,12 +16,12 @@ use Rattle.regex_meaning.specs.ReadingStatesAndDigits.{sequence_node}
 use Rattle.regex_meaning.specs.Grammar.{character_node}
 use Rattle.regex_meaning.specs.TreesWithoutCharLoops.{has_no_char_loops}
 
--- no flag is set
+-- No flag is set.
 abbrev pub no_flags : Flags
 no_flags =
     record { icase = false; multiline = false; dot_all = false; no_opt = false; unicode = false; unicode_sets = false }
 
--- the tree of `a|ab`
+-- The tree of `a|ab`.
 abbrev pub ExampleIsParsed : Type 0
 ExampleIsParsed =
     Parses no_flags (codes "a|ab") (record {
@@ -29,19 +29,19 @@ ExampleIsParsed =
       flags = no_flags;
     })
 
--- a pattern has at most one tree
+-- A pattern has at most one tree.
 abbrev pub OneTree : Type 0
 OneTree =
     (flags : Flags) (pattern : RemainingCodePoints) (t u : Tree) → Parses flags pattern t → Parses flags pattern u → t ≡ u
 
--- the names of the groups that have opened at the end of a pattern are those that the scan finds
+-- The names of the groups that have opened at the end of a pattern are those that the scan finds.
 abbrev pub ScanFindsOpenedGroupNames : Type 0
 ScanFindsOpenedGroupNames =
     (w : PatternContext) (pattern : RemainingCodePoints) (groups : List RemainingCodePoints) (n : Node)
     → Disjunction profile w false (record { text = pattern; opened = [] }) (record { text = []; opened = groups }) n
     → groups ≡ scanned_names_per_capturing_group false pattern
 
--- a tree has as many groups as the scan finds, and each number below that is the id of exactly one
+-- A tree has as many groups as the scan finds, and each number below that is the id of exactly one.
 abbrev pub ScanCountsPatternGroups : Type 0
 ScanCountsPatternGroups =
     (flags : Flags) (pattern : RemainingCodePoints) (t : Tree) → Parses flags pattern t →
@@ -49,30 +49,30 @@ ScanCountsPatternGroups =
     (length (group_ids t.root) ≡ groups)
     × ((id : ℕ) → count_by (nat_eq id) (group_ids t.root) ≡ (if nat_lt id groups then 1 else 0))
 
--- the tree of a pattern has its flags, is well formed, reads no bytes, and has no loop over one
--- character
+-- The tree of a pattern has its flags, is well formed, reads no bytes, and has no loop over one
+-- character.
 abbrev pub TreesAreWellFormed : Type 0
 TreesAreWellFormed =
     (flags : Flags) (pattern : RemainingCodePoints) (t : Tree) → Parses flags pattern t
     → (t.flags ≡ flags) × IsWellFormed t.root × (tree_contains_byte_nodes t.root ≡ false) × IsTrue (has_no_char_loops t.root)
 
--- the tree of a sequence of characters
+-- The tree of a sequence of characters.
 abbrev pub literal_tree : Flags → RemainingCodePoints → Tree
 literal_tree flags text = record { root = cat (sequence_node (map (character_node flags) text)) (cat goal end_of_cat); flags = flags }
 
--- with every flag, an escaped text is a pattern whose tree is the sequence of its characters
+-- With every flag, an escaped text is a pattern whose tree is the sequence of its characters.
 abbrev pub EscapedTextsAreRead : Type 0
 EscapedTextsAreRead = (flags : Flags) (text : RemainingCodePoints) → Parses flags (escape text) (literal_tree flags text)
 
--- with every flag, a UTF-8 text whose bytes were escaped is a pattern whose tree is the sequence of
--- its characters
+-- With every flag, a UTF-8 text whose bytes were escaped is a pattern whose tree is the sequence of
+-- its characters.
 abbrev pub EscapedBytesAreRead : Type 0
 EscapedBytesAreRead =
     (flags : Flags) (bytes : List ℕ) → IsTrue (is_utf8 bytes)
     → Parses flags (chars (escape bytes)) (literal_tree flags (chars bytes))
 
--- the names by id of a tree's groups are those that the scan finds; the list is empty if no group
--- has a name
+-- The names by id of a tree's groups are those that the scan finds; the list is empty if no group
+-- has a name.
 abbrev pub ScanFindsGroupNames : Type 0
 ScanFindsGroupNames =
     (flags : Flags) (pattern : RemainingCodePoints) (t : Tree) → Parses flags pattern t →

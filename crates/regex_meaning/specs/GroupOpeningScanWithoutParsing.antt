@@ -4,7 +4,7 @@ use Rattle.std.specs.Prelude.{◌≡◌, Bool, true, false, not, ◌&&◌, List,
 use Rattle.regex_meaning.specs.ReadingStatesAndDigits.{RemainingCodePoints, ◌∈◌, begins_with_characters}
 use Rattle.regex_meaning.specs.Grammar.{PatternDialect, lookaround_opener}
 
--- the text after each `(` from here on, in order; `in_class` says whether a class is open
+-- The text after each `(` from here on, in order; `in_class` says whether a class is open.
 unfoldable pub texts_after_parentheses : (in_class : Bool) → RemainingCodePoints → List RemainingCodePoints
 texts_after_parentheses in_class [] = []
 texts_after_parentheses in_class (c ∷ []) = if c ∈ "(" && not in_class then [] ∷ [] else []
@@ -15,22 +15,22 @@ texts_after_parentheses in_class (c ∷ d ∷ rest) =
     else if c ∈ "(" && not in_class then (d ∷ rest) ∷ texts_after_parentheses in_class (d ∷ rest)
     else texts_after_parentheses in_class (d ∷ rest)
 
--- the parentheses before these texts open groups with these names, empty where a group has none
+-- The parentheses before these texts open groups with these names, empty where a group has none.
 pub data OpensGroups (s : PatternDialect) : (texts names : List RemainingCodePoints) → Type 0 where
   no_parenthesis : OpensGroups s [] []
   -- `(?:`
   opens_plain_group : {text : RemainingCodePoints} {texts names : List RemainingCodePoints} (here : RemainingCodePoints)
       → text ≡ codes "?:" ++ here → OpensGroups s texts names
       → OpensGroups s (text ∷ texts) names
-  -- a lookaround
+  -- A lookaround.
   opens_lookaround : {text : RemainingCodePoints} {texts names : List RemainingCodePoints} (negate backwards : Bool) (here : RemainingCodePoints)
       → codes "(" ++ text ≡ codes (lookaround_opener negate backwards) ++ here → OpensGroups s texts names
       → OpensGroups s (text ∷ texts) names
-  -- a group without a name
+  -- A group without a name.
   opens_group : {text : RemainingCodePoints} {texts names : List RemainingCodePoints}
       → begins_with_characters "?" text ≡ false → OpensGroups s texts names
       → OpensGroups s (text ∷ texts) ([] ∷ names)
-  -- a group with a name
+  -- A group with a name.
   opens_named_group : {text name : RemainingCodePoints} {texts names : List RemainingCodePoints} (here there : RemainingCodePoints)
       → text ≡ codes "?<" ++ here → s.group_name here there name → OpensGroups s texts names
       → OpensGroups s (text ∷ texts) (name ∷ names)

@@ -8,7 +8,7 @@ use Rattle.regex_meaning.specs.Text.{Text, Direction, rightwards, leftwards, las
 use Rattle.regex_meaning.specs.Text.{utf8_text, ascii_text, utf16_text, ucs2_text, utf16_characters}
 use Rattle.regex_meaning.specs.CodeUnitOffsets.{HasRisingPlaceOffsets, offset, place_at, IsBoundary}
 use Rattle.regex_meaning.specs.Outcomes.{Groups, repetition, repeat, passes_empty_check, preferred, max_iterations, outcomes}
-use Rattle.regex_meaning.specs.FirstAndAllMatches.{Found, match_at, first_match, place_behind, match_list}
+use Rattle.regex_meaning.specs.FirstAndAllMatches.{Found, match_at, first_match, place_after_match, match_list}
 use Rattle.regex_meaning.specs.MatchGroupsByNumberAndName.{Answer, answers_from, named_group, named_groups}
 use Rattle.regex_meaning.specs.SearchAnswers.{first_answer, answer_at, next_start, answer_then_list}
 use Rattle.regex_meaning.specs.Replace.{expansion, replaced}
@@ -19,7 +19,7 @@ use Rattle.regex_meaning.specs.OutcomesWithStepTicks.{outcomes_without_ticks, ti
 
 -- ---- Outcomes
 
--- the list of ticks and outcomes of a node contains exactly its outcomes, in order
+-- The list of ticks and outcomes of a node contains exactly its outcomes, in order.
 abbrev pub CountingTicksKeepsOutcomes : Type 0
 CountingTicksKeepsOutcomes = (text : Text) (node : Node) (d : Direction) (place : ℕ) (groups : Groups)
     → outcomes_without_ticks (ticked text node d place groups) ≡ outcomes text node d place groups
@@ -45,22 +45,22 @@ abbrev pub Each : {A : Type 0} → (A → Type 0) → List A → Type 0
 Each P [] = Unit {0}
 Each P (x ∷ xs) = P x × Each P xs
 
--- every outcome ends at the place or past it in the direction
+-- Every outcome ends at the place or past it in the direction.
 abbrev pub OutcomesEndAheadOfPlace : Type 0
 OutcomesEndAheadOfPlace = (text : Text) (node : Node) (d : Direction) (place : ℕ) (groups : Groups)
     → Each (λ o. IsOnward text d place o.end) (outcomes text node d place groups)
 
--- the group is none, or its two places are in order and within the text
+-- The group is none, or its two places are in order and within the text.
 abbrev pub IsWithinText : Text → Option (ℕ × ℕ) → Type 0
 IsWithinText text None = Unit {0}
 IsWithinText text (Some range) = (range.0 ≤ range.1) × (range.1 ≤ last_place text)
 
--- every outcome has as many groups as there were before
+-- Every outcome has as many groups as there were before.
 abbrev pub OutcomesKeepNumberOfGroups : Type 0
 OutcomesKeepNumberOfGroups = (text : Text) (node : Node) (d : Direction) (place : ℕ) (groups : Groups)
     → Each (λ o. length o.groups ≡ length groups) (outcomes text node d place groups)
 
--- outcomes and their groups stay within the text
+-- Outcomes and their groups stay within the text.
 abbrev pub OutcomesStayInText : Type 0
 OutcomesStayInText = (text : Text) (node : Node) (d : Direction) (place : ℕ) (groups : Groups)
     → place ≤ last_place text → Each (IsWithinText text) groups
@@ -68,21 +68,21 @@ OutcomesStayInText = (text : Text) (node : Node) (d : Direction) (place : ℕ) (
 
 -- ---- Matches
 
--- the matches from a place on; none if there is no place
+-- The matches from a place on; none if there is no place.
 abbrev pub list_from : Node → Text → Option ℕ → List Found
 list_from root text next = option_map_or (match_list root text) next []
 
--- a match, followed by the list from its resume place
+-- A match, followed by the list from its resume place.
 abbrev pub match_then_list : Node → Text → Option Found → List Found
-match_then_list root text found = option_map_or (λ m. m ∷ list_from root text (place_behind root text m)) found []
+match_then_list root text found = option_map_or (λ m. m ∷ list_from root text (place_after_match root text m)) found []
 
--- the list of matches from a place is the first match, followed by the list from its resume place
+-- The list of matches from a place is the first match, followed by the list from its resume place.
 abbrev pub MatchListUnfolds : Type 0
 MatchListUnfolds = (root : Node) (text : Text) (place : ℕ)
     → match_list root text place ≡ match_then_list root text (first_match root text place)
 
--- the first match from a place begins there, or else is the first match from the next place; there
--- is none past the end
+-- The first match from a place begins there, or else is the first match from the next place; there
+-- is none past the end.
 abbrev pub FirstMatchUnfolds : Type 0
 FirstMatchUnfolds = (root : Node) (text : Text) (place : ℕ)
     → (place ≤ last_place text → first_match root text place ≡ option_or (match_at root text place) (first_match root text (place + 1)))
@@ -90,144 +90,144 @@ FirstMatchUnfolds = (root : Node) (text : Text) (place : ℕ)
 
 -- ---- Offsets
 
--- offsets increase with the places, and `offset` and `place_at` are inverse to each other
+-- Offsets increase with the places, and `offset` and `place_at` are inverse to each other.
 pub record HasOffsets (text : Text) : Type 0 where
   pub rise : (p q : ℕ) → p < q → q ≤ last_place text → offset text p < offset text q
   pub place : (p : ℕ) → p ≤ last_place text → place_at text (offset text p) ≡ Some p
   pub offset_of_place : (at p : ℕ) → place_at text at ≡ Some p → (offset text p ≡ at) × (p ≤ last_place text)
 
--- in every text each place has one offset and each boundary one place, in the same order
+-- In every text each place has one offset and each boundary one place, in the same order.
 abbrev pub PlacesCorrespondToBoundaries : Type 0
 PlacesCorrespondToBoundaries = (text : Text) → HasRisingPlaceOffsets text → HasOffsets text
 
--- the texts of the four encodings satisfy `HasRisingPlaceOffsets`
+-- The texts of the four encodings satisfy `HasRisingPlaceOffsets`.
 abbrev pub EncodedTextsHaveRisingOffsets : Type 0
 EncodedTextsHaveRisingOffsets = (units : List ℕ) (unicode : Bool)
     → HasRisingPlaceOffsets (utf8_text units unicode) × HasRisingPlaceOffsets (ascii_text units unicode) × HasRisingPlaceOffsets (utf16_text units unicode) × HasRisingPlaceOffsets (ucs2_text units unicode)
 
--- the unit before this offset is a high surrogate and the unit at it a low surrogate
+-- The unit before this offset is a high surrogate and the unit at it a low surrogate.
 abbrev pub is_within_pair : List ℕ → ℕ → Bool
 is_within_pair units zero = false
 is_within_pair units (suc i) = is_high_surrogate (slice_index units i) && is_low_surrogate (slice_index units (suc i))
 
--- a unit boundary is a boundary of the text; of 16-bit units it is an offset within the text that
--- cuts no surrogate pair
+-- A unit boundary is a boundary of the text; of 16-bit units it is an offset within the text that
+-- cuts no surrogate pair.
 abbrev pub Utf16BoundariesCutNoPair : Type 0
 Utf16BoundariesCutNoPair = (units : List ℕ) (unicode : Bool) (i : ℕ)
     → (is_unit_boundary units i ≡ is_some (place_at (utf16_text units unicode) i))
     × (((k : ℕ) → k < length units → slice_index units k < 0x1_0000)
     → is_unit_boundary units i ≡ (nat_le i (length units) && not (is_within_pair units i)))
 
--- the answers from an offset on are the first answer, followed by those from the next start
+-- The answers from an offset on are the first answer, followed by those from the next start.
 abbrev pub AnswersFromOffsetUnfold : Type 0
 AnswersFromOffsetUnfold = (root : Node) (text : Text) → HasRisingPlaceOffsets text → (start : ℕ)
     → answers_from root text start ≡ answer_then_list root text (first_answer root text start) (next_start root text start)
 
--- the next start is a boundary after the start
+-- The next start is a boundary after the start.
 abbrev pub NextStartIsAhead : Type 0
 NextStartIsAhead = (root : Node) (text : Text) → HasRisingPlaceOffsets text → (start next : ℕ)
     → next_start root text start ≡ Some next → (start < next) × IsBoundary text next
 
--- both ends of the range are boundaries, in order
+-- Both ends of the range are boundaries, in order.
 abbrev pub IsRange : Text → ℕ × ℕ → Type 0
 IsRange text range = (range.0 ≤ range.1) × IsBoundary text range.0 × IsBoundary text range.1
 
--- the first answer from an offset on is a range of whole characters and begins at that offset or
--- after it
+-- The first answer from an offset on is a range of whole characters and begins at that offset or
+-- after it.
 abbrev pub FirstAnswerLiesOnBoundaries : Type 0
 FirstAnswerLiesOnBoundaries = (root : Node) (text : Text) → HasRisingPlaceOffsets text → (start : ℕ) (m : Answer)
     → first_answer root text start ≡ Some m → (start ≤ m.range.0) × IsRange text m.range
 
--- the match and its groups are ranges of whole characters, with an entry for each group of the tree
+-- The match and its groups are ranges of whole characters, with an entry for each group of the tree.
 pub record IsAnswerOf (root : Node) (text : Text) (m : Answer) : Type 0 where
   pub whole : IsRange text m.range
   pub groups : Each (λ g. IfSome g (IsRange text)) m.captures
   pub count : length m.captures ≡ length (group_ids root)
 
--- the match at an offset is the first answer from there, if that answer begins there
+-- The match at an offset is the first answer from there, if that answer begins there.
 abbrev pub MatchAtIsFirstAnswerIfThere : Type 0
 MatchAtIsFirstAnswerIfThere = (root : Node) (text : Text) → HasRisingPlaceOffsets text → (at : ℕ)
     → answer_at root text at ≡ option_and_then (λ m. if m.range.0 == at then Some m else None) (first_answer root text at)
 
--- every answer satisfies `IsAnswerOf`
+-- Every answer satisfies `IsAnswerOf`.
 abbrev pub AnswersSatisfyIsAnswerOf : Type 0
 AnswersSatisfyIsAnswerOf = (root : Node) (text : Text) → HasRisingPlaceOffsets text → (start : ℕ) → Each (IsAnswerOf root text) (answers_from root text start)
 
--- the first answer begins at `from` or after it, and each next one begins after the start of the
--- one before and not before its end
+-- The first answer begins at `from` or after it, and each next one begins after the start of the
+-- one before and not before its end.
 abbrev pub AreAscendingDisjointAnswersFrom : (from : ℕ) → List Answer → Type 0
 AreAscendingDisjointAnswersFrom from [] = Unit {0}
 AreAscendingDisjointAnswersFrom from (m ∷ ms) =
     (from ≤ m.range.0) × (m.range.0 ≤ m.range.1) × AreAscendingDisjointAnswersFrom (max (m.range.0 + 1) m.range.1) ms
 
--- the starts of answers increase, and no two answers overlap
+-- The starts of answers increase, and no two answers overlap.
 abbrev pub AnswersAreOrderedWithoutOverlap : Type 0
 AnswersAreOrderedWithoutOverlap = (root : Node) (text : Text) → HasRisingPlaceOffsets text → (start : ℕ) → AreAscendingDisjointAnswersFrom start (answers_from root text start)
 
--- there is at most one answer more than there are characters from the start on
+-- There is at most one answer more than there are characters from the start on.
 abbrev pub AnswerCountIsBounded : Type 0
 AnswerCountIsBounded = (root : Node) (text : Text) → HasRisingPlaceOffsets text → (start place : ℕ)
     → place_at text start ≡ Some place → length (answers_from root text start) ≤ last_place text - place + 1
 
--- a search from the end of a nonempty match yields the rest of the list
+-- A search from the end of a nonempty match yields the rest of the list.
 abbrev pub ResumingAfterNonemptyMatchYieldsRest : Type 0
 ResumingAfterNonemptyMatchYieldsRest = (root : Node) (text : Text) → HasRisingPlaceOffsets text → (start : ℕ) (before : List Answer) (m : Answer) (after : List Answer)
     → answers_from root text start ≡ before ++ m ∷ after → m.range.0 < m.range.1 → answers_from root text m.range.1 ≡ after
 
 -- ---- One text in two encodings
 
--- a text has its matches at the same places in UTF-8 and in UTF-16
+-- A text has its matches at the same places in UTF-8 and in UTF-16.
 abbrev pub SameMatchesInUtf8AndUtf16 : Type 0
 SameMatchesInUtf8AndUtf16 = (root : Node) (bytes units : List ℕ) (unicode : Bool) (place : ℕ) → chars bytes ≡ utf16_characters units
     → match_list root (utf8_text bytes unicode) place ≡ match_list root (utf16_text units unicode) place
 
--- an ASCII text has the same answers when read as ASCII and as UTF-8
+-- An ASCII text has the same answers when read as ASCII and as UTF-8.
 abbrev pub AsciiAndUtf8AnswersAgree : Type 0
 AsciiAndUtf8AnswersAgree = (root : Node) (bytes : List ℕ) (unicode : Bool) (start : ℕ) → IsAscii bytes
     → answers_from root (ascii_text bytes unicode) start ≡ answers_from root (utf8_text bytes unicode) start
 
 -- ---- Replaced texts, flags and escaped texts
 
--- replacing each match by itself gives the original text
+-- Replacing each match by itself gives the original text.
 abbrev pub ReplacingMatchesByThemselvesChangesNothing : Type 0
 ReplacingMatchesByThemselvesChangesNothing = (text : List ℕ) (ms : List Answer) → AreAscendingDisjointAnswersFrom 0 ms
     → replaced text 0 (map (λ m. (m, expansion text m (codes "$0"))) ms) ≡ text
 
--- parsing displayed flags gives the same flags, with `no_opt` cleared
+-- Parsing displayed flags gives the same flags, with `no_opt` cleared.
 abbrev pub FlagsRoundTripExceptNoOpt : Type 0
 FlagsRoundTripExceptNoOpt = (flags : Flags) → flags_from_letters (flags_text flags) ≡ record flags { no_opt = false }
 
--- different texts have different escaped texts
+-- Different texts have different escaped texts.
 abbrev pub EscapeIsInjective : Type 0
 EscapeIsInjective = (s t : List ℕ) → escape s ≡ escape t → s ≡ t
 
 -- ---- Needs
 
--- the needs of the matches from a place on and of the end, with `spent` added to each; `spent`
--- alone if there is no place
+-- The needs of the matches from a place on and of the end, with `spent` added to each; `spent`
+-- alone if there is no place.
 abbrev pub needs_on : Tree → Text → (spent : ℕ) → Option ℕ → List ℕ
 needs_on tree text spent None = spent ∷ []
 needs_on tree text spent (Some place) = needs_from tree text (last_place text + 1) spent (Some place)
 
--- the needs after a match; none if there was no match
-abbrev pub needs_behind : Tree → Text → (spent : ℕ) → Option Found → List ℕ
-needs_behind tree text spent found = option_map_or (λ m. needs_on tree text spent (place_behind tree.root text m)) found []
+-- The needs after a match; none if there was no match.
+abbrev pub needs_after_match : Tree → Text → (spent : ℕ) → Option Found → List ℕ
+needs_after_match tree text spent found = option_map_or (λ m. needs_on tree text spent (place_after_match tree.root text m)) found []
 
--- the first need is that of the first match or of there being none, and the others continue from
--- there
+-- The first need is that of the first match or of there being none, and the others continue from
+-- there.
 abbrev pub NeededStepsUnfoldMatchByMatch : Type 0
 NeededStepsUnfoldMatchByMatch = (tree : Tree) (text : Text) (spent place : ℕ)
     → needs_on tree text spent (Some place)
-    ≡ (spent + need tree text place) ∷ needs_behind tree text (spent + need tree text place) (first_match tree.root text place)
+    ≡ (spent + need tree text place) ∷ needs_after_match tree text (spent + need tree text place) (first_match tree.root text place)
 
 -- ---- Names
 
--- looking up one name gives the range that the list of all names has for it
+-- Looking up one name gives the range that the list of all names has for it.
 abbrev pub NamedGroupAgreesWithNamedGroups : Type 0
 NamedGroupAgreesWithNamedGroups = (m : Answer) → Each (λ named. named_group m named.0 ≡ named.1) (named_groups m)
 
 -- ---- Trees
 
--- the start predicate of a well-formed tree rules out no place that has an outcome
+-- The start predicate of a well-formed tree rules out no place that has an outcome.
 abbrev pub StartPredicateIsSound : Type 0
 StartPredicateIsSound = (tree : Tree) → IsWellFormed tree.root → IsSoundStartPredicateOf (start_predicate tree) tree.root

@@ -2,7 +2,7 @@
 use Rattle.std.specs.Prelude.{ℕ, zero, suc, ◌+◌, nat_eq, Bool, List, [], ◌∷◌}
 use Rattle.std.specs.List.{list_any}
 
--- whether the number is in the list
+-- Whether the number is in the list.
 abbrev pub contains : List ℕ → ℕ → Bool
 contains members n = list_any (nat_eq n) members
 

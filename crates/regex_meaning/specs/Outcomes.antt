@@ -15,42 +15,42 @@ use Rattle.regex_meaning.specs.Text.{Text, Direction, rightwards, leftwards, is_
 use Rattle.regex_meaning.specs.Text.{character_after, next_character, characters_ahead, moved, next_characters}
 use Rattle.std.specs.Int.{is_in_range}
 
--- an entry for each capturing group by id: none, or its start and end places in order (21.2.2.1,
--- *captures* of a *State*)
+-- An entry for each capturing group by id: none, or its start and end places in order (21.2.2.1,
+-- *captures* of a *State*).
 abbrev pub Groups : Type 0
 Groups = List (Option (ℕ × ℕ))
 
--- a way in which a node can match: the place where it ends, and the groups then (21.2.2.1, *State*)
+-- A way in which a node can match: the place where it ends, and the groups then (21.2.2.1, *State*).
 pub record Outcome : Type 0 where
   pub end : ℕ
   pub groups : Groups
 
 -- ---- Groups
 
--- the range of a group; none if it has none or there is no such group
+-- The range of a group; none if it has none or there is no such group.
 abbrev pub group_range : Groups → ℕ → Option (ℕ × ℕ)
 group_range groups id = unwrap_or (slice_get groups id) None
 
--- the groups with the entries of `count` groups from `id` on set to none
+-- The groups with the entries of `count` groups from `id` on set to none.
 abbrev pub cleared : (id count : ℕ) → Groups → Groups
 cleared id zero groups = groups
 cleared id (suc count) groups = cleared (id + 1) count (slice_set groups id None)
 
--- sets the group to the range between the place and the end of the outcome, in order
+-- Sets the group to the range between the place and the end of the outcome, in order.
 abbrev pub captured : (id place : ℕ) → Outcome → Outcome
 captured id place o = record o { groups = slice_set o.groups id (Some (min place o.end, max place o.end)) }
 
 -- ---- Characters
 
--- whether c is in one of the intervals
+-- Whether c is in one of the intervals.
 abbrev pub in_intervals : Intervals → ℕ → Bool
 in_intervals intervals c = list_any (λ i. is_in_range i.0 i.1 c) intervals
 
--- exclusive or
+-- Exclusive or.
 abbrev pub exclusive_or : Bool → Bool → Bool
 exclusive_or a b = if a then not b else b
 
--- whether a one-character node, or a byte sequence of one character, accepts the character d
+-- Whether a one-character node, or a byte sequence of one character, accepts the character d.
 abbrev pub accepts : Node → ℕ → Bool
 accepts (char c) d = c == d
 accepts (char_set members) d = contains members d
@@ -61,34 +61,34 @@ accepts match_any d = true
 accepts match_any_except_line_terminator d = not (is_line_terminator d)
 accepts _ d = false
 
--- whether there is a character and it passes the test
+-- Whether there is a character and it passes the test.
 abbrev pub is_some_and : Option ℕ → (ℕ → Bool) → Bool
 is_some_and o test = option_map_or test o false
 
 -- ---- Loops
 
--- a loop: its bounds, its greediness, and `body`, the outcomes of one iteration; `most` is always a
--- number
+-- A loop: its bounds, its greediness, and `body`, the outcomes of one iteration; `most` is always a
+-- number.
 pub record Repetition (A : Type 0) : Type 0 where
   pub least : ℕ
   pub most : ℕ
   pub greedy : Bool
   pub body : ℕ → Groups → List A
 
--- the maximum of a quantifier; an absent maximum is `usize::MAX`
+-- The maximum of a quantifier; an absent maximum is `usize::MAX`.
 abbrev pub max_iterations : Quantifier → ℕ
 max_iterations q = unwrap_or q.max (2 ^ 64 - 1)
 
--- the loop of a quantifier over a body
+-- The loop of a quantifier over a body.
 abbrev pub repetition : {A : Type 0} → Quantifier → (body : ℕ → Groups → List A) → Repetition A
 repetition q body = record { least = q.min; most = max_iterations q; greedy = q.greedy; body = body }
 
--- whether an outcome of the iteration after k others is kept: it is dropped if it is empty and the
--- minimum has been reached (21.2.2.5.1, the first test of the continuation)
+-- Whether an outcome of the iteration after k others is kept: it is dropped if it is empty and the
+-- minimum has been reached (21.2.2.5.1, the first test of the continuation).
 abbrev pub passes_empty_check : {A : Type 0} → Repetition A → (k place : ℕ) → Outcome → Bool
 passes_empty_check r k place o = not (o.end == place && nat_lt r.least (k + 1))
 
--- the two kinds of outcomes in order of priority: a greedy loop tries another iteration first
+-- The two kinds of outcomes in order of priority: a greedy loop tries another iteration first.
 abbrev pub preferred : (greedy : Bool) → (again leave : List Outcome) → List Outcome
 preferred true again leave = again ++ leave
 preferred false again leave = leave ++ again
@@ -104,68 +104,68 @@ bounded_repeat r (suc turns) k place groups =
 
 -- ---- Nodes that match the empty text
 
--- one outcome at the place itself if the test holds, else none
+-- One outcome at the place itself if the test holds, else none.
 abbrev pub empty_match_if : Bool → ℕ → Groups → List Outcome
 empty_match_if holds place groups = if holds then record { end = place; groups = groups } ∷ [] else []
 
--- whether a place with this neighbouring character is a line boundary: at an end of the text, or
--- with `multiline` beside a line terminator
+-- Whether a place with this neighbouring character is a line boundary: at an end of the text, or
+-- with `multiline` beside a line terminator.
 abbrev pub is_line_boundary : Option ℕ → (multiline : Bool) → Bool
 is_line_boundary None multiline = true
 is_line_boundary (Some c) multiline = multiline && is_line_terminator c
 
--- the outcomes of a lookaround, given those of its contents: the place itself with the groups of
--- the first one, or if negated, with the groups unchanged if there is none
+-- The outcomes of a lookaround, given those of its contents: the place itself with the groups of
+-- the first one, or if negated, with the groups unchanged if there is none.
 abbrev pub lookaround_outcomes : (negate : Bool) → List Outcome → ℕ → Groups → List Outcome
 lookaround_outcomes false [] place groups = []
 lookaround_outcomes false (o ∷ os) place groups = record { end = place; groups = o.groups } ∷ []
 lookaround_outcomes true [] place groups = record { end = place; groups = groups } ∷ []
 lookaround_outcomes true (o ∷ os) place groups = []
 
--- the direction in which the contents of a lookaround are matched
+-- The direction in which the contents of a lookaround are matched.
 abbrev pub direction_of : Lookaround → Direction
 direction_of l = if l.backwards then leftwards else rightwards
 
 -- ---- The outcomes of a node
 
 module _ (text : Text) where
-  -- one outcome after the next character in the direction, if the test accepts it
+  -- One outcome after the next character in the direction, if the test accepts it.
   abbrev pub one_character : (ℕ → Bool) → Direction → ℕ → Groups → List Outcome
   one_character test direction place groups =
       if is_some_and (next_character text direction place) test
       then record { end = moved text direction 1 place; groups = groups } ∷ [] else []
 
-  -- one outcome after the next `length cs` characters, if read from left to right they are the same
-  -- as `cs`
+  -- One outcome after the next `length cs` characters, if read from left to right they are the same
+  -- as `cs`.
   abbrev pub spelled : (ℕ → ℕ → Bool) → List ℕ → Direction → ℕ → Groups → List Outcome
   spelled same cs direction place groups =
       let n = length cs in
       if nat_le n (characters_ahead text direction place) && pointwise same cs (next_characters text direction n place)
       then record { end = moved text direction n place; groups = groups } ∷ [] else []
 
-  -- whether d is a case variant of the code point c of a string
+  -- Whether d is a case variant of the code point c of a string.
   abbrev pub is_case_variant : (icase : Bool) → (c d : ℕ) → Bool
   is_case_variant icase c d = contains (expand_code_point c icase text.unicode) d
 
-  -- whether a backreference takes the two characters for the same
+  -- Whether a backreference takes the two characters for the same.
   abbrev pub is_same : Sameness → (c d : ℕ) → Bool
   is_same exact c d = c == d
   is_same folded c d = c == d || text.fold c == text.fold d
   is_same (alike unicode) c d = canonicalize unicode c == canonicalize unicode d
 
-  -- the outcomes of a backreference: the group's characters again, or the empty text if the group
-  -- is none
+  -- The outcomes of a backreference: the group's characters again, or the empty text if the group
+  -- is none.
   abbrev pub backref_outcomes : Sameness → Option (ℕ × ℕ) → Direction → ℕ → Groups → List Outcome
   backref_outcomes same None direction place groups = record { end = place; groups = groups } ∷ []
   backref_outcomes same (Some range) direction place groups =
       spelled (is_same same) (slice_range text.characters range.0 range.1) direction place groups
 
-  -- whether the anchor holds at the place
+  -- Whether the anchor holds at the place.
   abbrev pub anchor_holds : AnchorType → (multiline : Bool) → ℕ → Bool
   anchor_holds start_of_line multiline place = is_line_boundary (character_before text place) multiline
   anchor_holds end_of_line multiline place = is_line_boundary (character_after text place) multiline
 
-  -- whether exactly one of the two neighbouring characters is a word character
+  -- Whether exactly one of the two neighbouring characters is a word character.
   abbrev pub is_at_word_boundary : (unicode_icase : Bool) → ℕ → Bool
   is_at_word_boundary unicode_icase place =
       exclusive_or (is_some_and (character_before text place) (is_word_char unicode_icase))
@@ -190,8 +190,8 @@ module _ (text : Text) where
   outcomes match_any direction place groups = one_character (accepts match_any) direction place groups
   outcomes match_any_except_line_terminator direction place groups =
       one_character (accepts match_any_except_line_terminator) direction place groups
-  -- rule of this crate: the characters that the bytes or the strings encode; of a string set,
-  -- string after string
+  -- Rule of this crate: the characters that the bytes or the strings encode; of a string set,
+  -- string after string.
   outcomes (byte_set members) direction place groups = one_character (accepts (byte_set members)) direction place groups
   outcomes (byte_sequence bytes) direction place groups = spelled nat_eq (chars bytes) direction place groups
   outcomes (string_set strings icase) direction place groups =

@@ -12,10 +12,10 @@ use Rattle.regex_meaning.specs.Outcomes.{Groups, Outcome, accepts, cleared, capt
 use Rattle.regex_meaning.specs.Outcomes.{spelled}
 use Rattle.regex_meaning.specs.Outcomes.{lookaround_outcomes, direction_of, outcomes}
 use Rattle.regex_meaning.specs.StartPredicate.{StartPredicate, start_anchored, start_predicate, may_start}
-use Rattle.regex_meaning.specs.FirstAndAllMatches.{no_groups, first_match, place_behind}
+use Rattle.regex_meaning.specs.FirstAndAllMatches.{no_groups, first_match, place_after_match}
 use Rattle.regex_meaning.specs.CompilationRelation.{chunks}
 
--- an item of the list: a step, or an outcome
+-- An item of the list: a step, or an outcome.
 pub data TickOrOutcome : Type 0 where
   tick : TickOrOutcome
   pair : Outcome → TickOrOutcome
@@ -26,34 +26,34 @@ pub data TickOrOutcome : Type 0 where
 abbrev pub ticks : ℕ → List TickOrOutcome
 ticks n = replicate n tick
 
--- replaces each outcome by a list and leaves the ticks
+-- Replaces each outcome by a list and leaves the ticks.
 abbrev pub outcomes_replaced_by_lists : List TickOrOutcome → (Outcome → List TickOrOutcome) → List TickOrOutcome
 outcomes_replaced_by_lists [] next = []
 outcomes_replaced_by_lists (tick ∷ items) next = tick ∷ outcomes_replaced_by_lists items next
 outcomes_replaced_by_lists (pair o ∷ items) next = next o ++ outcomes_replaced_by_lists items next
 
--- adds a tick before each outcome
+-- Adds a tick before each outcome.
 abbrev pub ticks_before_outcomes : List TickOrOutcome → List TickOrOutcome
 ticks_before_outcomes items = outcomes_replaced_by_lists items (λ o. tick ∷ pair o ∷ [])
 
--- the number of ticks before the first outcome, or of all ticks if there is no outcome
+-- The number of ticks before the first outcome, or of all ticks if there is no outcome.
 abbrev pub ticks_to_first : List TickOrOutcome → ℕ
 ticks_to_first [] = 0
 ticks_to_first (tick ∷ items) = ticks_to_first items + 1
 ticks_to_first (pair o ∷ items) = 0
 
--- the outcomes without the ticks
+-- The outcomes without the ticks.
 abbrev pub outcomes_without_ticks : List TickOrOutcome → List Outcome
 outcomes_without_ticks [] = []
 outcomes_without_ticks (tick ∷ items) = outcomes_without_ticks items
 outcomes_without_ticks (pair o ∷ items) = o ∷ outcomes_without_ticks items
 
--- whether there is no outcome
+-- Whether there is no outcome.
 abbrev pub has_no_outcome : List Outcome → Bool
 has_no_outcome [] = true
 has_no_outcome (o ∷ os) = false
 
--- the outcomes with a tick between neighbours
+-- The outcomes with a tick between neighbours.
 abbrev pub with_ticks_between : List Outcome → List TickOrOutcome
 with_ticks_between [] = []
 with_ticks_between (o ∷ []) = pair o ∷ []
@@ -61,11 +61,11 @@ with_ticks_between (o ∷ p ∷ os) = pair o ∷ tick ∷ with_ticks_between (p 
 
 -- ---- Nodes of several instructions
 
--- an alternation: one tick first, one before each outcome of the left arm, and one between the arms
+-- An alternation: one tick first, one before each outcome of the left arm, and one between the arms.
 abbrev pub ticked_alt : (left right : List TickOrOutcome) → List TickOrOutcome
 ticked_alt left right = tick ∷ (ticks_before_outcomes left ++ (tick ∷ right))
 
--- the two ways of a loop in order of priority, with a tick between them if both are allowed
+-- The two ways of a loop in order of priority, with a tick between them if both are allowed.
 abbrev pub ticked_preferred : (may_again may_leave greedy : Bool) → (again leave : List TickOrOutcome) → List TickOrOutcome
 ticked_preferred false false greedy again leave = []
 ticked_preferred true false greedy again leave = again
@@ -84,50 +84,50 @@ ticked_bounded_repeat r (suc turns) k place groups =
     let leave = pair (record { end = place; groups = groups }) ∷ [] in
     ticked_preferred (nat_lt k r.most) (nat_le r.least k) r.greedy again leave
 
--- the number of elements of `cs` that are compared with `ds`, up to and including the first that
--- differs
+-- The number of elements of `cs` that are compared with `ds`, up to and including the first that
+-- differs.
 abbrev pub compared_count : (ℕ → ℕ → Bool) → List ℕ → List ℕ → ℕ
 compared_count same [] ds = 0
 compared_count same (c ∷ cs) [] = 1
 compared_count same (c ∷ cs) (d ∷ ds) = if same c d then compared_count same cs ds + 1 else 1
 
--- the number of consecutive chunks that are compared with the bytes, up to and including the first
--- that differs
+-- The number of consecutive chunks that are compared with the bytes, up to and including the first
+-- that differs.
 abbrev pub compared_chunks : List (List ℕ) → List ℕ → ℕ
 compared_chunks [] bytes = 0
 compared_chunks (chunk ∷ chunks) bytes =
     if starts_with nat_eq bytes chunk then compared_chunks chunks (drop (length chunk) bytes) + 1 else 1
 
 module _ (text : Text) where
-  -- the characters in the direction, the nearest first
+  -- The characters in the direction, the nearest first.
   abbrev pub nearest_first : Direction → ℕ → List ℕ
   nearest_first rightwards place = drop place text.characters
   nearest_first leftwards place = reverse (take place text.characters)
 
-  -- the number of code points of a string that are compared
+  -- The number of code points of a string that are compared.
   abbrev pub string_tries : (icase : Bool) → List ℕ → Direction → ℕ → ℕ
   string_tries icase string rightwards place = compared_count (is_case_variant text icase) string (nearest_first rightwards place)
   string_tries icase string leftwards place = compared_count (is_case_variant text icase) (reverse string) (nearest_first leftwards place)
 
-  -- the number of chunks of a byte sequence that are compared
+  -- The number of chunks of a byte sequence that are compared.
   abbrev pub byte_tries : List ℕ → Direction → ℕ → ℕ
   byte_tries bytes rightwards place = compared_chunks (chunks bytes) (encode_utf8_all (drop place text.characters))
   byte_tries bytes leftwards place =
       compared_chunks (map reverse (reverse (chunks bytes))) (reverse (encode_utf8_all (take place text.characters)))
 
-  -- one string: a tick for each code point that is compared, and then its outcome if it has one
+  -- One string: a tick for each code point that is compared, and then its outcome if it has one.
   abbrev pub ticked_string : (icase : Bool) → List ℕ → Direction → ℕ → Groups → List TickOrOutcome
   ticked_string icase string direction place groups =
       ticks (string_tries icase string direction place) ++ map pair (spelled text (is_case_variant text icase) string direction place groups)
 
-  -- a string set: alternatives nested to the right; no string at all takes one tick
+  -- A string set: alternatives nested to the right; no string at all takes one tick.
   abbrev pub ticked_strings : (icase : Bool) → List (List ℕ) → Direction → ℕ → Groups → List TickOrOutcome
   ticked_strings icase [] direction place groups = tick ∷ []
   ticked_strings icase (s ∷ []) direction place groups = ticked_string icase s direction place groups
   ticked_strings icase (s ∷ t ∷ more) direction place groups =
       ticked_alt (ticked_string icase s direction place groups) (ticked_strings icase (t ∷ more) direction place groups)
 
-  -- how often a loop over one character tries its body
+  -- How often a loop over one character tries its body.
   abbrev pub body_tries : Quantifier → Node → Direction → ℕ → ℕ
   body_tries q loopee direction place = min (max_iterations q) (prefix_len (accepts loopee) (nearest_first direction place) + 1)
 
@@ -136,7 +136,7 @@ module _ (text : Text) where
   ticked_repeat r direction k place groups =
       ticked_bounded_repeat r (r.least - k + characters_ahead text direction place + 1) k place groups
 
-  -- the outcomes of a node with ticks among them
+  -- The outcomes of a node with ticks among them.
   unfoldable pub ticked : Node → Direction → ℕ → Groups → List TickOrOutcome
   ticked empty direction place groups = map pair (outcomes text empty direction place groups)
   ticked end_of_cat direction place groups = map pair (outcomes text end_of_cat direction place groups)
@@ -159,23 +159,23 @@ module _ (text : Text) where
   ticked (loop_1_char_body q loopee) direction place groups =
       tick ∷ (ticks (body_tries q loopee direction place)
       ++ with_ticks_between (outcomes text (loop_1_char_body q loopee) direction place groups))
-  -- nodes of one instruction take one tick
+  -- Nodes of one instruction take one tick.
   ticked node direction place groups = tick ∷ map pair (outcomes text node direction place groups)
 
 -- ---- Need
 
 module _ (tree : Tree) (text : Text) where
-  -- the ticks and outcomes of the tree's root at a place
+  -- The ticks and outcomes of the tree's root at a place.
   abbrev pub items_at : ℕ → List TickOrOutcome
   items_at place = ticked text tree.root rightwards place (no_groups tree.root)
 
-  -- the places from this one on that a search tries if none has a match: those that the start
-  -- predicate allows; if it is the left end only, the given place alone
+  -- The places from this one on that a search tries if none has a match: those that the start
+  -- predicate allows; if it is the left end only, the given place alone.
   abbrev pub tried_places : StartPredicate → ℕ → List ℕ
   tried_places start_anchored place = if nat_le place (last_place text) then place ∷ [] else []
   tried_places p place = filter (may_start p text) (numbers_from place (last_place text + 1 - place))
 
-  -- the ticks at these places in order, up to the first outcome
+  -- The ticks at these places in order, up to the first outcome.
   abbrev pub ticks_at : List ℕ → ℕ
   ticks_at [] = 0
   ticks_at (place ∷ places) =
@@ -183,19 +183,19 @@ module _ (tree : Tree) (text : Text) where
       let later = ticks_at places in
       ticks_to_first items + (if has_no_outcome (outcomes_without_ticks items) then later else 0)
 
-  -- the number of steps to find the first match from a place on, or that there is none
+  -- The number of steps to find the first match from a place on, or that there is none.
   unfoldable pub need : ℕ → ℕ
   need place = ticks_at (tried_places (start_predicate tree) place)
 
-  -- the need of each match in order and then of the end, each including those before it and
-  -- `spent`; at most `count` matches
+  -- The need of each match in order and then of the end, each including those before it and
+  -- `spent`; at most `count` matches.
   abbrev pub needs_from : (count spent : ℕ) → Option ℕ → List ℕ
   needs_from zero spent start = spent ∷ []
   needs_from (suc count) spent None = spent ∷ []
   needs_from (suc count) spent (Some place) =
       let next = first_match tree.root text place in
-      (spent + need place) ∷ option_map_or (λ m. needs_from count (spent + need place) (place_behind tree.root text m)) next []
+      (spent + need place) ∷ option_map_or (λ m. needs_from count (spent + need place) (place_after_match tree.root text m)) next []
 
-  -- the needs of all matches from a place on and of the end
+  -- The needs of all matches from a place on and of the end.
   unfoldable pub needs : ℕ → List ℕ
   needs place = needs_from (last_place text + 1) 0 (Some place)

@@ -8,54 +8,54 @@ use Rattle.regex_meaning.specs.NumberListHelpers.{contains}
 use Rattle.regex_meaning.specs.Tree.{Node, Flags, cat, end_of_cat}
 use Prim.Native.String.{String}
 
--- the code points that are still to be read
+-- The code points that are still to be read.
 abbrev pub RemainingCodePoints : Type 0
 RemainingCodePoints = List ℕ
 
--- a position in a pattern: the text that is still to be read, and the name of each group that has
+-- A position in a pattern: the text that is still to be read, and the name of each group that has
 -- opened, empty if it has none; so group ids and the groups inside a loop or a lookaround are
--- lengths of that list (*parenIndex* and *parenCount* of 21.2.2.5 and 21.2.2.8)
+-- lengths of that list (*parenIndex* and *parenCount* of 21.2.2.5 and 21.2.2.8).
 pub record ParseState : Type 0 where
   pub text : RemainingCodePoints
   pub opened : List RemainingCodePoints
 
--- what is known of the whole pattern: its flags, and the name of each of its groups, since a
--- reference may precede its group
+-- What is known of the whole pattern: its flags, and the name of each of its groups, since a
+-- reference may precede its group.
 pub record PatternContext : Type 0 where
   pub flags : Flags
   pub groups : List RemainingCodePoints
 
--- the number of groups that have opened
+-- The number of groups that have opened.
 abbrev pub groups_at : ParseState → ℕ
 groups_at p = length p.opened
 
--- the state before a terminal: `p ≡ "(" ▸ q` reads a `(` from p to q
+-- The state before a terminal: `p ≡ "(" ▸ q` reads a `(` from p to q.
 infixr 40 ◌▸◌
 abbrev pub ◌▸◌ : String → ParseState → ParseState
 word ▸ p = record p { text = codes word ++ p.text }
 
--- the state after a text without groups, with `there` left
+-- The state after a text without groups, with `there` left.
 abbrev pub state_with_text_left : RemainingCodePoints → ParseState → ParseState
 state_with_text_left there p = record p { text = there }
 
--- the state after a group with this name has opened
+-- The state after a group with this name has opened.
 abbrev pub with_opened_group : (name : RemainingCodePoints) → ParseState → ParseState
 with_opened_group name p = record p { opened = p.opened ++ name ∷ [] }
 
--- whether the character is one of these
+-- Whether the character is one of these.
 infix 60 ◌∈◌
 abbrev pub ◌∈◌ : ℕ → String → Bool
 c ∈ s = contains (codes s) c
 
--- whether the text begins with these characters
+-- Whether the text begins with these characters.
 abbrev pub begins_with_characters : String → RemainingCodePoints → Bool
 begins_with_characters word here = starts_with nat_eq here (codes word)
 
--- the longest prefix of digits
+-- The longest prefix of digits.
 abbrev pub leading_digits : (base : ℕ) → RemainingCodePoints → RemainingCodePoints
 leading_digits base here = take_while (λ c. is_digit c base) here
 
--- the value of digits
+-- The value of digits.
 abbrev pub value_of_digits : (base : ℕ) → RemainingCodePoints → ℕ
 value_of_digits base here = fold (λ n c. base * n + digit_value c) 0 here
 
@@ -64,16 +64,16 @@ pub data Digits (base : ℕ) (here : RemainingCodePoints) : (there : RemainingCo
   digits_from : 0 < length (leading_digits base here)
       → Digits base here (drop (length (leading_digits base here)) here) (value_of_digits base (leading_digits base here))
 
--- the number of the first group with this name, counted from 1
+-- The number of the first group with this name, counted from 1.
 abbrev pub group_number_of : (name : RemainingCodePoints) → List RemainingCodePoints → Option ℕ
 group_number_of name [] = None
 group_number_of name (other ∷ names) = if pointwise nat_eq name other then Some 1 else option_map suc (group_number_of name names)
 
--- a sequence of nodes
+-- A sequence of nodes.
 abbrev pub sequence_node : List Node → Node
 sequence_node [] = end_of_cat
 sequence_node (n ∷ ns) = cat n (sequence_node ns)
 
--- the node of an alternative: its terms, in reverse order inside a lookbehind (21.2.2.4)
-abbrev pub arm : (behind : Bool) → List Node → Node
-arm behind terms = sequence_node (if behind then reverse terms else terms)
+-- The node of an alternative: its terms, in reverse order inside a lookbehind (21.2.2.4).
+abbrev pub arm : (in_lookbehind : Bool) → List Node → Node
+arm in_lookbehind terms = sequence_node (if in_lookbehind then reverse terms else terms)

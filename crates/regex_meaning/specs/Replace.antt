@@ -5,27 +5,27 @@ use Rattle.std.specs.List.{before_first, after_first, list_any}
 use Rattle.std.specs.Char.{is_ascii_digit, digit_value}
 use Rattle.regex_meaning.specs.MatchGroupsByNumberAndName.{Answer, group, named_group}
 
--- a part of a replacement: a byte, or the text of a group by number or by name
+-- A part of a replacement: a byte, or the text of a group by number or by name.
 pub data ReplacementPart : Type 0 where
   literal : (byte : ℕ) → ReplacementPart
   group_part : (number : ℕ) → ReplacementPart
   named_part : (name : List ℕ) → ReplacementPart
 
--- the greatest number of groups
+-- The greatest number of groups.
 abbrev pub max_capture_groups : ℕ
 max_capture_groups = 65535
 
--- the parts that the beginning of a replacement is read as, and the bytes that are left
+-- The parts that the beginning of a replacement is read as, and the bytes that are left.
 pub record ParsedPart : Type 0 where
   pub parts : List ReplacementPart
   pub rest : List ℕ
 
--- a single part and the bytes that are left
+-- A single part and the bytes that are left.
 abbrev pub parsed_part_from_single_replacement_part : ReplacementPart → List ℕ → ParsedPart
 parsed_part_from_single_replacement_part part rest = record { parts = part ∷ []; rest = rest }
 
--- reads the remaining digits of a group number after `$`; `value` is that of the digits read so
--- far, and reading stops once it exceeds `max_capture_groups`
+-- Reads the remaining digits of a group number after `$`; `value` is that of the digits read so
+-- far, and reading stops once it exceeds `max_capture_groups`.
 abbrev pub parse_digits_of_group_number : (value : ℕ) → List ℕ → ParsedPart
 parse_digits_of_group_number value [] = parsed_part_from_single_replacement_part (group_part value) []
 parse_digits_of_group_number value (b ∷ bytes) =
@@ -33,7 +33,7 @@ parse_digits_of_group_number value (b ∷ bytes) =
     let stop = parsed_part_from_single_replacement_part (group_part value) (b ∷ bytes) in
     if is_ascii_digit b && nat_le value max_capture_groups then more else stop
 
--- reads what follows `${`: a name up to `}`; if no `}` follows, everything stands for itself
+-- Reads what follows `${`: a name up to `}`; if no `}` follows, everything stands for itself.
 abbrev pub parse_braced_name : List ℕ → ParsedPart
 parse_braced_name bytes =
     let name = parsed_part_from_single_replacement_part (named_part (before_first is_brace bytes)) (after_first is_brace bytes) in
@@ -43,8 +43,8 @@ parse_braced_name bytes =
     is_brace : ℕ → Bool
     is_brace b = b == 125
 
--- reads what follows `$`: `$$` is one `$`, digits and `{name}` are groups, and any other `$` stands
--- for itself
+-- Reads what follows `$`: `$$` is one `$`, digits and `{name}` are groups, and any other `$` stands
+-- for itself.
 abbrev pub parse_after_dollar : List ℕ → ParsedPart
 parse_after_dollar [] = parsed_part_from_single_replacement_part (literal 36) []
 parse_after_dollar (b ∷ bytes) =
@@ -53,7 +53,7 @@ parse_after_dollar (b ∷ bytes) =
     else if b == 123 then parse_braced_name bytes
     else parsed_part_from_single_replacement_part (literal 36) (b ∷ bytes)
 
--- the parts of a replacement of at most `left` bytes
+-- The parts of a replacement of at most `left` bytes.
 abbrev pub parse_replacement : (left : ℕ) → List ℕ → List ReplacementPart
 parse_replacement zero bytes = []
 parse_replacement (suc left) [] = []
@@ -62,23 +62,23 @@ parse_replacement (suc left) (b ∷ bytes) =
     begun.parts ++ parse_replacement left begun.rest
 
 module _ (text : List ℕ) (m : Answer) where
-  -- the bytes of a range; empty if there is none
+  -- The bytes of a range; empty if there is none.
   abbrev pub text_of : Option (ℕ × ℕ) → List ℕ
   text_of None = []
   text_of (Some range) = slice_range text range.0 range.1
 
-  -- the bytes that one part is replaced by
+  -- The bytes that one part is replaced by.
   abbrev pub text_of_part : ReplacementPart → List ℕ
   text_of_part (literal b) = b ∷ []
   text_of_part (group_part number) = text_of (group m number)
   text_of_part (named_part name) = text_of (named_group m name)
 
-  -- the bytes that the parts are replaced by, in order
+  -- The bytes that the parts are replaced by, in order.
   abbrev pub text_of_parts : List ReplacementPart → List ℕ
   text_of_parts [] = []
   text_of_parts (part ∷ parts) = text_of_part part ++ text_of_parts parts
 
-  -- the bytes that replace the match
+  -- The bytes that replace the match.
   unfoldable pub expansion : (replacement : List ℕ) → List ℕ
   expansion replacement = text_of_parts (parse_replacement (length replacement) replacement)
 

@@ -4,31 +4,31 @@ use Rattle.std.specs.Option.{option_map_or}
 use Rattle.regex_meaning.specs.Tree.{Node}
 use Rattle.regex_meaning.specs.Text.{Text}
 use Rattle.regex_meaning.specs.CodeUnitOffsets.{offset, place_at}
-use Rattle.regex_meaning.specs.FirstAndAllMatches.{Found, first_match, match_at, place_behind}
+use Rattle.regex_meaning.specs.FirstAndAllMatches.{Found, first_match, match_at, place_after_match}
 use Rattle.regex_meaning.specs.MatchGroupsByNumberAndName.{Answer, answer, answers_from}
 
 module _ (root : Node) (text : Text) where
-  -- the first match from an offset on; none if the offset is no boundary or is past the end
+  -- The first match from an offset on; none if the offset is no boundary or is past the end.
   abbrev pub first_found : (start : ℕ) → Option Found
   first_found start = option_and_then (first_match root text) (place_at text start)
 
-  -- the first match from an offset on, as an answer
+  -- The first match from an offset on, as an answer.
   abbrev pub first_answer : (start : ℕ) → Option Answer
   first_answer start = option_map (answer root text) (first_found start)
 
-  -- the match of highest priority that begins at an offset, in offsets (21.2.5.2.2 with the flag
-  -- `y`); none if the offset is no boundary or is past the end
+  -- The match of highest priority that begins at an offset, in offsets (21.2.5.2.2 with the flag
+  -- `y`); none if the offset is no boundary or is past the end.
   abbrev pub answer_at : (at : ℕ) → Option Answer
   answer_at at = option_map (answer root text) (option_and_then (match_at root text) (place_at text at))
 
-  -- the offset at which the list continues after the first match
+  -- The offset at which the list continues after the first match.
   abbrev pub next_start : (start : ℕ) → Option ℕ
-  next_start start = option_map (offset text) (option_and_then (place_behind root text) (first_found start))
+  next_start start = option_map (offset text) (option_and_then (place_after_match root text) (first_found start))
 
-  -- the answers from an offset on; none if there is no offset
+  -- The answers from an offset on; none if there is no offset.
   abbrev pub answers_on : (next : Option ℕ) → List Answer
   answers_on next = option_map_or (answers_from root text) next []
 
-  -- an answer followed by the answers from the offset where the list continues
+  -- An answer followed by the answers from the offset where the list continues.
   abbrev pub answer_then_list : Option Answer → (next : Option ℕ) → List Answer
   answer_then_list first next = option_map_or (λ m. m ∷ answers_on next) first []

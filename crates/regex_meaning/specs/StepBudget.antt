@@ -10,17 +10,17 @@ use Rattle.regex_meaning.specs.MatchGroupsByNumberAndName.{Answer, answers_from}
 
 -- ---- A budget: a number of steps, or no limit
 
--- whether the budget suffices for a need
+-- Whether the budget suffices for a need.
 abbrev pub is_within : (budget : Option ℕ) → (need : ℕ) → Bool
 is_within None need = true
 is_within (Some steps) need = nat_le need steps
 
--- what is left of a budget after `spent` steps
+-- What is left of a budget after `spent` steps.
 abbrev pub remaining_budget : (budget : Option ℕ) → (spent : ℕ) → Option ℕ
 remaining_budget None spent = None
 remaining_budget (Some steps) spent = Some (steps - spent)
 
--- the budget `now` is at most `before`; both have a limit or neither has
+-- The budget `now` is at most `before`; both have a limit or neither has.
 abbrev pub IsBudgetAtMost : (now before : Option ℕ) → Type 0
 IsBudgetAtMost None None = Unit {0}
 IsBudgetAtMost (Some n) (Some m) = n ≤ m
@@ -28,38 +28,38 @@ IsBudgetAtMost _ _ = ⊥
 
 -- ---- A list and its needs
 
--- the items whose need is at most `steps`, up to the first whose need is not
+-- The items whose need is at most `steps`, up to the first whose need is not.
 abbrev pub those_within : {X : Type 0} → (steps : ℕ) → (needs : List ℕ) → List X → List X
 those_within steps (n ∷ needs) (x ∷ xs) = if nat_le n steps then x ∷ those_within steps needs xs else []
 those_within steps _ _ = []
 
 module _ (tree : Tree) (text : Text) where
-  -- the need of the first match from an offset on, or of there being none; 0 if the offset is no
-  -- boundary
+  -- The need of the first match from an offset on, or of there being none; 0 if the offset is no
+  -- boundary.
   abbrev pub need_from : (start : ℕ) → ℕ
   need_from start = option_map_or (need tree text) (place_at text start) 0
 
-  -- the needs of the answers from an offset on and of the end, each including those before it
+  -- The needs of the answers from an offset on and of the end, each including those before it.
   abbrev pub needs_of_answers : (start : ℕ) → List ℕ
   needs_of_answers start = option_map_or (needs tree text) (place_at text start) []
 
-  -- the answers from an offset on for which the budget suffices
+  -- The answers from an offset on for which the budget suffices.
   abbrev pub answers_within : (budget : Option ℕ) → (start : ℕ) → List Answer
   answers_within None start = answers_from tree.root text start
   answers_within (Some steps) start = those_within steps (needs_of_answers start) (answers_from tree.root text start)
 
-  -- whether the budget suffices for all answers and the end
+  -- Whether the budget suffices for all answers and the end.
   abbrev pub finishes_within : (budget : Option ℕ) → (start : ℕ) → Bool
   finishes_within None start = true
   finishes_within (Some steps) start = list_all (λ n. nat_le n steps) (needs_of_answers start)
 
-  -- the answers within the budget from where the list continues; none if it does not continue
+  -- The answers within the budget from where the list continues; none if it does not continue.
   abbrev pub answers_next : (budget next : Option ℕ) → List Answer
   answers_next budget None = []
   answers_next budget (Some start) = answers_within budget start
 
-  -- whether the budget suffices for all answers from where the list continues and the end; true if
-  -- it does not continue
+  -- Whether the budget suffices for all answers from where the list continues and the end; true if
+  -- it does not continue.
   abbrev pub end_next : (budget next : Option ℕ) → Bool
   end_next budget None = true
   end_next budget (Some start) = finishes_within budget start

@@ -4,22 +4,22 @@ use Rattle.regex_meaning.specs.Tree.{Node, byte_set, byte_sequence, loop_1_char_
 use Rattle.regex_meaning.specs.WellFormedTrees.{number_of_goal_nodes, names_the_groups_inside, refers_to_a_group, has_order_in_quantifier, has_one_character_body}
 use Rattle.regex_meaning.specs.WellFormedTrees.{set_sizes_and_characters_fit_instructions}
 
--- the node can be written in a pattern: it is no set and no sequence of bytes, and no loop over one
--- character
+-- The node can be written in a pattern: it is no set and no sequence of bytes, and no loop over one
+-- character.
 abbrev pub is_of_pattern : Node → Bool
 is_of_pattern (byte_set members) = false
 is_of_pattern (byte_sequence bytes) = false
 is_of_pattern (loop_1_char_body q loopee) = false
 is_of_pattern _ = true
 
--- the node satisfies the conditions of a well-formed tree, if references are to groups up to
--- `greatest`
+-- The node satisfies the conditions of a well-formed tree, if references are to groups up to
+-- `greatest`.
 abbrev pub is_sound : (greatest : ℕ) → Node → Bool
 is_sound greatest n =
     names_the_groups_inside n && refers_to_a_group greatest n && has_order_in_quantifier n && has_one_character_body n
     && is_of_pattern n && set_sizes_and_characters_fit_instructions n
 
--- how often an id occurs in the tree
+-- How often an id occurs in the tree.
 abbrev pub occurrences_of_id : (id : ℕ) → Node → ℕ
 occurrences_of_id id n = count_by (nat_eq id) (group_ids n)
 
@@ -27,15 +27,15 @@ occurrences_of_id id n = count_by (nat_eq id) (group_ids n)
 abbrev pub once_within : (first end id : ℕ) → ℕ
 once_within first end id = if nat_le first id && nat_lt id end then 1 else 0
 
--- the group ids of the tree are those from `first` up to `end`, exclusive, each once; every node is
--- sound, and there is no `Goal`
+-- The group ids of the tree are those from `first` up to `end`, exclusive, each once; every node is
+-- sound, and there is no `Goal`.
 pub record IsSoundSubtreeWithGroupIds (first end greatest : ℕ) (n : Node) : Type 0 where
   pub goals : number_of_goal_nodes n ≡ 0
   pub count : first + length (group_ids n) ≡ end
   pub ids : (id : ℕ) → occurrences_of_id id n ≡ once_within first end id
   pub sound : IsTrue (every_node_passes (is_sound greatest) n)
 
--- a sound tree without groups and without `Goal`
+-- A sound tree without groups and without `Goal`.
 pub record IsWellFormedGrouplessSubtree (greatest : ℕ) (n : Node) : Type 0 where
   pub goals : number_of_goal_nodes n ≡ 0
   pub ids : group_ids n ≡ []

@@ -7,7 +7,7 @@ use Rattle.std.specs.Int.{is_in_range}
 
 -- ---- Characters
 
--- whether the number is a Unicode scalar value, that is, a `char`
+-- Whether the number is a Unicode scalar value, that is, a `char`.
 abbrev pub is_scalar : ℕ → Bool
 is_scalar c = is_in_range 0 0xD7FF c || is_in_range 0xE000 0x10_FFFF c
 
@@ -19,11 +19,11 @@ is_lowercase c = is_in_range 97 122 c
 abbrev pub is_uppercase : ℕ → Bool
 is_uppercase c = is_in_range 65 90 c
 
--- the lowercase letter of `A` to `Z`; any other number is itself
+-- The lowercase letter of `A` to `Z`; any other number is itself.
 abbrev pub to_ascii_lowercase : ℕ → ℕ
 to_ascii_lowercase c = if is_uppercase c then c + 32 else c
 
--- the uppercase letter of `a` to `z`; any other number is itself
+-- The uppercase letter of `a` to `z`; any other number is itself.
 abbrev pub to_ascii_uppercase : ℕ → ℕ
 to_ascii_uppercase c = if is_lowercase c then c - 32 else c
 
@@ -34,19 +34,19 @@ unfoldable pub fold_code_point : (unicode : Bool) → ℕ → ℕ
 fold_code_point true c = if c == 0x017F then 115 else if c == 0x212A then 107 else to_ascii_lowercase c
 fold_code_point false c = to_ascii_uppercase c
 
--- the code point beyond ASCII that folds to this letter, if there is one
+-- The code point beyond ASCII that folds to this letter, if there is one.
 abbrev pub nonascii_with_fold : (unicode : Bool) → ℕ → List ℕ
 nonascii_with_fold false folded = []
 nonascii_with_fold true folded = if folded == 115 then 0x017F ∷ [] else if folded == 107 then 0x212A ∷ [] else []
 
--- all code points with this fold, in increasing order
+-- All code points with this fold, in increasing order.
 abbrev pub code_points_with_fold : (unicode : Bool) → ℕ → List ℕ
 code_points_with_fold unicode folded =
     let upper = to_ascii_uppercase folded in
     let lower = to_ascii_lowercase folded in
     (if upper == lower then folded ∷ [] else upper ∷ lower ∷ []) ++ nonascii_with_fold unicode folded
 
--- the code points that c matches: c alone, or with `icase` all code points that fold as c does
+-- The code points that c matches: c alone, or with `icase` all code points that fold as c does.
 unfoldable pub expand_code_point : ℕ → (icase unicode : Bool) → List ℕ
 expand_code_point c false unicode = c ∷ []
 expand_code_point c true unicode = code_points_with_fold unicode (fold_code_point unicode c)
@@ -55,12 +55,12 @@ expand_code_point c true unicode = code_points_with_fold unicode (fold_code_poin
 abbrev pub is_line_terminator : ℕ → Bool
 is_line_terminator c = c == 0x0A || c == 0x0D || c == 0x2028 || c == 0x2029
 
--- whether a code point beyond ASCII folds to a word character of ASCII
+-- Whether a code point beyond ASCII folds to a word character of ASCII.
 abbrev pub nonascii_folds_to_ascii_word_char : ℕ → Bool
 nonascii_folds_to_ascii_word_char c = c == 0x017F || c == 0x212A
 
--- whether c is a word character (21.2.2.6.1, *WordCharacters*): `a` to `z`, `A` to `Z`, `0` to `9`
--- and `_`, and with both flags `i` and `u` those that fold to one of them
+-- Whether c is a word character (21.2.2.6.1, *WordCharacters*): `a` to `z`, `A` to `Z`, `0` to `9`
+-- and `_`, and with both flags `i` and `u` those that fold to one of them.
 abbrev pub is_word_char : (unicode_icase : Bool) → ℕ → Bool
 is_word_char unicode_icase c =
     is_lowercase c || is_uppercase c || is_in_range 48 57 c || c == 95 || (unicode_icase && nonascii_folds_to_ascii_word_char c)
@@ -76,25 +76,25 @@ pub record Text : Type 0 where
   pub unicode : Bool
   pub fold : ℕ → ℕ
 
--- the offsets of the places from `at` on, given the widths of the characters in code units
+-- The offsets of the places from `at` on, given the widths of the characters in code units.
 abbrev pub offsets_from : ℕ → List ℕ → List ℕ
 offsets_from at [] = at ∷ []
 offsets_from at (width ∷ widths) = at ∷ offsets_from (at + width) widths
 
--- the width of a character that is one code unit
+-- The width of a character that is one code unit.
 abbrev pub one_unit : ℕ → ℕ
 one_unit c = 1
 
--- the fold of a character; the character itself if its fold is no `char`
+-- The fold of a character; the character itself if its fold is no `char`.
 abbrev pub fold_char : (unicode : Bool) → ℕ → ℕ
 fold_char unicode c = let folded = fold_code_point unicode c in if is_scalar folded then folded else c
 
--- the fold of a character in an ASCII text
+-- The fold of a character in an ASCII text.
 abbrev pub fold_ascii : (unicode : Bool) → ℕ → ℕ
 fold_ascii true c = to_ascii_lowercase c
 fold_ascii false c = to_ascii_uppercase c
 
--- the text that the bytes encode in UTF-8 (21.2.2.2 with the flag `u`)
+-- The text that the bytes encode in UTF-8 (21.2.2.2 with the flag `u`).
 abbrev pub utf8_text : List ℕ → (unicode : Bool) → Text
 utf8_text bytes unicode = record {
   characters = chars bytes;
@@ -103,7 +103,7 @@ utf8_text bytes unicode = record {
   fold = fold_char unicode;
 }
 
--- the text whose characters are the bytes
+-- The text whose characters are the bytes.
 abbrev pub ascii_text : List ℕ → (unicode : Bool) → Text
 ascii_text bytes unicode = record {
   characters = bytes;
@@ -120,16 +120,16 @@ is_high_surrogate u = is_in_range 0xD800 0xDBFF u
 abbrev pub is_low_surrogate : ℕ → Bool
 is_low_surrogate u = is_in_range 0xDC00 0xDFFF u
 
--- the code point of a surrogate pair
+-- The code point of a surrogate pair.
 abbrev pub decode_surrogate_pair : (high low : ℕ) → ℕ
 decode_surrogate_pair high low = 0x1_0000 + ((high % 0x400) * 0x400 + low % 0x400)
 
--- the number of 16-bit code units of a character
+-- The number of 16-bit code units of a character.
 abbrev pub utf16_width : ℕ → ℕ
 utf16_width c = if nat_le 0x1_0000 c then 2 else 1
 
--- the characters of 16-bit code units (6.1.4, 10.1.2): a high surrogate before a low one makes one
--- character with it, and any other unit is a character by itself
+-- The characters of 16-bit code units (6.1.4, 10.1.2): a high surrogate before a low one makes one
+-- character with it, and any other unit is a character by itself.
 abbrev pub utf16_characters : List ℕ → List ℕ
 utf16_characters [] = []
 utf16_characters (u ∷ []) = u ∷ []
@@ -138,7 +138,7 @@ utf16_characters (u ∷ v ∷ units) =
     let single = u ∷ utf16_characters (v ∷ units) in
     if is_high_surrogate u && is_low_surrogate v then pair else single
 
--- the text that the 16-bit code units encode in UTF-16 (21.2.2.2 with the flag `u`)
+-- The text that the 16-bit code units encode in UTF-16 (21.2.2.2 with the flag `u`).
 abbrev pub utf16_text : List ℕ → (unicode : Bool) → Text
 utf16_text units unicode = record {
   characters = utf16_characters units;
@@ -147,11 +147,11 @@ utf16_text units unicode = record {
   fold = fold_code_point unicode;
 }
 
--- whether no surrogate pair is cut at this offset of 16-bit code units, which is within the text
+-- Whether no surrogate pair is cut at this offset of 16-bit code units, which is within the text.
 abbrev pub is_unit_boundary : List ℕ → ℕ → Bool
 is_unit_boundary units i = contains (offsets_from 0 (map utf16_width (utf16_characters units))) i
 
--- the text whose characters are the 16-bit code units (21.2.2.2 without the flag `u`)
+-- The text whose characters are the 16-bit code units (21.2.2.2 without the flag `u`).
 abbrev pub ucs2_text : List ℕ → (unicode : Bool) → Text
 ucs2_text units unicode = record {
   characters = units;
@@ -162,41 +162,41 @@ ucs2_text units unicode = record {
 
 -- ---- Characters beside a place
 
--- the direction of matching: rightwards, or leftwards inside a lookbehind
+-- The direction of matching: rightwards, or leftwards inside a lookbehind.
 pub data Direction : Type 0 where
   rightwards : Direction
   leftwards : Direction
 
 module _ (text : Text) where
-  -- the place at the right end (*InputLength*, 21.2.2.1)
+  -- The place at the right end (*InputLength*, 21.2.2.1).
   abbrev pub last_place : ℕ
   last_place = length text.characters
 
-  -- the character to the left of a place
+  -- The character to the left of a place.
   abbrev pub character_before : ℕ → Option ℕ
   character_before zero = None
   character_before (suc place) = slice_get text.characters place
 
-  -- the character to the right of a place
+  -- The character to the right of a place.
   abbrev pub character_after : ℕ → Option ℕ
   character_after place = slice_get text.characters place
 
-  -- the next character in the direction
+  -- The next character in the direction.
   abbrev pub next_character : Direction → ℕ → Option ℕ
   next_character rightwards place = character_after place
   next_character leftwards place = character_before place
 
-  -- the number of characters that are left in the direction
+  -- The number of characters that are left in the direction.
   abbrev pub characters_ahead : Direction → ℕ → ℕ
   characters_ahead rightwards place = last_place - place
   characters_ahead leftwards place = place
 
-  -- the place n characters further in the direction
+  -- The place n characters further in the direction.
   abbrev pub moved : Direction → ℕ → ℕ → ℕ
   moved rightwards n place = place + n
   moved leftwards n place = place - n
 
-  -- the next n characters in the direction, read from left to right
+  -- The next n characters in the direction, read from left to right.
   abbrev pub next_characters : Direction → ℕ → ℕ → List ℕ
   next_characters rightwards n place = slice_range text.characters place (place + n)
   next_characters leftwards n place = slice_range text.characters (place - n) place

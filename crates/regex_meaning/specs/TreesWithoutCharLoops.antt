@@ -2,11 +2,11 @@
 use Rattle.std.specs.Prelude.{Bool, true, false}
 use Rattle.regex_meaning.specs.Tree.{Node, loop_1_char_body, every_node_passes}
 
--- the node is no loop over one character
+-- The node is no loop over one character.
 abbrev pub is_not_char_loop : Node → Bool
 is_not_char_loop (loop_1_char_body q loopee) = false
 is_not_char_loop _ = true
 
--- the tree has no loop over one character; only optimization makes those
+-- The tree has no loop over one character; only optimization makes those.
 abbrev pub has_no_char_loops : Node → Bool
 has_no_char_loops root = every_node_passes is_not_char_loop root

@@ -24,8 +24,8 @@ use Rattle.ucd_sets.specs.declared.property.BinaryProperty.TheVariants.{Radical,
 use Rattle.ucd_sets.specs.declared.property.BinaryProperty.TheVariants.{UnifiedIdeograph, Uppercase, VariationSelector, WhiteSpace, XidContinue}
 use Rattle.ucd_sets.specs.declared.property.BinaryProperty.TheVariants.{XidStart}
 
--- a property that a code point has or has not: a set of the Unicode Character Database, or
--- Changes_When_NFKC_Casefolded
+-- A property that a code point has or has not: a set of the Unicode Character Database, or
+-- Changes_When_NFKC_Casefolded.
 pub data Property : Type 0 where
   in_database : Set → Property
   changes_when_nfkc_casefolded : Property
@@ -35,16 +35,16 @@ pub data Property : Type 0 where
 unfoldable pub is_nfkc_casefolded : ℕ → Bool
 is_nfkc_casefolded c = not (is_default_ignorable_code_point c) && bytes_eq (nfkc (full_fold c)) (c ∷ [])
 
--- whether the code point has the property
+-- Whether the code point has the property.
 unfoldable pub has_property : Property → ℕ → Bool
 has_property (in_database s) c = nat_le c 0x10_FFFF && in_set s c
 has_property changes_when_nfkc_casefolded c = nat_le c 0x10_FFFF && not (is_nfkc_casefolded c)
 
--- whether the text is this word
+-- Whether the text is this word.
 abbrev pub is_word : String → List ℕ → Bool
 is_word word text = pointwise nat_eq (codes word) text
 
--- the value of the first row whose name is this text
+-- The value of the first row whose name is this text.
 abbrev pub value_named : {V : Type 0} → List (String × V) → List ℕ → Option V
 value_named [] name = None
 value_named (row ∷ rows) name = if is_word row.0 name then Some row.1 else value_named rows name

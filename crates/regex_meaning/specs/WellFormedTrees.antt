@@ -13,60 +13,60 @@ abbrev pub own_goals : Node → ℕ
 own_goals goal = 1
 own_goals _ = 0
 
--- the number of `Goal` nodes in the tree
+-- The number of `Goal` nodes in the tree.
 abbrev pub number_of_goal_nodes : Node → ℕ
 number_of_goal_nodes root = fold_nodes ◌+◌ own_goals root
 
--- the node is the end of a `Cat`
+-- The node is the end of a `Cat`.
 abbrev pub is_end_of_cat : Node → Bool
 is_end_of_cat end_of_cat = true
 is_end_of_cat _ = false
 
--- the node is `Goal`, or a `Cat` whose last child ends in `Goal`
+-- The node is `Goal`, or a `Cat` whose last child ends in `Goal`.
 abbrev pub ends_in_goal : Node → Bool
 ends_in_goal goal = true
 ends_in_goal (cat first rest) = if is_end_of_cat rest then ends_in_goal first else ends_in_goal rest
 ends_in_goal _ = false
 
--- there is exactly one `Goal`, and it is last
+-- There is exactly one `Goal`, and it is last.
 abbrev pub only_goal_node_is_last : Node → Bool
 only_goal_node_is_last root = number_of_goal_nodes root == 1 && ends_in_goal root
 
--- each number below the number of groups is the id of exactly one group
+-- Each number below the number of groups is the id of exactly one group.
 abbrev pub each_id_stands_once : Node → Bool
 each_id_stands_once root =
     let ids = group_ids root in
     list_all (λ id. count_by (nat_eq id) ids == 1) (numbers_from 0 (length ids))
 
--- the ids from `start_group` up to `end_group`, exclusive, are exactly those of the groups inside
+-- The ids from `start_group` up to `end_group`, exclusive, are exactly those of the groups inside.
 abbrev pub encloses : (start_group end_group : ℕ) → (contents : Node) → Bool
 encloses start_group end_group contents =
     let ids = group_ids contents in
     let named = numbers_from start_group (end_group - start_group) in
     nat_le start_group end_group && list_all (contains named) ids && list_all (contains ids) named
 
--- a loop or a lookaround names exactly the groups inside it
+-- A loop or a lookaround names exactly the groups inside it.
 abbrev pub names_the_groups_inside : Node → Bool
 names_the_groups_inside (lookaround l contents) = encloses l.start_group l.end_group contents
 names_the_groups_inside (loop q start_group end_group loopee) = encloses start_group end_group loopee
 names_the_groups_inside _ = true
 
--- a backreference is to one of n groups, which count from 1
+-- A backreference is to one of n groups, which count from 1.
 abbrev pub refers_to_a_group : (n : ℕ) → Node → Bool
 refers_to_a_group n (back_ref group same) = nat_le 1 group && nat_le group n
 refers_to_a_group n _ = true
 
--- the minimum is at most the maximum, if there is a maximum
+-- The minimum is at most the maximum, if there is a maximum.
 abbrev pub is_min_at_most_max : Quantifier → Bool
 is_min_at_most_max q = option_map_or (nat_le q.min) q.max true
 
--- the minimum of a loop is at most its maximum
+-- The minimum of a loop is at most its maximum.
 abbrev pub has_order_in_quantifier : Node → Bool
 has_order_in_quantifier (loop q start_group end_group loopee) = is_min_at_most_max q
 has_order_in_quantifier (loop_1_char_body q loopee) = is_min_at_most_max q
 has_order_in_quantifier _ = true
 
--- the node matches exactly one character
+-- The node matches exactly one character.
 abbrev pub is_one_character : Node → Bool
 is_one_character (char c) = true
 is_one_character (char_set members) = true
@@ -77,25 +77,25 @@ is_one_character match_any_except_line_terminator = true
 is_one_character (byte_sequence bytes) = length (chars bytes) == 1
 is_one_character _ = false
 
--- the body of a loop over one character is a one-character node
+-- The body of a loop over one character is a one-character node.
 abbrev pub has_one_character_body : Node → Bool
 has_one_character_body (loop_1_char_body q loopee) = is_one_character loopee
 has_one_character_body _ = true
 
--- a byte sequence is the UTF-8 of at least one character
+-- A byte sequence is the UTF-8 of at least one character.
 abbrev pub has_text_in_sequence : Node → Bool
 has_text_in_sequence (byte_sequence bytes) = nat_lt 0 (length bytes) && is_utf8 bytes
 has_text_in_sequence _ = true
 
--- sets have at most four members, sets of bytes only ASCII, and code points of strings are at most
--- U+10FFFF
+-- Sets have at most four members, sets of bytes only ASCII, and code points of strings are at most
+-- U+10FFFF.
 abbrev pub set_sizes_and_characters_fit_instructions : Node → Bool
 set_sizes_and_characters_fit_instructions (byte_set members) = nat_le (length members) 4 && list_all (λ b. nat_lt b 128) members
 set_sizes_and_characters_fit_instructions (char_set members) = nat_le (length members) 4
 set_sizes_and_characters_fit_instructions (string_set strings icase) = list_all (list_all (λ c. nat_le c 0x10_FFFF)) strings
 set_sizes_and_characters_fit_instructions _ = true
 
--- the tree satisfies all of these conditions
+-- The tree satisfies all of these conditions.
 unfoldable pub is_well_formed : Node → Bool
 is_well_formed root =
     only_goal_node_is_last root

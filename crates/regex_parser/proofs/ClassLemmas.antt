@@ -23,7 +23,7 @@ use Rattle.regex_meaning.proofs.Members.{class_letter, one_class_atom, atom_star
 use Rattle.regex_pattern_front.specs.declared.codepointset.Interval.{Interval}
 use Rattle.regex_pattern_front.specs.Intervals.{interval_of}
 use Rattle.regex_parser.specs.declared.parser_error.ParseStopReason.{ParseStopReason}
-use Rattle.regex_parser.specs.CodePointAndQuantifierReaderContracts.{is_syntax_error, peeked, IsEaten, IsNext, IsUnescapedRead, IsReadAndErrorMeansUnreadable}
+use Rattle.regex_parser.specs.CodePointReaderContracts.{is_syntax_error, peeked, IsEaten, IsNext, IsUnescapedRead, IsReadAndErrorMeansUnreadable}
 use Rattle.regex_parser.specs.ClassReaderContracts.{is_in_any_interval, escape_of, begins_nested_class_or_operation, IsCaseClosureOfTest, AddsMembers}
 use Rattle.regex_parser.specs.ClassReaderContracts.{IsClassMemberRead, AreClassRangesRead}
 use Rattle.regex_parser.proofs.ClosingLemmas.{closed-twice}

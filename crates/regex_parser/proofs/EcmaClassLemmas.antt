@@ -38,7 +38,7 @@ use Rattle.regex_parser.specs.EcmaClassContracts.{AreEcmaRangesRead, IsRangeOrCa
 use Rattle.regex_parser.specs.declared.ecmascript_classes.AtomValue.{AtomValue}
 use Rattle.regex_parser.specs.declared.ecmascript_classes.AtomValue.TheVariants.{Character, Letter, Property}
 use Rattle.regex_parser.specs.declared.diagnosis.Cause.{Cause}
-use Rattle.regex_parser.specs.CodePointAndQuantifierReaderContracts.{is_syntax_error, peeked, IsEaten, IsNext, IsReadOr}
+use Rattle.regex_parser.specs.CodePointReaderContracts.{is_syntax_error, peeked, IsEaten, IsNext, IsReadOr}
 use Rattle.regex_parser.specs.declared.parser_error.ParseStopReason.{ParseStopReason}
 use Rattle.std.specs.Result.{IsErrAnd}
 use Rattle.regex_parser.proofs.ReadLemmas.{no_sign}

@@ -13,7 +13,7 @@ use Rattle.regex_meaning.specs.EcmaEscapesAndNames.{CharacterEscape, non_identit
 use Rattle.regex_meaning.proofs.OneTree.{first as first_of, rest_of, unlike}
 use Rattle.regex_meaning.proofs.Leaves.{firsts}
 use Rattle.regex_meaning.proofs.EcmaLeaves.{escape_kind, tag, tagged}
-use Rattle.regex_parser.specs.CodePointAndQuantifierReaderContracts.{IsReadOrNothingCanBeRead, IsDigitRead}
+use Rattle.regex_parser.specs.CodePointReaderContracts.{IsReadOrNothingCanBeRead, IsDigitRead}
 use Rattle.regex_parser.specs.EcmaReaderContracts.{IsControlLetterRead}
 
 -- ---- Octal digits

@@ -16,7 +16,7 @@ use Rattle.regex_meaning.specs.EcmaEscapesAndNames.{verbatim, escaped, surrogate
 use Rattle.regex_meaning.specs.EcmaEscapesAndNames.{GroupName, group_name}
 use Rattle.regex_meaning.proofs.Leaves.{behind, firsts, apart, one_unicode}
 use Rattle.regex_meaning.proofs.EcmaLeaves.{TestsNames, start-tests, part-tests, no-sign, one_name_character}
-use Rattle.regex_parser.specs.CodePointAndQuantifierReaderContracts.{IsReadOr}
+use Rattle.regex_parser.specs.CodePointReaderContracts.{IsReadOr}
 use Rattle.regex_parser.specs.declared.parser_error.ParseStopReason.{ParseStopReason}
 use Rattle.regex_parser.specs.EcmaReaderContracts.{passes_in_name, NameCharacterAt, NoNameCharacter, IsNameCodePointRead}
 

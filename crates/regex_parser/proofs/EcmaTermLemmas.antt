@@ -50,7 +50,7 @@ use Rattle.regex_parser.specs.declared.groupless_terms.GrouplessTerm.{GrouplessT
 use Rattle.regex_parser.specs.declared.parser_error.ParseStopReason.{ParseStopReason}
 use Rattle.regex_pattern_front.specs.AstToSpecTree.{node_of, spec_flags_of, class_as_spec}
 use Rattle.regex_parser.specs.ClassReaderContracts.{uninverted_digit_word_or_space_set, escape_of}
-use Rattle.regex_parser.specs.CodePointAndQuantifierReaderContracts.{is_syntax_error, peeked, IsNext}
+use Rattle.regex_parser.specs.CodePointReaderContracts.{is_syntax_error, peeked, IsNext}
 use Rattle.regex_parser.specs.EcmaClassContracts.{set_of_letter}
 use Rattle.regex_parser.specs.GrouplessTermContracts.{pattern_context, parse_state_at, anchor_sign, boundary_letter, IsNumberUnlessMissingOrZero}
 use Rattle.regex_parser.specs.GrouplessTermContracts.{is_star_plus_or_question, is_brace_or_closing_bracket, is_paren_or_bar}
@@ -62,7 +62,7 @@ use Rattle.regex_parser.proofs.EcmaClassLemmas.{letter-set, no-character, proper
 use Rattle.regex_parser.proofs.EcmaEscapeLemmas.{digit-none}
 use Rattle.regex_parser.proofs.ReadLemmas.{no_sign}
 use Rattle.regex_parser.proofs.TermLemmas.{none_of}
-use Rattle.regex_parser.specs.declared.ecmascript_single_character_escapes.GrammarParameters.{GrammarParameters as TheParameters}
+use Rattle.regex_parser.specs.declared.ecmascript_escapes.GrammarParameters.{GrammarParameters as TheParameters}
 use Rattle.regex_parser.specs.EcmaReaderContracts.{spec_parameters_of}
 
 -- ---- Signs

@@ -11,8 +11,8 @@ use Rattle.regex_meaning.specs.EscapesNamesQuantifiers.{control_escape_code_poin
 use Rattle.regex_meaning.proofs.OneTree.{first, rest_of, unlike}
 use Rattle.regex_meaning.proofs.Leaves.{behind, one_hex, no_brace, no_brace_pair}
 use Rattle.regex_meaning.proofs.Members.{may_escape, escape_begins}
-use Rattle.regex_parser.specs.CodePointAndQuantifierReaderContracts.{peeked, IsReadOrNothingCanBeRead, IsTrail, PairsWithTrailSurrogateIfAny}
-use Rattle.regex_parser.specs.CodePointAndQuantifierReaderContracts.{IsCodePointAndClosingBrace}
+use Rattle.regex_parser.specs.CodePointReaderContracts.{peeked, IsReadOrNothingCanBeRead, IsTrail, PairsWithTrailSurrogateIfAny}
+use Rattle.regex_parser.specs.CodePointReaderContracts.{IsCodePointAndClosingBrace}
 
 -- the number that was asked whether it is a `char`
 pub scalar-same : {o : Option ℕ} {c x : ℕ} → SomeIff o (IsScalar c) c → o ≡ Some x → x ≡ c

@@ -1,9 +1,9 @@
 -- The parentheses that are open, one more and one less.
 use Rattle.std.proofs.Common.{◌≡◌, ℕ, ◌+◌, ◌≤◌, List, [], ◌∷◌, ◌++◌, refl, arith, vec_len}
-use Rattle.regex_parser.specs.declared.open_groups_and_partial_disjunctions.OpenGroup.{OpenGroup}
+use Rattle.regex_parser.specs.declared.open_groups.OpenGroup.{OpenGroup}
 use Rattle.regex_pattern_front.specs.SubtreeListInvariants.{AreSoundSubtrees}
 use Rattle.regex_parser.specs.declared.parse.Parser.{Parser}
-use Rattle.regex_parser.specs.ParserGroupIdInvariant.{captures_opened_by_group_kind, nodes_at, AreOpen, OpenDisjunctionsHaveAllGroups}
+use Rattle.regex_parser.specs.GroupIdInvariant.{captures_opened_by_group_kind, nodes_at, AreOpen, OpenDisjunctionsHaveAllGroups}
 use Rattle.regex_pattern_front.proofs.PartLemmas.{parts-more, empty-list}
 
 pub open-more : (greatest more first inner : ℕ) (os : List OpenGroup) → greatest ≤ more → AreOpen greatest first os inner → AreOpen more first os inner

@@ -81,8 +81,8 @@ opener_goes_on true true q e = ap (λ x. ends_here x.text) e
 module _ (S : PatternDialect) (one : IsReadInOneWay S) where
   -- Where a parenthesis opens, a level begins: it is enough that its contents make a term, and that each term is made of them.
   module _ (w : PatternContext) (gs : List RemainingCodePoints) (l : PartialDisjunction) (around : List OpenGroup) (t : Node) {p inner : ParseState} (b : Bool) (o : OpenGroupKind) (more : ends_here p.text ≡ false)
-      (make : (x r s : ParseState) (c n : Node) → Disjunction S w b inner x c → x ≡ ")" ▸ r → ClosesGroup S w (opens_here l o p) c r s n → Term S w l.behind p s n)
-      (found : (s : ParseState) (m : Node) → Term S w l.behind p s m → (x y : ParseState) × (c : Node) × Disjunction S w b inner x c × (x ≡ ")" ▸ y) × ClosesGroup S w (opens_here l o p) c y s m)
+      (make : (x r s : ParseState) (c n : Node) → Disjunction S w b inner x c → x ≡ ")" ▸ r → ClosesGroup S w (opens_here l o p) c r s n → Term S w l.in_lookbehind p s n)
+      (found : (s : ParseState) (m : Node) → Term S w l.in_lookbehind p s m → (x y : ParseState) × (c : Node) × Disjunction S w b inner x c × (x ≡ ")" ▸ y) × ClosesGroup S w (opens_here l o p) c y s m)
     where
       from : CompletesAll S w gs (opens_here l o p ∷ around) (empty_disjunction b) inner t → CompletesAll S w gs around l p t
       from h = pushed_all S one w gs around l t (make h.0 h.1 h.2 h.3 h.4 ((begin S one w b inner h.0 h.3).1 h.5) h.6 h.7) h.8
@@ -112,7 +112,7 @@ module _ (S : PatternDialect) (one : IsReadInOneWay S) where
 
   -- `(?:`
   module _ (w : PatternContext) (gs : List RemainingCodePoints) (l : PartialDisjunction) (around : List OpenGroup) (t : Node) {p q : ParseState} (e : p ≡ "(?:" ▸ q) where
-    make : {x r s : ParseState} {c n : Node} → Disjunction S w l.behind q x c → x ≡ ")" ▸ r → ClosesGroup S w (opens_here l plain p) c r s n → Term S w l.behind p s n
+    make : {x r s : ParseState} {c n : Node} → Disjunction S w l.in_lookbehind q x c → x ≡ ")" ▸ r → ClosesGroup S w (opens_here l plain p) c r s n → Term S w l.in_lookbehind p s n
     unfolding is_plain
     make d close (looked x y z f none) = absurd (true≢false (ap is_plain f))
     make d close (looked_repeatedly x y z f may k) = absurd (true≢false (ap is_plain f))
@@ -120,34 +120,34 @@ module _ (S : PatternDialect) (one : IsReadInOneWay S) where
     make d close (enclosed f k) = make_term (plain_group e d close) k
 
     abbrev Found : (s : ParseState) → Node → Type 0
-    Found s m = (x y : ParseState) × (c : Node) × Disjunction S w l.behind q x c × (x ≡ ")" ▸ y) × ClosesGroup S w (opens_here l plain p) c y s m
+    Found s m = (x y : ParseState) × (c : Node) × Disjunction S w l.in_lookbehind q x c × (x ≡ ")" ▸ y) × ClosesGroup S w (opens_here l plain p) c y s m
 
-    in_atom : {s x : ParseState} {n m : Node} → Atom S w l.behind p x n → IsTerm (groups_at p) n x s m → Found s m
+    in_atom : {s x : ParseState} {n m : Node} → Atom S w l.in_lookbehind p x n → IsTerm (groups_at p) n x s m → Found s m
     in_atom (leaf a) k = absurd (true≢false (sym (one.leaf_apart w _ _ _ a) ∙ ap (λ x. leaf_begins x.text) e))
     in_atom (group f g d close) k = absurd (no_question g (ap (λ x. rest_of x.text) (sym f ∙ e)))
     in_atom (named_group f g d close) k = absurd (places_differ third e f refl)
-    in_atom (plain_group {r = x} {t = y} {n = c} f d close) k = (x, y, c, subst (λ a. Disjunction S w l.behind a x c) (behind_word "(?:" f e) d, close, enclosed refl k)
+    in_atom (plain_group {r = x} {t = y} {n = c} f d close) k = (x, y, c, subst (λ a. Disjunction S w l.in_lookbehind a x c) (behind_word "(?:" f e) d, close, enclosed refl k)
 
     no_look : {s : ParseState} {m : Node} → Assertion S w p s m → ⊥
     no_look a =
         let b = looks_behind (ap (λ x. first x.text) e) (subst (λ x. nat_eq (third x.text) 61 ≡ false) (sym e) refl) (subst (λ x. nat_eq (third x.text) 33 ≡ false) (sym e) refl) a in
         unlike 58 60 refl (sym (ap (λ x. third x.text) e) ∙ b.0)
 
-    found : {s : ParseState} {m : Node} → Term S w l.behind p s m → Found s m
+    found : {s : ParseState} {m : Node} → Term S w l.in_lookbehind p s m → Found s m
     found (assertion a none) = absurd (no_look a)
     found (repeated_assertion a may k) = absurd (no_look a)
     found (atom a k) = in_atom a (once k)
     found (quantified a k) = in_atom a (repeated k)
 
-    pub enter_plain : CompletesAll S w gs (opens_here l plain p ∷ around) (empty_disjunction l.behind) q t ↔ CompletesAll S w gs around l p t
-    enter_plain = enter_by w gs l around t l.behind plain (ap (λ x. ends_here x.text) e) (λ x r s c n. make) (λ s m. found)
+    pub enter_plain : CompletesAll S w gs (opens_here l plain p ∷ around) (empty_disjunction l.in_lookbehind) q t ↔ CompletesAll S w gs around l p t
+    enter_plain = enter_by w gs l around t l.in_lookbehind plain (ap (λ x. ends_here x.text) e) (λ x r s c n. make) (λ s m. found)
 
   -- `(?<name>`
   module _ (w : PatternContext) (gs : List RemainingCodePoints) (l : PartialDisjunction) (around : List OpenGroup) (t : Node) {p q : ParseState} {after name : RemainingCodePoints} (e : p ≡ "(?<" ▸ q) (is : S.group_name q.text after name) where
     abbrev pub this : OpenGroupKind
     this = captures (groups_at p) name
 
-    make_named : {x r s : ParseState} {c n : Node} → Disjunction S w l.behind (with_opened_group name (state_with_text_left after q)) x c → x ≡ ")" ▸ r → ClosesGroup S w (opens_here l this p) c r s n → Term S w l.behind p s n
+    make_named : {x r s : ParseState} {c n : Node} → Disjunction S w l.in_lookbehind (with_opened_group name (state_with_text_left after q)) x c → x ≡ ")" ▸ r → ClosesGroup S w (opens_here l this p) c r s n → Term S w l.in_lookbehind p s n
     unfolding is_capture id_of name_of
     make_named d close (looked x y z f none) = absurd (true≢false (ap is_capture f))
     make_named d close (looked_repeatedly x y z f may k) = absurd (true≢false (ap is_capture f))
@@ -157,9 +157,9 @@ module _ (S : PatternDialect) (one : IsReadInOneWay S) where
         make_term (named_group e is d close) (subst (λ a. IsTerm (groups_at p) a r s n) same k)
 
     abbrev Found_named : (s : ParseState) → Node → Type 0
-    Found_named s m = (x y : ParseState) × (c : Node) × Disjunction S w l.behind (with_opened_group name (state_with_text_left after q)) x c × (x ≡ ")" ▸ y) × ClosesGroup S w (opens_here l this p) c y s m
+    Found_named s m = (x y : ParseState) × (c : Node) × Disjunction S w l.in_lookbehind (with_opened_group name (state_with_text_left after q)) x c × (x ≡ ")" ▸ y) × ClosesGroup S w (opens_here l this p) c y s m
 
-    in_named : {s x : ParseState} {n m : Node} → Atom S w l.behind p x n → IsTerm (groups_at p) n x s m → Found_named s m
+    in_named : {s x : ParseState} {n m : Node} → Atom S w l.in_lookbehind p x n → IsTerm (groups_at p) n x s m → Found_named s m
     in_named (leaf a) k = absurd (true≢false (sym (one.leaf_apart w _ _ _ a) ∙ ap (λ x. leaf_begins x.text) e))
     in_named (group f g d close) k = absurd (no_question g (ap (λ x. rest_of x.text) (sym f ∙ e)))
     in_named (plain_group f d close) k = absurd (places_differ third e f refl)
@@ -170,7 +170,7 @@ module _ (S : PatternDialect) (one : IsReadInOneWay S) where
           x,
           y,
           c,
-          subst (λ a. Disjunction S w l.behind a x c) inside d,
+          subst (λ a. Disjunction S w l.in_lookbehind a x c) inside d,
           close,
           captured refl (subst (λ a. IsTerm (groups_at p) (capture_group (groups_at p) a c) y s m) (sym same.1) k),
         )
@@ -180,16 +180,16 @@ module _ (S : PatternDialect) (one : IsReadInOneWay S) where
         let b = looks_behind (ap (λ x. first x.text) e) (subst (λ x. nat_eq (third x.text) 61 ≡ false) (sym e) refl) (subst (λ x. nat_eq (third x.text) 33 ≡ false) (sym e) refl) a in
         one.no_sign b.1 after name b.3 b.2 (subst (λ x. S.group_name x after name) (sym (ap (λ x. rest_of (rest_of (rest_of x.text))) e) ∙ b.4) is)
 
-    found_named : {s : ParseState} {m : Node} → Term S w l.behind p s m → Found_named s m
+    found_named : {s : ParseState} {m : Node} → Term S w l.in_lookbehind p s m → Found_named s m
     found_named (assertion a none) = absurd (no_look_named a)
     found_named (repeated_assertion a may k) = absurd (no_look_named a)
     found_named (atom a k) = in_named a (once k)
     found_named (quantified a k) = in_named a (repeated k)
 
-    pub enter_named : CompletesAll S w gs (opens_here l this p ∷ around) (empty_disjunction l.behind) (with_opened_group name (state_with_text_left after q)) t ↔ CompletesAll S w gs around l p t
-    enter_named = enter_by w gs l around t l.behind this (ap (λ x. ends_here x.text) e) (λ x r s c n. make_named) (λ s m. found_named)
+    pub enter_named : CompletesAll S w gs (opens_here l this p ∷ around) (empty_disjunction l.in_lookbehind) (with_opened_group name (state_with_text_left after q)) t ↔ CompletesAll S w gs around l p t
+    enter_named = enter_by w gs l around t l.in_lookbehind this (ap (λ x. ends_here x.text) e) (λ x r s c n. make_named) (λ s m. found_named)
 
-  no_other : (negate backwards : Bool) (q : ParseState) {p x : ParseState} {w : PatternContext} {behind : Bool} {n : Node} → p ≡ lookaround_opener negate backwards ▸ q → Atom S w behind p x n → ⊥
+  no_other : (negate backwards : Bool) (q : ParseState) {p x : ParseState} {w : PatternContext} {in_lookbehind : Bool} {n : Node} → p ≡ lookaround_opener negate backwards ▸ q → Atom S w in_lookbehind p x n → ⊥
   no_other false false q {w = w} e (leaf a) = true≢false (sym (one.leaf_apart w _ _ _ a) ∙ ap (λ x. leaf_begins x.text) e)
   no_other false false q e (group f g d close) = no_question g (ap (λ x. rest_of x.text) (sym f ∙ e))
   no_other false false q e (plain_group f d close) = places_differ third e f refl
@@ -225,7 +225,7 @@ module _ (S : PatternDialect) (one : IsReadInOneWay S) where
         closes m.2 m.6,
       )
 
-  look_found : (w : PatternContext) (l : PartialDisjunction) (negate backwards : Bool) {p q s : ParseState} {m : Node} → p ≡ lookaround_opener negate backwards ▸ q → Term S w l.behind p s m → LookFound w l negate backwards p q s m
+  look_found : (w : PatternContext) (l : PartialDisjunction) (negate backwards : Bool) {p q s : ParseState} {m : Node} → p ≡ lookaround_opener negate backwards ▸ q → Term S w l.in_lookbehind p s m → LookFound w l negate backwards p q s m
   unfolding goes_backwards
   look_found w l negate backwards {p = p} {s = s} e (assertion a none) =
       in_look w l negate backwards e a
@@ -239,14 +239,14 @@ module _ (S : PatternDialect) (one : IsReadInOneWay S) where
   look_found w l negate backwards e (quantified a k) = absurd (no_other negate backwards _ e a)
 
   module _ (w : PatternContext) (gs : List RemainingCodePoints) (l : PartialDisjunction) (around : List OpenGroup) (t : Node) (negate backwards : Bool) {p q : ParseState} (e : p ≡ lookaround_opener negate backwards ▸ q) where
-    make_look : {x r s : ParseState} {c n : Node} → Disjunction S w backwards q x c → x ≡ ")" ▸ r → ClosesGroup S w (opens_here l (looks negate backwards (groups_at p)) p) c r s n → Term S w l.behind p s n
+    make_look : {x r s : ParseState} {c n : Node} → Disjunction S w backwards q x c → x ≡ ")" ▸ r → ClosesGroup S w (opens_here l (looks negate backwards (groups_at p)) p) c r s n → Term S w l.in_lookbehind p s n
     unfolding is_look negates looks_backwards begins_at
     make_look d close (captured f k) = absurd (true≢false (ap is_look f))
     make_look d close (enclosed f k) = absurd (true≢false (ap is_look f))
     make_look {r = r} {c = c} d close (looked x y z f none) =
-        subst (λ n. Term S w l.behind p r n) (ap (λ u. lookaround u c) (same-look negate backwards (groups_at p) x y z r f)) (assertion (look negate backwards e d close) none)
+        subst (λ n. Term S w l.in_lookbehind p r n) (ap (λ u. lookaround u c) (same-look negate backwards (groups_at p) x y z r f)) (assertion (look negate backwards e d close) none)
     make_look {r = r} {c = c} d close (looked_repeatedly {there = there} {quantifier = k} x y z f may h) =
-        subst (λ n. Term S w l.behind p (state_with_text_left there r) (loop k (groups_at p) (groups_at r) n)) (ap (λ u. lookaround u c) (same-look negate backwards (groups_at p) x y z r f))
+        subst (λ n. Term S w l.in_lookbehind p (state_with_text_left there r) (loop k (groups_at p) (groups_at r) n)) (ap (λ u. lookaround u c) (same-look negate backwards (groups_at p) x y z r f))
         (repeated_assertion (look negate backwards e d close) (subst (λ b. IsTrue (S.may_repeat w.flags b)) (sym (ap looks_backwards f)) may) h)
 
     pub enter_look : CompletesAll S w gs (opens_here l (looks negate backwards (groups_at p)) p ∷ around) (empty_disjunction backwards) q t ↔ CompletesAll S w gs around l p t

@@ -26,19 +26,19 @@ use Rattle.regex_parser.specs.declared.group_openings_and_names.GroupKind.TheVar
 use Rattle.regex_parser.specs.declared.groupless_terms.GrouplessTermReader.{GrouplessTermReader}
 use Rattle.regex_pattern_front.specs.declared.ir.Node.{Node}
 use Rattle.regex_pattern_front.specs.declared.ir.Quantifier.{Quantifier}
-use Rattle.regex_parser.specs.declared.open_groups_and_partial_disjunctions.OpenGroup.{OpenGroup}
+use Rattle.regex_parser.specs.declared.open_groups.OpenGroup.{OpenGroup}
 use Rattle.regex_parser.specs.declared.parse.Parser.{Parser}
 use Rattle.regex_parser.specs.declared.syntax.Syntax.{Syntax}
 use Rattle.regex_pattern_front.specs.declared.flags.Flags.{Flags}
 use Rattle.regex_parser.specs.GroupReaderContracts.{AreGroupsCollected, IsOpeningRead, NoneBegins, is_reversed_in, takes_quantifier}
 use Rattle.regex_parser.specs.GrouplessTermContracts.{IsAtomOrIn, NoTermIn, IsReaderOfSame}
-use Rattle.regex_parser.specs.ParserGroupIdInvariant.{OpenDisjunctionsHaveAllGroups, captures_opened_by_group_kind}
+use Rattle.regex_parser.specs.GroupIdInvariant.{OpenDisjunctionsHaveAllGroups, captures_opened_by_group_kind}
 use Rattle.regex_parser.specs.PartialDisjunctionModel.{disjunction_of}
 use Rattle.regex_parser.specs.ParserContracts.{IsTermWithOptionalQuantifierRead, IsOptionalGroupNameRead, is_named_group, around_from, open_group_of}
 use Rattle.regex_parser.specs.ParserContracts.{group_kind_of, KnowsGroups, HasNoTreeFor}
 use Rattle.regex_parser.specs.ParserContracts.{group_node_around, HasReadPatternUpTo, AdvancesOrHasNoTree}
 use Rattle.regex_parser.specs.ParserContracts.{IsParseResult}
-use Rattle.regex_parser.specs.CodePointAndQuantifierReaderContracts.{IsFound, is_syntax_error}
+use Rattle.regex_parser.specs.CodePointReaderContracts.{IsFound, is_syntax_error}
 use Rattle.regex_pattern_front.specs.AstToSpecTree.{node_of, group_name_bytes, spec_quantifier_of, spec_flags_of}
 
 pub stands-once : (is_atom : Bool) (here there : RemainingCodePoints) (start end : ℕ) (n : Node) (found : Option Quantifier) → is_atom ≡ true → found ≡ None
@@ -246,12 +246,12 @@ module _ {S : PatternDialect} (d : IsReadable S) {flags : tree.Flags} {pattern :
       → (name : Option (String R)) (there : RemainingCodePoints) → IsOptionalGroupNameRead {R = R} S numbers groups (is_named_group opening) mid (Ok name) there
       → IsParserInvariant S flags pattern names references (groups + captures_opened_by_group_kind opening)
       (record { outer = level; opened = group_kind_of opening (group_name_bytes name) groups; start = groups } ∷ around)
-      (empty_disjunction (is_reversed_in opening level.behind)) there
+      (empty_disjunction (is_reversed_in opening level.in_lookbehind)) there
   entered Capture o numbers are name there k = rw (k.0, k.1, o.0) (stands-group d s (none-begins here o.1))
   entered Named o numbers are name there k =
       stands-named d (subst (λ x. IsParserInvariant S flags pattern names references groups around level (40 ∷ x)) o.0 s) k.0 (sym (are mid there (group_name_bytes name) k.0) ∙ k.1)
   entered Plain o numbers are name there k =
-      rw k.0 (subst (λ g. IsParserInvariant S flags pattern names references g (record { outer = level; opened = grammar.plain; start = groups } ∷ around) (empty_disjunction level.behind) mid) (omega arith)
+      rw k.0 (subst (λ g. IsParserInvariant S flags pattern names references g (record { outer = level; opened = grammar.plain; start = groups } ∷ around) (empty_disjunction level.in_lookbehind) mid) (omega arith)
       (stands-plain d (subst (λ x. IsParserInvariant S flags pattern names references groups around level (40 ∷ x)) o s)))
   entered (Look negate backwards) o numbers are name there k =
       rw k.0 (subst (λ g. IsParserInvariant S flags pattern names references g (record { outer = level; opened = grammar.looks negate backwards groups; start = groups } ∷ around) (empty_disjunction backwards) mid) (omega arith)

@@ -16,7 +16,7 @@ use Rattle.regex_meaning.specs.Text.{is_scalar}
 use Rattle.ucd_sets.specs.Loose.{normalize}
 use Rattle.ucd_sets.specs.Lookup.{by_name, by_value}
 use Rattle.ucd_sets.specs.declared.set.Set.{Set}
-use Rattle.regex_parser.specs.PropertyContracts.{words_from, words_of, listed_value}
+use Rattle.regex_parser.specs.PropertyReaderContracts.{words_from, words_of, listed_value}
 
 -- ---- Lists of words
 

@@ -8,7 +8,7 @@ use Rattle.regex_meaning.specs.EcmaEscapesAndNames.{PropertyExpression, with_val
 use Rattle.regex_meaning.proofs.OneTree.{first, rest_of, unlike}
 use Rattle.regex_meaning.proofs.Leaves.{behind}
 use Rattle.regex_meaning.proofs.EcmaLeaves.{lone-good, property-good, value-good}
-use Rattle.regex_parser.specs.PropertyContracts.{is_name_character, AreNameCharactersRead, IsPropertyNamed}
+use Rattle.regex_parser.specs.PropertyReaderContracts.{is_name_character, AreNameCharactersRead, IsPropertyNamed}
 
 -- a sign that no name has
 sign-apart : {A : Type 0} (c d : ℕ) → is_name_character c ≡ true → is_name_character d ≡ false → c ≡ d → A

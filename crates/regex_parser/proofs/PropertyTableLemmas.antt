@@ -16,7 +16,7 @@ use Rattle.ucd_sets.specs.declared.property.BinaryProperty.{BinaryProperty}
 use Rattle.regex_meaning.specs.UnicodeProperties.{is_word, value_named, binary_property_names, in_database, changes_when_nfkc_casefolded, general_category_named}
 use Rattle.regex_meaning.specs.UnicodeProperties.{binary_property_named, property_with_value}
 use Rattle.regex_meaning.specs.UnicodeProperties.{Property as SpecProperty}
-use Rattle.regex_parser.specs.PropertyContracts.{words_of, listed_value}
+use Rattle.regex_parser.specs.PropertyReaderContracts.{words_of, listed_value}
 use Rattle.regex_parser.specs.declared.unicode_properties.TheConstants.{CATEGORY_NAMES, BINARY_NAMES, SCRIPT_NAMES}
 
 -- ---- Rows whose names stay apart in the form in which the database compares them

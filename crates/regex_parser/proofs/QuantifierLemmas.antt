@@ -10,7 +10,7 @@ use Rattle.regex_meaning.specs.EscapesNamesQuantifiers.{ValidQuantifier}
 use Rattle.regex_meaning.specs.EscapesNamesQuantifiers.{greedy, lazy}
 use Rattle.regex_meaning.proofs.OneTree.{unlike}
 use Rattle.regex_meaning.proofs.Leaves.{behind, firsts, digits_on, one_prefix, no_digit}
-use Rattle.regex_parser.specs.CodePointAndQuantifierReaderContracts.{IsEaten, IsNumberRead, IsQuantifierMaximumRead}
+use Rattle.regex_parser.specs.CodePointReaderContracts.{IsEaten, IsNumberRead, IsQuantifierMaximumRead}
 use Rattle.regex_parser.proofs.ReadLemmas.{no_sign}
 
 no_digits_here : {here there : RemainingCodePoints} {n : ℕ} → Digits 10 here there n → leading_digits 10 here ≡ [] → ⊥

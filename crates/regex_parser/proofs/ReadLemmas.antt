@@ -14,7 +14,7 @@ use Rattle.std.proofs.lemmas.List.{length-append}
 use Rattle.regex_meaning.specs.ReadingStatesAndDigits.{RemainingCodePoints, Digits, digits_from, leading_digits, value_of_digits, begins_with_characters}
 use Rattle.regex_meaning.specs.EscapesNamesQuantifiers.{FixedHexDigits, hex}
 use Rattle.regex_meaning.proofs.OneTree.{rest_of}
-use Rattle.regex_parser.specs.CodePointAndQuantifierReaderContracts.{IsDigitRead, IsNumberRead}
+use Rattle.regex_parser.specs.CodePointReaderContracts.{IsDigitRead, IsNumberRead}
 
 -- the text begins with these digits
 pub record HasDigits (base : ℕ) (here there ds : RemainingCodePoints) : Type 0 where

@@ -29,7 +29,7 @@ use Rattle.regex_pattern_front.specs.declared.flags.Flags.{Flags}
 use Rattle.regex_parser.specs.declared.groupless_terms.GrouplessTerm.{GrouplessTerm as TheLeaf}
 use Rattle.regex_pattern_front.specs.declared.types.BracketContents.{BracketContents as TheContents}
 use Rattle.regex_parser.specs.ClassReaderContracts.{uninverted_digit_word_or_space_set, class_member_of_character_class_escape, escape_of}
-use Rattle.regex_parser.specs.CodePointAndQuantifierReaderContracts.{peeked, IsNext, is_syntax_error, IsNumberRead}
+use Rattle.regex_parser.specs.CodePointReaderContracts.{peeked, IsNext, is_syntax_error, IsNumberRead}
 use Rattle.regex_parser.specs.declared.parser_error.ParseStopReason.{ParseStopReason}
 use Rattle.regex_pattern_front.specs.AstToSpecTree.{node_of, spec_flags_of, class_as_spec}
 use Rattle.regex_parser.specs.GrouplessTermContracts.{NoSimpleAtom, pattern_context, NamesAreNumberedWithinGroupLimit, IsReadOrNot, TextBetweenOpensNoGroup}

@@ -23,7 +23,7 @@ module _ (S : PatternDialect) (one : IsReadInOneWay S) where
 
   -- a place where no term begins
   pub no_term_here : (w : PatternContext) (gs : List RemainingCodePoints) (around : List OpenGroup) (l : PartialDisjunction) (t : Node) {p : ParseState} → ends_here p.text ≡ false
-      → ((q : ParseState) (n : Node) → Term S w l.behind p q n → ⊥) → CompletesAll S w gs around l p t → ⊥
+      → ((q : ParseState) (n : Node) → Term S w l.in_lookbehind p q n → ⊥) → CompletesAll S w gs around l p t → ⊥
   no_term_here w gs around l t more none h = let k = next_term S one w more gs around l t h in none k.0 k.1 k.2
 
   -- an assertion that begins with no parenthesis is no lookaround
@@ -38,7 +38,7 @@ module _ (S : PatternDialect) (one : IsReadInOneWay S) where
   no_lookaround {p = p} o (look true true e d g) = absurd (unlike (first p.text) 40 o (ap (λ x. first x.text) e))
 
   -- a quantifier behind an assertion that is no lookaround
-  pub no_repeated : (w : PatternContext) {behind : Bool} {p r q : ParseState} {n m : Node} → nat_eq (first p.text) 40 ≡ false → Assertion S w p r n → BeginsQuantifier r.text → Term S w behind p q m → ⊥
+  pub no_repeated : (w : PatternContext) {in_lookbehind : Bool} {p r q : ParseState} {n m : Node} → nat_eq (first p.text) 40 ≡ false → Assertion S w p r n → BeginsQuantifier r.text → Term S w in_lookbehind p q m → ⊥
   unfolding is_lookaround
   no_repeated w o a k (assertion b none) = none (subst (λ x. BeginsQuantifier x.text) (one_assertion S one one_quantifier w a b).0 k)
   no_repeated w o a k (repeated_assertion b may l) = true≢false (no_lookaround o b)
@@ -46,8 +46,8 @@ module _ (S : PatternDialect) (one : IsReadInOneWay S) where
   no_repeated w o a k (quantified b l) = assertion_or_atom S one one_quantifier w a b
 
   -- a quantifier out of order behind an atom without a group
-  pub no_quantified : (w : PatternContext) {behind : Bool} {p q : ParseState} {there : RemainingCodePoints} {n m : Node} → S.simple_atom w p.text there n → BeginsQuantifier there
-      → ((end : RemainingCodePoints) (x : Quantifier) → ValidQuantifier there end x → ⊥) → Term S w behind p q m → ⊥
+  pub no_quantified : (w : PatternContext) {in_lookbehind : Bool} {p q : ParseState} {there : RemainingCodePoints} {n m : Node} → S.simple_atom w p.text there n → BeginsQuantifier there
+      → ((end : RemainingCodePoints) (x : Quantifier) → ValidQuantifier there end x → ⊥) → Term S w in_lookbehind p q m → ⊥
   no_quantified w {p = p} {there = there} {n = n} a k none t = by t
     where
       starts : leaf_begins p.text ≡ true
@@ -69,7 +69,7 @@ module _ (S : PatternDialect) (one : IsReadInOneWay S) where
       no_assertion (look false true f d g) = differs (ap (λ x. x.text) f) refl
       no_assertion (look true true f d g) = differs (ap (λ x. x.text) f) refl
 
-      by : {behind : Bool} {q : ParseState} {m : Node} → Term S w behind p q m → ⊥
+      by : {in_lookbehind : Bool} {q : ParseState} {m : Node} → Term S w in_lookbehind p q m → ⊥
       by (assertion b h) = no_assertion b
       by (repeated_assertion b may h) = no_assertion b
       by (atom (leaf b) h) = h (subst BeginsQuantifier (same b) k)

@@ -25,7 +25,7 @@ use Rattle.regex_meaning.proofs.OneTree.{rest_of}
 use Rattle.regex_parser.specs.declared.syntax.Syntax.{Syntax}
 use Rattle.regex_parser.specs.declared.syntax.Syntax.TheVariants.{Profile as InProfile, EcmaScript2018}
 use Rattle.regex_parser.specs.declared.group_openings_and_names.GroupAndNameScanState.{GroupAndNameScanState}
-use Rattle.regex_parser.specs.CodePointAndQuantifierReaderContracts.{IsEaten, IsUnescapedRead}
+use Rattle.regex_parser.specs.CodePointReaderContracts.{IsEaten, IsUnescapedRead}
 use Rattle.regex_parser.specs.GroupReaderContracts.{IsLookaroundPolaritySignRead, NoneBegins, in_class_after, texts_opened_by, group_numbers_adding_absent_name}
 use Rattle.regex_parser.specs.GroupReaderContracts.{AreGroupsCollected, OpensScannedGroups, CollectsGroups, RecordsFurtherGroupsInScan}
 use Rattle.regex_parser.specs.GroupReaderContracts.{GroupNameScanProcessesCodePoint, IsPatternScanned}

@@ -64,7 +64,7 @@ may_have_quantifier S flags plain = true
 may_have_quantifier S flags (looks negate backwards from) = S.may_repeat flags backwards
 
 abbrev pub contents_of : PartialDisjunction → Node
-contents_of l = nest_alternatives l.arms (arm l.behind l.terms)
+contents_of l = nest_alternatives l.arms (arm l.in_lookbehind l.terms)
 
 module _ {S : PatternDialect} {w : PatternContext} {o : OpenGroup} {c : Node} {p : ParseState} where
   to_term : {q : ParseState} {n : Node} → ClosesGroup S w o c p q n → IsTerm o.start (shape o.opened c p) p q n
@@ -238,7 +238,7 @@ module _ {S : PatternDialect} (d : IsReadable S) {flags : Flags} {pattern : Rema
     pub stands-term : (new : ℕ) (there : RemainingCodePoints) (t : Node)
         → Ahead false here there
         → old ≤ new
-        → (new ≤ length names → Term S (with_groups flags names) level.behind (parse_state here s.opened) (parse_state there s.opened) t)
+        → (new ≤ length names → Term S (with_groups flags names) level.in_lookbehind (parse_state here s.opened) (parse_state there s.opened) t)
         → (length names < new → (length names < old) ⊎ ((n : Node) → CompletesTo S flags names around level (parse_state here s.opened) n → ⊥))
         → IsParserInvariant S flags pattern names new groups around (push_term t level) there
     stands-term new there t ahead grows is none =
@@ -247,7 +247,7 @@ module _ {S : PatternDialect} (d : IsReadable S) {flags : Flags} {pattern : Rema
         none
 
     -- a place where no term begins
-    pub no-term : ends_here here ≡ false → ((q : ParseState) (m : Node) → Term S (with_groups flags names) level.behind (parse_state here s.opened) q m → ⊥) → HasNoTreeIn S flags pattern
+    pub no-term : ends_here here ≡ false → ((q : ParseState) (m : Node) → Term S (with_groups flags names) level.in_lookbehind (parse_state here s.opened) q m → ⊥) → HasNoTreeIn S flags pattern
     no-term more none = refused s (λ l distinct n h. no_term_here S d.one (with_groups flags names) names around level n more none h)
 
   pub stands-bar : {references groups : ℕ} {around : List OpenGroup} {level : PartialDisjunction} {there : RemainingCodePoints}
@@ -302,13 +302,13 @@ module _ {S : PatternDialect} (d : IsReadable S) {flags : Flags} {pattern : Rema
 
   pub stands-group : {references groups : ℕ} {around : List OpenGroup} {level : PartialDisjunction} {here : RemainingCodePoints}
       → IsParserInvariant S flags pattern names references groups around level (40 ∷ here) → begins_with_characters "?" here ≡ false
-      → IsParserInvariant S flags pattern names references (groups + 1) (record { outer = level; opened = captures groups []; start = groups } ∷ around) (empty_disjunction level.behind) here
+      → IsParserInvariant S flags pattern names references (groups + 1) (record { outer = level; opened = captures groups []; start = groups } ∷ around) (empty_disjunction level.in_lookbehind) here
   stands-group {references} {groups} {around} {level} {here} s none =
-      step s references (groups + 1) (record { outer = level; opened = captures groups []; start = groups } ∷ around) (empty_disjunction level.behind) here (s.opened ++ [] ∷ [])
+      step s references (groups + 1) (record { outer = level; opened = captures groups []; start = groups } ∷ around) (empty_disjunction level.in_lookbehind) here (s.opened ++ [] ∷ [])
       (past_group S {p = parse_state (40 ∷ here) s.opened} {q = parse_state here s.opened} refl none)
       (length-append s.opened ([] ∷ []) ∙ ap (λ x. x + 1) s.count) (numbered-push s.opened names [] s.numbered (inl refl)) (omega arith)
       (λ less n.
-      subst (λ g. CompletesTo S flags names (record { outer = level; opened = captures g []; start = g } ∷ around) (empty_disjunction level.behind) (parse_state here (s.opened ++ [] ∷ [])) n
+      subst (λ g. CompletesTo S flags names (record { outer = level; opened = captures g []; start = g } ∷ around) (empty_disjunction level.in_lookbehind) (parse_state here (s.opened ++ [] ∷ [])) n
       ↔ CompletesTo S flags names around level (parse_state (40 ∷ here) s.opened) n) s.count
       (enter S d.one (with_groups flags names) names level around n {p = parse_state (40 ∷ here) s.opened} {q = parse_state here s.opened} refl none))
       (λ past. inl past)
@@ -316,25 +316,25 @@ module _ {S : PatternDialect} (d : IsReadable S) {flags : Flags} {pattern : Rema
   pub stands-named : {references groups : ℕ} {around : List OpenGroup} {level : PartialDisjunction} {here : RemainingCodePoints}
       → IsParserInvariant S flags pattern names references groups around level (40 ∷ 63 ∷ 60 ∷ here) → {there name : RemainingCodePoints} → S.group_name here there name
       → group_number_of name names ≡ Some (groups + 1)
-      → IsParserInvariant S flags pattern names references (groups + 1) (record { outer = level; opened = captures groups name; start = groups } ∷ around) (empty_disjunction level.behind) there
+      → IsParserInvariant S flags pattern names references (groups + 1) (record { outer = level; opened = captures groups name; start = groups } ∷ around) (empty_disjunction level.in_lookbehind) there
   stands-named {references} {groups} {around} {level} {here} s {there} {name} is number =
-      step s references (groups + 1) (record { outer = level; opened = captures groups name; start = groups } ∷ around) (empty_disjunction level.behind) there (s.opened ++ name ∷ [])
+      step s references (groups + 1) (record { outer = level; opened = captures groups name; start = groups } ∷ around) (empty_disjunction level.in_lookbehind) there (s.opened ++ name ∷ [])
       (past_named S d.passed {p = parse_state (40 ∷ 63 ∷ 60 ∷ here) s.opened} {q = parse_state here s.opened} refl is)
       (length-append s.opened (name ∷ []) ∙ ap (λ x. x + 1) s.count) (numbered-push s.opened names name s.numbered (inr (rw s.count number))) (omega arith)
       (λ less n.
-      subst (λ g. CompletesTo S flags names (record { outer = level; opened = captures g name; start = g } ∷ around) (empty_disjunction level.behind) (parse_state there (s.opened ++ name ∷ [])) n
+      subst (λ g. CompletesTo S flags names (record { outer = level; opened = captures g name; start = g } ∷ around) (empty_disjunction level.in_lookbehind) (parse_state there (s.opened ++ name ∷ [])) n
       ↔ CompletesTo S flags names around level (parse_state (40 ∷ 63 ∷ 60 ∷ here) s.opened) n) s.count
       (enter_named S d.one (with_groups flags names) names level around n {p = parse_state (40 ∷ 63 ∷ 60 ∷ here) s.opened} {q = parse_state here s.opened} refl is))
       (λ past. inl past)
 
   pub stands-plain : {references groups : ℕ} {around : List OpenGroup} {level : PartialDisjunction} {here : RemainingCodePoints}
       → IsParserInvariant S flags pattern names references groups around level (40 ∷ 63 ∷ 58 ∷ here)
-      → IsParserInvariant S flags pattern names references groups (record { outer = level; opened = plain; start = groups } ∷ around) (empty_disjunction level.behind) here
+      → IsParserInvariant S flags pattern names references groups (record { outer = level; opened = plain; start = groups } ∷ around) (empty_disjunction level.in_lookbehind) here
   stands-plain {references} {groups} {around} {level} {here} s =
-      stays s (record { outer = level; opened = plain; start = groups } ∷ around) (empty_disjunction level.behind) here
+      stays s (record { outer = level; opened = plain; start = groups } ∷ around) (empty_disjunction level.in_lookbehind) here
       (past_plain S {p = parse_state (40 ∷ 63 ∷ 58 ∷ here) s.opened} {q = parse_state here s.opened} refl)
       (λ n.
-      subst (λ g. CompletesTo S flags names (record { outer = level; opened = plain; start = g } ∷ around) (empty_disjunction level.behind) (parse_state here s.opened) n
+      subst (λ g. CompletesTo S flags names (record { outer = level; opened = plain; start = g } ∷ around) (empty_disjunction level.in_lookbehind) (parse_state here s.opened) n
       ↔ CompletesTo S flags names around level (parse_state (40 ∷ 63 ∷ 58 ∷ here) s.opened) n) s.count
       (enter_plain S d.one (with_groups flags names) names level around n {p = parse_state (40 ∷ 63 ∷ 58 ∷ here) s.opened} {q = parse_state here s.opened} refl))
 
@@ -444,7 +444,7 @@ module _ {S : PatternDialect} (d : IsReadable S) {flags : Flags} {pattern : Rema
   stands-end {references} {groups} {level} s within =
       let many : length names ≡ groups = ap length (all-opened s) ∙ s.count in
       let complete : Completes S (with_groups flags names) level (parse_state [] s.opened) (parse_state [] s.opened) (contents_of level) =
-      subst (λ x. Completes S (with_groups flags names) level (parse_state [] s.opened) (parse_state [] s.opened) (nest_alternatives level.arms (arm level.behind x))) (append-nil level.terms) (last_arm no_terms) in
+      subst (λ x. Completes S (with_groups flags names) level (parse_state [] s.opened) (parse_state [] s.opened) (nest_alternatives level.arms (arm level.in_lookbehind x))) (append-nil level.terms) (last_arm no_terms) in
       let ended : CompletesTo S flags names [] level (parse_state [] s.opened) (contents_of level) =
       subst (λ x. Completes S (with_groups flags names) level (parse_state [] s.opened) (parse_state [] x) (contents_of level)) (sym (all-opened s)) complete in
       let makes : ParsesTo S flags pattern names (contents_of level) = (s.same (omega (arith, many, within)) (contents_of level)).1 ended in

@@ -30,14 +30,14 @@ module _ (S : PatternDialect) (one : IsReadInOneWay S) where
 
   -- at the end, where nothing is open
   module _ (w : PatternContext) (gs : List RemainingCodePoints) (l : PartialDisjunction) {p : ParseState} (over : p.text ≡ []) where
-    nothing_more : {q : ParseState} {ns : List Node} → Alternative S w l.behind p q ns → (p ≡ q) × (ns ≡ [])
+    nothing_more : {q : ParseState} {ns : List Node} → Alternative S w l.in_lookbehind p q ns → (p ≡ q) × (ns ≡ [])
     nothing_more no_terms = (refl, refl)
     nothing_more (terms t a) = absurd (no_term S one w t (rw over refl))
 
-    pub end_all : (t : Node) → CompletesAll S w gs [] l p t → (p.opened ≡ gs) × (t ≡ nest_alternatives l.arms (arm l.behind l.terms))
+    pub end_all : (t : Node) → CompletesAll S w gs [] l p t → (p.opened ≡ gs) × (t ≡ nest_alternatives l.arms (arm l.in_lookbehind l.terms))
     end_all t (last_arm a) =
         let h = nothing_more a in
-        (ap (λ x. x.opened) h.0, ap (λ x. nest_alternatives l.arms (arm l.behind x)) (ap (λ x. l.terms ++ x) h.1 ∙ append-nil l.terms))
+        (ap (λ x. x.opened) h.0, ap (λ x. nest_alternatives l.arms (arm l.in_lookbehind x)) (ap (λ x. l.terms ++ x) h.1 ∙ append-nil l.terms))
     end_all t (further_arms a bar d) = absurd (no_close ((nothing_more a).0 ∙ bar) (rw over refl))
 
     -- and nothing completes a parenthesis that is open

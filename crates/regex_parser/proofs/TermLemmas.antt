@@ -24,7 +24,7 @@ use Rattle.regex_meaning.proofs.Found.{scanned}
 use Rattle.regex_meaning.proofs.Scan.{past_escape}
 use Rattle.regex_parser.proofs.DialectTerms.{passed-term, in-profile}
 use Rattle.regex_parser.specs.declared.parser_error.ParseStopReason.{ParseStopReason}
-use Rattle.regex_parser.specs.CodePointAndQuantifierReaderContracts.{is_syntax_error}
+use Rattle.regex_parser.specs.CodePointReaderContracts.{is_syntax_error}
 use Rattle.regex_pattern_front.specs.declared.flags.Flags.{Flags}
 use Rattle.regex_pattern_front.specs.declared.ir.AnchorType.{AnchorType}
 use Rattle.regex_pattern_front.specs.declared.ir.AnchorType.TheVariants.{StartOfLine, EndOfLine}

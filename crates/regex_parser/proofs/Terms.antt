@@ -14,11 +14,11 @@ use Rattle.regex_parser.proofs.Refused.{no_term_here, no_quantified, no_repeated
 use Rattle.regex_parser.proofs.Standing.{refused, stands-term}
 
 -- an atom with its quantifier
-term_of : {S : PatternDialect} {w : PatternContext} {behind : Bool} {here mid : RemainingCodePoints} {opened : List RemainingCodePoints} {start : ℕ} {t n : Node} {q : ParseState}
-    → S.simple_atom w here mid t → start ≡ length opened → IsTerm start t (parse_state mid opened) q n → Term S w behind (parse_state here opened) q n
+term_of : {S : PatternDialect} {w : PatternContext} {in_lookbehind : Bool} {here mid : RemainingCodePoints} {opened : List RemainingCodePoints} {start : ℕ} {t n : Node} {q : ParseState}
+    → S.simple_atom w here mid t → start ≡ length opened → IsTerm start t (parse_state mid opened) q n → Term S w in_lookbehind (parse_state here opened) q n
 term_of a e (once h) = atom (leaf a) h
-term_of {S} {w} {behind} {here} {mid} {opened} {t = t} a e (repeated {there = there} {quantifier = x} k) =
-    subst (λ g. Term S w behind (parse_state here opened) (parse_state there opened) (loop x g (length opened) t)) (sym e) (quantified (leaf a) k)
+term_of {S} {w} {in_lookbehind} {here} {mid} {opened} {t = t} a e (repeated {there = there} {quantifier = x} k) =
+    subst (λ g. Term S w in_lookbehind (parse_state here opened) (parse_state there opened) (loop x g (length opened) t)) (sym e) (quantified (leaf a) k)
 
 pub ahead_term : {start : ℕ} {t n : Node} {p q : ParseState} → IsTerm start t p q n → Ahead false p.text q.text
 ahead_term (once h) = refl
@@ -31,10 +31,10 @@ module _ {S : PatternDialect} (d : IsReadable S) {flags : Flags} {pattern : Rema
   vain : length names < new → (length names < old) ⊎ ((n : Node) → CompletesTo S flags names around level (parse_state here s.opened) n → ⊥)
   vain past =
       ⊎_elim (λ k. inl k)
-      (λ k. inr (λ n h. no_term_here S d.one (with_groups flags names) names around level n more (λ q m. k level.behind s.opened q m) h)) (none past)
+      (λ k. inr (λ n h. no_term_here S d.one (with_groups flags names) names around level n more (λ q m. k level.in_lookbehind s.opened q m) h)) (none past)
 
   -- where no term is but for references past all groups
-  vain-refused : (new ≤ length names → (q : ParseState) (m : Node) → Term S (with_groups flags names) level.behind (parse_state here s.opened) q m → ⊥) → HasNoTreeIn S flags pattern
+  vain-refused : (new ≤ length names → (q : ParseState) (m : Node) → Term S (with_groups flags names) level.in_lookbehind (parse_state here s.opened) q m → ⊥) → HasNoTreeIn S flags pattern
   vain-refused lacks =
       refused d s (λ less distinct n h.
       ⊎_elim (λ within. no_term_here S d.one (with_groups flags names) names around level n more (lacks within) h)

@@ -7,38 +7,38 @@ use Rattle.regex_meaning.specs.Canonical.{canonicalize, AreIncreasing}
 use Rattle.regex_parser.specs.ClassReaderContracts.{is_in_any_interval}
 use Rattle.regex_pattern_front.specs.declared.codepointset.Interval.{Interval}
 
--- whether the two characters match each other where case is ignored
+-- Whether the two characters match each other where case is ignored.
 abbrev pub match_each_other : (unicode : Bool) → ℕ → ℕ → Bool
 match_each_other unicode c d = canonicalize unicode c == canonicalize unicode d
 
--- the list has the characters other than c that match it, in increasing order
+-- The list has the characters other than c that match it, in increasing order.
 pub record AreOtherVariants (unicode : Bool) (c : ℕ) (others : List ℕ) : Type 0 where
   pub increasing : AreIncreasing others
   pub same : (d : ℕ) → contains others d ≡ (not (c == d) && match_each_other unicode c d)
 
--- the second characters of the pairs whose characters match each other
+-- The second characters of the pairs whose characters match each other.
 abbrev pub matching_seconds : (unicode : Bool) → List (ℕ × ℕ) → List ℕ
 matching_seconds unicode pairs = map (λ p. p.1) (filter (λ p. match_each_other unicode p.0 p.1) pairs)
 
--- the first characters of the pairs whose second one passes the test and matches the first
+-- The first characters of the pairs whose second one passes the test and matches the first.
 abbrev pub firsts_that_match : (unicode : Bool) (test : ℕ → Bool) → List (ℕ × ℕ) → List ℕ
 firsts_that_match unicode test pairs = map (λ p. p.0) (filter (λ p. test p.1 && match_each_other unicode p.0 p.1) pairs)
 
--- whether the number is between these two, both included
+-- Whether the number is between these two, both included.
 abbrev pub is_between : (first last : ℕ) → ℕ → Bool
 is_between first last c = is_in_range first last c
 
--- whether the number is below c or, without `is_below`, is not
+-- Whether the number is below c or, without `is_below`, is not.
 abbrev pub is_on_side : (c : ℕ) (is_below : Bool) → ℕ → Bool
 is_on_side c is_below d = beq (nat_lt d c) is_below
 
--- a character that passes the test matches this one
+-- A character that passes the test matches this one.
 abbrev pub MatchesSome : (unicode : Bool) (test : ℕ → Bool) → ℕ → Type 0
 MatchesSome unicode test d = (c : ℕ) × IsTrue (test c) × IsTrue (match_each_other unicode c d)
 
--- the new intervals have the numbers of the old ones; each other number of theirs matches one that passes
+-- The new intervals have the numbers of the old ones; each other number of theirs matches one that passes
 -- the test; and each number that matches one that passes either passes the test itself or is in the new
--- intervals
+-- intervals.
 pub record AddsMatching (unicode : Bool) (test : ℕ → Bool) (old new : List Interval) : Type 0 where
   pub sound : (d : ℕ) → IsTrue (is_in_any_interval new d) → IsTrue (is_in_any_interval old d) ⊎ MatchesSome unicode test d
   pub kept : (d : ℕ) → IsTrue (is_in_any_interval old d) → IsTrue (is_in_any_interval new d)

@@ -19,51 +19,51 @@ use Rattle.regex_parser.specs.declared.character_class_parser.DigitWordOrSpaceEs
 use Rattle.regex_pattern_front.specs.declared.codepointset.Interval.{Interval}
 use Rattle.regex_parser.specs.declared.parser_error.ParseStopReason.{ParseStopReason}
 use Rattle.regex_pattern_front.specs.Intervals.{interval_of}
-use Rattle.regex_parser.specs.CodePointAndQuantifierReaderContracts.{is_syntax_error}
+use Rattle.regex_parser.specs.CodePointReaderContracts.{is_syntax_error}
 
--- the set of a class escape, before it is inverted
+-- The set of a class escape, before it is inverted.
 abbrev pub uninverted_digit_word_or_space_set : CharacterClassType → tree.Intervals
 uninverted_digit_word_or_space_set Digits = digit_class
 uninverted_digit_word_or_space_set WordCharacters = word_class
 uninverted_digit_word_or_space_set Spaces = space_class
 
--- the class member of a class escape
+-- The class member of a class escape.
 abbrev pub class_member_of_character_class_escape : DigitWordOrSpaceEscape → ClassMember
 class_member_of_character_class_escape e = class (uninverted_digit_word_or_space_set e.base) e.invert
 
--- the class member of one atom
+-- The class member of one atom.
 abbrev pub class_member_of_atom : ClassAtomValue → ClassMember
 class_member_of_atom (Character c) = character c
 class_member_of_atom (Escape e) = class_member_of_character_class_escape e
 
--- the class escape of a letter, if there is one
+-- The class escape of a letter, if there is one.
 abbrev pub escape_of : Option ℕ → Option ClassMember
 escape_of None = None
 escape_of (Some c) = class_escape c
 
--- whether the number is in one of these intervals
+-- Whether the number is in one of these intervals.
 abbrev pub is_in_any_interval : List Interval → ℕ → Bool
 is_in_any_interval intervals c = in_intervals (map interval_of intervals) c
 
--- the set of what passes the test, with `icase` also of what folds as something that passes it, in
--- canonical form
+-- The set of what passes the test, with `icase` also of what folds as something that passes it, in
+-- canonical form.
 pub record IsCaseClosureOfTest (flags : tree.Flags) (test : ℕ → Bool) (set : tree.Intervals) : Type 0 where
   pub apart : AreCanonicalIntervals set
   pub same : (c : ℕ) → in_intervals set c ≡ closed_under_case_folding flags test c
 
--- the new intervals have exactly the numbers of the old ones and those of these members
+-- The new intervals have exactly the numbers of the old ones and those of these members.
 abbrev pub AddsMembers : (flags : tree.Flags) (old new : List Interval) → List ClassMember → Type 0
 AddsMembers flags old new members = (c : ℕ) → is_in_any_interval new c ≡ (is_in_any_interval old c || list_any (class_member_contains flags c) members)
 
--- the atom that ends a range is read, or there is no range here; after a syntax error no atom
--- follows the `-`
+-- The atom that ends a range is read, or there is no range here; after a syntax error no atom
+-- follows the `-`.
 abbrev pub IsRangeEndRead : (flags : tree.Flags) (here : RemainingCodePoints) → Result (Option ClassAtomValue) ParseStopReason → (there : RemainingCodePoints) → Type 0
 IsRangeEndRead flags here (Ok (Some a)) there = (b : RemainingCodePoints) × (here ≡ 45 ∷ b) × ClassAtom flags b there (class_member_of_atom a)
 IsRangeEndRead flags here (Ok None) there = ¬ (IsRangeDash here)
 IsRangeEndRead flags here (Err e) there =
     (b : RemainingCodePoints) × (here ≡ 45 ∷ b) × IsRangeDash here × ((end : RemainingCodePoints) (m : ClassMember) → ClassAtom flags b end m → ⊥)
 
--- the members of an atom or a range are read, and their numbers are added; after a syntax error
+-- The members of an atom or a range are read, and their numbers are added; after a syntax error
 -- there are none. Nothing is claimed on allocation failure.
 abbrev pub IsClassMemberRead : (flags : tree.Flags) (here : RemainingCodePoints) (old : List Interval) → Result (Unit {0}) ParseStopReason
     → (new : List Interval) (there : RemainingCodePoints) → Type 0
@@ -72,33 +72,33 @@ IsClassMemberRead flags here old (Ok u) new there =
 IsClassMemberRead flags here old (Err e) new there =
     IsTrue (is_syntax_error e) → (end : RemainingCodePoints) (ms : List ClassMember) → ClassMembers flags here end ms → ⊥
 
--- the members up to the end of the class are read, and their set is returned; after a syntax error
+-- The members up to the end of the class are read, and their set is returned; after a syntax error
 -- there is no ClassRanges. Nothing is claimed on allocation failure.
 abbrev pub AreClassRangesRead : (flags : tree.Flags) (here : RemainingCodePoints) → Result tree.Intervals ParseStopReason → (there : RemainingCodePoints) → Type 0
 AreClassRangesRead flags here (Ok set) there = (ms : List ClassMember) × ClassRanges flags here there ms × IsSetOf flags ms set
 AreClassRangesRead flags here (Err e) there =
     IsTrue (is_syntax_error e) → (end : RemainingCodePoints) (ms : List ClassMember) → ClassRanges flags here end ms → ⊥
 
--- whether a code point that folds as c does passes the test
+-- Whether a code point that folds as c does passes the test.
 abbrev pub some_case_variant_passes : (unicode : Bool) (test : ℕ → Bool) → ℕ → Bool
 some_case_variant_passes unicode test c = list_any test (expand_code_point c true unicode)
 
--- all code points with the fold of this letter, if one of them passes the test
+-- All code points with the fold of this letter, if one of them passes the test.
 abbrev pub letter_case_variants_if_any_passes : (test : ℕ → Bool) (upper : ℕ) (unicode : Bool) → tree.Intervals
 letter_case_variants_if_any_passes test upper unicode =
     if some_case_variant_passes unicode test upper then map single_code_point_interval (expand_code_point upper true unicode) else []
 
--- the result is an error exactly if the class has a set operation
+-- The result is an error exactly if the class has a set operation.
 abbrev pub FailsExactlyOnSetOperation : (here : RemainingCodePoints) → Result (Unit {0}) ParseStopReason → Type 0
 FailsExactlyOnSetOperation here (Ok u) = has_set_operation here ≡ false
 FailsExactlyOnSetOperation here (Err e) = has_set_operation here ≡ true
 
--- whether the code point, with the next one, begins a nested class or a set operation
+-- Whether the code point, with the next one, begins a nested class or a set operation.
 abbrev pub begins_nested_class_or_operation : ℕ → Option ℕ → Bool
 begins_nested_class_or_operation c None = c ∈ "["
 begins_nested_class_or_operation c (Some d) = c ∈ "[" || (c ∈ "&-" && c == d)
 
--- the ends of a range, if both atoms are characters
+-- The ends of a range, if both atoms are characters.
 abbrev pub AreRangeEndsIfBothCharacters : (first second : ClassAtomValue) → Option (ℕ × ℕ) → Type 0
 AreRangeEndsIfBothCharacters first second (Some ends) = (first ≡ Character ends.0) × (second ≡ Character ends.1)
 AreRangeEndsIfBothCharacters first second None = are_characters (class_member_of_atom first) (class_member_of_atom second) ≡ false

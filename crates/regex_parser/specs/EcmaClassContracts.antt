@@ -18,26 +18,26 @@ use Rattle.regex_pattern_front.specs.declared.codepointset.Interval.{Interval}
 use Rattle.regex_parser.specs.declared.diagnosis.Cause.{Cause}
 use Rattle.regex_parser.specs.declared.parser_error.ParseStopReason.{ParseStopReason}
 use Rattle.regex_parser.specs.ClassReaderContracts.{is_in_any_interval}
-use Rattle.regex_parser.specs.CodePointAndQuantifierReaderContracts.{is_syntax_error}
-use Rattle.regex_parser.specs.PropertyContracts.{spec_property_of}
+use Rattle.regex_parser.specs.CodePointReaderContracts.{is_syntax_error}
+use Rattle.regex_parser.specs.PropertyReaderContracts.{spec_property_of}
 
--- the set of the letter of a class escape, before it is inverted
+-- The set of the letter of a class escape, before it is inverted.
 abbrev pub set_of_letter : tree.Flags → CharacterClassType → ℕ → Bool
 set_of_letter flags Digits c = in_intervals digit_class c
 set_of_letter flags WordCharacters c = word_characters flags c
 set_of_letter flags Spaces c = in_intervals space_class c
 
--- the class member of an atom
+-- The class member of an atom.
 abbrev pub member_of_atom : tree.Flags → AtomValue → ClassMember
 member_of_atom flags (Character c) = character c
 member_of_atom flags (Letter e) = class (is_in_invertible_set (set_of_letter flags e.base, e.invert))
 member_of_atom flags (Property p invert) = class (is_in_invertible_set (has_property (spec_property_of p), invert))
 
--- the new intervals have exactly the numbers of the old ones and those of these members
+-- The new intervals have exactly the numbers of the old ones and those of these members.
 abbrev pub AddsEcmaMembers : (old new : List Interval) → List ClassMember → Type 0
 AddsEcmaMembers old new members = (c : ℕ) → is_in_any_interval new c ≡ (is_in_any_interval old c || list_any (λ m. class_member_contains m c) members)
 
--- the atom that ends a range is read, or there is no range here; after a syntax error no atom follows
+-- The atom that ends a range is read, or there is no range here; after a syntax error no atom follows
 -- the `-`. Nothing is claimed on allocation failure.
 abbrev pub IsEcmaRangeEndRead : (flags : tree.Flags) (named_groups : Bool) (here : RemainingCodePoints) → Result (Option AtomValue) ParseStopReason
     → (there : RemainingCodePoints) → Type 0
@@ -48,7 +48,7 @@ IsEcmaRangeEndRead flags named_groups here (Err e) there =
     IsTrue (is_syntax_error e)
     → (b : RemainingCodePoints) × (here ≡ 45 ∷ b) × IsRangeDash here × ((end : RemainingCodePoints) (m : ClassMember) → ClassAtom flags named_groups b end m → ⊥)
 
--- the members of an atom or a range are read, and their numbers are added; after a syntax error there
+-- The members of an atom or a range are read, and their numbers are added; after a syntax error there
 -- are none. Nothing is claimed on allocation failure.
 abbrev pub IsEcmaMemberRead : (flags : tree.Flags) (named_groups : Bool) (here : RemainingCodePoints) (old : List Interval) → Result (Unit {0}) ParseStopReason
     → (new : List Interval) (there : RemainingCodePoints) → Type 0
@@ -57,7 +57,7 @@ IsEcmaMemberRead flags named_groups here old (Ok u) new there =
 IsEcmaMemberRead flags named_groups here old (Err e) new there =
     IsTrue (is_syntax_error e) → (end : RemainingCodePoints) (ms : List ClassMember) → ClassMembers flags named_groups here end ms → ⊥
 
--- the members up to the end of the class are read, and their set is returned; after a syntax error
+-- The members up to the end of the class are read, and their set is returned; after a syntax error
 -- there is no ClassRanges. Nothing is claimed on allocation failure.
 abbrev pub AreEcmaRangesRead : (flags : tree.Flags) (named_groups : Bool) (here : RemainingCodePoints) → Result tree.Intervals ParseStopReason
     → (there : RemainingCodePoints) → Type 0
@@ -71,30 +71,30 @@ IsClassControlRead here (Some c) there = (letter : ℕ) × (here ≡ 99 ∷ lett
 IsClassControlRead here None there =
     (there ≡ here) × ((letter : ℕ) (rest : RemainingCodePoints) → here ≡ 99 ∷ letter ∷ rest → is_class_control_letter letter ≡ true → ⊥)
 
--- the letter of an escape of a property is read, `p` or `P`, or there is neither; without `u` there is none
+-- The letter of an escape of a property is read, `p` or `P`, or there is neither; without `u` there is none.
 abbrev pub IsPropertyLetterRead : (unicode : Bool) (here : RemainingCodePoints) → Option Bool → (there : RemainingCodePoints) → Type 0
 IsPropertyLetterRead unicode here (Some invert) there = (unicode ≡ true) × (here ≡ (if invert then 80 else 112) ∷ there)
 IsPropertyLetterRead unicode here None there =
     (there ≡ here) × (unicode ≡ true → (invert : Bool) (rest : RemainingCodePoints) → here ≡ (if invert then 80 else 112) ∷ rest → ⊥)
 
--- one of the alternatives of DigitWordOrSpaceEscape before CharacterClassEscape is read, or none is here
+-- One of the alternatives of DigitWordOrSpaceEscape before CharacterClassEscape is read, or none is here.
 abbrev pub IsSimpleClassEscapeRead : (flags : tree.Flags) (here : RemainingCodePoints) → Option ℕ → (there : RemainingCodePoints) → Type 0
 IsSimpleClassEscapeRead flags here (Some c) there = SimpleClassEscape flags here there c
 IsSimpleClassEscapeRead flags here None there = (there ≡ here) × ((end : RemainingCodePoints) (c : ℕ) → SimpleClassEscape flags here end c → ⊥)
 
--- without `u` no range is meant, with it an error
+-- Without `u` no range is meant, with it an error.
 abbrev pub IsNoneUnless : (unicode : Bool) → Result (Option Interval) Cause → Type 0
 IsNoneUnless unicode (Ok found) = (unicode ≡ false) × (found ≡ None)
 IsNoneUnless unicode (Err cause) = unicode ≡ true
 
--- the range between two characters, none if one is no character and `u` is not set, or an error
+-- The range between two characters, none if one is no character and `u` is not set, or an error.
 abbrev pub IsRangeOrCause : (first second : AtomValue) (unicode : Bool) → Result (Option Interval) Cause → Type 0
 IsRangeOrCause (Character c) (Character d) unicode (Ok None) = ⊥
 IsRangeOrCause (Character c) (Character d) unicode (Ok (Some i)) = (c ≤ d) × (i.first ≡ c) × (i.last ≡ d)
 IsRangeOrCause (Character c) (Character d) unicode (Err cause) = d < c
 IsRangeOrCause first second unicode found = IsNoneUnless unicode found
 
--- the set of what matches a number that passes the test, in canonical form
+-- The set of what matches a number that passes the test, in canonical form.
 pub record IsCanonicalClosure (flags : tree.Flags) (test : ℕ → Bool) (set : tree.Intervals) : Type 0 where
   pub apart : AreCanonicalIntervals set
   pub same : (c : ℕ) → IsTrue (in_intervals set c)

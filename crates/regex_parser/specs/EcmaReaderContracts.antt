@@ -4,14 +4,14 @@ use Rattle.std.specs.Prelude.{◌≡◌, ℕ, ◌%◌, Bool, true, false, ◌∷
 use Rattle.std.specs.Char.{is_ascii_alphabetic}
 use Rattle.regex_meaning.specs.ReadingStatesAndDigits.{RemainingCodePoints}
 use Rattle.regex_meaning.specs.EcmaEscapesAndNames.{GrammarParameters as SpecParameters, NameCharacter, is_identifier_start, is_identifier_part}
-use Rattle.regex_parser.specs.declared.ecmascript_single_character_escapes.GrammarParameters.{GrammarParameters}
+use Rattle.regex_parser.specs.declared.ecmascript_escapes.GrammarParameters.{GrammarParameters}
 use Rattle.regex_parser.specs.declared.parser_error.ParseStopReason.{ParseStopReason}
 
--- the parameters of the grammar as those of the definitions
+-- The parameters of the grammar as those of the definitions.
 abbrev pub spec_parameters_of : GrammarParameters → SpecParameters
 spec_parameters_of p = record { unicode = p.unicode; named_groups = p.named_groups }
 
--- the control character of a letter is read, or no ASCII letter is here
+-- The control character of a letter is read, or no ASCII letter is here.
 abbrev pub IsControlLetterRead : (here : RemainingCodePoints) → Option ℕ → (there : RemainingCodePoints) → Type 0
 IsControlLetterRead here (Some c) there =
     (letter : ℕ) × (here ≡ letter ∷ there) × IsTrue (is_ascii_alphabetic letter) × (c ≡ letter % 32)
@@ -20,20 +20,20 @@ IsControlLetterRead here None there =
 
 -- ---- Names
 
--- whether the character may be the first character of a name, or a later one
+-- Whether the character may be the first character of a name, or a later one.
 abbrev pub passes_in_name : (is_first : Bool) → ℕ → Bool
 passes_in_name true c = is_identifier_start c
 passes_in_name false c = is_identifier_part c
 
--- a character of a name, the first one or a later one
+-- A character of a name, the first one or a later one.
 abbrev pub NameCharacterAt : (is_first : Bool) → (here there : RemainingCodePoints) → ℕ → Type 0
 NameCharacterAt is_first here there c = NameCharacter (passes_in_name is_first) here there c
 
--- no character of a name is here
+-- No character of a name is here.
 abbrev pub NoNameCharacter : (is_first : Bool) → (here : RemainingCodePoints) → Type 0
 NoNameCharacter is_first here = (end : RemainingCodePoints) (c : ℕ) → NameCharacterAt is_first here end c → ⊥
 
--- a character of a name is read, or none is here
+-- A character of a name is read, or none is here.
 abbrev pub IsNameCharacterRead : (is_first : Bool) → (here : RemainingCodePoints) → Result ℕ ParseStopReason → (there : RemainingCodePoints) → Type 0
 IsNameCharacterRead is_first here (Ok c) there = NameCharacterAt is_first here there c
 IsNameCharacterRead is_first here (Err e) there = NoNameCharacter is_first here

@@ -17,44 +17,44 @@ use Rattle.regex_pattern_front.specs.declared.ir.AnchorType.TheVariants.{StartOf
 use Rattle.regex_parser.specs.declared.groupless_terms.GrouplessTerm.{GrouplessTerm}
 use Rattle.regex_parser.specs.declared.groupless_terms.GrouplessTermReader.{GrouplessTermReader}
 use Rattle.regex_parser.specs.GroupReaderContracts.{MapsNamesToGroupNumbers}
-use Rattle.regex_parser.specs.CodePointAndQuantifierReaderContracts.{is_syntax_error}
+use Rattle.regex_parser.specs.CodePointReaderContracts.{is_syntax_error}
 use Rattle.regex_pattern_front.specs.AstToSpecTree.{node_of, spec_flags_of}
 
--- the reader is of the same pattern
+-- The reader is of the same pattern.
 abbrev pub IsReaderOfSame : (new old : GrouplessTermReader) → Type 0
 IsReaderOfSame new old = (new.flags ≡ old.flags) × (new.numbers ≡ old.numbers) × (new.syntax ≡ old.syntax) × (new.groups ≡ old.groups)
 
--- the context of a pattern with these flags and groups
+-- The context of a pattern with these flags and groups.
 abbrev pub pattern_context : Flags → List RemainingCodePoints → PatternContext
 pattern_context flags groups = record { flags = spec_flags_of flags; groups = groups }
 
--- what the parser can know of the groups: the map has their numbers, and there are not too many
+-- What the parser can know of the groups: the map has their numbers, and there are not too many.
 abbrev pub NamesAreNumberedWithinGroupLimit : {R : Type 0} → BTreeMap (String R) ℕ → List RemainingCodePoints → Type 0
 NamesAreNumberedWithinGroupLimit numbers groups = MapsNamesToGroupNumbers numbers groups × (length groups ≤ 65535)
 
--- the state with this text left and these groups opened
+-- The state with this text left and these groups opened.
 abbrev pub parse_state_at : RemainingCodePoints → List RemainingCodePoints → ParseState
 parse_state_at here opened = record { text = here; opened = opened }
 
--- no atom without groups is here
+-- No atom without groups is here.
 abbrev pub NoSimpleAtom : PatternContext → (here : RemainingCodePoints) → Type 0
 NoSimpleAtom w here = (end : RemainingCodePoints) (n : tree.Node) → AtomLeaf w here end n → ⊥
 
--- no term is here
+-- No term is here.
 abbrev pub NoTerm : PatternContext → (here : RemainingCodePoints) → Type 0
 NoTerm w here =
-    (behind : Bool) (opened : List RemainingCodePoints) (q : ParseState) (n : tree.Node) → Term profile w behind (parse_state_at here opened) q n → ⊥
+    (in_lookbehind : Bool) (opened : List RemainingCodePoints) (q : ParseState) (n : tree.Node) → Term profile w in_lookbehind (parse_state_at here opened) q n → ⊥
 
--- an assertion without groups, from here to there
+-- An assertion without groups, from here to there.
 abbrev pub IsAssertion : PatternContext → (here there : RemainingCodePoints) → tree.Node → Type 0
 IsAssertion w here there n = (opened : List RemainingCodePoints) → Assertion profile w (parse_state_at here opened) (parse_state_at there opened) n
 
--- an atom or an assertion
+-- An atom or an assertion.
 abbrev pub IsAtomOr : (is_atom : Bool) → PatternContext → (here there : RemainingCodePoints) → tree.Node → Type 0
 IsAtomOr true w here there n = AtomLeaf w here there n
 IsAtomOr false w here there n = IsAssertion w here there n
 
--- a term without groups, from here to there
+-- A term without groups, from here to there.
 abbrev pub TextBetweenIsGrouplessTerm : PatternContext → (here : RemainingCodePoints) → GrouplessTerm → (there : RemainingCodePoints) → Type 0
 TextBetweenIsGrouplessTerm w here l there = IsAtomOr l.is_atom w here there (node_of l.node)
 
@@ -67,27 +67,27 @@ IsReadOrNot none w here (Ok l) old new there =
     (new ≤ length w.groups → TextBetweenIsGrouplessTerm w here l there) × (length w.groups < new → (length w.groups < old) ⊎ none)
 IsReadOrNot none w here (Err e) old new there = IsTrue (is_syntax_error e) → none
 
--- an atom is read, or no atom is here
+-- An atom is read, or no atom is here.
 abbrev pub IsAtomReadIfPresent : PatternContext → (here : RemainingCodePoints) → Result GrouplessTerm ParseStopReason → (old new : ℕ) → (there : RemainingCodePoints) → Type 0
 IsAtomReadIfPresent w here r old new there = IsReadOrNot (NoSimpleAtom w here) w here r old new there
 
--- a term is read, or no term is here
+-- A term is read, or no term is here.
 abbrev pub IsGrouplessTermReadIfPresent : PatternContext → (here : RemainingCodePoints) → Result GrouplessTerm ParseStopReason → (old new : ℕ) → (there : RemainingCodePoints) → Type 0
 IsGrouplessTermReadIfPresent w here r old new there = IsReadOrNot (NoTerm w here) w here r old new there
 
--- the text between the two opens no group
+-- The text between the two opens no group.
 abbrev pub TextBetweenOpensNoGroup : (here there : RemainingCodePoints) → Type 0
 TextBetweenOpensNoGroup here there = texts_after_parentheses false here ≡ texts_after_parentheses false there
 
--- an atom or an assertion of the dialect
+-- An atom or an assertion of the dialect.
 abbrev pub IsAtomOrIn : PatternDialect → (is_atom : Bool) → PatternContext → (here there : RemainingCodePoints) → tree.Node → Type 0
 IsAtomOrIn s true w here there n = s.simple_atom w here there n
 IsAtomOrIn s false w here there n = (opened : List RemainingCodePoints) → Assertion s w (parse_state_at here opened) (parse_state_at there opened) n
 
--- no term of the dialect is here
+-- No term of the dialect is here.
 abbrev pub NoTermIn : PatternDialect → PatternContext → (here : RemainingCodePoints) → Type 0
 NoTermIn s w here =
-    (behind : Bool) (opened : List RemainingCodePoints) (q : ParseState) (n : tree.Node) → Term s w behind (parse_state_at here opened) q n → ⊥
+    (in_lookbehind : Bool) (opened : List RemainingCodePoints) (q : ParseState) (n : tree.Node) → Term s w in_lookbehind (parse_state_at here opened) q n → ⊥
 
 -- A term of the dialect is read, and the text opens no group. If a reference read so far exceeds the
 -- number of groups, then an earlier one did already, or no term is here. None is here after a syntax
@@ -99,16 +99,16 @@ IsTermReadIn s w here (Ok l) old new there =
     × (length w.groups < new → (length w.groups < old) ⊎ NoTermIn s w here)
 IsTermReadIn s w here (Err e) old new there = IsTrue (is_syntax_error e) → NoTermIn s w here
 
--- a parenthesis or a `|`, with which no simple term begins
+-- A parenthesis or a `|`, with which no simple term begins.
 abbrev pub is_paren_or_bar : ℕ → Bool
 is_paren_or_bar c = c ∈ "()|"
 
--- the sign of an anchor: `^` or `$`
+-- The sign of an anchor: `^` or `$`.
 abbrev pub anchor_sign : AnchorType → ℕ
 anchor_sign StartOfLine = 94
 anchor_sign EndOfLine = 36
 
--- the letter of a word boundary: `B` or `b`
+-- The letter of a word boundary: `B` or `b`.
 abbrev pub boundary_letter : (invert : Bool) → ℕ
 boundary_letter invert = if invert then 66 else 98
 
@@ -120,20 +120,20 @@ is_star_plus_or_question c = c ∈ "*+?"
 abbrev pub is_brace_or_closing_bracket : ℕ → Bool
 is_brace_or_closing_bracket c = c ∈ "{}]"
 
--- the term of `^`, `$` or `.`, or the code point is none of them
+-- The term of `^`, `$` or `.`, or the code point is none of them.
 abbrev pub AnchorOrDotReadIfPresent : PatternContext → (c : ℕ) → (there : RemainingCodePoints) → Option GrouplessTerm → Type 0
 AnchorOrDotReadIfPresent w c there (Some l) = TextBetweenIsGrouplessTerm w (c ∷ there) l there
 AnchorOrDotReadIfPresent w c there None = c ∈ "^$." ≡ false
 
--- the code point cannot be a term: it belongs to a quantifier, or it is a brace or bracket that is
--- refused; or it can be a term
+-- The code point cannot be a term: it belongs to a quantifier, or it is a brace or bracket that is
+-- refused; or it can be a term.
 abbrev pub RefusesCodePointThatIsNoTerm : (unicode : Bool) (c : ℕ) (there : RemainingCodePoints) → Option Cause → Type 0
 RefusesCodePointThatIsNoTerm unicode c there (Some cause) =
     (is_star_plus_or_question c ≡ true) ⊎ ((is_brace_or_closing_bracket c ≡ true) × ((unicode ≡ true) ⊎ BeginsQuantifier (c ∷ there)))
 RefusesCodePointThatIsNoTerm unicode c there None =
     (is_star_plus_or_question c ≡ false) × (is_brace_or_closing_bracket c ≡ true → (unicode ≡ false) × ¬ (BeginsQuantifier (c ∷ there)))
 
--- whether a reference begins with this letter or digit: `k` or `1` to `9`
+-- Whether a reference begins with this letter or digit: `k` or `1` to `9`.
 abbrev pub begins_backreference : Option ℕ → Bool
 begins_backreference None = false
 begins_backreference (Some c) = c == 107 || is_in_range 49 57 c
@@ -143,30 +143,30 @@ abbrev pub IsNamed : (numbers : RemainingCodePoints → Option ℕ) → (here th
 IsNamed numbers here there n =
     (a name : RemainingCodePoints) × (here ≡ codes "<" ++ a) × GroupName a there name × (numbers name ≡ Some n)
 
--- the number of `<name>` is read; after a syntax error no name here has the number of a group.
+-- The number of `<name>` is read; after a syntax error no name here has the number of a group.
 -- Nothing is claimed on allocation failure.
 abbrev pub IsReferencedNameNumberRead : (numbers : RemainingCodePoints → Option ℕ) → (here : RemainingCodePoints) → Result ℕ ParseStopReason → (there : RemainingCodePoints) → Type 0
 IsReferencedNameNumberRead numbers here (Ok n) there = IsNamed numbers here there n
 IsReferencedNameNumberRead numbers here (Err e) there =
     IsTrue (is_syntax_error e) → (end : RemainingCodePoints) (n : ℕ) → IsNamed numbers here end n → 0 < n → ⊥
 
--- the number, if there is one and it is not 0
+-- The number, if there is one and it is not 0.
 abbrev pub IsNumberUnlessMissingOrZero : Option ℕ → Result ℕ ParseStopReason → Type 0
 IsNumberUnlessMissingOrZero number (Ok n) = (number ≡ Some n) × (0 < n)
 IsNumberUnlessMissingOrZero number (Err e) = (n : ℕ) → number ≡ Some n → 0 < n → ⊥
 
--- a decimal number is read, or none below 2 ^ 32 is here
+-- A decimal number is read, or none below 2 ^ 32 is here.
 abbrev pub IsDecimalReadIfItFitsU32 : (here : RemainingCodePoints) → Option ℕ → (there : RemainingCodePoints) → Type 0
 IsDecimalReadIfItFitsU32 here (Some n) there = Digits 10 here there n
 IsDecimalReadIfItFitsU32 here None there = (end : RemainingCodePoints) (n : ℕ) → Digits 10 here end n → n < 2 ^ 32 → ⊥
 
--- a reference after its backslash, by number or by a name that has this number
+-- A reference after its backslash, by number or by a name that has this number.
 abbrev pub IsReference : (numbers : RemainingCodePoints → Option ℕ) → (here there : RemainingCodePoints) → ℕ → Type 0
 IsReference numbers here there n =
     Digits 10 here there n
     ⊎ ((a name : RemainingCodePoints) × (here ≡ codes "k<" ++ a) × GroupName a there name × (numbers name ≡ Some n))
 
--- the number of a reference is read; after a syntax error no reference here is to a group.
+-- The number of a reference is read; after a syntax error no reference here is to a group.
 -- Nothing is claimed on allocation failure.
 abbrev pub IsReferencedGroupNumberRead : (numbers : RemainingCodePoints → Option ℕ) → (here : RemainingCodePoints) → Result ℕ ParseStopReason → (there : RemainingCodePoints) → Type 0
 IsReferencedGroupNumberRead numbers here (Ok n) there = IsReference numbers here there n

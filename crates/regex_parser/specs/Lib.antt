@@ -1,8 +1,8 @@
 pub mod ParseStack
 pub mod ParserInvariants
-pub mod ParserGroupIdInvariant
+pub mod GroupIdInvariant
 pub mod ParenthesisDepth
-pub mod CodePointAndQuantifierReaderContracts
+pub mod CodePointReaderContracts
 pub mod ClassReaderContracts
 pub mod PartialDisjunctionModel
 pub mod SyntaxDialects
@@ -12,7 +12,7 @@ pub mod ParserContracts
 pub mod ParseErrors
 pub mod EcmaReaderContracts
 pub mod CaseVariantContracts
-pub mod PropertyContracts
+pub mod PropertyReaderContracts
 pub mod EcmaClassContracts
 pub mod EcmaTermContracts
 pub mod ScannedGroups

@@ -3,16 +3,16 @@ use Rattle.std.specs.Prelude.{ℕ, ◌+◌, ◌-◌, true, false, List, if◌the
 use Rattle.std.specs.List.{fold}
 use Rattle.regex_parser.specs.declared.greatest_parenthesis_depth_of_pattern.ParenthesisDepthScan.{ParenthesisDepthScan}
 
--- the state before anything is read
+-- The state before anything is read.
 abbrev pub scan_start : ParenthesisDepthScan
 scan_start = record { depth = 0; deepest = 0; in_class = false; escaped = false }
 
--- the state after an opening parenthesis
+-- The state after an opening parenthesis.
 abbrev pub depth_scan_after_opening_parenthesis : ParenthesisDepthScan → ParenthesisDepthScan
 depth_scan_after_opening_parenthesis r = record r { depth = r.depth + 1; deepest = max r.deepest (r.depth + 1) }
 
--- the state after a code point that is not escaped, outside classes: `[` is 91, `(` is 40, `)` is
--- 41
+-- The state after a code point that is not escaped, outside classes: `[` is 91, `(` is 40, `)` is
+-- 41.
 abbrev pub after_unescaped : ParenthesisDepthScan → (c : ℕ) → ParenthesisDepthScan
 after_unescaped r c = if c == 91 then record r { in_class = true }
     else if c == 40 then depth_scan_after_opening_parenthesis r
@@ -28,6 +28,6 @@ depth_scan_after_code_point r c = if r.escaped then record r { escaped = false }
     else if r.in_class then r
     else after_unescaped r c
 
--- the greatest number of parentheses that are open at once
+-- The greatest number of parentheses that are open at once.
 abbrev pub greatest_parenthesis_depth_in : (pattern : List ℕ) → ℕ
 greatest_parenthesis_depth_in pattern = (fold depth_scan_after_code_point scan_start pattern).deepest

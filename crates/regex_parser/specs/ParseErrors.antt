@@ -19,7 +19,7 @@ IsParseErrorIn s flags pattern (Syntax d) = IsDiagnosisIn s flags pattern d
 IsParseErrorIn s flags pattern TooManyGroups = OpensTooManyGroups pattern
 IsParseErrorIn s flags pattern Memory = Unit {0}
 
--- the same in the profile
+-- The same in the profile.
 abbrev pub IsDiagnosisOf : Flags → (pattern : List ℕ) → Diagnosis → Type 0
 IsDiagnosisOf = IsDiagnosisIn profile
 

@@ -6,65 +6,65 @@ use Rattle.regex_meaning.specs.ReadingStatesAndDigits.{RemainingCodePoints, Pars
 use Rattle.regex_meaning.specs.EscapesNamesQuantifiers.{BeginsQuantifier, ValidQuantifier}
 use Rattle.regex_meaning.specs.Grammar.{PatternDialect, Disjunction, Alternative}
 
--- a disjunction as far as it is read: the alternatives that have ended, and the terms of the
--- current one
+-- A disjunction as far as it is read: the alternatives that have ended, and the terms of the
+-- current one.
 pub record PartialDisjunction : Type 0 where
   pub arms : List Node
   pub terms : List Node
-  pub behind : Bool
+  pub in_lookbehind : Bool
 
--- a disjunction of which nothing is read
-abbrev pub empty_disjunction : (behind : Bool) → PartialDisjunction
-empty_disjunction behind = record { arms = []; terms = []; behind = behind }
+-- A disjunction of which nothing is read.
+abbrev pub empty_disjunction : (in_lookbehind : Bool) → PartialDisjunction
+empty_disjunction in_lookbehind = record { arms = []; terms = []; in_lookbehind = in_lookbehind }
 
--- adds a term to the current alternative
+-- Adds a term to the current alternative.
 abbrev pub push_term : Node → PartialDisjunction → PartialDisjunction
 push_term n l = record l { terms = l.terms ++ n ∷ [] }
 
--- ends the current alternative
+-- Ends the current alternative.
 abbrev pub end_alternative : PartialDisjunction → PartialDisjunction
-end_alternative l = record l { arms = l.arms ++ arm l.behind l.terms ∷ []; terms = [] }
+end_alternative l = record l { arms = l.arms ++ arm l.in_lookbehind l.terms ∷ []; terms = [] }
 
--- nests alternatives to the right, before the last one, which is given
+-- Nests alternatives to the right, before the last one, which is given.
 abbrev pub nest_alternatives : List Node → Node → Node
 nest_alternatives [] last = last
 nest_alternatives (n ∷ ns) last = alt n (nest_alternatives ns last)
 
--- reading from p to q completes the partial disjunction to this node
+-- Reading from p to q completes the partial disjunction to this node.
 pub data Completes (s : PatternDialect) (w : PatternContext) (l : PartialDisjunction) (p : ParseState) : (q : ParseState) → Node → Type 0 where
   last_arm : {q : ParseState} {ns : List Node}
-      → Alternative s w l.behind p q ns
-      → Completes s w l p q (nest_alternatives l.arms (arm l.behind (l.terms ++ ns)))
+      → Alternative s w l.in_lookbehind p q ns
+      → Completes s w l p q (nest_alternatives l.arms (arm l.in_lookbehind (l.terms ++ ns)))
   further_arms : {q r t : ParseState} {ns : List Node} {right : Node}
-      → Alternative s w l.behind p q ns → q ≡ "|" ▸ r → Disjunction s w l.behind r t right
-      → Completes s w l p t (nest_alternatives l.arms (alt (arm l.behind (l.terms ++ ns)) right))
+      → Alternative s w l.in_lookbehind p q ns → q ≡ "|" ▸ r → Disjunction s w l.in_lookbehind r t right
+      → Completes s w l p t (nest_alternatives l.arms (alt (arm l.in_lookbehind (l.terms ++ ns)) right))
 
--- the kind of an open group, which decides the node that is made of its contents
+-- The kind of an open group, which decides the node that is made of its contents.
 pub data OpenGroupKind : Type 0 where
   captures : (id : ℕ) (name : RemainingCodePoints) → OpenGroupKind
   plain : OpenGroupKind
   looks : (negate backwards : Bool) (start_group : ℕ) → OpenGroupKind
 
--- an open group: the disjunction around it, its kind, and the number of groups that had opened
--- before it
+-- An open group: the disjunction around it, its kind, and the number of groups that had opened
+-- before it.
 pub record OpenGroup : Type 0 where
   pub outer : PartialDisjunction
   pub opened : OpenGroupKind
   pub start : ℕ
 
--- an atom, with or without a quantifier
+-- An atom, with or without a quantifier.
 pub data IsTerm (start : ℕ) (n : Node) (p : ParseState) : (q : ParseState) → Node → Type 0 where
   once : ¬ (BeginsQuantifier p.text) → IsTerm start n p p n
   repeated : {there : RemainingCodePoints} {quantifier : Quantifier}
       → ValidQuantifier p.text there quantifier
       → IsTerm start n p (state_with_text_left there p) (loop quantifier start (groups_at p) n)
 
--- the lookaround of an open group that ends here
+-- The lookaround of an open group that ends here.
 abbrev pub lookaround_up_to : (negate backwards : Bool) (start_group : ℕ) → ParseState → Lookaround
 lookaround_up_to negate backwards start p =
     record { negate = negate; backwards = backwards; start_group = start; end_group = groups_at p }
 
--- the term that a group becomes after its `)`, with its quantifier if it has one
+-- The term that a group becomes after its `)`, with its quantifier if it has one.
 pub data ClosesGroup (s : PatternDialect) (w : PatternContext) (o : OpenGroup) (contents : Node) (p : ParseState) : (q : ParseState) → Node → Type 0 where
   looked : (negate backwards : Bool) (start : ℕ)
       → o.opened ≡ looks negate backwards start → ¬ (BeginsQuantifier p.text)
@@ -81,8 +81,8 @@ pub data ClosesGroup (s : PatternDialect) (w : PatternContext) (o : OpenGroup) (
       → o.opened ≡ plain → IsTerm o.start contents p q n
       → ClosesGroup s w o contents p q n
 
--- reading the rest of the pattern completes all disjunctions, the innermost first; at the end
--- exactly these groups have opened
+-- Reading the rest of the pattern completes all disjunctions, the innermost first; at the end
+-- exactly these groups have opened.
 abbrev pub CompletesAll : PatternDialect → PatternContext → (groups : List RemainingCodePoints) → List OpenGroup → PartialDisjunction → ParseState → Node → Type 0
 CompletesAll s w groups [] l p t = Completes s w l p (record { text = []; opened = groups }) t
 CompletesAll s w groups (o ∷ around) l p t =

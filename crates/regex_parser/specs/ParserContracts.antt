@@ -11,34 +11,34 @@ use Rattle.regex_parser.specs.declared.parser_error.ParseStopReason.{ParseStopRe
 use Rattle.regex_parser.specs.declared.group_openings_and_names.GroupKind.{GroupKind}
 use Rattle.regex_parser.specs.declared.group_openings_and_names.GroupKind.TheVariants.{Capture, Named, Plain, Look}
 use Rattle.regex_pattern_front.specs.declared.ir.Node.{Node}
-use Rattle.regex_parser.specs.declared.open_groups_and_partial_disjunctions.OpenGroup.{OpenGroup}
+use Rattle.regex_parser.specs.declared.open_groups.OpenGroup.{OpenGroup}
 use Rattle.regex_parser.specs.declared.groupless_terms.GrouplessTermReader.{GrouplessTermReader}
 use Rattle.regex_parser.specs.declared.parse.Parser.{Parser}
 use Rattle.regex_parser.specs.declared.parse.Refusal.{Refusal}
 use Rattle.regex_parser.specs.declared.parse.Refusal.TheVariants.{Syntax, TooManyGroups, Memory}
 use Rattle.regex_parser.specs.PartialDisjunctionModel.{disjunction_of}
-use Rattle.regex_parser.specs.CodePointAndQuantifierReaderContracts.{is_syntax_error}
+use Rattle.regex_parser.specs.CodePointReaderContracts.{is_syntax_error}
 use Rattle.regex_pattern_front.specs.AstToSpecTree.{node_of, group_name_bytes, spec_flags_of}
 
 -- ---- Open groups
 
--- the kind of an open group, as in the grammar
+-- The kind of an open group, as in the grammar.
 abbrev pub group_kind_of : GroupKind → (name : RemainingCodePoints) → (start : ℕ) → grammar.OpenGroupKind
 group_kind_of Capture name start = grammar.captures start name
 group_kind_of Named name start = grammar.captures start name
 group_kind_of Plain name start = grammar.plain
 group_kind_of (Look negate backwards) name start = grammar.looks negate backwards start
 
--- an open group, as in the grammar
+-- An open group, as in the grammar.
 abbrev pub open_group_of : OpenGroup → grammar.OpenGroup
 open_group_of o = record { outer = disjunction_of o.outer; opened = group_kind_of o.opening (group_name_bytes o.name) o.start; start = o.start }
 
--- the open groups, the innermost first as in the grammar
+-- The open groups, the innermost first as in the grammar.
 abbrev pub around_from : List grammar.OpenGroup → List OpenGroup → List grammar.OpenGroup
 around_from inner [] = inner
 around_from inner (o ∷ os) = around_from (open_group_of o ∷ inner) os
 
--- the node of a group with these contents
+-- The node of a group with these contents.
 abbrev pub group_node_around : GroupKind → (name : RemainingCodePoints) → (start end : ℕ) → tree.Node → tree.Node
 group_node_around Capture name start end contents = tree.capture_group start name contents
 group_node_around Named name start end contents = tree.capture_group start name contents
@@ -60,15 +60,15 @@ IsTermWithOptionalQuantifierRead true here start end term (Err e) there =
     IsTrue (is_syntax_error e) → BeginsQuantifier here × ((rest : RemainingCodePoints) (q : tree.Quantifier) → ValidQuantifier here rest q → ⊥)
 IsTermWithOptionalQuantifierRead false here start end term (Err e) there = BeginsQuantifier here
 
--- whether the group has a name
+-- Whether the group has a name.
 abbrev pub is_named_group : GroupKind → Bool
 is_named_group Named = true
 is_named_group Capture = false
 is_named_group Plain = false
 is_named_group (Look negate backwards) = false
 
--- the name of a named group is read and has the number of this group; after a syntax error there is
--- no such name
+-- The name of a named group is read and has the number of this group; after a syntax error there is
+-- no such name.
 abbrev pub IsOptionalGroupNameRead :
     {R : Type 0} → PatternDialect → (numbers : RemainingCodePoints → Option ℕ) → (groups : ℕ) → (named : Bool) → (here : RemainingCodePoints)
     → Result (Option (String R)) ParseStopReason → (there : RemainingCodePoints) → Type 0
@@ -81,11 +81,11 @@ IsOptionalGroupNameRead s numbers groups false here (Err e) there = IsTrue (is_s
 
 -- ---- The parser
 
--- the reader knows the groups of a pattern, which have these names
+-- The reader knows the groups of a pattern, which have these names.
 abbrev pub KnowsGroups : GrouplessTermReader → (names : List RemainingCodePoints) → Type 0
 KnowsGroups l names = AreGroupsKnownIn (spec_syntax_of l.syntax) l.flags l.groups.count l.groups.named l.numbers names
 
--- the parser has read the pattern, whose groups have these names, up to `here`
+-- The parser has read the pattern, whose groups have these names, up to `here`.
 pub record HasReadPatternUpTo (pattern : RemainingCodePoints) (names : List RemainingCodePoints) (here : RemainingCodePoints) (p : Parser) : Type 0 where
   pub known : KnowsGroups p.leaves names
   pub few : p.groups ≤ 65535
@@ -94,7 +94,7 @@ pub record HasReadPatternUpTo (pattern : RemainingCodePoints) (names : List Rema
       let s = spec_syntax_of p.leaves.syntax in
       IsParserInvariant s (spec_flags_of p.leaves.flags) pattern names p.leaves.references p.groups around (disjunction_of p.level) here
 
--- the pattern has no tree in the language that the reader reads
+-- The pattern has no tree in the language that the reader reads.
 abbrev pub HasNoTreeFor : GrouplessTermReader → (pattern : RemainingCodePoints) → Type 0
 HasNoTreeFor l pattern = HasNoTreeIn (spec_syntax_of l.syntax) (spec_flags_of l.flags) pattern
 
@@ -108,32 +108,32 @@ AdvancesOrHasNoTree here old (Err e) new =
     IsTrue (is_syntax_error e) → (pattern : RemainingCodePoints) (names : List RemainingCodePoints) → HasReadPatternUpTo pattern names here old
     → HasNoTreeFor old.leaves pattern
 
--- the result is the tree of the pattern; after a syntax error it has none. Allocation failure says
+-- The result is the tree of the pattern; after a syntax error it has none. Allocation failure says
 -- nothing.
 abbrev pub IsParseResult : PatternDialect → {A : Type 0} → (of : A → tree.Tree) → tree.Flags → (pattern : RemainingCodePoints) → Result A ParseStopReason → Type 0
 IsParseResult s of flags pattern (Ok a) = ParsesBy s flags pattern (of a)
 IsParseResult s of flags pattern (Err e) = IsTrue (is_syntax_error e) → HasNoTreeIn s flags pattern
 
--- what a refusal says of the pattern; allocation failure says nothing
+-- What a refusal says of the pattern; allocation failure says nothing.
 abbrev pub IsJustifiedRefusal : PatternDialect → tree.Flags → (pattern : RemainingCodePoints) → Refusal → Type 0
 IsJustifiedRefusal s flags pattern (Syntax d) = HasNoTreeIn s flags pattern
 IsJustifiedRefusal s flags pattern (TooManyGroups d) = OpensTooManyGroups pattern
 IsJustifiedRefusal s flags pattern (Memory e) = Unit {0}
 
--- the place that a refusal reports is one of the pattern
+-- The place that a refusal reports is one of the pattern.
 abbrev pub RefusalPlaceLiesInPattern : (pattern : RemainingCodePoints) → Refusal → Type 0
 RefusalPlaceLiesInPattern pattern (Syntax d) = d.at ≤ length pattern
 RefusalPlaceLiesInPattern pattern (TooManyGroups d) = d.at ≤ length pattern
 RefusalPlaceLiesInPattern pattern (Memory e) = Unit {0}
 
--- the pattern has no tree in this dialect, or it opens too many groups
+-- The pattern has no tree in this dialect, or it opens too many groups.
 abbrev pub IsTextRefusedIn : PatternDialect → tree.Flags → (pattern : RemainingCodePoints) → Type 0
 IsTextRefusedIn s flags pattern = HasNoTreeIn s flags pattern ⊎ OpensTooManyGroups pattern
 
--- the same in the profile
+-- The same in the profile.
 abbrev pub IsTextRefused : tree.Flags → (pattern : RemainingCodePoints) → Type 0
 IsTextRefused = IsTextRefusedIn profile
 
--- the tree with this root and these flags
+-- The tree with this root and these flags.
 abbrev pub tree_of_root_and_flags : tree.Flags → Node → tree.Tree
 tree_of_root_and_flags flags n = record { root = node_of n; flags = flags }

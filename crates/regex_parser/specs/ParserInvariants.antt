@@ -8,47 +8,47 @@ use Rattle.regex_meaning.specs.GroupOpeningScanWithoutParsing.{texts_after_paren
 use Rattle.regex_parser.specs.ParseStack.{PartialDisjunction, empty_disjunction, OpenGroup, CompletesAll}
 use Rattle.regex_parser.specs.ScannedGroups.{ScansGroups}
 
--- the pattern has no tree in this dialect
+-- The pattern has no tree in this dialect.
 abbrev pub HasNoTreeIn : PatternDialect → Flags → (pattern : RemainingCodePoints) → Type 0
 HasNoTreeIn s flags pattern = (t : Tree) → ParsesBy s flags pattern t → ⊥
 
--- the pattern has no tree in the profile
+-- The pattern has no tree in the profile.
 abbrev pub HasNoTree : Flags → (pattern : RemainingCodePoints) → Type 0
 HasNoTree = HasNoTreeIn profile
 
--- the names of the pattern's groups, found by the scan
+-- The names of the pattern's groups, found by the scan.
 abbrev pub group_names_found_by_scan : (pattern : RemainingCodePoints) → List RemainingCodePoints
 group_names_found_by_scan pattern = scanned_names_per_capturing_group false pattern
 
--- there are at most 65,535 groups, the limit of the parser
+-- There are at most 65,535 groups, the limit of the parser.
 abbrev pub AreWithinGroupLimit : List RemainingCodePoints → Type 0
 AreWithinGroupLimit names = length names ≤ 65535
 
--- the pattern opens more groups, as the scan counts them; so each tree that it has has more
+-- The pattern opens more groups, as the scan counts them; so each tree that it has has more.
 abbrev pub OpensTooManyGroups : (pattern : RemainingCodePoints) → Type 0
 OpensTooManyGroups pattern = 65535 < length (group_names_found_by_scan pattern)
 
--- the context of a pattern with these flags and groups
+-- The context of a pattern with these flags and groups.
 abbrev pub with_groups : Flags → List RemainingCodePoints → PatternContext
 with_groups flags groups = record { flags = flags; groups = groups }
 
--- the state with this text left and these groups opened
+-- The state with this text left and these groups opened.
 abbrev pub parse_state : (here : RemainingCodePoints) → (opened : List RemainingCodePoints) → ParseState
 parse_state here opened = record { text = here; opened = opened }
 
--- a scan of the text finds these groups
+-- A scan of the text finds these groups.
 abbrev pub FindsGroups : PatternDialect → (here : RemainingCodePoints) → (names : List RemainingCodePoints) → Type 0
 FindsGroups s here names = ScansGroups s (texts_after_parentheses false here) names
 
--- reading the rest from here completes what was read to this node
+-- Reading the rest from here completes what was read to this node.
 abbrev pub CompletesTo : PatternDialect → Flags → (names : List RemainingCodePoints) → List OpenGroup → PartialDisjunction → ParseState → Node → Type 0
 CompletesTo s flags names around level here n = CompletesAll s (with_groups flags names) names around level here n
 
--- the whole pattern is this node
+-- The whole pattern is this node.
 abbrev pub ParsesTo : PatternDialect → Flags → (pattern : RemainingCodePoints) → (names : List RemainingCodePoints) → Node → Type 0
 ParsesTo s flags pattern names n = CompletesTo s flags names [] (empty_disjunction false) (parse_state pattern []) n
 
--- each group that has opened has no name, or its name is numbered as that group
+-- Each group that has opened has no name, or its name is numbered as that group.
 abbrev pub AreNumbered : (opened names : List RemainingCodePoints) → Type 0
 AreNumbered opened names =
     (i : ℕ) (d : RemainingCodePoints) → i < length opened

@@ -2,14 +2,14 @@
 use Rattle.std.specs.Prelude.{List, [], ◌∷◌, map}
 use Rattle.regex_meaning.specs.Tree as tree
 use Rattle.regex_parser.specs.ParseStack as grammar
-use Rattle.regex_parser.specs.declared.open_groups_and_partial_disjunctions.PartialDisjunction.{PartialDisjunction}
+use Rattle.regex_parser.specs.declared.open_groups.PartialDisjunction.{PartialDisjunction}
 use Rattle.regex_pattern_front.specs.AstToSpecTree.{node_of}
 
--- the partial disjunction of the grammar
+-- The partial disjunction of the grammar.
 abbrev pub disjunction_of : PartialDisjunction → grammar.PartialDisjunction
-disjunction_of l = record { arms = map node_of l.arms.items; terms = map node_of l.terms.items; behind = l.behind }
+disjunction_of l = record { arms = map node_of l.arms.items; terms = map node_of l.terms.items; in_lookbehind = l.in_lookbehind }
 
--- alternatives nested to the right; an empty list is the empty pattern
+-- Alternatives nested to the right; an empty list is the empty pattern.
 abbrev pub nest_all_alternatives : List tree.Node → tree.Node
 nest_all_alternatives [] = tree.empty
 nest_all_alternatives (n ∷ []) = n

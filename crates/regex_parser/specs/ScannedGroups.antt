@@ -8,7 +8,7 @@ use Rattle.regex_meaning.specs.EcmaGrammarLaws.{IsPatternDisjunction}
 use Rattle.regex_meaning.specs.GroupOpeningScanWithoutParsing.{texts_after_parentheses}
 use Rattle.regex_meaning.specs.Grammar.{PatternDialect}
 
--- no name is here
+-- No name is here.
 abbrev pub NoGroupName : PatternDialect → (here : RemainingCodePoints) → Type 0
 NoGroupName s here = (there name : RemainingCodePoints) → s.group_name here there name → ⊥
 
@@ -16,15 +16,15 @@ NoGroupName s here = (there name : RemainingCodePoints) → s.group_name here th
 -- name cannot be read. A parenthesis that opens no capturing group is passed over.
 pub data ScansGroups (s : PatternDialect) : (texts names : List RemainingCodePoints) → Type 0 where
   scans_nothing : ScansGroups s [] []
-  -- a group without a name
+  -- A group without a name.
   scans_group : {text : RemainingCodePoints} {texts names : List RemainingCodePoints}
       → begins_with_characters "?" text ≡ false → ScansGroups s texts names
       → ScansGroups s (text ∷ texts) ([] ∷ names)
-  -- a group with a name
+  -- A group with a name.
   scans_named_group : {text name : RemainingCodePoints} {texts names : List RemainingCodePoints} (here there : RemainingCodePoints)
       → text ≡ codes "?<" ++ here → s.group_name here there name → ScansGroups s texts names
       → ScansGroups s (text ∷ texts) (name ∷ names)
-  -- a group whose name cannot be read
+  -- A group whose name cannot be read.
   scans_wrong_name : {text : RemainingCodePoints} {texts names : List RemainingCodePoints} (here : RemainingCodePoints)
       → text ≡ codes "?<" ++ here → NoGroupName s here
       → begins_with_characters "=" here ≡ false → begins_with_characters "!" here ≡ false → ScansGroups s texts names

@@ -9,13 +9,13 @@ use Rattle.regex_parser.specs.declared.syntax.Syntax.{Syntax}
 use Rattle.regex_parser.specs.declared.syntax.Syntax.TheVariants.{Profile, EcmaScript2018}
 use Rattle.regex_pattern_front.specs.AstToSpecTree.{spec_flags_of}
 
--- the language as a dialect of the grammar
+-- The language as a dialect of the grammar.
 abbrev pub spec_syntax_of : Syntax → PatternDialect
 spec_syntax_of Profile = profile
 spec_syntax_of EcmaScript2018 = ecmascript
 
--- what the reader knows of the groups of the pattern, which are within the limit: how many there are,
--- whether one has a name, and the number of each name that can be read
+-- What the reader knows of the groups of the pattern, which are within the limit: how many there are,
+-- whether one has a name, and the number of each name that can be read.
 pub record AreGroupsKnownIn {R : Type 0} (s : PatternDialect) (flags : Flags) (count : ℕ) (named : Bool) (numbers : BTreeMap (String R) ℕ) (groups : List RemainingCodePoints) : Type 0 where
   pub few : length groups ≤ 65535
   pub counted : count ≡ length groups

@@ -6,14 +6,14 @@ ghost use Rattle.regex_meaning.specs.CharacterClasses.{class as class_of, single
 ghost use Rattle.std.specs.List.{list_any};
 ghost use Rattle.regex_pattern_front.specs.Intervals.{interval_of};
 ghost use Rattle.regex_pattern_front.specs.AstToSpecTree.{class_as_spec, spec_flags_of};
-ghost use Rattle.regex_parser.specs.CodePointAndQuantifierReaderContracts.{IsReadAndErrorMeansUnreadable, IsReadOr};
+ghost use Rattle.regex_parser.specs.CodePointReaderContracts.{IsReadAndErrorMeansUnreadable, IsReadOr};
 ghost use Rattle.regex_parser.specs.ClassReaderContracts.{uninverted_digit_word_or_space_set, class_member_of_character_class_escape, class_member_of_atom};
 ghost use Rattle.regex_parser.specs.ClassReaderContracts.{escape_of};
 ghost use Rattle.regex_parser.specs.ClassReaderContracts.{is_in_any_interval, IsCaseClosureOfTest, AddsMembers, IsRangeEndRead};
 ghost use Rattle.regex_parser.specs.ClassReaderContracts.{IsClassMemberRead, AreClassRangesRead, FailsExactlyOnSetOperation, AreRangeEndsIfBothCharacters};
 ghost use Rattle.regex_parser.specs.ClassReaderContracts.{begins_nested_class_or_operation, some_case_variant_passes, letter_case_variants_if_any_passes};
 
-use crate::code_point_and_quantifier_reader::PatternReader;
+use crate::code_point_reader::PatternReader;
 use crate::diagnosis::Cause;
 use crate::escapes_and_group_names::character_escape;
 use crate::parser_error::ParseStopReason;

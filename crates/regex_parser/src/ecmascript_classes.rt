@@ -4,7 +4,7 @@ ghost use Rattle.std.specs.Prelude.{◌≡◌, ◌≢◌, ◌≤◌, ◌∷◌, 
 ghost use Rattle.regex_meaning.specs.Outcomes.{in_intervals};
 ghost use Rattle.regex_meaning.specs.EcmaClasses.{CharacterClass, ClassAtom, ClassEscape as SpecClassEscape, character, class as class_of, IsSetOf, is_in_invertible_set};
 ghost use Rattle.regex_pattern_front.specs.AstToSpecTree.{class_as_spec, spec_flags_of};
-ghost use Rattle.regex_parser.specs.CodePointAndQuantifierReaderContracts.{IsReadOr};
+ghost use Rattle.regex_parser.specs.CodePointReaderContracts.{IsReadOr};
 ghost use Rattle.regex_parser.specs.ClassReaderContracts.{is_in_any_interval};
 ghost use Rattle.regex_parser.specs.EcmaClassContracts.{member_of_atom, set_of_letter, AreEcmaRangesRead, IsEcmaMemberRead, IsEcmaRangeEndRead};
 ghost use Rattle.regex_parser.specs.EcmaClassContracts.{IsClassControlRead, AddsEcmaMembers, IsCanonicalClosure, IsPropertyLetterRead, IsRangeOrCause};
@@ -13,9 +13,9 @@ ghost use Rattle.regex_meaning.specs.ReadingStatesAndDigits.{begins_with_charact
 
 use crate::case_variants::add_canonical_variants;
 use crate::character_class_parser::{CharacterClassType, DigitWordOrSpaceEscape, append_intervals};
-use crate::code_point_and_quantifier_reader::PatternReader;
+use crate::code_point_reader::PatternReader;
 use crate::diagnosis::Cause;
-use crate::ecmascript_single_character_escapes::{GrammarParameters, read_character_escape};
+use crate::ecmascript_escapes::{GrammarParameters, read_character_escape};
 use crate::parser_error::ParseStopReason;
 use crate::unicode_properties::{Property, read_property_expression};
 use regex_pattern_front::codepointset::{CodePointSet, Interval};

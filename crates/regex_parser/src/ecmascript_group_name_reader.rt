@@ -3,10 +3,10 @@
 ghost use Rattle.std.specs.Prelude.{◌≡◌, ◌<◌, ◌≤◌, ◌∷◌, length, string_bytes, IfErr, IsTrue, OnOk, IsSome, Bool};
 ghost use Rattle.regex_meaning.specs.EcmaEscapesAndNames.{GroupName};
 ghost use Rattle.regex_meaning.specs.EscapesNamesQuantifiers.{is_lead_surrogate};
-ghost use Rattle.regex_parser.specs.CodePointAndQuantifierReaderContracts.{IsReadOr, is_syntax_error};
+ghost use Rattle.regex_parser.specs.CodePointReaderContracts.{IsReadOr, is_syntax_error};
 ghost use Rattle.regex_parser.specs.EcmaReaderContracts.{passes_in_name, IsNameCharacterRead, IsNameCodePointRead};
 
-use crate::code_point_and_quantifier_reader::PatternReader;
+use crate::code_point_reader::PatternReader;
 use crate::diagnosis::Cause;
 use crate::escapes_and_group_names::{is_lead_surrogate, is_trail_surrogate, unicode_escape};
 use crate::parser_error::ParseStopReason;

@@ -7,22 +7,22 @@ ghost use Rattle.regex_meaning.specs.{ReadingStatesAndDigits.{RemainingCodePoint
 ghost use Rattle.regex_meaning.specs.UnicodeProperties.{has_property};
 ghost use Rattle.regex_pattern_front.specs.AstToSpecTree.{node_of, spec_flags_of};
 ghost use Rattle.regex_pattern_front.specs.SubtreeListInvariants.{IsWellFormedGrouplessSubtree};
-ghost use Rattle.regex_parser.specs.CodePointAndQuantifierReaderContracts.{is_syntax_error};
-ghost use Rattle.regex_parser.specs.PropertyContracts.{spec_property_of};
+ghost use Rattle.regex_parser.specs.CodePointReaderContracts.{is_syntax_error};
+ghost use Rattle.regex_parser.specs.PropertyReaderContracts.{spec_property_of};
 ghost use Rattle.regex_parser.specs.GrouplessTermContracts.{pattern_context, is_paren_or_bar, IsReaderOfSame};
 ghost use Rattle.regex_parser.specs.EcmaTermContracts.{AreGroupsKnown, IsEcmaTermRead, IsAtomEscapeRead, IsEcmaCharacterNode, IsClassEscapeRead};
 ghost use Rattle.regex_parser.specs.EcmaTermContracts.{IsEcmaReferenceRead, IsGroupNumberRead, IsNoGroupUnless, IsEcmaNameNumberRead, is_nonzero_digit};
 
 use crate::case_variants::case_variants;
 use crate::character_class_parser::DigitWordOrSpaceEscape;
-use crate::code_point_and_quantifier_reader::PatternReader;
+use crate::code_point_reader::PatternReader;
 use crate::diagnosis::Cause;
 use crate::ecmascript_classes::{
     ClassReader, canonical_closure, is_control_without_unicode, letter_contents,
     read_property_letter,
 };
+use crate::ecmascript_escapes::{GrammarParameters, read_character_escape};
 use crate::ecmascript_group_name_reader::read_group_name;
-use crate::ecmascript_single_character_escapes::{GrammarParameters, read_character_escape};
 use crate::group_openings_and_names::GroupNumbers;
 use crate::groupless_terms::{
     GrouplessTerm, GrouplessTermReader, atom, bracket, decimal, is_brace_or_closing_bracket,

@@ -4,11 +4,11 @@ ghost use Rattle.std.specs.Prelude.{◌≡◌, ◌≤◌, ◌∷◌, length, str
 ghost use Rattle.regex_meaning.specs.EscapesNamesQuantifiers.{CharacterEscape, GroupName, control_escape_code_point, is_ascii_identifier_start, is_ascii_identifier_part};
 ghost use Rattle.regex_meaning.specs.EscapesNamesQuantifiers.{FixedHexDigits, UnicodeEscape, is_lead_surrogate};
 ghost use Rattle.regex_meaning.specs.EscapesNamesQuantifiers.{is_trail_surrogate};
-ghost use Rattle.regex_parser.specs.CodePointAndQuantifierReaderContracts.{IsReadOrNothingCanBeRead, IsReadOr, ResultIsGroupNameLetterOrNone};
-ghost use Rattle.regex_parser.specs.CodePointAndQuantifierReaderContracts.{IsOptionalTrailSurrogateEscapeRead};
-ghost use Rattle.regex_parser.specs.CodePointAndQuantifierReaderContracts.{PairsWithTrailSurrogateIfAny, IsCodePointAndClosingBrace, is_syntax_error};
+ghost use Rattle.regex_parser.specs.CodePointReaderContracts.{IsReadOrNothingCanBeRead, IsReadOr, ResultIsGroupNameLetterOrNone};
+ghost use Rattle.regex_parser.specs.CodePointReaderContracts.{IsOptionalTrailSurrogateEscapeRead};
+ghost use Rattle.regex_parser.specs.CodePointReaderContracts.{PairsWithTrailSurrogateIfAny, IsCodePointAndClosingBrace, is_syntax_error};
 
-use crate::code_point_and_quantifier_reader::PatternReader;
+use crate::code_point_reader::PatternReader;
 use crate::diagnosis::Cause;
 use crate::parser_error::ParseStopReason;
 use regex_pattern_front::codepointset::CODE_POINT_MAX;

@@ -8,11 +8,11 @@ ghost use Rattle.regex_meaning.specs.Tree.{Flags};
 ghost use Rattle.regex_parser.specs.GroupReaderContracts.{IsLookaroundPolaritySignRead, IsOpeningRead, AreCountedAndNumbered, RecordsFurtherGroupsInScan};
 ghost use Rattle.regex_parser.specs.GroupReaderContracts.{GroupNameScanProcessesCodePoint, group_numbers_adding_absent_name, count_of_groups, IsPatternScanned};
 ghost use Rattle.regex_parser.specs.GroupReaderContracts.{NoneBegins};
-ghost use Rattle.regex_parser.specs.CodePointAndQuantifierReaderContracts.{is_syntax_error, IsReadOr};
+ghost use Rattle.regex_parser.specs.CodePointReaderContracts.{is_syntax_error, IsReadOr};
 ghost use Rattle.regex_parser.specs.SyntaxDialects.{spec_syntax_of};
 ghost use Rattle.regex_parser.specs.declared.syntax.Syntax.TheVariants.{Profile};
 
-use crate::code_point_and_quantifier_reader::PatternReader;
+use crate::code_point_reader::PatternReader;
 use crate::diagnosis::Cause;
 use crate::ecmascript_group_name_reader::read_group_name;
 use crate::escapes_and_group_names::name;
@@ -37,7 +37,7 @@ pub(crate) enum GroupKind {
 
 impl GroupKind {
     ghost use Rattle.regex_parser.specs.GroupReaderContracts.{is_reversed_in, takes_quantifier};
-    ghost use Rattle.regex_parser.specs.ParserGroupIdInvariant.{captures_opened_by_group_kind};
+    ghost use Rattle.regex_parser.specs.GroupIdInvariant.{captures_opened_by_group_kind};
 
     /// Returns the number of capturing groups that it opens: 0 or 1.
     pub(crate) fn captures_opened_by_group_kind(self) -> CaptureGroupID

@@ -6,7 +6,7 @@ ghost use Rattle.regex_meaning.specs.Tree.{bracket as bracket_of, back_ref, by_c
 ghost use Rattle.regex_meaning.specs.{ReadingStatesAndDigits.{RemainingCodePoints}, Grammar.{character_node}};
 ghost use Rattle.regex_pattern_front.specs.AstToSpecTree.{node_of, spec_flags_of, class_as_spec};
 ghost use Rattle.regex_pattern_front.specs.SubtreeListInvariants.{IsWellFormedGrouplessSubtree};
-ghost use Rattle.regex_parser.specs.CodePointAndQuantifierReaderContracts.{is_syntax_error};
+ghost use Rattle.regex_parser.specs.CodePointReaderContracts.{is_syntax_error};
 ghost use Rattle.regex_parser.specs.GrouplessTermContracts.{pattern_context, NamesAreNumberedWithinGroupLimit, TextBetweenIsGrouplessTerm};
 ghost use Rattle.regex_parser.specs.GrouplessTermContracts.{IsGrouplessTermReadIfPresent, IsAtomReadIfPresent};
 ghost use Rattle.regex_parser.specs.GrouplessTermContracts.{TextBetweenOpensNoGroup, AnchorOrDotReadIfPresent, RefusesCodePointThatIsNoTerm, is_paren_or_bar};
@@ -18,7 +18,7 @@ ghost use Rattle.regex_parser.specs.SyntaxDialects.{spec_syntax_of, AreGroupsKno
 ghost use Rattle.regex_parser.specs.GrouplessTermContracts.{IsNumberUnlessMissingOrZero, IsDecimalReadIfItFitsU32};
 
 use crate::character_class_parser::{DigitWordOrSpaceEscape, read_class};
-use crate::code_point_and_quantifier_reader::PatternReader;
+use crate::code_point_reader::PatternReader;
 use crate::diagnosis::Cause;
 use crate::ecmascript_terms::PatternGroups;
 use crate::escapes_and_group_names::{character_escape, name};

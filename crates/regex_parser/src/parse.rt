@@ -5,7 +5,7 @@ ghost use Rattle.regex_meaning.specs.{CompilationRelation.{tree_contains_byte_no
 ghost use Rattle.regex_pattern_front.specs.AstToSpecTree.{node_of, tree_of, spec_flags_of, group_name_bytes};
 ghost use Rattle.regex_pattern_front.specs.OptimizedTrees.{has_no_char_loops};
 ghost use Rattle.regex_pattern_front.specs.SubtreeListInvariants.{IsSoundSubtreeWithGroupIds};
-ghost use Rattle.regex_parser.specs.ParserGroupIdInvariant.{OpenDisjunctionsHaveAllGroups, captures_opened_by_group_kind};
+ghost use Rattle.regex_parser.specs.GroupIdInvariant.{OpenDisjunctionsHaveAllGroups, captures_opened_by_group_kind};
 ghost use Rattle.regex_parser.specs.ParserContracts.{HasReadPatternUpTo, IsOptionalGroupNameRead, IsParseResult, IsTermWithOptionalQuantifierRead};
 ghost use Rattle.regex_parser.specs.ParserContracts.{AdvancesOrHasNoTree};
 ghost use Rattle.regex_parser.specs.ParserContracts.{is_named_group, group_node_around, tree_of_root_and_flags};
@@ -18,14 +18,14 @@ ghost use Rattle.regex_parser.specs.ParserInvariants.{AreWithinGroupLimit, Finds
 ghost use Rattle.regex_parser.specs.GroupReaderContracts.{AreGroupsCollected};
 ghost use Rattle.std.specs.BTreeMap.{get_by_text, btree_map_len};
 
-use crate::code_point_and_quantifier_reader::PatternReader;
+use crate::code_point_reader::PatternReader;
 use crate::diagnosis::{Cause, Diagnosis};
 use crate::ecmascript_terms::PatternGroups;
 use crate::group_openings_and_names::{
     GroupKind, GroupNumbers, ScannedGroups, read_group_kind, read_name, scan_groups,
 };
 use crate::groupless_terms::{GrouplessTerm, GrouplessTermReader};
-use crate::open_groups_and_partial_disjunctions::{OpenGroup, PartialDisjunction};
+use crate::open_groups::{OpenGroup, PartialDisjunction};
 use crate::parser_error::ParseStopReason;
 use crate::syntax::Syntax;
 use regex_pattern_front::flags::Flags;
@@ -126,7 +126,7 @@ pub fn diagnose(
     flags: Flags,
 ) -> Result<Option<Diagnosis>, AllocError>
     ensures place { IfOk result (λ found. IfSome found (λ d. d.at ≤ length pattern.now)) }
-    ensures tells { let flags = spec_flags_of flags in IfOk result (λ found.
+    ensures by_grammar { let flags = spec_flags_of flags in IfOk result (λ found.
         IfSome found (λ d. IsTextRefused flags pattern.now)
         × (found ≡ None → (tree : Tree) × Parses flags pattern.now tree)) }
 {
@@ -145,7 +145,7 @@ pub fn diagnose_in(
     syntax: Syntax,
 ) -> Result<Option<Diagnosis>, AllocError>
     ensures place { IfOk result (λ found. IfSome found (λ d. d.at ≤ length pattern.now)) }
-    ensures tells { let s = spec_syntax_of syntax in let flags = spec_flags_of flags in IfOk result (λ found.
+    ensures by_grammar { let s = spec_syntax_of syntax in let flags = spec_flags_of flags in IfOk result (λ found.
         IfSome found (λ d. IsTextRefusedIn s flags pattern.now)
         × (found ≡ None → (tree : Tree) × ParsesBy s flags pattern.now tree)) }
 {

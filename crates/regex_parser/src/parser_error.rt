@@ -1,7 +1,7 @@
 //! The error type of the parser.
 
 ghost use Rattle.std.specs.Prelude.{◌≡◌, false};
-ghost use Rattle.regex_parser.specs.CodePointAndQuantifierReaderContracts.{is_syntax_error};
+ghost use Rattle.regex_parser.specs.CodePointReaderContracts.{is_syntax_error};
 
 use crate::diagnosis::Cause;
 use std::alloc::{AllocError, AllocFailed};

@@ -9,11 +9,11 @@ ghost use Rattle.ucd_sets.specs.Loose.{normalize};
 ghost use Rattle.regex_meaning.specs.EcmaClasses.{is_in_invertible_set};
 ghost use Rattle.regex_meaning.specs.UnicodeProperties.{property_named, property_with_value, general_category_named, binary_property_named, has_property, in_database};
 ghost use Rattle.regex_meaning.specs.EcmaEscapesAndNames.{PropertyExpression};
-ghost use Rattle.regex_parser.specs.CodePointAndQuantifierReaderContracts.{IsReadOr};
-ghost use Rattle.regex_parser.specs.PropertyContracts.{spec_property_of, words_of, AreNameCharactersRead, IsPropertyNamed, listed_value, is_name_character};
+ghost use Rattle.regex_parser.specs.CodePointReaderContracts.{IsReadOr};
+ghost use Rattle.regex_parser.specs.PropertyReaderContracts.{spec_property_of, words_of, AreNameCharactersRead, IsPropertyNamed, listed_value, is_name_character};
 ghost use lib.Pointwise.{pointwise};
 
-use crate::code_point_and_quantifier_reader::PatternReader;
+use crate::code_point_reader::PatternReader;
 use crate::diagnosis::Cause;
 use crate::nfkc_casefold::changes_when_nfkc_casefolded;
 use crate::parser_error::ParseStopReason;

@@ -6,7 +6,7 @@ use Rattle.std.specs.Option.{option_map_or}
 use Rattle.regex_meaning.specs.Tree.{Node, group_ids}
 use Rattle.regex_meaning.specs.Text.{Text, last_place}
 use Rattle.regex_meaning.specs.Outcomes.{outcomes}
-use Rattle.regex_meaning.specs.FirstAndAllMatches.{Found, match_at, first_match, first_match_among, place_behind, matches_from, match_list}
+use Rattle.regex_meaning.specs.FirstAndAllMatches.{Found, match_at, first_match, first_match_among, place_after_match, matches_from, match_list}
 use Rattle.regex_meaning.specs.MatchGroupsByNumberAndName.{Answer, group_names_by_id, answer, answers_from}
 use Rattle.regex_meaning.specs.CodeUnitOffsets.{offset, place_at}
 
@@ -26,7 +26,7 @@ module _ (a b : Node) (text : Text) (outcomes_same : outcomes text a ≡ outcome
   unfolding matches_from
   from-same zero m = refl
   from-same (suc count) None = refl
-  from-same (suc count) (Some m) = ap (λ ms. m ∷ ms) (from-same count _ ∙ ap (λ f. matches_from b text count (option_and_then f (place_behind b text m))) (fun_ext first-same))
+  from-same (suc count) (Some m) = ap (λ ms. m ∷ ms) (from-same count _ ∙ ap (λ f. matches_from b text count (option_and_then f (place_after_match b text m))) (fun_ext first-same))
 
   list-same : (place : ℕ) → match_list a text place ≡ match_list b text place
   unfolding match_list

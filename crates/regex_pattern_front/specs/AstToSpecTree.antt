@@ -14,31 +14,31 @@ use Rattle.regex_pattern_front.specs.declared.ir.Node.TheVariants.{MatchAnyExcep
 use Rattle.regex_pattern_front.specs.declared.canonical.Sameness.{Sameness}
 use Rattle.regex_pattern_front.specs.declared.canonical.Sameness.TheVariants.{Exact, Folded, Alike}
 
--- an anchor type as that of the definitions
+-- An anchor type as that of the definitions.
 abbrev pub anchor_of : AnchorType → tree.AnchorType
 anchor_of StartOfLine = tree.start_of_line
 anchor_of EndOfLine = tree.end_of_line
 
--- a quantifier as that of the definitions
+-- A quantifier as that of the definitions.
 abbrev pub spec_quantifier_of : Quantifier → tree.Quantifier
 spec_quantifier_of q = record { min = q.min; max = q.max; greedy = q.greedy }
 
--- a class as that of the definitions
+-- A class as that of the definitions.
 abbrev pub class_as_spec : BracketContents → tree.BracketContents
 class_as_spec b = record { invert = b.invert; intervals = b.cps }
 
--- the bytes of a group name; empty if there is none
+-- The bytes of a group name; empty if there is none.
 abbrev pub group_name_bytes : {R : Type 0} → Option (String R) → List ℕ
 group_name_bytes None = []
 group_name_bytes (Some s) = string_bytes s
 
--- a sameness as that of the definitions
+-- A sameness as that of the definitions.
 abbrev pub sameness_of : Sameness → tree.Sameness
 sameness_of Exact = tree.exact
 sameness_of Folded = tree.folded
 sameness_of (Alike unicode) = tree.alike unicode
 
--- a node, and a list of children, as a tree of the definitions
+-- A node, and a list of children, as a tree of the definitions.
 unfoldable mutual
   pub node_of : Node → tree.Node
   node_of Empty = tree.empty
@@ -68,15 +68,15 @@ unfoldable mutual
   nodes_of end_of-Node = tree.end_of_cat
   nodes_of (more_of-Node child rest) = tree.cat (node_of child) (nodes_of rest)
 
--- a sequence of nodes
+-- A sequence of nodes.
 abbrev pub cat_of : List Node → tree.Node
 cat_of [] = tree.end_of_cat
 cat_of (node ∷ nodes) = tree.cat (node_of node) (cat_of nodes)
 
--- flags as those of the definitions
+-- Flags as those of the definitions.
 abbrev pub spec_flags_of : Flags → tree.Flags
 spec_flags_of f = record { icase = f.icase; multiline = f.multiline; dot_all = f.dot_all; no_opt = f.no_opt; unicode = f.unicode; unicode_sets = f.unicode_sets }
 
--- the tree of a pattern
+-- The tree of a pattern.
 abbrev pub tree_of : Regex → tree.Tree
 tree_of re = record { root = node_of re.node; flags = spec_flags_of re.flags }

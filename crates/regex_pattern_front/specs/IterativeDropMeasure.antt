@@ -7,7 +7,7 @@ use Rattle.regex_pattern_front.specs.declared.ir.Node.{Node}
 use Rattle.regex_pattern_front.specs.declared.ir.NextNodeAndRestToDrop.{NextNodeAndRestToDrop}
 use Rattle.regex_pattern_front.specs.declared.ir.NextNodeAndRestToDrop.TheVariants.{Inside, Row, Nothing}
 
--- the number of nodes, and of entries of lists
+-- The number of nodes, and of entries of lists.
 unfoldable pub tree_size : tree.Node → ℕ
 tree_size (cat first rest) = tree_size first + tree_size rest + 1
 tree_size (alt left right) = tree_size left + tree_size right + 1
@@ -17,24 +17,24 @@ tree_size (loop q start_group end_group loopee) = tree_size loopee + 1
 tree_size (loop_1_char_body q loopee) = tree_size loopee + 1
 tree_size _ = 1
 
--- the size of a node
+-- The size of a node.
 abbrev pub node_size : Node → ℕ
 node_size n = tree_size (node_of n)
 
--- the size of the rest, if there is one
+-- The size of the rest, if there is one.
 abbrev pub rest_size : (rest : Option Node) → ℕ
 rest_size None = 0
 rest_size (Some n) = node_size n
 
--- the measure: first the size of all that is left, and then the size of the current node
+-- The measure: first the size of all that is left, and then the size of the current node.
 abbrev pub drop_measure : (all at : ℕ) → ℕ
 drop_measure all at = all * all + at
 
--- the measure, given the size of the current node and the rest
+-- The measure, given the size of the current node and the rest.
 abbrev pub drop_measure_of_size_and_rest : (at : ℕ) (rest : Option Node) → ℕ
 drop_measure_of_size_and_rest at rest = drop_measure (at + rest_size rest) at
 
--- the measure, given the current node and the rest
+-- The measure, given the current node and the rest.
 abbrev pub drop_measure_of_node_and_rest : Node → (rest : Option Node) → ℕ
 drop_measure_of_node_and_rest n rest = drop_measure_of_size_and_rest (node_size n) rest
 

@@ -8,7 +8,7 @@ use Rattle.regex_meaning.specs.WellFormedTrees.{is_well_formed}
 use Rattle.regex_meaning.specs.MatchGroupsByNumberAndName.{answers_from, capturing_group_ids_and_names}
 pub use Rattle.regex_meaning.specs.TreesWithoutCharLoops.{has_no_char_loops}
 
--- whether the node reads one character and accepts it or not
+-- Whether the node reads one character and accepts it or not.
 abbrev pub reads_one_character : Node → Bool
 reads_one_character (char c) = true
 reads_one_character (char_set members) = true
@@ -18,7 +18,7 @@ reads_one_character match_any = true
 reads_one_character match_any_except_line_terminator = true
 reads_one_character _ = false
 
--- the tree with each loop over such a node turned into a loop over one character
+-- The tree with each loop over such a node turned into a loop over one character.
 unfoldable pub optimized : Node → Node
 optimized (cat first rest) = cat (optimized first) (optimized rest)
 optimized (alt left right) = alt (optimized left) (optimized right)
@@ -29,17 +29,17 @@ optimized (loop q start_group end_group loopee) =
 optimized (loop_1_char_body q loopee) = loop_1_char_body q (optimized loopee)
 optimized node = node
 
--- a loop as a loop over one character; other nodes are unchanged
+-- A loop as a loop over one character; other nodes are unchanged.
 abbrev pub loop_turned_into_char_loop : Node → Node
 loop_turned_into_char_loop (loop q start_group end_group loopee) = loop_1_char_body q loopee
 loop_turned_into_char_loop node = node
 
--- the alternatives after the first one
+-- The alternatives after the first one.
 abbrev pub rest_of_alternatives : Node → Node
 rest_of_alternatives (alt left right) = right
 rest_of_alternatives node = node
 
--- the first alternative of one chain before another chain
+-- The first alternative of one chain before another chain.
 abbrev pub first_alternative_prepended_to_chain : (row rest : Node) → Node
 first_alternative_prepended_to_chain (alt left right) rest = alt left rest
 first_alternative_prepended_to_chain _ rest = rest
@@ -50,25 +50,25 @@ abbrev pub alternatives_with_links_unreversed : (count : ℕ) (done rest : Node)
 alternatives_with_links_unreversed zero done rest = alt done rest
 alternatives_with_links_unreversed (suc count) done rest = alternatives_with_links_unreversed count (rest_of_alternatives done) (first_alternative_prepended_to_chain done rest)
 
--- optimization keeps a tree well formed
+-- Optimization keeps a tree well formed.
 abbrev pub OptimizedIsWellFormed : Type 0
 OptimizedIsWellFormed = (root : Node) → IsTrue (is_well_formed root) → IsTrue (is_well_formed (optimized root))
 
--- optimization keeps the outcomes of a well-formed tree
+-- Optimization keeps the outcomes of a well-formed tree.
 abbrev pub OptimizedHasSameOutcomes : Type 0
 OptimizedHasSameOutcomes = (root : Node) → IsTrue (is_well_formed root)
     → (text : Text) (direction : Direction) (place : ℕ) (groups : Groups)
     → outcomes text (optimized root) direction place groups ≡ outcomes text root direction place groups
 
--- optimization keeps the list of matches of a well-formed tree, from each start
+-- Optimization keeps the list of matches of a well-formed tree, from each start.
 abbrev pub OptimizedHasSameAnswers : Type 0
 OptimizedHasSameAnswers = (root : Node) → IsTrue (is_well_formed root)
     → (text : Text) (start : ℕ) → answers_from (optimized root) text start ≡ answers_from root text start
 
--- optimization keeps the group ids in the order of the tree, and so their number
+-- Optimization keeps the group ids in the order of the tree, and so their number.
 abbrev pub OptimizedHasSameGroups : Type 0
 OptimizedHasSameGroups = (root : Node) → group_ids (optimized root) ≡ group_ids root
 
--- optimization keeps the name of each group
+-- Optimization keeps the name of each group.
 abbrev pub OptimizedHasSameNames : Type 0
 OptimizedHasSameNames = (root : Node) → capturing_group_ids_and_names (optimized root) ≡ capturing_group_ids_and_names root

@@ -8,23 +8,23 @@ pub use Rattle.regex_meaning.specs.SubtreeInvariants.{is_sound, occurrences_of_i
 use Rattle.regex_pattern_front.specs.declared.ir.Node.{Node}
 use Rattle.regex_pattern_front.specs.AstToSpecTree.{node_of}
 
--- the group ids of these nodes together are those from `first` up to `end`, exclusive, each once
--- and in any order; every node is sound, and there is no `Goal`
+-- The group ids of these nodes together are those from `first` up to `end`, exclusive, each once
+-- and in any order; every node is sound, and there is no `Goal`.
 pub record AreSoundSubtrees (first end greatest : ℕ) (nodes : List Node) : Type 0 where
   pub goals : sum_by (λ n. number_of_goal_nodes (node_of n)) nodes ≡ 0
   pub count : first + sum_by (λ n. length (group_ids (node_of n))) nodes ≡ end
   pub ids : (id : ℕ) → sum_by (λ n. occurrences_of_id id (node_of n)) nodes ≡ once_within first end id
   pub sound : All (λ n. IsTrue (every_node_passes (is_sound greatest) (node_of n))) nodes
 
--- what is known of the old nodes together is known of the new ones
+-- What is known of the old nodes together is known of the new ones.
 abbrev pub KeepsSubtrees : List Node → List Node → Type 0
 KeepsSubtrees old new = (first end greatest : ℕ) → AreSoundSubtrees first end greatest old → AreSoundSubtrees first end greatest new
 
--- what is known of the nodes together is known of the one node
+-- What is known of the nodes together is known of the one node.
 abbrev pub SoundSubtreesMakeSoundNode : List Node → tree.Node → Type 0
 SoundSubtreesMakeSoundNode nodes n = (first end greatest : ℕ) → AreSoundSubtrees first end greatest nodes → IsSoundSubtreeWithGroupIds first end greatest n
 
--- one node that has the groups and the `Goal`s of these nodes together
+-- One node that has the groups and the `Goal`s of these nodes together.
 pub record CombinesGroupsAndGoalsOfNodes (nodes : List Node) (n : tree.Node) : Type 0 where
   pub goals : number_of_goal_nodes n ≡ sum_by (λ m. number_of_goal_nodes (node_of m)) nodes
   pub count : length (group_ids n) ≡ sum_by (λ m. length (group_ids (node_of m))) nodes

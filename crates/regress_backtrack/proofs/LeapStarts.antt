@@ -15,7 +15,7 @@ use Rattle.regress_program.specs.Leaps.{leap_to_goal, IsLeap}
 use Rattle.regress_program.specs.LeapsToGoals.{HasBarrierBetween}
 use Rattle.regress_program.specs.TableKeysOfUnits.{is_16_bit_encoding}
 use Rattle.regress_program.proofs.LeapLemmas.{starts-cut-off, starts-without}
-use Rattle.regress_search.specs.AttemptResultsAndStartsToTry.{NextStartSkipsNoMatch, NoMatchAt, NoMatchStartsBetween}
+use Rattle.regress_search.specs.AttemptsAndStarts.{NextStartSkipsNoMatch, NoMatchAt, NoMatchStartsBetween}
 use Rattle.regress_search.proofs.FirstMatch.{vain-at}
 use Rattle.regress_search.specs.TreePlanAndText.{SearchInput, program_of}
 use Rattle.regress_search.specs.Leaping.{LeapLeads}

@@ -29,14 +29,14 @@ use Rattle.regress_memo.proofs.RunKeys.{runs-have-keys}
 use Rattle.regress_memo.proofs.Runs.{passing-left}
 use Rattle.regress_memo.specs.declared.analysis_result.MemoAnalysis.{MemoAnalysis}
 use Rattle.regress_memo.specs.AnalysisChecks.{unlimited}
-use Rattle.regress_memo.specs.AnalysisAsLivenessAndPotentials.{insn_analysis_of, analysis_as_liveness, key_code_questions_of, insn_direction, recorded}
+use Rattle.regress_memo.specs.AnalysisAsPotentials.{insn_analysis_of, analysis_as_liveness, key_code_questions_of, insn_direction, recorded}
 use Rattle.regress_memo.specs.CheckedAnalysis.{IsAnalysisOf}
 use Rattle.regress_memo.proofs.WholeLemmas.{ledgers-serve, not-recorded}
 use Rattle.regress_memo.specs.Laws.{analysis_keys}
 use Rattle.regress_memo.specs.MemoContents.{memo_key_at}
 use Rattle.regress_memo.proofs.LawLemmas.{keys-are-there}
 use Rattle.regress_search.specs.TreePlanAndText.{SearchInput, program_of}
-use Rattle.regress_backtrack.specs.declared.thread_position_and_op_result.ThreadPos.{ThreadPos}
+use Rattle.regress_backtrack.specs.declared.position_and_result.ThreadPos.{ThreadPos}
 use Rattle.regress_backtrack.specs.declared.failure_memo.RecordKey.{RecordKey as Stored}
 use Rattle.regress_backtrack.specs.State.{StateModel, current_thread_state_of}
 use Rattle.regress_backtrack.specs.FailuresInMemoTable.{scheme_of}

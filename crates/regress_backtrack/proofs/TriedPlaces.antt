@@ -17,17 +17,17 @@ use Rattle.regex_meaning.proofs.TextLemmas.{IsBoundary-place, offset-IsBoundary,
 use Rattle.regress_input.specs.CharAndByteReadsFromOffset.{end_if_matched, past_bytes_if_next, place, read_if_units_are_bytes, is_byte_encoding, IsInUtf8}
 use Rattle.regress_machine.specs.TextsForBytePrograms.{HasUtf8CharactersAndOffsets}
 use Rattle.regress_machine.proofs.Utf8.{bytes_near-side, offset-inside}
-use Rattle.regress_program.specs.StartPredicatesAndWhenTheyAllocate.{is_anchored_predicate}
+use Rattle.regress_program.specs.StartPredicates.{is_anchored_predicate}
 use Rattle.regress_program.proofs.PredicateLemmas.{anchored-predicate}
-use Rattle.regress_search.specs.AttemptResultsAndStartsToTry.{NextStartSkipsNoMatch, NoMatchAt, NoMatchStartsBetween, first_of_places, first_filtered_start}
-use Rattle.regress_search.specs.AttemptResultsAndStartsToTry.{next_filtered_start}
-use Rattle.regress_search.specs.AttemptResultsAndStartsToTry.{filtered_start_after}
+use Rattle.regress_search.specs.AttemptsAndStarts.{NextStartSkipsNoMatch, NoMatchAt, NoMatchStartsBetween, first_of_places, first_filtered_start}
+use Rattle.regress_search.specs.AttemptsAndStarts.{next_filtered_start}
+use Rattle.regress_search.specs.AttemptsAndStarts.{filtered_start_after}
 use Rattle.regress_search.proofs.Skips.{untried}
 use Rattle.regress_search.proofs.FirstMatch.{read-inside, read-end}
 use Rattle.regress_search.proofs.Anchored.{ruled-out, anchored-behind, one-on}
 use Rattle.regress_search.proofs.Readers.{literal-read}
 use Rattle.regress_machine.specs.Machine.{State, go_if, has_bytes}
-use Rattle.regress_backtrack.specs.StartsTriedUnderStepLimit.{lets_through, IsFirstTried, IsNextTried}
+use Rattle.regress_backtrack.specs.LimitedStarts.{lets_through, IsFirstTried, IsNextTried}
 
 -- ---- What stands at a place
 

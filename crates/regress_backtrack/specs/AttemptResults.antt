@@ -2,8 +2,8 @@
 use Rattle.std.specs.Prelude.{◌≡◌, ℕ, ◌+◌, length, Bool, Option, Result}
 use Rattle.regex_meaning.specs.Tree.{Tree}
 use Rattle.regress_program.specs.CompilationOfTreesAsFunction.{compiled}
-use Rattle.regress_search.specs.AttemptResultsAndStartsToTry.{match_end_and_groups_at, end_with_groups, ticks_of_attempt_at}
-use Rattle.regress_search.specs.StepBudgetAndContinuationAfterSearch.{SpendsNeedOrReachesLimit, AllocFailureCostsAtLeastOneStep}
+use Rattle.regress_search.specs.AttemptsAndStarts.{match_end_and_groups_at, end_with_groups, ticks_of_attempt_at}
+use Rattle.regress_search.specs.SearchEffects.{SpendsNeedOrReachesLimit, AllocFailureCostsAStep}
 use Rattle.regress_search.specs.declared.exec.SearchError.{SearchError}
 use Rattle.regress_backtrack.specs.State.{StateModel, current_thread_state_of}
 use Rattle.regress_search.specs.TreePlanAndText.{SearchInput}
@@ -24,4 +24,4 @@ HasSlots tree h = length h.slots ≡ (compiled tree).groups + (compiled tree).lo
 
 -- If the state has its slots, an allocation failure came after at least one step.
 abbrev pub TakesIfSlots : {X : Type 0} → SearchInput → (left : StateModel) → (counts : Bool) → (before : Budget) → Result X SearchError → (after : Budget) → Type 0
-TakesIfSlots w left counts before answer after = AllocFailureCostsAtLeastOneStep (HasSlots w.tree left) (step_limit counts before) answer (step_limit counts after)
+TakesIfSlots w left counts before answer after = AllocFailureCostsAStep (HasSlots w.tree left) (step_limit counts before) answer (step_limit counts after)

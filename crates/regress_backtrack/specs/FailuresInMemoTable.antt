@@ -1,7 +1,7 @@
 -- What a memo table records, by the memo analysis of a program.
 use Rattle.std.specs.Prelude.{Option}
 use Rattle.regress_memo.specs.declared.analysis_result.MemoAnalysis.{MemoAnalysis}
-use Rattle.regress_memo.specs.AnalysisAsLivenessAndPotentials.{analysis_as_liveness, key_code_questions_of, insn_direction, insn_analysis_of}
+use Rattle.regress_memo.specs.AnalysisAsPotentials.{analysis_as_liveness, key_code_questions_of, insn_direction, insn_analysis_of}
 use Rattle.regress_memo.specs.Laws.{analysis_keys}
 use Rattle.regress_memo.specs.MemoContents.{has_failure, has_success}
 use Rattle.regress_memo.specs.MemoContractView.{MemoView}

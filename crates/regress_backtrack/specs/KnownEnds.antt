@@ -7,7 +7,7 @@ use Rattle.regress_memo.specs.CharLoopExitThreadLists.{greedy_loop_threads}
 use Rattle.regress_program.specs.declared.char_class_tables.Class.{Class}
 use Rattle.regress_search.specs.CharLoopExits.{IsClassTest}
 use Rattle.regress_search.specs.TreePlanAndText.{SearchInput, program_of}
-use Rattle.regress_backtrack.specs.declared.thread_position_and_op_result.ThreadPos.{ThreadPos}
+use Rattle.regress_backtrack.specs.declared.position_and_result.ThreadPos.{ThreadPos}
 use Rattle.regress_backtrack.specs.declared.failure_memo.RecordKey.{RecordKey as Stored}
 use Rattle.regress_backtrack.specs.FailureMemo.{MemoScheme, KeyFindsEnd, memo_key_as_spec}
 use Rattle.regress_backtrack.specs.State.{StateModel, current_thread_state_of}

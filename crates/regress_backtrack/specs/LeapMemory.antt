@@ -3,7 +3,7 @@ use Rattle.std.specs.Prelude.{◌≡◌, ◌≤◌, ◌<◌, ℕ, Option, Some}
 use Rattle.regex_meaning.specs.Tree.{Tree}
 use Rattle.regex_meaning.specs.Text.{Text}
 use Rattle.regex_meaning.specs.CodeUnitOffsets.{IsBoundary}
-use Rattle.regress_search.specs.AttemptResultsAndStartsToTry.{NoMatchAt}
+use Rattle.regress_search.specs.AttemptsAndStarts.{NoMatchAt}
 use Rattle.regress_backtrack.specs.declared.leap_memory.LeapMemory.{LeapMemory}
 
 -- No match begins from `from` on and before the offset to which a leap led or, without one, up to

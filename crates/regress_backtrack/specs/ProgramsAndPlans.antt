@@ -27,6 +27,6 @@ IsPlanOfExecutedProgram p = IsPlanOf p.wide (compiled (executed_tree_of p)) p.pl
 
 -- The plan, and the number of loops and the instructions of the code that is executed.
 pub record IsPlannedProgram (loops : ℕ) (code : List Insn) (p : PlannedView) : Type 0 where
-  pub planned : IsPlanOfExecutedProgram p
+  pub context : IsPlanOfExecutedProgram p
   pub counted : loops ≡ (compiled (executed_tree_of p)).loops
   pub insns : map insn_as_spec_insn code ≡ (compiled (executed_tree_of p)).insns

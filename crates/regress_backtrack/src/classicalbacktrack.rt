@@ -4,8 +4,8 @@ ghost use Rattle.std.specs.Prelude.{◌≡◌, ◌≤◌, IsAscii, IfOk, option_
 ghost use Rattle.std.proofs.Props.{props};
 ghost use Rattle.regex_meaning.specs.{CodeUnitOffsets.{IsBoundary}, Text.{ascii_text, utf8_text, utf16_text, ucs2_text}};
 ghost use Rattle.regex_pattern_front.specs.AstToSpecTree.{tree_of};
-ghost use Rattle.regress_search.specs.AttemptResultsAndStartsToTry.{NextStartSkipsNoMatch, NoMatchAt};
-ghost use Rattle.regress_search.specs.NewExecutorsAndAsciiTexts.{ReadsBytesAsAscii, IsNewExecutorWithoutStepLimit, CanSearchAllAsciiTexts};
+ghost use Rattle.regress_search.specs.AttemptsAndStarts.{NextStartSkipsNoMatch, NoMatchAt};
+ghost use Rattle.regress_search.specs.NewExecutorsAndAsciiTexts.{ReadsBytesAsAscii, IsNewExecutor, CanSearchAllAsciiTexts};
 ghost use Rattle.regress_machine.specs.SearchFindsFirstOutcomeAtPlace.{TreeProgramCanSearchText};
 ghost use Rattle.regress_program.specs.TableKeysOfUnits.{is_16_bit_encoding};
 ghost use Rattle.regress_search.specs.TreePlanAndText.{program_of};
@@ -60,11 +60,11 @@ pub struct BacktrackExecutor<'r, Input: InputIndexer> {
     // The memo is right: each key that it holds as failed does fail, and each one that it holds as
     // finding an end does.
     ghost right: { AreFailuresRightIn (compiled (executed_tree_of search.program)) (Input.text search.searched.input)
-        (scheme_in (λ memo. scheme_of memo.value.memo_analysis) again.course.memo)
-        (failed_in (λ memo. has_failure memo.value) again.course.memo)
+        (scheme_in (λ memo. scheme_of memo.value.memo_analysis) again.progress.memo)
+        (failed_in (λ memo. has_failure memo.value) again.progress.memo)
         × AreEndsRightIn (compiled (executed_tree_of search.program)) (Input.text search.searched.input)
-        (scheme_in (λ memo. scheme_of memo.value.memo_analysis) again.course.memo)
-        (failed_in (λ memo. has_success memo.value) again.course.memo) } by { Prim.hlevel props },
+        (scheme_in (λ memo. scheme_of memo.value.memo_analysis) again.progress.memo)
+        (failed_in (λ memo. has_success memo.value) again.progress.memo) } by { Prim.hlevel props },
     // No match begins between the two offsets of the last leap.
     ghost leapt: { IsLeapMemoryRight (executed_tree_of search.program) (Input.text search.searched.input) leap } by { Prim.hlevel props },
 }
@@ -110,7 +110,7 @@ impl<'r, Input: InputIndexer> BacktrackExecutor<'r, Input> {
                 end: None,
             },
             again: CounterAndMemoForRetries {
-                course: StepsAndMemo {
+                progress: StepsAndMemo {
                     steps: Unlimited::work_counter_with_limit(0),
                     memo: None,
                     end: None,
@@ -144,14 +144,14 @@ impl<'r, Input: InputIndexer> BacktrackExecutor<'r, Input> {
 // Returns the first candidate start at or after `from`, by the plan; `None` if no match begins from
 // there on.
 #[inline(always)]
-fn next_candidate_start<W: SearchContext>(planned: &W, from: PositionOf<W>) -> Option<PositionOf<W>>
-    requires at { IsBoundary (W.searching planned.now).text (W.Input.Position.offset from) }
-    requires can { let w = W.searching planned.now in TreeProgramCanSearchText (program_of w) w.tree w.text }
-    ensures { let w = W.searching planned.now in let at = W.Input.Position.offset in
+fn next_candidate_start<W: SearchContext>(context: &W, from: PositionOf<W>) -> Option<PositionOf<W>>
+    requires at { IsBoundary (W.searching context.now).text (W.Input.Position.offset from) }
+    requires executable { let w = W.searching context.now in TreeProgramCanSearchText (program_of w) w.tree w.text }
+    ensures { let w = W.searching context.now in let at = W.Input.Position.offset in
         NextStartSkipsNoMatch w.tree w.text (at from) (option_map at result) }
 {
-    match first_candidate_start_from(planned, offset_in_searched_text(planned, from)) {
-        Some(at) => Some(position_in_searched_text(planned, at)),
+    match first_candidate_start_from(context, offset_in_searched_text(context, from)) {
+        Some(at) => Some(position_in_searched_text(context, at)),
         None => None,
     }
 }
@@ -159,63 +159,63 @@ fn next_candidate_start<W: SearchContext>(planned: &W, from: PositionOf<W>) -> O
 // Returns the first candidate start at or after `from` that is not before the end of the last leap.
 #[inline(always)]
 fn next_candidate_past_leap<W: SearchContext>(
-    planned: &W,
+    context: &W,
     leap: &LeapMemory,
     from: PositionOf<W>,
 ) -> Option<PositionOf<W>>
-    requires at { IsBoundary (W.searching planned.now).text (W.Input.Position.offset from) }
-    requires can { let w = W.searching planned.now in TreeProgramCanSearchText (program_of w) w.tree w.text }
-    requires leapt { let w = W.searching planned.now in IsLeapMemoryRight w.tree w.text leap.now }
-    ensures { let w = W.searching planned.now in let at = W.Input.Position.offset in
+    requires at { IsBoundary (W.searching context.now).text (W.Input.Position.offset from) }
+    requires executable { let w = W.searching context.now in TreeProgramCanSearchText (program_of w) w.tree w.text }
+    requires leapt { let w = W.searching context.now in IsLeapMemoryRight w.tree w.text leap.now }
+    ensures { let w = W.searching context.now in let at = W.Input.Position.offset in
         NextStartSkipsNoMatch w.tree w.text (at from) (option_map at result) }
 {
-    if leap.is_past(offset_in_searched_text(planned, from)) {
-        return next_candidate_start(planned, from);
+    if leap.is_past(offset_in_searched_text(context, from)) {
+        return next_candidate_start(context, from);
     }
-    next_candidate_behind_leap(planned, leap, from)
+    next_candidate_behind_leap(context, leap, from)
 }
 
 // Returns that start where the last leap may tell of `from`. Not inlined, since this is rare.
 #[inline(never)]
 fn next_candidate_behind_leap<W: SearchContext>(
-    planned: &W,
+    context: &W,
     leap: &LeapMemory,
     from: PositionOf<W>,
 ) -> Option<PositionOf<W>>
-    requires at { IsBoundary (W.searching planned.now).text (W.Input.Position.offset from) }
-    requires can { let w = W.searching planned.now in TreeProgramCanSearchText (program_of w) w.tree w.text }
-    requires leapt { let w = W.searching planned.now in IsLeapMemoryRight w.tree w.text leap.now }
-    ensures { let w = W.searching planned.now in let at = W.Input.Position.offset in
+    requires at { IsBoundary (W.searching context.now).text (W.Input.Position.offset from) }
+    requires executable { let w = W.searching context.now in TreeProgramCanSearchText (program_of w) w.tree w.text }
+    requires leapt { let w = W.searching context.now in IsLeapMemoryRight w.tree w.text leap.now }
+    ensures { let w = W.searching context.now in let at = W.Input.Position.offset in
         NextStartSkipsNoMatch w.tree w.text (at from) (option_map at result) }
 {
-    let past = leap.past(offset_in_searched_text(planned, from))?;
-    next_candidate_start(planned, position_in_searched_text(planned, past))
+    let past = leap.past(offset_in_searched_text(context, from))?;
+    next_candidate_start(context, position_in_searched_text(context, past))
 }
 
 // Returns the first candidate start at or after `from`, where each match begins with a char loop
 // and no match begins at `tried`: none of the loop's positions is tried.
 #[inline(never)]
 fn next_start_past_loop<W: SearchContext>(
-    planned: &W,
+    context: &W,
     tried: PositionOf<W>,
     from: PositionOf<W>,
 ) -> Option<PositionOf<W>>
-    requires tried { IsBoundary (W.searching planned.now).text (W.Input.Position.offset tried) }
-    requires at { IsBoundary (W.searching planned.now).text (W.Input.Position.offset from) }
+    requires tried { IsBoundary (W.searching context.now).text (W.Input.Position.offset tried) }
+    requires at { IsBoundary (W.searching context.now).text (W.Input.Position.offset from) }
     requires ahead { W.Input.Position.offset tried ≤ W.Input.Position.offset from }
-    requires can { let w = W.searching planned.now in TreeProgramCanSearchText (program_of w) w.tree w.text }
-    requires vain { let w = W.searching planned.now in
+    requires executable { let w = W.searching context.now in TreeProgramCanSearchText (program_of w) w.tree w.text }
+    requires no_match { let w = W.searching context.now in
         NoMatchAt w.tree w.text (W.Input.Position.offset tried) }
-    ensures { let w = W.searching planned.now in let at = W.Input.Position.offset in
+    ensures { let w = W.searching context.now in let at = W.Input.Position.offset in
         NextStartSkipsNoMatch w.tree w.text (at from) (option_map at result) }
 {
-    planned.lemma_plan_fits_program();
-    let past = skip_leading_char_loop(planned, offset_in_searched_text(planned, tried));
-    let start = offset_in_searched_text(planned, from);
+    context.lemma_plan_fits_program();
+    let past = skip_leading_char_loop(context, offset_in_searched_text(context, tried));
+    let start = offset_in_searched_text(context, from);
     if past <= start {
         return Some(from);
     }
-    next_candidate_start(planned, position_in_searched_text(planned, past))
+    next_candidate_start(context, position_in_searched_text(context, past))
 }
 
 impl<'r, Input: InputIndexer> SingleAttemptExecutor for BacktrackExecutor<'r, Input> {
@@ -290,12 +290,12 @@ impl<'r, Input: InputIndexer> SingleAttemptExecutor for BacktrackExecutor<'r, In
         if is_candidate_start(&self.search, searched.input.pos_to_offset(pos)) {
             Some(pos)
         } else {
-            searched.position_after_failed_attempt(pos)
+            searched.position_after_failure(pos)
         }
     }
 
-    fn next_start_after_failed_attempt(&self, tried: Input::Position) -> Option<Input::Position> {
-        let next = self.search.searched.position_after_failed_attempt(tried)?;
+    fn next_start_after_failure(&self, tried: Input::Position) -> Option<Input::Position> {
+        let next = self.search.searched.position_after_failure(tried)?;
         let to = next_candidate_past_leap(&self.search, &self.leap, next)?;
         if self.goes_over(tried, to) {
             return next_start_past_loop(&self.search, tried, to);
@@ -315,7 +315,7 @@ impl<'r, 't> BacktrackExecutor<'r, Utf16Input<'t>> {
         text: &'t [u16],
     ) -> Result<Self, AllocError>
         ensures { let producer = ⟦<BacktrackExecutor<'r, Utf16Input<'t>> as MatchProducer>⟧ in
-            IfOk result (IsNewExecutorWithoutStepLimit producer (tree_of re.now) (utf16_text text.now)) }
+            IfOk result (IsNewExecutor producer (tree_of re.now) (utf16_text text.now)) }
     {
         let program = ProgramAndPlan::new_16_bit_program_and_plan(re);
         Ok(BacktrackExecutor::from_parts(program, ProgramAndInput::pair_with_utf16_text(re, text)))
@@ -331,7 +331,7 @@ impl<'r, 't> BacktrackExecutor<'r, Ucs2Input<'t>> {
     /// None so far: it allocates no memory.
     pub fn new_ucs2(re: &'r CompiledRegexFor16BitUnits, text: &'t [u16]) -> Result<Self, AllocError>
         ensures { let producer = ⟦<BacktrackExecutor<'r, Ucs2Input<'t>> as MatchProducer>⟧ in
-            IfOk result (IsNewExecutorWithoutStepLimit producer (tree_of re.now) (ucs2_text text.now)) }
+            IfOk result (IsNewExecutor producer (tree_of re.now) (ucs2_text text.now)) }
     {
         let program = ProgramAndPlan::new_16_bit_program_and_plan(re);
         Ok(BacktrackExecutor::from_parts(program, ProgramAndInput::pair_with_ucs2_text(re, text)))

@@ -7,9 +7,9 @@ ghost use Rattle.regress_machine.specs.Machine.{running};
 ghost use Rattle.regress_backtrack.specs.{State.{current_thread_state_of}, MemoizedCharLoops.{DecidesLoopRest}};
 ghost use Rattle.regress_backtrack.specs.FailureMemo.{MemoScheme, AreFailuresRight, IsKeyOf, memo_key_as_spec, no_scheme};
 
+use crate::position_and_result::DirectedThreadPos;
 use crate::state::BacktrackState;
 use crate::step_and_work_budgets::StepCounter;
-use crate::thread_position_and_op_result::DirectedThreadPos;
 use regress_search::search_context::SearchContext;
 
 /// A memo key as choice points hold it: an instruction and an offset, with a code for the state of
@@ -35,19 +35,19 @@ pub trait FailureMemo {
 
     ghost succeeded: { Self → KeyOf → Bool };
 
-    // the memo has a place for the key
+    // The memo has a place for the key.
     ghost has_key: { Self → KeyOf → Type 0 };
 
     /// Returns the key of a thread, if it has one.
     fn key_at<W: SearchContext>(
         &self,
-        planned: &W,
+        context: &W,
         thread: DirectedThreadPos,
         memory: &BacktrackState,
     ) -> Option<RecordKey>
-        requires right { AreFailuresRight (W.searching planned.now) (terms self.now) (failed self.now) }
-        requires inside { thread.here.at ≤ units (W.searching planned.now).text }
-        ensures { IfSome result (λ k. IsKeyOf (W.searching planned.now) (terms self.now) thread.forward
+        requires right { AreFailuresRight (W.searching context.now) (terms self.now) (failed self.now) }
+        requires inside { thread.here.at ≤ units (W.searching context.now).text }
+        ensures { IfSome result (λ k. IsKeyOf (W.searching context.now) (terms self.now) thread.forward
             (memo_key_as_spec k)
             (running (current_thread_state_of memory.now thread.here.ip thread.here.at) ∷ [])) };
 
@@ -55,12 +55,12 @@ pub trait FailureMemo {
     /// one.
     fn unbounded_char_loop_rest_key<W: SearchContext>(
         &self,
-        planned: &W,
+        context: &W,
         run: DirectedThreadPos,
         memory: &BacktrackState,
     ) -> Option<RecordKey>
-        requires right { AreFailuresRight (W.searching planned.now) (terms self.now) (failed self.now) }
-        ensures { IfSome result (λ k. DecidesLoopRest (W.searching planned.now) (terms self.now) run.forward run.here
+        requires right { AreFailuresRight (W.searching context.now) (terms self.now) (failed self.now) }
+        ensures { IfSome result (λ k. DecidesLoopRest (W.searching context.now) (terms self.now) run.forward run.here
             (memo_key_as_spec k) memory.now) };
 
     /// Returns whether a key is known to fail.

@@ -10,9 +10,9 @@ ghost use Rattle.regress_backtrack.specs.{State.{current_thread_state_of}, Failu
 ghost use Rattle.regress_backtrack.specs.FailureMemo.{memo_key_as_spec, scheme_in, failed_in, has_key_in};
 
 use crate::failure_memo::{FailureMemo, RecordKey, StepsAndMemo};
+use crate::position_and_result::DirectedThreadPos;
 use crate::state::BacktrackState;
 use crate::step_and_work_budgets::Unlimited;
-use crate::thread_position_and_op_result::DirectedThreadPos;
 use regex_pattern_front::types::LoopID;
 use regress_memo::analysis_result::MemoAnalysis;
 use regress_memo::loop_data_key_codes::{IterationStatesOfAllLoops, LoopCountAndIterationStart};
@@ -42,15 +42,15 @@ impl IterationStatesOfAllLoops for BacktrackState {
 // Checks whether an operation comes after a char loop. It is the loop's body then, which no thread
 // reaches.
 #[inline(always)]
-fn is_loop_body<W: SearchContext>(planned: &W, ip: usize) -> bool
-    ensures { let program = program_of (W.searching planned.now) in
+fn is_loop_body<W: SearchContext>(context: &W, ip: usize) -> bool
+    ensures { let program = program_of (W.searching context.now) in
         result ≡ false → char_loop_greediness_at (insn_before program ip) ≡ None }
 {
     if ip == 0 {
         return false;
     }
-    planned.lemma_plan_fits_program();
-    match planned.op_at(ip - 1) {
+    context.lemma_plan_fits_program();
+    match context.op_at(ip - 1) {
         Some(op) => op.as_char_loop().is_some(),
         None => false,
     }
@@ -58,12 +58,12 @@ fn is_loop_body<W: SearchContext>(planned: &W, ip: usize) -> bool
 
 // Checks whether there are as many groups and loops as the program has.
 #[inline(always)]
-fn has_all_slots<W: SearchContext>(planned: &W, memory: &BacktrackState) -> bool
+fn has_all_slots<W: SearchContext>(context: &W, memory: &BacktrackState) -> bool
     ensures { result ≡ true → (ip at : ℕ)
-        → HasSlotsOfProgram (program_of (W.searching planned.now)) (current_thread_state_of memory.now ip at) }
+        → HasSlotsOfProgram (program_of (W.searching context.now)) (current_thread_state_of memory.now ip at) }
 {
-    memory.group_count() == planned.program().groups() as usize
-        && memory.number_of_loops() == planned.number_of_loops() as usize
+    memory.group_count() == context.program().groups() as usize
+        && memory.number_of_loops() == context.number_of_loops() as usize
 }
 
 impl FailureMemo for MemoTable {
@@ -82,19 +82,19 @@ impl FailureMemo for MemoTable {
     #[inline(always)]
     fn key_at<W: SearchContext>(
         &self,
-        planned: &W,
+        context: &W,
         thread: DirectedThreadPos,
         memory: &BacktrackState,
     ) -> Option<RecordKey> {
         let DirectedThreadPos { here, forward } = thread;
         let line = self.memo_analysis().insn_analysis_at(here.ip);
-        if !line.records || line.forward != forward || is_loop_body(planned, here.ip) {
+        if !line.records || line.forward != forward || is_loop_body(context, here.ip) {
             return None;
         }
-        if !has_all_slots(planned, memory) {
+        if !has_all_slots(context, memory) {
             return None;
         }
-        let end = text_end(planned);
+        let end = text_end(context);
         if !self
             .memo_analysis()
             .is_reachable_loop_state(here.ip, here.at, end, memory)
@@ -108,7 +108,7 @@ impl FailureMemo for MemoTable {
     #[inline(always)]
     fn unbounded_char_loop_rest_key<W: SearchContext>(
         &self,
-        planned: &W,
+        context: &W,
         run: DirectedThreadPos,
         memory: &BacktrackState,
     ) -> Option<RecordKey> {
@@ -122,11 +122,11 @@ impl FailureMemo for MemoTable {
             return None;
         }
         if self.memo_analysis().insn_analysis_at(behind).forward != forward
-            || !has_all_slots(planned, memory)
+            || !has_all_slots(context, memory)
         {
             return None;
         }
-        let end = text_end(planned);
+        let end = text_end(context);
         if !self
             .memo_analysis()
             .is_reachable_loop_state(behind, from.at, end, memory)
@@ -210,12 +210,12 @@ impl<M: FailureMemo> FailureMemo for Option<Box<M>> {
     #[inline(always)]
     fn key_at<W: SearchContext>(
         &self,
-        planned: &W,
+        context: &W,
         thread: DirectedThreadPos,
         memory: &BacktrackState,
     ) -> Option<RecordKey> {
         match self {
-            Some(memo) => memo.key_at(planned, thread, memory),
+            Some(memo) => memo.key_at(context, thread, memory),
             None => None,
         }
     }
@@ -223,12 +223,12 @@ impl<M: FailureMemo> FailureMemo for Option<Box<M>> {
     #[inline(always)]
     fn unbounded_char_loop_rest_key<W: SearchContext>(
         &self,
-        planned: &W,
+        context: &W,
         run: DirectedThreadPos,
         memory: &BacktrackState,
     ) -> Option<RecordKey> {
         match self {
-            Some(memo) => memo.unbounded_char_loop_rest_key(planned, run, memory),
+            Some(memo) => memo.unbounded_char_loop_rest_key(context, run, memory),
             None => None,
         }
     }
@@ -271,28 +271,28 @@ impl<M: FailureMemo> FailureMemo for Option<Box<M>> {
 pub(crate) struct CounterAndMemoForRetries {
     /// The counter and the memo. Failures are recorded where there is a memo analysis and memory
     /// for it.
-    pub course: StepsAndMemo<Unlimited, Option<Box<MemoTable>>>,
+    pub progress: StepsAndMemo<Unlimited, Option<Box<MemoTable>>>,
     /// Whether creation of the memo was tried.
     pub began: bool,
 }
 
 /// Creates the memo, unless that was tried before. If it is refused, nothing is recorded.
 pub(crate) fn enable_memo<W: SearchContext>(
-    planned: &W,
+    context: &W,
     insns: &[Insn],
     again: &mut CounterAndMemoForRetries,
 )
-    requires insns { map insn_as_spec_insn insns.now ≡ (program_of (W.searching planned.now)).insns }
-    requires right { IsMemoRight (λ memo. memo.value) (W.searching planned.now) again.old.course.memo }
-    ensures { IsMemoRight (λ memo. memo.value) (W.searching planned.now) again.new.course.memo }
+    requires insns { map insn_as_spec_insn insns.now ≡ (program_of (W.searching context.now)).insns }
+    requires right { IsMemoRight (λ memo. memo.value) (W.searching context.now) again.old.progress.memo }
+    ensures { IsMemoRight (λ memo. memo.value) (W.searching context.now) again.new.progress.memo }
 {
     if again.began {
         return;
     }
     again.began = true;
-    let alloc = planned.program().allocator();
-    if let Ok(memo) = new_memo(alloc, planned, insns) {
-        again.course.memo = memo;
+    let alloc = context.program().allocator();
+    if let Ok(memo) = new_memo(alloc, context, insns) {
+        again.progress.memo = memo;
     }
 }
 
@@ -313,17 +313,17 @@ fn has_negative_lookaround(insns: &[Insn]) -> bool {
 // Returns `None` if the program has no memo analysis, or if its keys cannot be counted.
 fn new_memo<W: SearchContext>(
     alloc: Global,
-    planned: &W,
+    context: &W,
     insns: &[Insn],
 ) -> Result<Option<Box<MemoTable>>, AllocError>
-    requires { map insn_as_spec_insn insns.now ≡ (program_of (W.searching planned.now)).insns }
-    ensures { IfOk result (IsMemoRight (λ memo. memo.value) (W.searching planned.now)) }
+    requires { map insn_as_spec_insn insns.now ≡ (program_of (W.searching context.now)).insns }
+    ensures { IfOk result (IsMemoRight (λ memo. memo.value) (W.searching context.now)) }
 {
-    let Some(memo_analysis) = MemoAnalysis::new(alloc, insns, planned.number_of_loops() as usize)?
+    let Some(memo_analysis) = MemoAnalysis::new(alloc, insns, context.number_of_loops() as usize)?
     else {
         return Ok(None);
     };
-    let places = text_end(planned) + 1;
+    let places = text_end(context) + 1;
     let Some(memo) = MemoTable::new(alloc, memo_analysis, places, has_negative_lookaround(insns))?
     else {
         return Ok(None);

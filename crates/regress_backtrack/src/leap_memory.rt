@@ -2,7 +2,7 @@
 
 ghost use Rattle.std.specs.Prelude.{◌≡◌, Some, true};
 ghost use Rattle.regex_meaning.specs.{Tree.{Tree}, Text.{Text}, CodeUnitOffsets.{IsBoundary}};
-ghost use Rattle.regress_search.specs.AttemptResultsAndStartsToTry.{NextStartSkipsNoMatch, NoMatchAt};
+ghost use Rattle.regress_search.specs.AttemptsAndStarts.{NextStartSkipsNoMatch, NoMatchAt};
 ghost use Rattle.regress_machine.specs.SearchFindsFirstOutcomeAtPlace.{TreeProgramCanSearchText};
 ghost use Rattle.regress_program.specs.{Leaps.{IsLeap}, TableKeysOfUnits.{is_16_bit_encoding}};
 ghost use Rattle.regress_search.specs.TreePlanAndText.{program_of};
@@ -96,54 +96,54 @@ impl LeapMemory {
 /// Makes a leap from an offset, if one is due. Returns whether no match begins there.
 #[inline(always)]
 pub(crate) fn leaps_over_if_due<W: SearchContext>(
-    planned: &W,
+    context: &W,
     memory: &mut LeapMemory,
     at: usize,
 ) -> bool
-    requires at { IsBoundary (W.searching planned.now).text at }
-    requires can { let w = W.searching planned.now in TreeProgramCanSearchText (program_of w) w.tree w.text }
-    ensures none { let w = W.searching planned.now in result ≡ true → NoMatchAt w.tree w.text at }
-    ensures right { let w = W.searching planned.now in IsLeapMemoryRight w.tree w.text memory.old
+    requires at { IsBoundary (W.searching context.now).text at }
+    requires executable { let w = W.searching context.now in TreeProgramCanSearchText (program_of w) w.tree w.text }
+    ensures none { let w = W.searching context.now in result ≡ true → NoMatchAt w.tree w.text at }
+    ensures right { let w = W.searching context.now in IsLeapMemoryRight w.tree w.text memory.old
         → IsLeapMemoryRight w.tree w.text memory.new }
 {
     if !memory.is_due(at) {
         return false;
     }
-    leaps_over(planned, memory, at)
+    leaps_over(context, memory, at)
 }
 
 // Makes a leap from an offset. Returns whether no match begins there. None is made before the first
 // attempt.
 #[inline(never)]
-fn leaps_over<W: SearchContext>(planned: &W, memory: &mut LeapMemory, at: usize) -> bool
-    requires at { IsBoundary (W.searching planned.now).text at }
-    requires can { let w = W.searching planned.now in TreeProgramCanSearchText (program_of w) w.tree w.text }
-    ensures none { let w = W.searching planned.now in result ≡ true → NoMatchAt w.tree w.text at }
-    ensures right { let w = W.searching planned.now in IsLeapMemoryRight w.tree w.text memory.old
+fn leaps_over<W: SearchContext>(context: &W, memory: &mut LeapMemory, at: usize) -> bool
+    requires at { IsBoundary (W.searching context.now).text at }
+    requires executable { let w = W.searching context.now in TreeProgramCanSearchText (program_of w) w.tree w.text }
+    ensures none { let w = W.searching context.now in result ≡ true → NoMatchAt w.tree w.text at }
+    ensures right { let w = W.searching context.now in IsLeapMemoryRight w.tree w.text memory.old
         → IsLeapMemoryRight w.tree w.text memory.new }
 {
-    planned.lemma_plan_fits_program();
-    let Some(leap) = &planned.plan().leap else {
+    context.lemma_plan_fits_program();
+    let Some(leap) = &context.plan().leap else {
         return false;
     };
     if !memory.began {
         memory.began = true;
         return false;
     }
-    leap_over(planned, leap, memory, at)
+    leap_over(context, leap, memory, at)
 }
 
 // Makes a leap from an offset, and keeps where it led. Returns whether no match begins there.
 #[inline(always)]
-fn leap_over<W: SearchContext>(planned: &W, leap: &Leap, memory: &mut LeapMemory, at: usize) -> bool
-    requires at { IsBoundary (W.searching planned.now).text at }
-    requires can { let w = W.searching planned.now in TreeProgramCanSearchText (program_of w) w.tree w.text }
-    requires leap { let w = W.searching planned.now in IsLeap (is_16_bit_encoding w.encoding) (program_of w) leap.now }
-    ensures none { let w = W.searching planned.now in result ≡ true → NoMatchAt w.tree w.text at }
-    ensures right { let w = W.searching planned.now in IsLeapMemoryRight w.tree w.text memory.new }
+fn leap_over<W: SearchContext>(context: &W, leap: &Leap, memory: &mut LeapMemory, at: usize) -> bool
+    requires at { IsBoundary (W.searching context.now).text at }
+    requires executable { let w = W.searching context.now in TreeProgramCanSearchText (program_of w) w.tree w.text }
+    requires leap { let w = W.searching context.now in IsLeap (is_16_bit_encoding w.encoding) (program_of w) leap.now }
+    ensures none { let w = W.searching context.now in result ≡ true → NoMatchAt w.tree w.text at }
+    ensures right { let w = W.searching context.now in IsLeapMemoryRight w.tree w.text memory.new }
 {
     memory.from = at;
-    match leap_from(planned, leap, at) {
+    match leap_from(context, leap, at) {
         Some(target) => {
             memory.to = Some(target.to);
             memory.until = target.to;

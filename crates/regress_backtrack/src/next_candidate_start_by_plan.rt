@@ -2,7 +2,7 @@
 
 ghost use Rattle.std.specs.Prelude.{◌≡◌, false};
 ghost use Rattle.regex_meaning.specs.CodeUnitOffsets.{IsBoundary};
-ghost use Rattle.regress_search.specs.AttemptResultsAndStartsToTry.{NextStartSkipsNoMatch, NoMatchAt};
+ghost use Rattle.regress_search.specs.AttemptsAndStarts.{NextStartSkipsNoMatch, NoMatchAt};
 ghost use Rattle.regress_machine.specs.SearchFindsFirstOutcomeAtPlace.{TreeProgramCanSearchText};
 ghost use Rattle.regress_search.specs.{TreePlanAndText.{program_of}, StartSearch.{IsFirstCandidate}};
 
@@ -13,25 +13,25 @@ use regress_search::start_search::{first_candidate, is_candidate};
 /// from there on.
 #[inline(always)]
 pub(crate) fn first_candidate_start_from<W: SearchContext>(
-    planned: &W,
+    context: &W,
     from: usize,
 ) -> Option<usize>
-    requires at { IsBoundary (W.searching planned.now).text from }
-    requires can { let w = W.searching planned.now in TreeProgramCanSearchText (program_of w) w.tree w.text }
-    ensures first { IsFirstCandidate (W.searching planned.now) from result }
-    ensures next { let w = W.searching planned.now in NextStartSkipsNoMatch w.tree w.text from result }
+    requires at { IsBoundary (W.searching context.now).text from }
+    requires executable { let w = W.searching context.now in TreeProgramCanSearchText (program_of w) w.tree w.text }
+    ensures first { IsFirstCandidate (W.searching context.now) from result }
+    ensures next { let w = W.searching context.now in NextStartSkipsNoMatch w.tree w.text from result }
 {
-    planned.lemma_plan_fits_program();
-    first_candidate(planned, from)
+    context.lemma_plan_fits_program();
+    first_candidate(context, from)
 }
 
 /// Checks whether an offset is a candidate start, by the plan. If it is not, no match begins there.
 #[inline(always)]
-pub(crate) fn is_candidate_start<W: SearchContext>(planned: &W, at: usize) -> bool
-    requires at { IsBoundary (W.searching planned.now).text at }
-    requires can { let w = W.searching planned.now in TreeProgramCanSearchText (program_of w) w.tree w.text }
-    ensures { let w = W.searching planned.now in result ≡ false → NoMatchAt w.tree w.text at }
+pub(crate) fn is_candidate_start<W: SearchContext>(context: &W, at: usize) -> bool
+    requires at { IsBoundary (W.searching context.now).text at }
+    requires executable { let w = W.searching context.now in TreeProgramCanSearchText (program_of w) w.tree w.text }
+    ensures { let w = W.searching context.now in result ≡ false → NoMatchAt w.tree w.text at }
 {
-    planned.lemma_plan_fits_program();
-    is_candidate(planned, at)
+    context.lemma_plan_fits_program();
+    is_candidate(context, at)
 }

@@ -6,7 +6,7 @@ ghost use Rattle.regress_backtrack.specs.State.{SlotsAreUnsetAndUnlogged, undo_e
 ghost use Rattle.regress_backtrack.specs.State.{last_mark_log as noted_since, initial_state, current_thread_state_of, loop_data_in_slot, with_choice_point_list};
 ghost use Rattle.regress_backtrack.specs.State.{ChangesFromNumberAreUndone, SetsSlotUndoably, ChangesStateUndoably, with_group_open};
 ghost use Rattle.regress_backtrack.specs.State.{state_with_group_unset, with_group_range, with_loop_iteration};
-ghost use Rattle.regress_backtrack.specs.UndoLoggingOncePerChoicePoint.{HasLogRoomOrIsLogged, IsLoggedUnlessAlreadySinceChoicePoint};
+ghost use Rattle.regress_backtrack.specs.UndoLog.{HasLogRoomOrIsLogged, IsLoggedOnce};
 
 use crate::lookaround_frames::LookaroundFrame;
 use std::alloc::{AllocError, Global};
@@ -66,7 +66,7 @@ pub struct ChoicePoint {
 }
 
 /// The slots, the undo log and the choice points. Contracts see their lists. The undo log and the
-/// choice points are the first `log_len` and `marked` elements of their vectors, which only grow. A
+/// choice points are the first `log_len` and `choice_point_len` elements of their vectors, which only grow. A
 /// slot that the search has not set holds its initial value, so that slots need not be written
 /// before each search.
 #[derive(Drop)]
@@ -79,8 +79,8 @@ pub struct BacktrackState {
     log_len: usize,
     // The number of changes that are logged whatever slots they are of.
     free: usize,
-    marks: Vec<ChoicePoint>,
-    marked: usize,
+    choice_points: Vec<ChoicePoint>,
+    choice_point_len: usize,
     // The storage for the frames of lookarounds, cached from one attempt to the next.
     frames: Vec<LookaroundFrame>,
 }
@@ -92,10 +92,10 @@ impl Model for BacktrackState {
       groups = m.groups;
       slots = map (logical_slot_value m.begun) m.slots.items;
       log = map (seen_change m.begun) (take m.log_len m.log.items);
-      marks = take m.marked m.marks.items;
+      choice_points = take m.choice_point_len m.choice_points.items;
     } };
 
-    ghost invariant = { λ m. IsStateInvariant m.groups m.slots.items m.log_len m.free m.log.items m.marked m.marks.items };
+    ghost invariant = { λ m. IsStateInvariant m.groups m.slots.items m.log_len m.free m.log.items m.choice_point_len m.choice_points.items };
 }
 
 // Fills the elements of a vector that are not used yet. If a vector were extended with the value to
@@ -150,13 +150,13 @@ fn grow<T: Copy + Drop>(row: &mut Vec<T>, value: T) -> Result<(), AllocError>
 
 // Returns the length of the undo log when the last choice point was pushed, or 0 if there is none.
 #[inline(always)]
-fn last_mark_log(marks: &[ChoicePoint]) -> usize
-    ensures { result ≡ noted_since marks.now }
+fn last_mark_log(choice_points: &[ChoicePoint]) -> usize
+    ensures { result ≡ noted_since choice_points.now }
 {
-    if marks.len() == 0 {
+    if choice_points.len() == 0 {
         0
     } else {
-        marks[marks.len() - 1].log
+        choice_points[choice_points.len() - 1].log
     }
 }
 
@@ -168,12 +168,12 @@ fn reserve(
     log: &mut Vec<UndoEntry>,
     free: &mut usize,
     used: usize,
-    marks: &[ChoicePoint],
+    choice_points: &[ChoicePoint],
     noted: u32,
 ) -> Result<bool, AllocError>
     requires used { used ≤ length log.old.items }
     requires free { free.old ≤ length log.old.items }
-    ensures room { IfOk result (HasLogRoomOrIsLogged used (noted_since marks.now) noted log.new.items) }
+    ensures room { IfOk result (HasLogRoomOrIsLogged used (noted_since choice_points.now) noted log.new.items) }
     ensures kept { take used log.new.items ≡ take used log.old.items }
     ensures used { used ≤ length log.new.items }
     ensures free { free.new ≤ length log.new.items }
@@ -181,7 +181,7 @@ fn reserve(
     if used < *free {
         return Ok(true);
     }
-    if last_mark_log(marks) < noted as usize {
+    if last_mark_log(choice_points) < noted as usize {
         return Ok(false);
     }
     grow_log(log, free, used)?;
@@ -232,15 +232,15 @@ fn log_change(
     log: &mut Vec<UndoEntry>,
     log_len: &mut usize,
     free: &mut usize,
-    marks: &[ChoicePoint],
+    choice_points: &[ChoicePoint],
     slots: &[GroupOrLoopState],
     slot: usize,
 ) -> Result<u32, AllocError>
     requires log_len { log_len.old ≤ length log.old.items }
     requires free { free.old ≤ length log.old.items }
     requires slot { slot < length slots.now }
-    ensures noted { IfOk result (IsLoggedUnlessAlreadySinceChoicePoint (undo_entry_logged_for_slot slots.now slot)
-        (noted_since marks.now)
+    ensures noted { IfOk result (IsLoggedOnce (undo_entry_logged_for_slot slots.now slot)
+        (noted_since choice_points.now)
         log_len.old log.old.items log_len.new log.new.items) }
     ensures refused { OnErr result ((log_len.new ≡ log_len.old)
         × (take log_len.old log.new.items ≡ take log_len.old log.old.items)) }
@@ -249,7 +249,7 @@ fn log_change(
 {
     let used = *log_len;
     let noted = slots[slot].noted;
-    if !reserve(log, free, used, marks, noted)? {
+    if !reserve(log, free, used, choice_points, noted)? {
         return Ok(noted);
     }
     log[used] = UndoEntry {
@@ -313,7 +313,7 @@ fn wipe(slots: &mut Vec<GroupOrLoopState>)
 impl BacktrackState {
     /// Creates a state without slots and groups.
     pub fn new(alloc: Global) -> Self
-        ensures { result ≡ record { groups = 0; slots = []; log = []; marks = [] } }
+        ensures { result ≡ record { groups = 0; slots = []; log = []; choice_points = [] } }
     {
         BacktrackState {
             groups: 0,
@@ -322,8 +322,8 @@ impl BacktrackState {
             log: Vec::new(alloc),
             log_len: 0,
             free: 0,
-            marks: Vec::new(alloc),
-            marked: 0,
+            choice_points: Vec::new(alloc),
+            choice_point_len: 0,
             frames: Vec::new(alloc),
         }
     }
@@ -340,7 +340,7 @@ impl BacktrackState {
         self.undo_all();
         self.groups = 0;
         self.log_len = 0;
-        self.marked = 0;
+        self.choice_point_len = 0;
         self.begun = at;
         fit_slots(&mut self.slots, groups + loops)?;
         self.groups = groups;
@@ -377,7 +377,7 @@ impl BacktrackState {
             &mut self.log,
             &mut self.log_len,
             &mut self.free,
-            &self.marks[..self.marked],
+            &self.choice_points[..self.choice_point_len],
             &self.slots,
             slot,
         )?;
@@ -435,50 +435,50 @@ impl BacktrackState {
     /// Returns the number of choice points.
     #[inline(always)]
     pub fn choice_point_count(&self) -> usize
-        ensures { result ≡ length self.now.marks }
+        ensures { result ≡ length self.now.choice_points }
     {
-        self.marked
+        self.choice_point_len
     }
 
     /// Pushes a choice point. On allocation failure nothing is changed.
     #[inline(always)]
     pub fn append_choice_point(&mut self, mark: ChoicePoint) -> Result<(), AllocError>
-        ensures marked { OnOk result (self.new ≡ with_choice_point_list (self.old.marks ++ mark ∷ []) self.old) }
+        ensures pushed { OnOk result (self.new ≡ with_choice_point_list (self.old.choice_points ++ mark ∷ []) self.old) }
         ensures refused { OnErr result (self.new ≡ self.old) }
     {
-        if self.marked >= self.marks.len() {
-            grow(&mut self.marks, ROOM_FOR_MARK)?;
+        if self.choice_point_len >= self.choice_points.len() {
+            grow(&mut self.choice_points, ROOM_FOR_MARK)?;
         }
-        self.marks[self.marked] = mark;
-        self.marked += 1;
+        self.choice_points[self.choice_point_len] = mark;
+        self.choice_point_len += 1;
         Ok(())
     }
 
     /// Returns the choice point with this index.
     #[inline(always)]
     pub fn choice_point_at_index(&self, index: usize) -> ChoicePoint
-        requires { index < length self.now.marks }
-        ensures { slice_get self.now.marks index ≡ Some result }
+        requires { index < length self.now.choice_points }
+        ensures { slice_get self.now.choice_points index ≡ Some result }
     {
-        self.marks[index]
+        self.choice_points[index]
     }
 
     /// Keeps the first `len` choice points and drops the others.
     #[inline(always)]
     pub fn truncate_choice_points(&mut self, len: usize)
-        requires { len ≤ length self.old.marks }
-        ensures { self.new ≡ with_choice_point_list (take len self.old.marks) self.old }
+        requires { len ≤ length self.old.choice_points }
+        ensures { self.new ≡ with_choice_point_list (take len self.old.choice_points) self.old }
     {
-        self.marked = len;
+        self.choice_point_len = len;
     }
 
     /// Replaces the choice point with this index.
     #[inline(always)]
     pub fn replace_choice_point(&mut self, index: usize, mark: ChoicePoint)
-        requires { index < length self.old.marks }
-        ensures { self.new ≡ with_choice_point_list (slice_set self.old.marks index mark) self.old }
+        requires { index < length self.old.choice_points }
+        ensures { self.new ≡ with_choice_point_list (slice_set self.old.choice_points index mark) self.old }
     {
-        self.marks[index] = mark;
+        self.choice_points[index] = mark;
     }
 
     // ---- Frames of lookarounds

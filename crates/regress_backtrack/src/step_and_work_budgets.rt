@@ -45,7 +45,7 @@ pub trait StepCounter: Copy {
 
     /// Charges a number of units read by one operation, or of choice points dropped at once. This
     /// is work if they are many.
-    fn charge_bulk_read_or_drop_work(&mut self, units: usize)
+    fn charge_bulk_work(&mut self, units: usize)
         ensures { budget self.new ≡ budget self.old };
 
     /// Returns `Err` if too much work was done. A search that does not backtrack asks this itself.
@@ -124,7 +124,7 @@ impl<const BOUND: bool> StepCounter for WorkCounterWithoutStepLimit<BOUND> {
     }
 
     #[inline(always)]
-    fn charge_bulk_read_or_drop_work(&mut self, units: usize) {
+    fn charge_bulk_work(&mut self, units: usize) {
         if BOUND && units >= LONG {
             self.work = self.work.wrapping_sub(units as u64);
         }
@@ -178,7 +178,7 @@ impl StepCounter for LimitedStepCounter {
     }
 
     #[inline(always)]
-    fn charge_bulk_read_or_drop_work(&mut self, _units: usize) {}
+    fn charge_bulk_work(&mut self, _units: usize) {}
 
     #[inline(always)]
     fn stop_if_too_much_work(&self) -> Result<(), SearchStoppedWithoutResult> {

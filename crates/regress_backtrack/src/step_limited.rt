@@ -4,13 +4,13 @@ ghost use Rattle.std.specs.Prelude.{◌≡◌, IfOk, Some};
 ghost use Rattle.regex_meaning.specs.{StartPredicate.{start_predicate}, Text.{utf8_text}};
 ghost use Rattle.regex_meaning.proofs.TextLemmas.{utf8_text-IsText};
 ghost use Rattle.regex_pattern_front.specs.AstToSpecTree.{tree_of};
-ghost use Rattle.regress_program.specs.InsnsAndStartPredicatesAsSpec.{start_predicate_as_spec};
+ghost use Rattle.regress_program.specs.InsnsAsSpec.{start_predicate_as_spec};
 ghost use Rattle.regress_backtrack.specs.{State.{current_thread_state_of}, AttemptResults.{HasSlots}};
 
+use crate::accepted_starts::{first_start_to_try, next_start_to_try};
 use crate::attempts::attempt;
 use crate::classicalbacktrack::BacktrackExecutor;
 use crate::failure_memo::{NoMemo, StepsAndMemo};
-use crate::starts_accepted_by_predicate::{first_start_to_try, next_start_to_try};
 use crate::step_and_work_budgets::LimitedStepCounter;
 use regress_input::indexing::{InputIndexer, Utf8Input};
 use regress_program::insn::{CompiledRegex, Program, StartPredicate};
@@ -93,7 +93,7 @@ impl<'r, 't> SingleAttemptExecutor for LimitedExecutor<'r, 't> {
         &mut self,
         pos: <Utf8Input<'t> as InputIndexer>::Position,
     ) -> Result<Option<<Utf8Input<'t> as InputIndexer>::Position>, SearchError> {
-        let mut course = StepsAndMemo {
+        let mut progress = StepsAndMemo {
             steps: LimitedStepCounter {
                 left: self.steps.left,
                 out: false,
@@ -102,8 +102,8 @@ impl<'r, 't> SingleAttemptExecutor for LimitedExecutor<'r, 't> {
             end: None,
         };
         let executor = &mut self.executor;
-        let end = attempt(&executor.search, pos, &mut executor.memory, &mut course);
-        let steps = course.steps;
+        let end = attempt(&executor.search, pos, &mut executor.memory, &mut progress);
+        let steps = progress.steps;
         self.steps = steps;
         end
     }
@@ -131,7 +131,7 @@ impl<'r, 't> SingleAttemptExecutor for LimitedExecutor<'r, 't> {
         first_start_to_try(&self.executor.search.searched.input, self.start, pos)
     }
 
-    fn next_start_after_failed_attempt(
+    fn next_start_after_failure(
         &self,
         tried: <Utf8Input<'t> as InputIndexer>::Position,
     ) -> Option<<Utf8Input<'t> as InputIndexer>::Position> {

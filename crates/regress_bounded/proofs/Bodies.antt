@@ -7,7 +7,7 @@ use Rattle.regex_pattern_front.specs.declared.ir.Regex.{Regex}
 use Rattle.regress_program.specs.InsnsAsSpecInsns.{insn_as_spec_insn}
 use Rattle.regress_program.specs.declared.instructions.Insn.{Insn}
 use Rattle.regress_program.specs.CompilationOfTreesAsFunction.{compiled}
-use Rattle.regress_program.specs.TextsSearchableByBytePrograms.{IsByteText}
+use Rattle.regress_program.specs.SearchableTexts.{IsByteText}
 use Rattle.regress_machine.specs.TextsForBytePrograms.{tree_contains_byte_nodes}
 use Rattle.regex_meaning.specs.Text.{Text}
 use Rattle.regress_machine.specs.Machine.{Next, goes, with_some, test_of}

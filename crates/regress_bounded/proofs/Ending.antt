@@ -8,7 +8,7 @@ use Rattle.regex_meaning.specs.CodeUnitOffsets.{HasRisingPlaceOffsets, IsBoundar
 use Rattle.regex_meaning.specs.Tree.{Tree}
 use Rattle.regress_program.specs.CompilationOfTreesAsFunction.{compiled}
 use Rattle.regress_input.proofs.Places.{boundary_inside}
-use Rattle.regress_search.specs.AttemptResultsAndStartsToTry.{match_end_and_groups_at, steps_for_attempt, search_from}
+use Rattle.regress_search.specs.AttemptsAndStarts.{match_end_and_groups_at, steps_for_attempt, search_from}
 use Rattle.regress_search.proofs.Attempts.{begins}
 use Rattle.regex_meaning.specs.CompilationRelation.{Program}
 use Rattle.regress_machine.specs.SearchFindsFirstOutcomeAtPlace.{state_before_first_insn, end_of, TreeProgramCanSearchText}
@@ -19,28 +19,28 @@ use Rattle.regress_memo.specs.Liveness.{ReadsAsBytes}
 use Rattle.regress_memo.specs.MemoSearch.{Key, Entry, tried, tries, Answers}
 use Rattle.regress_memo.specs.declared.analysis_result.MemoAnalysis.{MemoAnalysis}
 use Rattle.regress_memo.specs.WorkBound.{first_row, work_per_position, all_keys_cost_per_position}
-use Rattle.regress_memo.specs.AnalysisAsLivenessAndPotentials.{insn_analysis_of}
+use Rattle.regress_memo.specs.AnalysisAsPotentials.{insn_analysis_of}
 use Rattle.regress_memo.specs.Laws.{ListsExactlyKnownKeys}
 use Rattle.regress_memo.specs.MemoContents.{has_failure, IsEmptyMemo}
 use Rattle.regress_memo.specs.MemoContractView.{MemoView}
 use Rattle.regress_memo.proofs.LawLemmas.{memos-are-true}
 use Rattle.regress_search.proofs.Reach.{some-of}
 use Rattle.regress_memo.specs.AmortizedMemoSearchSteps.{HasCome}
-use Rattle.regress_search.specs.AttemptsAndMatchesWithinWork.{least_offset_after_match}
+use Rattle.regress_search.specs.MatchesWithinWork.{least_offset_after_match}
 use Rattle.regress_bounded.specs.declared.memo_and_work_budget.MemoAndWorkBudget.{MemoAndWorkBudget}
 use Rattle.regress_bounded.specs.declared.memo_and_work_budget.AttemptAbortReason.{AttemptAbortReason}
 use Rattle.regress_bounded.specs.declared.memo_and_work_budget.AttemptAbortReason.TheVariants.{Work}
 use Rattle.regress_pikevm.specs.InsnEffects.{end_and_groups}
 use Rattle.regress_pikevm.proofs.Remains.{map-end}
 use Rattle.regress_pikevm.specs.declared.pikevm.states.State.{State}
-use Rattle.regress_bounded.specs.ProgramWorkBoundForAllMatches.{HasBound, work_per_unit}
-use Rattle.regress_bounded.specs.SearchStateAsMemoSearchEntries.{IsPaid, IsRight, IsMemoRight, AttemptStartMemoBudgetAndResult, AttemptBeginsWithMemoAndBudget, Stands}
+use Rattle.regress_bounded.specs.WorkBoundForAllMatches.{HasBound, work_per_unit}
+use Rattle.regress_bounded.specs.BoundedState.{IsPaid, IsRight, IsMemoRight, BoundedAttempt, BoundedAttemptBegins, Stands}
 use Rattle.regress_bounded.specs.CostsOfSearchEvents.{Costs, nothing_yet, then_happens}
 use Rattle.regress_bounded.specs.CostsOfAttempts.{AttemptCosts, EventsOfAttempt, HasFinished, ListsFailures, failures_of, is_end, no_entry}
-use Rattle.regress_bounded.specs.declared.stack_of_pending_threads_and_records.StackEntry.{StackEntry}
+use Rattle.regress_bounded.specs.declared.pending_stack.StackEntry.{StackEntry}
 use Rattle.regress_search.specs.CostsOfSearches.{CostsMoreThanLeft, Failures, TakesExactCost}
-use Rattle.regress_bounded.specs.SearchStateAsMemoSearchEntries.{IsStanding, IsOver, EndsAt, Runs, front_of}
-use Rattle.regress_bounded.specs.WorkOfCharLoopsAndAttempts.{HasWalked, IsWalked, IsTrying}
+use Rattle.regress_bounded.specs.BoundedState.{IsStanding, IsOver, EndsAt, Runs, front_of}
+use Rattle.regress_bounded.specs.WorkOfCharLoopsAndAttempts.{HasWalked, IsWalked, AttemptIsUnderWay}
 use Rattle.regress_pikevm.specs.States.{state_of}
 use Rattle.regress_bounded.specs.WorkOfSuccessiveAttempts.{Walked, HasWalked as AreWalked}
 use Rattle.regress_bounded.proofs.Ends.{ends-itself}
@@ -52,7 +52,7 @@ use Rattle.regress_bounded.proofs.Standing as standing
 -- ---- It begins
 
 module _ {P : Type 0} {offset : P → ℕ} {program : Program} {text : Text} where
-  pub begins-stands : {at : ℕ} {c : MemoAndWorkBudget} {b : AttemptStartMemoBudgetAndResult} (start : State P) → HasRisingPlaceOffsets text → IsBoundary text at → state_of offset start ≡ state_before_first_insn program at → AttemptBeginsWithMemoAndBudget program text at c b
+  pub begins-stands : {at : ℕ} {c : MemoAndWorkBudget} {b : BoundedAttempt} (start : State P) → HasRisingPlaceOffsets text → IsBoundary text at → state_of offset start ≡ state_before_first_insn program at → BoundedAttemptBegins program text at c b
       → Stands offset program text b (front_of offset (Some start)) [] c
   begins-stands {at} {c} {b} start is_text on is h =
       let right = h.right in
@@ -77,8 +77,8 @@ module _ {P : Type 0} {offset : P → ℕ} {program : Program} {text : Text} whe
 module _ {P : Type 0} (offset : P → ℕ) (program : Program) (text : Text) where
   -- one that has what is known as its memory
   record Attempt (at : ℕ) (c : MemoAndWorkBudget) (searched : Option Found) : Type 0 where
-    begin : AttemptStartMemoBudgetAndResult
-    begins : AttemptBeginsWithMemoAndBudget program text at c begin
+    begin : BoundedAttempt
+    begins : BoundedAttemptBegins program text at c begin
     found : searched ≡ Some begin.found
 
   attempt-begins : (at turns : ℕ) (c : MemoAndWorkBudget) → IsRight program text c.memo → IsSome (search program text turns rightwards (first_row program at))
@@ -94,7 +94,7 @@ module _ {P : Type 0} (offset : P → ℕ) (program : Program) (text : Text) whe
 
   -- ---- What it finds
 
-  module _ (b : AttemptStartMemoBudgetAndResult) (c : MemoAndWorkBudget) where
+  module _ (b : BoundedAttempt) (c : MemoAndWorkBudget) where
     nothing-found : Stands offset program text b [] [] c → b.found.end ≡ None
     nothing-found h =
         let none : h.row ≡ [] = row-none offset program text h.row h.is in
@@ -107,13 +107,13 @@ module _ {P : Type 0} (offset : P → ℕ) (program : Program) (text : Text) whe
         standing.then-ends program text c.memo.memo_analysis s.right.paid b s.is_memory s.answers s.work s.now h.from (state_of offset end) s.row (standing.come offset program text b s) h.ends
 
   -- its end is inside the text
-  end-inside : (b : AttemptStartMemoBudgetAndResult) (c : MemoAndWorkBudget) (end : State P) → EndsAt offset program text b end c → offset end.pos ≤ units text
+  end-inside : (b : BoundedAttempt) (c : MemoAndWorkBudget) (end : State P) → EndsAt offset program text b end c → offset end.pos ≤ units text
   end-inside b c end h =
       let own : offset end.pos ≡ h.from.pos = ap (λ (u : machine.State). u.pos) (ends-itself program text rightwards h.from (state_of offset end) h.ends) in
       let within = standing.inside offset program text b h.from h.stands in
       omega (arith, own, within)
 
-  runs-found : (b : AttemptStartMemoBudgetAndResult) (c : MemoAndWorkBudget) (end : Option (State P)) → Runs offset program text b (Ok end) c → b.found.end ≡ option_map (λ e. state_of offset e) end
+  runs-found : (b : BoundedAttempt) (c : MemoAndWorkBudget) (end : Option (State P)) → Runs offset program text b (Ok end) c → b.found.end ≡ option_map (λ e. state_of offset e) end
   runs-found b c None h = nothing-found b c h
   runs-found b c (Some e) h = end-found b c e h
 
@@ -125,10 +125,10 @@ module _ {P : Type 0} (offset : P → ℕ) (program : Program) (text : Text) whe
     t = new.memo.memo_analysis
 
     -- the attempt from what was known
-    abbrev its : AttemptStartMemoBudgetAndResult
+    abbrev its : BoundedAttempt
     its = record { at = at; memory = walked.walked.memory; total = old.left; turns = answered.turns; found = answered.found }
 
-    its-begins : IsRight program text old.memo → AttemptBeginsWithMemoAndBudget program text at old its
+    its-begins : IsRight program text old.memo → BoundedAttemptBegins program text at old its
     its-begins right = record { right = right; at = refl; is_memory = walked.walked.has.is; holds = walked.walked.holds; total = refl; answers = answered.searches }
 
     has : HasWalked program text t ahead walked.done walked.walked.memory
@@ -136,7 +136,7 @@ module _ {P : Type 0} (offset : P → ℕ) (program : Program) (text : Text) whe
 
     module _ (paid : IsPaid program text t) where
       trying : (known : Key → Bool) (work : ℕ) (now : List Key) (row : List Entry) → HasCome program text t rightwards its.memory (tries (first_row program at)) work now row → ListsExactlyKnownKeys known now
-          → IsTrying program text t known at walked.done work row
+          → AttemptIsUnderWay program text t known at walked.done work row
       trying known work now row h holds = record {
         memory = its.memory;
         now = now;
@@ -234,7 +234,7 @@ module _ {P : Type 0} (offset : P → ℕ) {tree : Tree} {text : Text} (can : Tr
 
   module _ (new : MemoAndWorkBudget) where
     abbrev ByRuns : Result (Option (State P)) AttemptAbortReason → Type 0
-    ByRuns r = (b : AttemptStartMemoBudgetAndResult) → AttemptBeginsWithMemoAndBudget (compiled tree) text at old b → Runs offset (compiled tree) text b r new
+    ByRuns r = (b : BoundedAttempt) → BoundedAttemptBegins (compiled tree) text at old b → Runs offset (compiled tree) text b r new
 
     -- an end that is found is inside the text
     pub found-inside : {found : Option (State P)} {end : State P} → found ≡ Some end → IsMemoRight (compiled tree) text old.memo → ByRuns (Ok found) → offset end.pos ≤ units text
@@ -263,10 +263,10 @@ module _ {P : Type 0} (offset : P → ℕ) {tree : Tree} {text : Text} (can : Tr
       inside : at ≤ units text
       inside = boundary_inside text is at on
 
-      abbrev from : Walked (compiled tree) text old ahead → AttemptStartMemoBudgetAndResult
+      abbrev from : Walked (compiled tree) text old ahead → BoundedAttempt
       from w = its offset (compiled tree) text at ahead old new same w le inside (answered-at tree text can at on)
 
-      from-begins : (w : Walked (compiled tree) text old ahead) → IsRight (compiled tree) text old.memo → AttemptBeginsWithMemoAndBudget (compiled tree) text at old (from w)
+      from-begins : (w : Walked (compiled tree) text old ahead) → IsRight (compiled tree) text old.memo → BoundedAttemptBegins (compiled tree) text at old (from w)
       from-begins w right = its-begins offset (compiled tree) text at ahead old new same w le inside (answered-at tree text can at on) right
 
       -- none is found
@@ -300,7 +300,7 @@ module _ {P : Type 0} (offset : P → ℕ) {tree : Tree} {text : Text} (can : Tr
   abbrev Spends : (cost : ℕ) → (after : Option Failures) → Type 0
   Spends = AttemptCosts tree text (failures_of old.memo) at
 
-  module _ (b : AttemptStartMemoBudgetAndResult) (begun : AttemptBeginsWithMemoAndBudget (compiled tree) text at old b) where
+  module _ (b : BoundedAttempt) (begun : BoundedAttemptBegins (compiled tree) text at old b) where
     -- events that led to a state
     events-of : {front : List Entry} {stack : List (StackEntry P)} {c : MemoAndWorkBudget} → Stands offset (compiled tree) text b front stack c → (cost : ℕ) (now : List Key) (row : List Entry)
         → Costs (compiled tree) text c.memo.memo_analysis rightwards b.memory (tries (first_row (compiled tree) b.at)) cost now row

@@ -10,8 +10,8 @@ use Rattle.regex_meaning.specs.CompilationRelation.{MatchAnyExceptLineTerminator
 use Rattle.regex_meaning.specs.CompilationRelation.{BeginCaptureGroup, EndCaptureGroup, BackRef, Lookahead, Lookbehind}
 use Rattle.regress_machine.specs.Machine.{State, Thread, LoopData, Next, goes, scans, ends, asks, with_some, only_if, go, go_if, iterate_or_leave_at_loop_head}
 use Rattle.regress_machine.specs.Machine.{effect_at_iteration_end, loop_again_effect, test_of, on_to, read_one, stay_if, backref_read, read_group, scan, act, act_on}
-use Rattle.regress_memo.specs.EquivalenceAfterSkippingSucceedingLookarounds.{lookaround_at}
-use Rattle.regress_bounded.specs.SearchStateAsMemoSearchEntries.{is_goal_insn}
+use Rattle.regress_memo.specs.SkippedLookarounds.{lookaround_at}
+use Rattle.regress_bounded.specs.BoundedState.{is_goal_insn}
 
 -- an end is the state's own, nothing is asked where there is no lookaround, and nothing gone over where there is no run
 abbrev pub EndsAs : (looks run : Bool) → State → Next → Type 0

@@ -18,7 +18,7 @@ use Rattle.regress_memo.proofs.SearchLemmas.{searches-are-paid}
 use Rattle.regress_bounded.specs.CostsOfSearchEvents.{Happens, Costs, WaitAbove, none_waits, some_wait, drops, turns, tries_chars, too_few, fails_from, takes_furthest}
 use Rattle.regress_bounded.specs.CostsOfSearchEvents.{takes_nearest, drops_loop, resumes_loop, resumes, reaches, nothing_yet, then_happens}
 use Rattle.regress_bounded.specs.CostsOfSearchEvents.{IsNewIfAny, with_record_of}
-use Rattle.regress_bounded.specs.SearchStateAsMemoSearchEntries.{IsPaid}
+use Rattle.regress_bounded.specs.BoundedState.{IsPaid}
 use Rattle.regress_bounded.specs.WorkOfCharLoopsAndAttempts.{IsEndless}
 use Rattle.regress_bounded.proofs.PaidRuns.{limited-turned, limited-recorded, greedy-none, greedy-known, greedy-all, lazy-none, lazy-first, lazy-known, lazy-again}
 use Rattle.regress_bounded.proofs.PaidRuns.{kept-none}

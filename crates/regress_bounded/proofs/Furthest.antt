@@ -19,18 +19,18 @@ use Rattle.regress_machine.proofs.Beside.{moved-zero}
 use Rattle.regress_machine.specs.CharLoopExitStatesByPreference.{behind}
 use Rattle.regress_memo.specs.LoopDataKeyCodes.{plan_code}
 use Rattle.regress_memo.specs.MemoSearch.{Key, Entry, tried, noted}
-use Rattle.regress_memo.specs.AnalysisAsLivenessAndPotentials.{key_code_questions_of, insn_direction}
+use Rattle.regress_memo.specs.AnalysisAsPotentials.{key_code_questions_of, insn_direction}
 use Rattle.regress_memo.specs.declared.memo.ThreadMemoKey.{ThreadMemoKey as Stored}
 use Rattle.regress_memo.specs.MemoContents.{memo_key_as_spec, memo_key_at, has_failure}
 use Rattle.regress_memo.specs.MemoContractView.{MemoView}
 use Rattle.regress_search.proofs.Reach.{some-of}
 use Rattle.regress_search.proofs.StopSets.{places-few}
-use Rattle.regress_bounded.specs.declared.stack_of_pending_threads_and_records.UnboundedCharLoop.{UnboundedCharLoop}
-use Rattle.regress_bounded.specs.declared.stack_of_pending_threads_and_records.StackEntry.{StackEntry}
-use Rattle.regress_bounded.specs.declared.stack_of_pending_threads_and_records.StackEntry.TheVariants.{Thread as AsThread, Record as AsRecord}
+use Rattle.regress_bounded.specs.declared.pending_stack.UnboundedCharLoop.{UnboundedCharLoop}
+use Rattle.regress_bounded.specs.declared.pending_stack.StackEntry.{StackEntry}
+use Rattle.regress_bounded.specs.declared.pending_stack.StackEntry.TheVariants.{Thread as AsThread, Record as AsRecord}
 use Rattle.regress_pikevm.specs.declared.pikevm.states.State.{State}
 use Rattle.regress_pikevm.specs.States.{state_of}
-use Rattle.regress_bounded.specs.SearchStateAsMemoSearchEntries.{IsRight, IsMemoRight, IsRow, IsRunHere, PlacesWait, ScansWithMemo, IsPast}
+use Rattle.regress_bounded.specs.BoundedState.{IsRight, IsMemoRight, IsRow, IsRunHere, PlacesWait, ScansWithMemo, IsPast}
 use Rattle.regress_bounded.specs.WorkOfCharLoopsAndAttempts.{key_on, row_on, row_of_places}
 use Rattle.regress_bounded.proofs.Lazily.{endless-by}
 use Rattle.regress_bounded.proofs.Passed.{past-none, past-more, past-all}

@@ -11,11 +11,11 @@ use Rattle.regress_memo.specs.CharLoopExitThreadLists.{passing}
 use Rattle.regress_memo.specs.MemoSearch.{tried, noted}
 use Rattle.regress_memo.specs.MemoContents.{has_failure}
 use Rattle.regress_bounded.specs.declared.memo_and_work_budget.MemoAndWorkBudget.{MemoAndWorkBudget}
-use Rattle.regress_bounded.specs.declared.stack_of_pending_threads_and_records.UnboundedCharLoop.{UnboundedCharLoop}
-use Rattle.regress_bounded.specs.declared.stack_of_pending_threads_and_records.StackEntry.{StackEntry}
+use Rattle.regress_bounded.specs.declared.pending_stack.UnboundedCharLoop.{UnboundedCharLoop}
+use Rattle.regress_bounded.specs.declared.pending_stack.StackEntry.{StackEntry}
 use Rattle.regress_pikevm.specs.declared.pikevm.states.State.{State}
-use Rattle.regress_bounded.specs.SearchStateAsMemoSearchEntries.{AttemptStartMemoBudgetAndResult, IsRunHere, ScansWithMemo, IsPast, Stands, ComesOn, IsShort, MayHappen}
-use Rattle.regress_bounded.specs.BudgetSpending.{IsTakenFromBudget, WorkExceedsBudgetLeavingNothing}
+use Rattle.regress_bounded.specs.BoundedState.{BoundedAttempt, IsRunHere, ScansWithMemo, IsPast, Stands, ComesOn, IsShort, MayHappen}
+use Rattle.regress_bounded.specs.BudgetSpending.{IsTakenFromBudget, WorkExceedsBudget}
 use Rattle.regress_bounded.specs.WorkOfCharLoopsAndAttempts.{IsEndless, key_on, row_on, row_of_places}
 use Rattle.regress_bounded.proofs.Lazily.{few-passed, PassesOver, endless-by}
 use Rattle.regress_bounded.proofs.Meeting.{known-happens, furthest-happens, greedy-at-least}
@@ -48,7 +48,7 @@ module _ {P : Type 0} {offset : P → ℕ} {program : Program} {text : Text} {ru
         passes None w = w.0.pass
         passes (Some here) w = let e = w.all in omega (arith, e)
 
-module _ {P : Type 0} {offset : P → ℕ} {program : Program} {text : Text} {b : AttemptStartMemoBudgetAndResult} {s : machine.State} {stack : List (StackEntry P)} {c : MemoAndWorkBudget}
+module _ {P : Type 0} {offset : P → ℕ} {program : Program} {text : Text} {b : BoundedAttempt} {s : machine.State} {stack : List (StackEntry P)} {c : MemoAndWorkBudget}
     (h : Stands offset program text b (tried (running s) ∷ []) stack c) {run : UnboundedCharLoop} (here : IsRunHere offset program text run true s)
     {limit : ℕ} {passed : ℕ} {pos : P} (p : PassesOver offset program text run limit s passed pos) (few : limit ≤ run.least) (le : run.least ≤ passed) (last : List (StackEntry P)) (next : Option (State P)) (n : ℕ)
     (met : HasMet p few le c stack last next n) where
@@ -59,7 +59,7 @@ module _ {P : Type 0} {offset : P → ℕ} {program : Program} {text : Text} {b 
   its = met p.test p.place p.tests (all-passed p few le)
 
   -- there was not so much
-  pub met-over : (c' : MemoAndWorkBudget) → WorkExceedsBudgetLeavingNothing (n + 2) c.left c'.left → IsShort offset program text b h c'
+  pub met-over : (c' : MemoAndWorkBudget) → WorkExceedsBudget (n + 2) c.left c'.left → IsShort offset program text b h c'
   met-over c' spent = falls-short offset program text b h (n + 2) c' (by next its) spent
     where
       by : (next : Option (State P)) → Meets p few le c stack last next n p.test p.place next → CostsAtLeast offset program text b h (n + 2)

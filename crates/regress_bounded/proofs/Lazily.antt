@@ -24,15 +24,15 @@ use Rattle.regress_memo.specs.declared.memo.ThreadMemoKey.{ThreadMemoKey as Stor
 use Rattle.regress_memo.specs.MemoContents.{memo_key_as_spec, memo_key_at, has_failure}
 use Rattle.regress_memo.specs.AmortizedMemoSearchSteps.{HasCome}
 use Rattle.regress_bounded.specs.declared.memo_and_work_budget.MemoAndWorkBudget.{MemoAndWorkBudget}
-use Rattle.regress_bounded.specs.declared.stack_of_pending_threads_and_records.UnboundedCharLoop.{UnboundedCharLoop}
-use Rattle.regress_bounded.specs.declared.stack_of_pending_threads_and_records.StackEntry.{StackEntry}
-use Rattle.regress_bounded.specs.declared.stack_of_pending_threads_and_records.StackEntry.TheVariants.{Run as AsRun, Record as AsRecord}
+use Rattle.regress_bounded.specs.declared.pending_stack.UnboundedCharLoop.{UnboundedCharLoop}
+use Rattle.regress_bounded.specs.declared.pending_stack.StackEntry.{StackEntry}
+use Rattle.regress_bounded.specs.declared.pending_stack.StackEntry.TheVariants.{Run as AsRun, Record as AsRecord}
 use Rattle.regress_pikevm.specs.declared.pikevm.states.State.{State}
 use Rattle.regress_bounded.specs.CostsOfSearchEvents.{IsKnownToFail, WaitAbove, some_wait, takes_nearest, drops_loop, resumes_loop}
-use Rattle.regress_bounded.specs.SearchStateAsMemoSearchEntries.{AttemptStartMemoBudgetAndResult, IsRow, IsRest, Stands, Standing, IsStanding, ComesOn, IsShort}
-use Rattle.regress_bounded.specs.SearchStateAsMemoSearchEntries.{IsRunHere, HasPassedOver, IsNearest, MayHappen}
+use Rattle.regress_bounded.specs.BoundedState.{BoundedAttempt, IsRow, IsRest, Stands, Standing, IsStanding, ComesOn, IsShort}
+use Rattle.regress_bounded.specs.BoundedState.{IsRunHere, HasPassedOver, IsNearest, MayHappen}
 use Rattle.regress_bounded.specs.WorkOfCharLoopsAndAttempts.{IsEndless, key_on}
-use Rattle.regress_bounded.specs.BudgetSpending.{IsTakenFromBudget, WorkExceedsBudgetLeavingNothing}
+use Rattle.regress_bounded.specs.BudgetSpending.{IsTakenFromBudget, WorkExceedsBudget}
 use Rattle.regress_pikevm.specs.States.{state_of}
 use Rattle.regress_bounded.proofs.EventCosts.{ScansAt, scans-at}
 use Rattle.regress_bounded.proofs.Meeting.{few-happen, greedy-at-least, nearest-behind, row-above}
@@ -106,7 +106,7 @@ run-which {run = run} here same = record { insn = here.insn ∙ ap (λ b. Some (
 
 -- ---- Its turn
 
-module _ {P : Type 0} {offset : P → ℕ} {program : Program} {text : Text} {b : AttemptStartMemoBudgetAndResult} {s : machine.State} {stack : List (StackEntry P)} {c : MemoAndWorkBudget}
+module _ {P : Type 0} {offset : P → ℕ} {program : Program} {text : Text} {b : BoundedAttempt} {s : machine.State} {stack : List (StackEntry P)} {c : MemoAndWorkBudget}
     (h : Stands offset program text b (tried (running s) ∷ []) stack c) {run : UnboundedCharLoop} {passed : ℕ} {pos : P} (p : PassesOver offset program text run (min run.least (c.left - 1)) s passed pos) where
   abbrev all : ℕ
   all = passing text p.test rightwards p.place
@@ -159,7 +159,7 @@ module _ {P : Type 0} {offset : P → ℕ} {program : Program} {text : Text} {b 
 
 -- ---- The turn of a lazy one
 
-module _ {P : Type 0} {offset : P → ℕ} {program : Program} {text : Text} {b : AttemptStartMemoBudgetAndResult} (state : State P) {stack : List (StackEntry P)} {c : MemoAndWorkBudget}
+module _ {P : Type 0} {offset : P → ℕ} {program : Program} {text : Text} {b : BoundedAttempt} (state : State P) {stack : List (StackEntry P)} {c : MemoAndWorkBudget}
     (h : Stands offset program text b (tried (running (state_of offset state)) ∷ []) stack c) {run : UnboundedCharLoop} (here : IsRunHere offset program text run false (state_of offset state))
     {passed : ℕ} {pos : P} (p : PassesOver offset program text run (min run.least (c.left - 1)) (state_of offset state) passed pos) (le : run.least ≤ passed) where
   abbrev s : machine.State
@@ -189,7 +189,7 @@ module _ {P : Type 0} {offset : P → ℕ} {program : Program} {text : Text} {b 
 
 -- ---- The way back to one
 
-module _ {P : Type 0} {offset : P → ℕ} {program : Program} {text : Text} {b : AttemptStartMemoBudgetAndResult} (stack : List (StackEntry P)) (state : State P) {c : MemoAndWorkBudget}
+module _ {P : Type 0} {offset : P → ℕ} {program : Program} {text : Text} {b : BoundedAttempt} (stack : List (StackEntry P)) (state : State P) {c : MemoAndWorkBudget}
     (h : Stands offset program text b [] (stack ++ AsRun state ∷ []) c) where
   abbrev its : machine.State
   its = state_of offset state
@@ -243,7 +243,7 @@ module _ {P : Type 0} {offset : P → ℕ} {program : Program} {text : Text} {b 
         happens-back offset program text b stack (AsRun state) h (kept (pending_loop_threads text rest-of.test rightwards 0 rest-of.place its)) rest-of.is
         (drops_loop its rest-of.test rest-of.least rest-of.place left-off.rest rest-of.run rest-of.at known-there)
 
-    pub back-known-over : has_failure c.memo k ≡ true → (c' : MemoAndWorkBudget) → WorkExceedsBudgetLeavingNothing 1 c.left c'.left → IsShort offset program text b h c'
+    pub back-known-over : has_failure c.memo k ≡ true → (c' : MemoAndWorkBudget) → WorkExceedsBudget 1 c.left c'.left → IsShort offset program text b h c'
     back-known-over fails c' spent = is-short offset program text b h 1 c' (back-known fails) spent
 
     pub back-known-goes : has_failure c.memo k ≡ true → (c' : MemoAndWorkBudget) → c'.memo ≡ c.memo → IsTakenFromBudget 1 c.left c'.left → ComesOn offset program text b h None stack c'
@@ -259,7 +259,7 @@ module _ {P : Type 0} {offset : P → ℕ} {program : Program} {text : Text} {b 
         happens-back offset program text b stack (AsRun state) h (kept (pending_loop_threads text rest-of.test rightwards 0 rest-of.place its)) rest-of.is
         (resumes_loop its rest-of.test rest-of.least rest-of.place left-off.rest row rest-of.run rest-of.at (subst (λ k. IsNew k h.now) is (new offset program text b h k unknown)) above)
 
-    pub back-over : has_failure c.memo k ≡ false → (c' : MemoAndWorkBudget) → WorkExceedsBudgetLeavingNothing 2 c.left c'.left → IsShort offset program text b h c'
+    pub back-over : has_failure c.memo k ≡ false → (c' : MemoAndWorkBudget) → WorkExceedsBudget 2 c.left c'.left → IsShort offset program text b h c'
     back-over unknown c' spent = is-short offset program text b h 2 c' (back-again unknown (kept (pending_loop_threads text rest-of.test rightwards 1 rest-of.place its) ∷ recorded-row) some_wait) spent
 
     pub back-goes : has_failure c.memo k ≡ false → (next : State P) (mid last : List (StackEntry P)) → mid ≡ stack ++ AsRecord stored ∷ []

@@ -2,7 +2,7 @@
 use Rattle.std.proofs.Common.{◌≡◌, ◌<◌, ℕ, List, Option, Some, None, refl, ap, ◌∙◌, length, map, slice_get}
 use Rattle.std.specs.Prelude.{option_map}
 use Rattle.std.proofs.lemmas.Option.{slice_get-map, slice_get_within}
-use Rattle.regress_memo.specs.EquivalenceAfterSkippingSucceedingLookarounds.{lookaround_at}
+use Rattle.regress_memo.specs.SkippedLookarounds.{lookaround_at}
 use Rattle.regress_program.specs.InsnsAsSpecInsns.{insn_as_spec_insn}
 use Rattle.regress_program.specs.declared.instructions.Insn.{Insn}
 

@@ -7,10 +7,10 @@ use Rattle.regex_meaning.specs.CodeUnitOffsets.{units}
 use Rattle.regex_meaning.specs.StepBudget.{answers_within, finishes_within}
 use Rattle.regex_meaning.specs.Text.{Text}
 use Rattle.regex_meaning.specs.Tree.{Tree}
-use Rattle.regress_search.specs.AttemptsAndMatchesWithinWork.{RemainingAnswersAndWork, is_work_enough}
+use Rattle.regress_search.specs.MatchesWithinWork.{RemainingAnswersAndWork, is_work_enough}
 use Rattle.regress_search.specs.CostsOfSearches.{Failures}
 use Rattle.regress_bounded.specs.CostsOfAttempts.{BeginsSearches}
-use Rattle.regress_bounded.specs.ProgramWorkBoundForAllMatches.{IsAtStart, YieldsMatchesIfWorkSuffices}
+use Rattle.regress_bounded.specs.WorkBoundForAllMatches.{IsAtStart, YieldsMatchesIfWorkSuffices}
 
 -- an executor that has made no attempt has all before it, from whatever start
 fresh-enough : (enough : Bool) (ahead : ℕ) (test : Bool) (start : ℕ)
@@ -21,7 +21,7 @@ fresh-enough enough ahead false start e z = e
 -- What is to come of an executor at its start.
 abbrev pub HasBegun : (tree : Tree) (text : Text) (budget : Option ℕ) (enough : Bool) (ahead left start : ℕ) (it : RemainingAnswersAndWork) → Type 0
 HasBegun tree text budget enough ahead left start it =
-    (it.come.answers ≡ answers_within tree text budget start) × (it.come.limited ≡ not (finishes_within tree text budget start)) × (it.come.text_end ≡ units text)
+    (it.remaining.answers ≡ answers_within tree text budget start) × (it.remaining.limited ≡ not (finishes_within tree text budget start)) × (it.remaining.text_end ≡ units text)
     × (it.left ≡ left) × (it.enough ≡ is_work_enough enough ahead (if nat_le start (units text) then Some start else None))
 
 pub begun-Yields : {tree its_tree : Tree} {text its_text : Text} {per_unit work : ℕ} {budget : Option ℕ} {enough : Bool} {ahead left start : ℕ} {failures : Failures} {it : RemainingAnswersAndWork}

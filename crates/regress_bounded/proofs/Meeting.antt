@@ -17,11 +17,11 @@ use Rattle.regress_memo.specs.declared.analysis_result.MemoAnalysis.{MemoAnalysi
 use Rattle.regress_memo.specs.MemoContents.{has_failure}
 use Rattle.regress_search.proofs.Reach.{moved-more}
 use Rattle.regress_bounded.specs.declared.memo_and_work_budget.MemoAndWorkBudget.{MemoAndWorkBudget}
-use Rattle.regress_bounded.specs.declared.stack_of_pending_threads_and_records.StackEntry.{StackEntry}
-use Rattle.regress_bounded.specs.declared.stack_of_pending_threads_and_records.StackEntry.TheVariants.{Run as AsRun}
+use Rattle.regress_bounded.specs.declared.pending_stack.StackEntry.{StackEntry}
+use Rattle.regress_bounded.specs.declared.pending_stack.StackEntry.TheVariants.{Run as AsRun}
 use Rattle.regress_pikevm.specs.declared.pikevm.states.State.{State}
 use Rattle.regress_bounded.specs.CostsOfSearchEvents.{WaitAbove, none_waits, some_wait, too_few, fails_from, takes_furthest}
-use Rattle.regress_bounded.specs.SearchStateAsMemoSearchEntries.{AttemptStartMemoBudgetAndResult, IsRow, IsRest, IsPaid, Stands, MayHappen, IsNearest}
+use Rattle.regress_bounded.specs.BoundedState.{BoundedAttempt, IsRow, IsRest, IsPaid, Stands, MayHappen, IsNearest}
 use Rattle.regress_bounded.specs.WorkOfCharLoopsAndAttempts.{IsEndless, key_on, row_on, row_of_places}
 use Rattle.regress_pikevm.specs.States.{state_of}
 use Rattle.regress_bounded.proofs.PaidRuns.{lazy-later, lazy-last}
@@ -62,7 +62,7 @@ first-known known (suc count) from = by (known from) refl (first-known known cou
       | inr same ↦ let here : from ≡ m = omega (arith, first, same) in subst (λ i. known i ≡ false) here e
     ])
 
-module _ {P : Type 0} (offset : P → ℕ) (program : Program) (text : Text) (b : AttemptStartMemoBudgetAndResult) (s : machine.State) {stack : List (StackEntry P)} {c : MemoAndWorkBudget}
+module _ {P : Type 0} (offset : P → ℕ) (program : Program) (text : Text) (b : BoundedAttempt) (s : machine.State) {stack : List (StackEntry P)} {c : MemoAndWorkBudget}
     (h : Stands offset program text b (tried (running s) ∷ []) stack c) (test : ℕ → Bool) (least place : ℕ) where
   -- there are too few characters
   pub few-happen : {greedy : Bool} → IsEndless program s test least greedy → place_at text s.pos ≡ Some place → passing text test rightwards place < least

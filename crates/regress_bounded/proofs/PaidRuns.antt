@@ -23,7 +23,7 @@ use Rattle.regress_machine.proofs.Runs.{behind-from, run-turn}
 use Rattle.regress_machine.proofs.Simulates.{simulates-same}
 use Rattle.regress_memo.specs.Liveness.{Agree, outermost, ReadsAsBytes}
 use Rattle.regress_memo.specs.ThreadBisimulation.{Relation, AlikeThreads}
-use Rattle.regress_memo.specs.CappedCharLoopsAndLookarounds.{ScanIsPaid, ScanGives}
+use Rattle.regress_memo.specs.CappedCharLoops.{ScanIsPaid, ScanGives}
 use Rattle.regress_memo.specs.LoopDataKeyCodes.{HasSlotsOfProgram, plan_code, key_of}
 use Rattle.regress_memo.specs.DistinctLists.{IsNew}
 use Rattle.regress_memo.specs.PreservedSlotCounts.{state_of_thread}
@@ -31,7 +31,7 @@ use Rattle.regress_memo.specs.AmortizedStepCosts.{potential_by, IsCostCovered, G
 use Rattle.regress_memo.specs.MemoPlanChecksAndGuarantees.{IsRecorded, plan_taken}
 use Rattle.regress_memo.specs.UnboundedCharLoopMemoKeys.{char_loop_greediness_at, CharLoopRecords, run_key}
 use Rattle.regress_memo.specs.CharLoopExitThreadLists.{passing, pending_loop_threads}
-use Rattle.regress_memo.specs.UnboundedCharLoopsAsMemoSteps.{placed, AreUnknown, AtCharLoop, GreedyGives, LazyGives}
+use Rattle.regress_memo.specs.UnboundedCharLoops.{placed, AreUnknown, AtCharLoop, GreedyGives, LazyGives}
 use Rattle.regress_memo.specs.MemoSearch.{Key, Entry, tried, kept, noted, tries, threads_in, entry_potential, GoesOnward, KeyStandsFor, AreSound, IsMemoStep}
 use Rattle.regress_memo.specs.MemoSearch.{ReachesBySteps, gives}
 use Rattle.regress_memo.specs.ThreadPotentials.{each_noted}
@@ -49,9 +49,9 @@ use Rattle.regress_memo.specs.declared.analysis_result.MemoAnalysis.{MemoAnalysi
 use Rattle.regress_memo.specs.UnreachedCharLoopBodies.{FlowsPastBodies}
 use Rattle.regress_memo.specs.WorkBound.{IsWorkBounded}
 use Rattle.regress_memo.specs.AnalysisChecks.{IsConsistentAt, unlimited}
-use Rattle.regress_memo.specs.AnalysisAsLivenessAndPotentials.{insn_analysis_of, analysis_as_liveness, key_code_questions_of, recorded, potentials_of}
-use Rattle.regress_memo.specs.AnalysisAsLivenessAndPotentials.{key_cost_of}
-use Rattle.regress_memo.specs.AnalysisAsLivenessAndPotentials.{insn_direction}
+use Rattle.regress_memo.specs.AnalysisAsPotentials.{insn_analysis_of, analysis_as_liveness, key_code_questions_of, recorded, potentials_of}
+use Rattle.regress_memo.specs.AnalysisAsPotentials.{key_cost_of}
+use Rattle.regress_memo.specs.AnalysisAsPotentials.{insn_direction}
 use Rattle.regress_memo.specs.Successors.{successors_of_insn_if_any}
 use Rattle.regress_memo.specs.CheckedAnalysis.{IsAnalysisOf, Serves}
 use Rattle.regress_memo.proofs.WholeLemmas.{ledgers-serve}

@@ -12,7 +12,7 @@ use Rattle.regress_memo.specs.Liveness.{ReadsAsBytes}
 use Rattle.regress_memo.specs.LoopDataKeyCodes.{plan_codes}
 use Rattle.regress_memo.specs.DistinctLists.{IsIn}
 use Rattle.regress_memo.specs.AmortizedStepCosts.{potential_by}
-use Rattle.regress_memo.specs.AttemptsAndWorkOverSuccessiveMatches.{at_first, passed, failed, found}
+use Rattle.regress_memo.specs.SuccessiveMatches.{at_first, passed, failed, found}
 use Rattle.regress_memo.specs.MemoSearch.{Key, Entry, tried, tries, keys_in, at_of, AreOnward, Answers, IsMemory}
 use Rattle.regress_memo.specs.MemoSearch as turns
 use Rattle.regress_memo.proofs.Distinct.{Each-right, distinct-right}
@@ -21,8 +21,8 @@ use Rattle.regress_memo.proofs.Turns.{turns-go-on, work-is-bounded}
 use Rattle.regress_memo.proofs.Weights.{places-keys}
 use Rattle.regress_memo.specs.declared.analysis_result.MemoAnalysis.{MemoAnalysis}
 use Rattle.regress_memo.specs.WorkBound.{all_keys_cost_per_position, work_per_position, first_row}
-use Rattle.regress_memo.specs.AnalysisAsLivenessAndPotentials.{insn_analysis_of, analysis_as_liveness, key_code_questions_of, recorded, potentials_of}
-use Rattle.regress_memo.specs.AnalysisAsLivenessAndPotentials.{key_cost_of}
+use Rattle.regress_memo.specs.AnalysisAsPotentials.{insn_analysis_of, analysis_as_liveness, key_code_questions_of, recorded, potentials_of}
+use Rattle.regress_memo.specs.AnalysisAsPotentials.{key_cost_of}
 use Rattle.regress_memo.specs.CheckedAnalysis.{IsAnalysisOf, Serves}
 use Rattle.regress_memo.proofs.BoundLemmas.{ledgers-bound, prices-of-all}
 use Rattle.regress_memo.proofs.WholeLemmas.{ledgers-serve}
@@ -32,7 +32,7 @@ use Rattle.regress_memo.specs.MemoContractView.{MemoView}
 use Rattle.regress_memo.specs.AmortizedMemoSearchSteps.{HasCome}
 use Rattle.regress_memo.proofs.LawLemmas.{memos-hold}
 use Rattle.regress_memo.proofs.SearchLemmas.{searches-are-paid}
-use Rattle.regress_bounded.specs.WorkOfCharLoopsAndAttempts.{HasWalked, IsWalked, IsTrying}
+use Rattle.regress_bounded.specs.WorkOfCharLoopsAndAttempts.{HasWalked, IsWalked, AttemptIsUnderWay}
 
 -- ---- What is known
 
@@ -193,7 +193,7 @@ module _ (program : Program) (t : MemoAnalysis) (of : IsAnalysisOf program t) (t
     Behind ahead done = IsWalked program text t known ahead done
 
     abbrev Trying : (at done work : ℕ) → List Entry → Type 0
-    Trying at done work row = IsTrying program text t known at done work row
+    Trying at done work row = AttemptIsUnderWay program text t known at done work row
 
     pub then-starts : ListsExactlyKnownKeys known [] → (at : ℕ) → Behind at 0
     then-starts holds at = record { memory = []; has = stands-still at; holds = holds }

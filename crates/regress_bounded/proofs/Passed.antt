@@ -7,7 +7,7 @@ use Rattle.regress_input.specs.CharAndByteReadsFromOffset.{end_if_matched, past_
 use Rattle.regress_memo.specs.CharLoopExitThreadLists.{passing}
 use Rattle.regress_machine.proofs.Beside.{moved-zero}
 use Rattle.regress_search.proofs.Reach.{one-on, none-on}
-use Rattle.regress_bounded.specs.SearchStateAsMemoSearchEntries.{IsPast}
+use Rattle.regress_bounded.specs.BoundedState.{IsPast}
 
 module _ {P : Type 0} (offset : P → ℕ) (text : Text) (is : HasRisingPlaceOffsets text) (test : ℕ → Bool) (place : ℕ) where
   abbrev pub At : (count : ℕ) → P → Type 0

@@ -6,7 +6,7 @@ use Rattle.std.proofs.lemmas.Bool.{leb-true}
 use Rattle.std.proofs.lemmas.List.Folds.{fold-map}
 use Rattle.regress_program.specs.InsnsAsSpecInsns.{insn_as_spec_insn}
 use Rattle.regress_program.specs.declared.instructions.Insn.{Insn as Coded}
-use Rattle.regress_bounded.specs.ProgramWorkBoundForAllMatches.{size_of_insn}
+use Rattle.regress_bounded.specs.WorkBoundForAllMatches.{size_of_insn}
 
 -- the size is the same of instructions as they are coded
 pub size-coded : (insns : List Coded) → sum_by (λ x. size_of_insn (insn_as_spec_insn x)) insns ≡ sum_by size_of_insn (map insn_as_spec_insn insns)

@@ -15,7 +15,7 @@ use Rattle.regress_memo.specs.MemoSearch.{Key, Keys, Entry, tried, noted, tries,
 use Rattle.regress_memo.proofs.Turns.{work-is-bounded, reached-fail}
 use Rattle.regress_memo.specs.declared.analysis_result.MemoAnalysis.{MemoAnalysis}
 use Rattle.regress_memo.specs.WorkBound.{first_row}
-use Rattle.regress_memo.specs.AnalysisAsLivenessAndPotentials.{analysis_as_liveness, recorded, potentials_of, key_cost_of}
+use Rattle.regress_memo.specs.AnalysisAsPotentials.{analysis_as_liveness, recorded, potentials_of, key_cost_of}
 use Rattle.regress_memo.specs.CheckedAnalysis.{IsRecordableMemoKey, Serves}
 use Rattle.regress_memo.proofs.WholeLemmas.{ledgers-serve}
 use Rattle.regress_memo.specs.Laws.{analysis_keys, KeyFails}
@@ -25,17 +25,17 @@ use Rattle.regress_memo.specs.AmortizedMemoSearchSteps.{HasCome, IsKeyed}
 use Rattle.regress_memo.proofs.LawLemmas.{memos-hold, memos-are-true, keys-are-there}
 use Rattle.regress_memo.specs.declared.memo.ThreadMemoKey.{ThreadMemoKey as Stored}
 use Rattle.regress_bounded.specs.declared.memo_and_work_budget.MemoAndWorkBudget.{MemoAndWorkBudget}
-use Rattle.regress_bounded.specs.declared.stack_of_pending_threads_and_records.StackEntry.{StackEntry}
-use Rattle.regress_bounded.specs.declared.stack_of_pending_threads_and_records.StackEntry.TheVariants.{Thread as AsThread, Record as AsRecord}
+use Rattle.regress_bounded.specs.declared.pending_stack.StackEntry.{StackEntry}
+use Rattle.regress_bounded.specs.declared.pending_stack.StackEntry.TheVariants.{Thread as AsThread, Record as AsRecord}
 use Rattle.regress_pikevm.specs.declared.pikevm.states.State.{State}
 use Rattle.std.proofs.Math.Logic.{∥∥₁_map, ∥∥₁_elim}
 use Rattle.std.proofs.Props.{props}
-use Rattle.regress_bounded.specs.SearchStateAsMemoSearchEntries.{IsPaid, IsRight, IsMemoRight, IsStanding, AttemptStartMemoBudgetAndResult}
-use Rattle.regress_bounded.specs.SearchStateAsMemoSearchEntries.{IsRecordOf, StandsFor, AreFor, IsRow, Stands}
-use Rattle.regress_bounded.specs.SearchStateAsMemoSearchEntries.{ComesOn, IsShort, MayHappen, front_of}
+use Rattle.regress_bounded.specs.BoundedState.{IsPaid, IsRight, IsMemoRight, IsStanding, BoundedAttempt}
+use Rattle.regress_bounded.specs.BoundedState.{IsRecordOf, StandsFor, AreFor, IsRow, Stands}
+use Rattle.regress_bounded.specs.BoundedState.{ComesOn, IsShort, MayHappen, front_of}
 use Rattle.regress_bounded.specs.CostsOfSearchEvents.{Costs, Happens, IsKnownToFail, reaches, resumes, then_happens}
 use Rattle.regress_bounded.proofs.EventCosts.{costs-come}
-use Rattle.regress_bounded.specs.BudgetSpending.{IsTakenFromBudget, WorkExceedsBudgetLeavingNothing}
+use Rattle.regress_bounded.specs.BudgetSpending.{IsTakenFromBudget, WorkExceedsBudget}
 use Rattle.regress_pikevm.specs.States.{state_of}
 
 -- ---- Rows
@@ -71,7 +71,7 @@ module _ (program : Program) (text : Text) (t : MemoAnalysis) (paid : IsPaid pro
   abbrev pub served : Serves program t text
   served = ledgers-serve program t paid.memo_analysis text paid.is_text paid.bytes paid.short
 
-  module _ (b : AttemptStartMemoBudgetAndResult) (memory : IsMemory program text (analysis_as_liveness t) (analysis_keys program text t) b.memory)
+  module _ (b : BoundedAttempt) (memory : IsMemory program text (analysis_as_liveness t) (analysis_keys program text t) b.memory)
       (answers : search program text b.turns rightwards (first_row program b.at) ≡ Some b.found) where
     abbrev pub Come : (work : ℕ) → List Key → List Entry → Type 0
     Come work now row = HasCome program text t rightwards b.memory (tries (first_row program b.at)) work now row
@@ -119,7 +119,7 @@ module _ (program : Program) (text : Text) (t : MemoAnalysis) (paid : IsPaid pro
 
 -- ---- The thread in hand, and an event on
 
-module _ {P : Type 0} (offset : P → ℕ) (program : Program) (text : Text) (b : AttemptStartMemoBudgetAndResult) {front : List Entry} {stack : List (StackEntry P)} {c : MemoAndWorkBudget}
+module _ {P : Type 0} (offset : P → ℕ) (program : Program) (text : Text) (b : BoundedAttempt) {front : List Entry} {stack : List (StackEntry P)} {c : MemoAndWorkBudget}
     (h : Stands offset program text b front stack c) where
   -- what was done so far is covered
   pub come : HasCome program text c.memo.memo_analysis rightwards b.memory (tries (first_row program b.at)) h.work h.now (front ++ h.row)
@@ -164,16 +164,16 @@ module _ {P : Type 0} (offset : P → ℕ) (program : Program) (text : Text) (b 
     pub more : work ≤ cost
 
   -- there was not so much
-  pub falls-short : (work : ℕ) (c' : MemoAndWorkBudget) → CostsAtLeast work → WorkExceedsBudgetLeavingNothing work c.left c'.left → IsShort offset program text b h c'
+  pub falls-short : (work : ℕ) (c' : MemoAndWorkBudget) → CostsAtLeast work → WorkExceedsBudget work c.left c'.left → IsShort offset program text b h c'
   falls-short work c' x spent =
       record { cost = x.cost; now = x.now; row = x.row; happens = x.happens; over = (let s : c.left < work = spent.0 in let m = x.more in omega (arith, s, m)); none = spent.1 }
 
-  pub is-short : {now' : List Key} {row' : List Entry} (cost : ℕ) (c' : MemoAndWorkBudget) → MayHappen offset program text b h cost now' row' → WorkExceedsBudgetLeavingNothing cost c.left c'.left
+  pub is-short : {now' : List Key} {row' : List Entry} (cost : ℕ) (c' : MemoAndWorkBudget) → MayHappen offset program text b h cost now' row' → WorkExceedsBudget cost c.left c'.left
       → IsShort offset program text b h c'
   is-short {now'} {row'} cost c' happens spent = falls-short cost c' (record { cost = cost; now = now'; row = row'; happens = happens; more = omega arith }) spent
 
 -- the thread in hand
-module _ {P : Type 0} (offset : P → ℕ) (program : Program) (text : Text) (b : AttemptStartMemoBudgetAndResult) (s : machine.State) {stack : List (StackEntry P)} {c : MemoAndWorkBudget}
+module _ {P : Type 0} (offset : P → ℕ) (program : Program) (text : Text) (b : BoundedAttempt) (s : machine.State) {stack : List (StackEntry P)} {c : MemoAndWorkBudget}
     (h : Stands offset program text b (tried (running s) ∷ []) stack c) where
   pub keyed : IsKeyed program text c.memo.memo_analysis rightwards s
   keyed = (come offset program text b h).keyed.0
@@ -186,7 +186,7 @@ module _ {P : Type 0} (offset : P → ℕ) (program : Program) (text : Text) (b 
 
 -- ---- What is come back to
 
-module _ {P : Type 0} (offset : P → ℕ) (program : Program) (text : Text) (b : AttemptStartMemoBudgetAndResult) (stack : List (StackEntry P)) (w : StackEntry P) {c : MemoAndWorkBudget}
+module _ {P : Type 0} (offset : P → ℕ) (program : Program) (text : Text) (b : BoundedAttempt) (stack : List (StackEntry P)) (w : StackEntry P) {c : MemoAndWorkBudget}
     (h : Stands offset program text b [] (stack ++ w ∷ []) c) where
   abbrev pub popped : Popped offset program text stack w h.row
   popped = row-pop offset program text stack w h.row h.is
@@ -203,7 +203,7 @@ module _ {P : Type 0} (offset : P → ℕ) (program : Program) (text : Text) (b 
       (come offset program text b h)
 
 -- to a thread
-module _ {P : Type 0} {offset : P → ℕ} {program : Program} {text : Text} {b : AttemptStartMemoBudgetAndResult} (stack : List (StackEntry P)) (w : StackEntry P) {c : MemoAndWorkBudget}
+module _ {P : Type 0} {offset : P → ℕ} {program : Program} {text : Text} {b : BoundedAttempt} (stack : List (StackEntry P)) (w : StackEntry P) {c : MemoAndWorkBudget}
     (h : Stands offset program text b [] (stack ++ w ∷ []) c) (s : State P) (is : w ≡ AsThread s) where
   taken-up : MayHappen offset program text b h 1 h.now (tried (running (state_of offset s)) ∷ (popped offset program text b stack w h).rest)
   taken-up =
@@ -216,11 +216,11 @@ module _ {P : Type 0} {offset : P → ℕ} {program : Program} {text : Text} {b 
       let p = popped offset program text b stack w h in
       comes-on offset program text b h (Some s) p.rest stack 1 c' taken-up p.below same spent
 
-  pub thread-over : (c' : MemoAndWorkBudget) → WorkExceedsBudgetLeavingNothing 1 c.left c'.left → IsShort offset program text b h c'
+  pub thread-over : (c' : MemoAndWorkBudget) → WorkExceedsBudget 1 c.left c'.left → IsShort offset program text b h c'
   thread-over c' spent = is-short offset program text b h 1 c' taken-up spent
 
 -- to a record
-module _ {P : Type 0} {offset : P → ℕ} {program : Program} {text : Text} {b : AttemptStartMemoBudgetAndResult} (stack : List (StackEntry P)) (w : StackEntry P) {c : MemoAndWorkBudget}
+module _ {P : Type 0} {offset : P → ℕ} {program : Program} {text : Text} {b : BoundedAttempt} (stack : List (StackEntry P)) (w : StackEntry P) {c : MemoAndWorkBudget}
     (h : Stands offset program text b [] (stack ++ w ∷ []) c) (k : Stored) (is : w ≡ AsRecord k) where
   abbrev pub below : Popped offset program text stack w h.row
   below = popped offset program text b stack w h
@@ -251,7 +251,7 @@ module _ {P : Type 0} {offset : P → ℕ} {program : Program} {text : Text} {b 
   reached : MayHappen offset program text b h 1 (memo_key_as_spec k ∷ h.now) below.rest
   reached = happens-back offset program text b stack w h (noted (memo_key_as_spec k) stood.threads) stood.is (reaches (memo_key_as_spec k) stood.threads below.rest)
 
-  pub record-over : (c' : MemoAndWorkBudget) → WorkExceedsBudgetLeavingNothing 1 c.left c'.left → IsShort offset program text b h c'
+  pub record-over : (c' : MemoAndWorkBudget) → WorkExceedsBudget 1 c.left c'.left → IsShort offset program text b h c'
   record-over c' spent = is-short offset program text b h 1 c' reached spent
 
   -- what is by an analysis
@@ -309,16 +309,16 @@ module _ {P : Type 0} {offset : P → ℕ} {program : Program} {text : Text} {fr
 
   -- on from what there is
   pub standing-on : {front' : List Entry} {stack' : List (StackEntry P)} {c' : MemoAndWorkBudget}
-      → ((b : AttemptStartMemoBudgetAndResult) → Stands offset program text b front stack c → Stands offset program text b front' stack' c') → IsStanding offset program text front' stack' c'
+      → ((b : BoundedAttempt) → Stands offset program text b front stack c → Stands offset program text b front' stack' c') → IsStanding offset program text front' stack' c'
   standing-on f = ∥∥₁_map there (λ s. record { begin = s.begin; stands = f s.begin s.stands })
 
-  pub less-on : {n m : ℕ} → ((b : AttemptStartMemoBudgetAndResult) → Stands offset program text b front stack c → n < m) → n < m
+  pub less-on : {n m : ℕ} → ((b : BoundedAttempt) → Stands offset program text b front stack c → n < m) → n < m
   less-on f = ∥∥₁_elim there (Prim.hlevel props) (λ s. f s.begin s.stands)
 
 -- with what is the same
 module _ {P : Type 0} {offset : P → ℕ} {program : Program} {text : Text} {next next' : Option (State P)} (next_is : next ≡ next') {stack stack' : List (StackEntry P)} (stack_is : stack ≡ stack')
     {c : MemoAndWorkBudget} where
-  pub stands-as : {b : AttemptStartMemoBudgetAndResult} → Stands offset program text b (front_of offset next) stack c → Stands offset program text b (front_of offset next') stack' c
+  pub stands-as : {b : BoundedAttempt} → Stands offset program text b (front_of offset next) stack c → Stands offset program text b (front_of offset next') stack' c
   stands-as {b} h =
       subst (λ xs. Stands offset program text b (front_of offset next') xs c) stack_is (subst (λ n. Stands offset program text b (front_of offset n) stack c) next_is h)
 

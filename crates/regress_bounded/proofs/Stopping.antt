@@ -8,11 +8,11 @@ use Rattle.regress_pikevm.specs.declared.pikevm.states.State.{State}
 use Rattle.regress_bounded.specs.declared.memo_and_work_budget.MemoAndWorkBudget.{MemoAndWorkBudget}
 use Rattle.regress_bounded.specs.declared.memo_and_work_budget.AttemptAbortReason.{AttemptAbortReason}
 use Rattle.regress_bounded.specs.declared.memo_and_work_budget.AttemptAbortReason.TheVariants.{Memory, Work}
-use Rattle.regress_bounded.specs.declared.stack_of_pending_threads_and_records.StackEntry.{StackEntry}
+use Rattle.regress_bounded.specs.declared.pending_stack.StackEntry.{StackEntry}
 use Rattle.regress_bounded.specs.declared.thread_steps_and_backtracking.StepResult.{StepResult}
 use Rattle.regress_bounded.specs.declared.thread_steps_and_backtracking.StepResult.TheVariants.{On, End}
-use Rattle.regress_bounded.specs.SearchStateAsMemoSearchEntries.{AttemptStartMemoBudgetAndResult, Stands, IsStanding, IsShort, MayStop, ComesOn, GoesOn, EndsAt, Turns}
-use Rattle.regress_bounded.specs.SearchStateAsMemoSearchEntries.{TurnsFrom, Runs}
+use Rattle.regress_bounded.specs.BoundedState.{BoundedAttempt, Stands, IsStanding, IsShort, MayStop, ComesOn, GoesOn, EndsAt, Turns}
+use Rattle.regress_bounded.specs.BoundedState.{TurnsFrom, Runs}
 use Rattle.regress_bounded.proofs.EventCosts.{cost-some}
 
 -- what holds of a refusal holds of what hands it on
@@ -24,7 +24,7 @@ handed-on P (Err f) e h p = subst (λ f. P (Err f)) (sym h) p
 pub some-key : {X : Type 0} {x y : X} → Some x ≡ Some y → x ≡ y
 some-key e = cc
 
-module _ {P : Type 0} {offset : P → ℕ} {program : Program} {text : Text} {b : AttemptStartMemoBudgetAndResult} {front : List Entry} {stack : List (StackEntry P)} {c : MemoAndWorkBudget}
+module _ {P : Type 0} {offset : P → ℕ} {program : Program} {text : Text} {b : BoundedAttempt} {front : List Entry} {stack : List (StackEntry P)} {c : MemoAndWorkBudget}
     (h : Stands offset program text b front stack c) where
   -- an event is some work
   pub comes-less : {next : Option (State P)} {new : List (StackEntry P)} {after : MemoAndWorkBudget} → ComesOn offset program text b h next new after → after.left < c.left
@@ -58,7 +58,7 @@ module _ {P : Type 0} {offset : P → ℕ} {program : Program} {text : Text} {b 
   runs-stopped after same r e handed stops = handed-on (λ r. Runs offset program text b r after) r e handed (stops-all after same e stops)
 
 -- a refusal of an attempt is handed on
-pub runs-handed : {P : Type 0} (offset : P → ℕ) (program : Program) (text : Text) (b : AttemptStartMemoBudgetAndResult) (after : MemoAndWorkBudget) (r : Result (Option (State P)) AttemptAbortReason)
+pub runs-handed : {P : Type 0} (offset : P → ℕ) (program : Program) (text : Text) (b : BoundedAttempt) (after : MemoAndWorkBudget) (r : Result (Option (State P)) AttemptAbortReason)
     (e : AttemptAbortReason) → IsErrAnd r (λ f. f ≡ e) → Runs offset program text b (Err e) after → Runs offset program text b r after
 runs-handed offset program text b after r e handed stops = handed-on (λ r. Runs offset program text b r after) r e handed stops
 
@@ -66,9 +66,9 @@ runs-handed offset program text b after r e handed stops = handed-on (λ r. Runs
 module _ {P : Type 0} {offset : P → ℕ} {program : Program} {text : Text} {front : List Entry} {old : List (StackEntry P)} {before : MemoAndWorkBudget}
     (there : IsStanding offset program text front old before) (new : List (StackEntry P)) (behind : MemoAndWorkBudget) {came : StepResult P} where
   pub came-on : {next : Option (State P)} → came ≡ On next → TurnsFrom offset program text front old before (Ok came) new behind
-      → (b : AttemptStartMemoBudgetAndResult) (h : Stands offset program text b front old before) → ComesOn offset program text b h next new behind
+      → (b : BoundedAttempt) (h : Stands offset program text b front old before) → ComesOn offset program text b h next new behind
   came-on is goes b h = subst (λ came. Turns offset program text b h (Ok came) new behind) is (goes b h)
 
   pub came-end : {end : State P} → came ≡ End end → TurnsFrom offset program text front old before (Ok came) new behind
-      → (b : AttemptStartMemoBudgetAndResult) → Stands offset program text b front old before → EndsAt offset program text b end behind
+      → (b : BoundedAttempt) → Stands offset program text b front old before → EndsAt offset program text b end behind
   came-end is goes b h = subst (λ came. Turns offset program text b h (Ok came) new behind) is (goes b h)

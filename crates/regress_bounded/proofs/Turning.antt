@@ -25,16 +25,16 @@ use Rattle.regress_memo.specs.AnalysisChecks.{unlimited}
 use Rattle.regress_memo.specs.declared.memo.ThreadMemoKey.{ThreadMemoKey as Stored}
 use Rattle.regress_memo.specs.MemoContents.{memo_key_as_spec, memo_key_at, has_failure}
 use Rattle.regress_bounded.specs.declared.memo_and_work_budget.MemoAndWorkBudget.{MemoAndWorkBudget}
-use Rattle.regress_bounded.specs.declared.stack_of_pending_threads_and_records.StackEntry.{StackEntry}
-use Rattle.regress_bounded.specs.declared.stack_of_pending_threads_and_records.StackEntry.TheVariants.{Thread as AsThread, Record as AsRecord}
+use Rattle.regress_bounded.specs.declared.pending_stack.StackEntry.{StackEntry}
+use Rattle.regress_bounded.specs.declared.pending_stack.StackEntry.TheVariants.{Thread as AsThread, Record as AsRecord}
 use Rattle.regress_pikevm.specs.declared.pikevm.states.State.{State}
 use Rattle.regress_pikevm.specs.declared.pikevm.states.NextStates.{NextStates}
 use Rattle.regress_bounded.specs.CostsOfSearchEvents.{LeavesThreads, IsNewIfAny, chars_tried, work_of, threads_left, with_record_of, drops, turns, tries_chars}
-use Rattle.regress_bounded.specs.SearchStateAsMemoSearchEntries.{AttemptStartMemoBudgetAndResult, IsUnfailedStateKeyIfAny, IsNotUnboundedCharLoop, char_loop_max}
-use Rattle.regress_bounded.specs.SearchStateAsMemoSearchEntries.{is_goal_insn}
-use Rattle.regress_bounded.specs.SearchStateAsMemoSearchEntries.{IsStanding, IsRow, Stands, MayHappen, ComesOn, IsShort, HasTaken, HasTakenThreads, HasPassedOver}
-use Rattle.regress_bounded.specs.SearchStateAsMemoSearchEntries.{IsRunHere, front_of, is_known_key, stack_with_record_of_key_pushed, unbounded_char_loop_min_and_greed}
-use Rattle.regress_bounded.specs.BudgetSpending.{IsTakenFromBudget, IsWorkOrMoreThanLeft, WorkExceedsBudgetLeavingNothing}
+use Rattle.regress_bounded.specs.BoundedState.{BoundedAttempt, IsUnfailedStateKeyIfAny, IsNotUnboundedCharLoop, char_loop_max}
+use Rattle.regress_bounded.specs.BoundedState.{is_goal_insn}
+use Rattle.regress_bounded.specs.BoundedState.{IsStanding, IsRow, Stands, MayHappen, ComesOn, IsShort, HasTaken, HasTakenThreads, HasPassedOver}
+use Rattle.regress_bounded.specs.BoundedState.{IsRunHere, front_of, is_known_key, stack_with_record, min_and_greed_of_loop}
+use Rattle.regress_bounded.specs.BudgetSpending.{IsTakenFromBudget, IsWorkOrMoreThanLeft, WorkExceedsBudget}
 use Rattle.regress_pikevm.specs.States.{state_of, next_threads, preferred_last, waiting_threads}
 use Rattle.regress_pikevm.proofs.Fetching.{insn-here}
 use Rattle.regress_pikevm.proofs.Remains.{scan-threads, waiting-append}
@@ -92,13 +92,13 @@ known-key test None o e h = cc
 known-key test (Some k) o e h = record { key = memo_key_as_spec k; is = sym e; known = h }
 
 -- it has failed
-module _ {P : Type 0} {offset : P → ℕ} {program : Program} {text : Text} {b : AttemptStartMemoBudgetAndResult} {s : machine.State} {stack : List (StackEntry P)} {c : MemoAndWorkBudget}
+module _ {P : Type 0} {offset : P → ℕ} {program : Program} {text : Text} {b : BoundedAttempt} {s : machine.State} {stack : List (StackEntry P)} {c : MemoAndWorkBudget}
     (h : Stands offset program text b (tried (running s) ∷ []) stack c) (key : Option Stored) (its : option_map memo_key_as_spec key ≡ memo_key_at c.memo.memo_analysis s)
     (fails : is_known_key (has_failure c.memo) (option_map memo_key_as_spec key) ≡ true) where
   known-happens : MayHappen offset program text b h 1 h.now h.row
   known-happens = let k = known-key (has_failure c.memo) key (memo_key_at c.memo.memo_analysis s) its fails in drops s k.key h.row k.is (known offset program text b h k.key k.known)
 
-  pub known-over : (c' : MemoAndWorkBudget) → WorkExceedsBudgetLeavingNothing 1 c.left c'.left → IsShort offset program text b h c'
+  pub known-over : (c' : MemoAndWorkBudget) → WorkExceedsBudget 1 c.left c'.left → IsShort offset program text b h c'
   known-over c' spent = is-short offset program text b h 1 c' known-happens spent
 
   pub known-goes : (c' : MemoAndWorkBudget) → c'.memo ≡ c.memo → IsTakenFromBudget 1 c.left c'.left → ComesOn offset program text b h None stack c'
@@ -107,7 +107,7 @@ module _ {P : Type 0} {offset : P → ℕ} {program : Program} {text : Text} {b 
 -- ---- What stands there
 
 -- no other instruction is a run
-pub endless-other : (insn : Coded) → ((greedy : Bool) (least most : ℕ) → insn ≡ CodedRun greedy least most → ⊥) → None ≡ unbounded_char_loop_min_and_greed (insn_as_spec_insn insn)
+pub endless-other : (insn : Coded) → ((greedy : Bool) (least most : ℕ) → insn ≡ CodedRun greedy least most → ⊥) → None ≡ min_and_greed_of_loop (insn_as_spec_insn insn)
 endless-other (CodedRun greedy least most) other = absurd (other greedy least most refl)
 endless-other insn other = refl
 
@@ -131,14 +131,14 @@ maximum-of (Loop1CharBody l m g) most e = let same : most ≡ m = some-key e in 
 maximum-of x most e = cc
 
 -- one that has a maximum
-pub has-maximum : (greedy : Bool) (least most : ℕ) → None ≡ unbounded_char_loop_min_and_greed (Loop1CharBody least most greedy) → (most == unlimited) ≡ false
+pub has-maximum : (greedy : Bool) (least most : ℕ) → None ≡ min_and_greed_of_loop (Loop1CharBody least most greedy) → (most == unlimited) ≡ false
 has-maximum greedy least most none = by (most == unlimited) refl
   where
     by : (b : Bool) → (most == unlimited) ≡ b → (most == unlimited) ≡ false
     by true e = let never : false ≡ true = ap is_some (none ∙ ap (λ b. if b then Some (least, greedy) else None) e) in cc
     by false e = e
 
-endless-run : (insn : Insn) (greedy : Bool) (least : ℕ) → Some (least, greedy) ≡ unbounded_char_loop_min_and_greed insn → insn ≡ Loop1CharBody least unlimited greedy
+endless-run : (insn : Insn) (greedy : Bool) (least : ℕ) → Some (least, greedy) ≡ min_and_greed_of_loop insn → insn ≡ Loop1CharBody least unlimited greedy
 endless-run (Loop1CharBody l m g) greedy least found = by (m == unlimited) refl
   where
     by : (b : Bool) → (m == unlimited) ≡ b → Loop1CharBody l m g ≡ Loop1CharBody least unlimited greedy
@@ -200,7 +200,7 @@ module _ {P : Type 0} {offset : P → ℕ} (re : Regex) {text : Text} (insns : L
   pub here-insn : (insn : Coded) → insn ≡ get_or insns s.ip insn → slice_get (compiled (tree_of re)).insns s.ip ≡ Some (insn_as_spec_insn insn)
   here-insn insn is = can-insn re text insns code s (standing-can there) insn is
 
-  pub run-at : (insn : Coded) → insn ≡ get_or insns s.ip insn → (greedy : Bool) (least : ℕ) → Some (least, greedy) ≡ unbounded_char_loop_min_and_greed (insn_as_spec_insn insn)
+  pub run-at : (insn : Coded) → insn ≡ get_or insns s.ip insn → (greedy : Bool) (least : ℕ) → Some (least, greedy) ≡ min_and_greed_of_loop (insn_as_spec_insn insn)
       → RunAt offset re text insns s greedy least
   run-at insn is greedy least found =
       let x = reads-at re text insns code s (standing-can there) least unlimited greedy (here-insn insn is ∙ ap Some (endless-run (insn_as_spec_insn insn) greedy least found)) in
@@ -341,7 +341,7 @@ module _ {P : Type 0} (offset : P → ℕ) (program : Program) (text : Text) whe
             is = subst (λ l. IsRow offset program text l (tries (waiting_threads offset h.others) ++ below)) (sym h.wait) (rows-push h.others old below is);
           }
 
-module _ {P : Type 0} {offset : P → ℕ} {program : Program} {text : Text} {b : AttemptStartMemoBudgetAndResult} {s : machine.State} {stack : List (StackEntry P)} {c : MemoAndWorkBudget}
+module _ {P : Type 0} {offset : P → ℕ} {program : Program} {text : Text} {b : BoundedAttempt} {s : machine.State} {stack : List (StackEntry P)} {c : MemoAndWorkBudget}
     (h : Stands offset program text b (tried (running s) ∷ []) stack c) (limited : IsNotUnboundedCharLoop program s.ip) {key : Option Stored} (k : IsUnfailedStateKeyIfAny c.memo s key)
     (leads : LeavesThreads (act program text rightwards s)) where
   abbrev recorded : List Entry
@@ -364,21 +364,21 @@ module _ {P : Type 0} {offset : P → ℕ} {program : Program} {text : Text} {b 
       by stuck is leads = absurd leads
 
   -- there was not so much
-  pub turn-over : (number : ℕ) → IsWorkOrMoreThanLeft c.left (work_of (act program text rightwards s)) number → (c' : MemoAndWorkBudget) → WorkExceedsBudgetLeavingNothing number c.left c'.left
+  pub turn-over : (number : ℕ) → IsWorkOrMoreThanLeft c.left (work_of (act program text rightwards s)) number → (c' : MemoAndWorkBudget) → WorkExceedsBudget number c.left c'.left
       → IsShort offset program text b h c'
-  turn-over number (inl same) c' spent = is-short offset program text b h (work_of (act program text rightwards s)) c' turn-happens (subst (λ n. WorkExceedsBudgetLeavingNothing n c.left c'.left) same spent)
+  turn-over number (inl same) c' spent = is-short offset program text b h (work_of (act program text rightwards s)) c' turn-happens (subst (λ n. WorkExceedsBudget n c.left c'.left) same spent)
   turn-over number (inr more) c' spent = is-short offset program text b h (work_of (act program text rightwards s)) c' turn-happens (more.1, spent.1)
 
   -- its record waits
-  record-waits : (mid : List (StackEntry P)) → mid ≡ stack_with_record_of_key_pushed key stack → IsRow offset program text mid recorded
+  record-waits : (mid : List (StackEntry P)) → mid ≡ stack_with_record key stack → IsRow offset program text mid recorded
   record-waits mid pushed = subst (λ xs. IsRow offset program text xs recorded) (sym pushed) (by key)
     where
-      by : (key : Option Stored) → IsRow offset program text (stack_with_record_of_key_pushed key stack) (with_record_of s (option_map memo_key_as_spec key) h.row)
+      by : (key : Option Stored) → IsRow offset program text (stack_with_record key stack) (with_record_of s (option_map memo_key_as_spec key) h.row)
       by None = h.is
       by (Some k) =
           row-push offset program text stack (AsRecord k) (noted (memo_key_as_spec k) (running s ∷ [])) h.row (record { threads = running s ∷ []; is = refl }) h.is
 
-  pub turn-goes : (number : ℕ) → IsWorkOrMoreThanLeft c.left (work_of (act program text rightwards s)) number → (mid last : List (StackEntry P)) → mid ≡ stack_with_record_of_key_pushed key stack
+  pub turn-goes : (number : ℕ) → IsWorkOrMoreThanLeft c.left (work_of (act program text rightwards s)) number → (mid last : List (StackEntry P)) → mid ≡ stack_with_record key stack
       → (next : Option (State P)) → HasTakenThreads offset (threads_left (act program text rightwards s)) mid next last
       → (c' : MemoAndWorkBudget) → c'.memo ≡ c.memo → IsTakenFromBudget number c.left c'.left → ComesOn offset program text b h next last c'
   turn-goes number works mid last pushed next taken c' same spent =

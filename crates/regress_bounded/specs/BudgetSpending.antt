@@ -6,8 +6,8 @@ abbrev pub IsTakenFromBudget : (work old new : ℕ) → Type 0
 IsTakenFromBudget work old new = old ≡ work + new
 
 -- The budget is smaller than the work, and nothing is left.
-abbrev pub WorkExceedsBudgetLeavingNothing : (work old new : ℕ) → Type 0
-WorkExceedsBudgetLeavingNothing work old new = (old < work) × (new ≡ 0)
+abbrev pub WorkExceedsBudget : (work old new : ℕ) → Type 0
+WorkExceedsBudget work old new = (old < work) × (new ≡ 0)
 
 -- The number is the work, or both are more than is left.
 abbrev pub IsWorkOrMoreThanLeft : (left work number : ℕ) → Type 0

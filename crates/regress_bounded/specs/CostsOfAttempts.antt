@@ -1,6 +1,6 @@
 -- What attempts cost that remember failures from the first one on: an attempt is a search from the
 -- first instruction on, whose events (`CostsOfSearchEvents`) cost the sum of their costs.
-use Rattle.std.specs.Prelude.{◌≡◌, ◌+◌, ℕ, false, if◌then◌else◌, nat_le, List, [], ◌∷◌, Option, Some, None, IfSome}
+use Rattle.std.specs.Prelude.{◌≡◌, ◌+◌, ℕ, false, List, [], ◌∷◌, Option, IfSome}
 use Rattle.regex_meaning.specs.Text.{Text, rightwards}
 use Rattle.regex_meaning.specs.Tree.{Tree}
 use Rattle.regex_meaning.specs.CompilationRelation.{Program}
@@ -13,7 +13,7 @@ use Rattle.regress_memo.specs.Laws.{ListsExactlyKnownKeys}
 use Rattle.regress_memo.specs.MemoContents.{has_failure}
 use Rattle.regress_memo.specs.MemoContractView.{MemoView}
 use Rattle.regress_program.specs.CompilationOfTreesAsFunction.{compiled}
-use Rattle.regex_meaning.specs.CodeUnitOffsets.{units}
+use Rattle.regex_meaning.specs.CodeUnitOffsets.{offset_within}
 use Rattle.regress_search.specs.CostsOfSearches.{Failures}
 use Rattle.regress_search.specs.CostsOfCalls.{WorkMatchesView}
 use Rattle.regress_search.specs.declared.exec.MatchProducer.{Ghosts}
@@ -60,7 +60,7 @@ pub record BeginsSearches (tree : Tree) (text : Text) (start : ℕ) (its_tree : 
   pub of_tree : its_tree ≡ tree
   pub of_text : its_text ≡ text
   pub fresh : AreNone its_failures
-  pub position : its_position ≡ (if nat_le start (units text) then Some start else None)
+  pub position : its_position ≡ offset_within text start
 
 -- `BeginsSearches` of an iterator, by the ghost state of its producer.
 abbrev pub IteratorBeginsSearches : {E Q : Type 0} (e : Ghosts E Q) (tree : Tree) (text : Text) (start : ℕ) → WorkMatchesView E → Type 0

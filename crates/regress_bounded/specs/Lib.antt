@@ -1,6 +1,6 @@
 pub mod CostsOfSearchEvents
-pub mod ProgramWorkBoundForAllMatches
-pub mod SearchStateAsMemoSearchEntries
+pub mod WorkBoundForAllMatches
+pub mod BoundedState
 pub mod WorkOfCharLoopsAndAttempts
 pub mod BudgetSpending
 pub mod WorkOfSuccessiveAttempts

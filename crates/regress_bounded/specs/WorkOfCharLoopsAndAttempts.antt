@@ -7,14 +7,14 @@ use Rattle.regress_machine.specs.Machine.{State, Thread, waiting, test_of}
 use Rattle.regress_machine.specs.CharLoopExitStatesByPreference.{behind}
 use Rattle.regress_memo.specs.AmortizedStepCosts.{potential_by}
 use Rattle.regress_memo.specs.MemoPlanChecksAndGuarantees.{plan_taken}
-use Rattle.regress_memo.specs.UnboundedCharLoopsAsMemoSteps.{key_behind}
+use Rattle.regress_memo.specs.UnboundedCharLoops.{key_behind}
 use Rattle.regress_memo.specs.CharLoopExitThreadLists.{greedy_loop_threads}
-use Rattle.regress_memo.specs.AttemptsAndWorkOverSuccessiveMatches.{Attempted}
+use Rattle.regress_memo.specs.SuccessiveMatches.{Attempted}
 use Rattle.regress_memo.specs.MemoSearch.{Key, Entry, tried, noted, tries, IsMemory}
 use Rattle.regress_memo.specs.declared.analysis_result.MemoAnalysis.{MemoAnalysis}
 use Rattle.regress_memo.specs.WorkBound.{first_row}
 use Rattle.regress_memo.specs.AnalysisChecks.{unlimited}
-use Rattle.regress_memo.specs.AnalysisAsLivenessAndPotentials.{analysis_as_liveness, key_code_questions_of, recorded, potentials_of, key_cost_of, insn_direction}
+use Rattle.regress_memo.specs.AnalysisAsPotentials.{analysis_as_liveness, key_code_questions_of, recorded, potentials_of, key_cost_of, insn_direction}
 use Rattle.regress_memo.specs.Laws.{analysis_keys, ListsExactlyKnownKeys}
 use Rattle.regress_memo.specs.AmortizedMemoSearchSteps.{HasCome}
 
@@ -69,7 +69,7 @@ module _ (program : Program) (text : Text) (t : MemoAnalysis) where
 
   -- An attempt at an offset after these attempts, which reached the entries `row` in `work` units
   -- of work.
-  pub record IsTrying (known : Key → Bool) (at done work : ℕ) (row : List Entry) : Type 0 where
+  pub record AttemptIsUnderWay (known : Key → Bool) (at done work : ℕ) (row : List Entry) : Type 0 where
     pub memory : List Key
     pub now : List Key
     pub has : HasWalked at done memory

@@ -6,7 +6,7 @@ use Rattle.regex_meaning.specs.CodeUnitOffsets.{units}
 use Rattle.regex_meaning.specs.CompilationRelation.{Program}
 use Rattle.regress_memo.specs.MemoContents.{has_failure}
 use Rattle.regress_bounded.specs.declared.memo_and_work_budget.MemoAndWorkBudget.{MemoAndWorkBudget}
-use Rattle.regress_bounded.specs.ProgramWorkBoundForAllMatches.{work_per_unit}
+use Rattle.regress_bounded.specs.WorkBoundForAllMatches.{work_per_unit}
 use Rattle.regress_bounded.specs.WorkOfCharLoopsAndAttempts.{IsWalked}
 
 module _ (program : Program) (text : Text) (c : MemoAndWorkBudget) (ahead : ℕ) where

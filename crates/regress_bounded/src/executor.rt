@@ -3,25 +3,23 @@
 
 ghost use Rattle.std.specs.Prelude.{◌≡◌, ◌≤◌, ◌<◌, ◌^◌, ◌*◌, ◌+◌, nat_le, not, IfErr, IfOk, IsAscii, None, Some, [], false, refl, true};
 ghost use Rattle.std.proofs.Props.{props};
-ghost use Rattle.regex_meaning.specs.{CodeUnitOffsets.{IsBoundary, units}, Text.{ascii_text, ucs2_text, utf16_text, utf8_text}};
+ghost use Rattle.regex_meaning.specs.{CodeUnitOffsets.{IsBoundary, units, IsBoundaryOrPastEnd, is_past}, Text.{ascii_text, ucs2_text, utf16_text, utf8_text}};
 ghost use Rattle.regex_pattern_front.specs.AstToSpecTree.{tree_of};
-ghost use Rattle.regress_search.specs.{AttemptResultsAndStartsToTry.{match_end_and_groups_at}, AttemptsAndMatchesWithinWork.{least_offset_after_match}};
-ghost use Rattle.regress_search.specs.CostsOfCalls.{remaining};
+ghost use Rattle.regress_search.specs.{AttemptsAndStarts.{match_end_and_groups_at}, MatchesWithinWork.{least_offset_after_match}};
+ghost use Rattle.regress_search.specs.CostsOfCalls.{without_costs};
 ghost use Rattle.regress_search.specs.declared.exec.SearchError.TheVariants.{Memory};
 ghost use Rattle.regress_program.specs.CompilationOfTreesAsFunction.{compiled};
 ghost use Rattle.regress_pikevm.specs.{InsnEffects.{end_and_groups}, States.{groups_of}};
-ghost use Rattle.regress_bounded.specs.ProgramWorkBoundForAllMatches.{IsBoundaryOrPastEnd, TreeHasWorkBound, ExecutorIsBeforeItsFirstAttempt};
-ghost use Rattle.regress_bounded.specs.ProgramWorkBoundForAllMatches.{YieldsMatchesIfWorkSuffices, is_work_enough_for_text};
-ghost use Rattle.regress_bounded.specs.SearchStateAsMemoSearchEntries.{AttemptStartMemoBudgetAndResult, AttemptBeginsWithMemoAndBudget, IsMemoRightForRegex, Stands};
-ghost use Rattle.regress_bounded.specs.SearchStateAsMemoSearchEntries.{IsStanding, Runs, front_of};
+ghost use Rattle.regress_bounded.specs.WorkBoundForAllMatches.{TreeHasWorkBound, HasMadeNoAttempt};
+ghost use Rattle.regress_bounded.specs.WorkBoundForAllMatches.{YieldsMatchesIfWorkSuffices, is_work_enough_for_text};
+ghost use Rattle.regress_bounded.specs.BoundedState.{BoundedAttempt, BoundedAttemptBegins, IsMemoRightForRegex, Stands};
+ghost use Rattle.regress_bounded.specs.BoundedState.{IsStanding, Runs, front_of};
 ghost use Rattle.regress_bounded.specs.WorkOfSuccessiveAttempts.{HasWalked};
 ghost use Rattle.regress_bounded.specs.CostsOfAttempts.{AreNone, AttemptCosts, IteratorBeginsSearches, failures_of};
 
 use crate::memo_and_work_budget::{AttemptAbortReason, MemoAndWorkBudget};
-use crate::stack_of_pending_threads_and_records::StackEntry;
-use crate::thread_steps_and_backtracking::{
-    StepResult, execute_thread_step, resume_entry_or_record_failure,
-};
+use crate::pending_stack::StackEntry;
+use crate::thread_steps_and_backtracking::{StepResult, execute_thread_step, resume_or_record};
 use crate::work_bound::WorkBound;
 use regress_input::indexing::{AsciiInput, InputIndexer, Ucs2Input, Utf8Input, Utf16Input};
 use regress_input::position::PositionType;
@@ -45,19 +43,19 @@ pub struct BoundedExecutor<'r, Input: InputIndexer> {
     searched: ProgramAndInput<'r, Input>,
     // pending entries, the next one last
     stack: Vec<StackEntry<Input::Position>>,
-    // groups of the last attempt that found an end
+    // Groups of the last attempt that found an end.
     groups: Vec<Option<(Input::Position, Input::Position)>>,
-    course: MemoAndWorkBudget,
-    // whether the budget is sufficient and all attempts were made in order, so that no later
-    // attempt is before `ahead`
+    progress: MemoAndWorkBudget,
+    // Whether the budget is sufficient and all attempts were made in order, so that no later
+    // attempt is before `ahead`.
     enough: bool,
     ahead: usize,
-    // whether the last attempt was given up because the budget was exhausted; then no work is left
+    // Whether the last attempt was given up because the budget was exhausted; then no work is left.
     out: bool,
-    ghost right: { IsMemoRightForRegex searched.program.now (Input.text searched.input) course.memo } by { Prim.hlevel props },
+    ghost right: { IsMemoRightForRegex searched.program.now (Input.text searched.input) progress.memo } by { Prim.hlevel props },
     ghost walked: { enough ≡ true
-        → HasWalked (compiled (tree_of searched.program.now)) (Input.text searched.input) course ahead } by { Prim.hlevel props },
-    ghost spent: { out ≡ true → course.left ≡ 0 } by { Prim.hlevel props },
+        → HasWalked (compiled (tree_of searched.program.now)) (Input.text searched.input) progress ahead } by { Prim.hlevel props },
+    ghost spent: { out ≡ true → progress.left ≡ 0 } by { Prim.hlevel props },
 }
 
 // Returns the preferred end that is reached from a state, within the budget.
@@ -65,32 +63,30 @@ fn run<Input: InputIndexer>(
     searched: &ProgramAndInput<'_, Input>,
     start: State<Input::Position>,
     stack: &mut Vec<StackEntry<Input::Position>>,
-    course: &mut MemoAndWorkBudget,
+    progress: &mut MemoAndWorkBudget,
 ) -> Result<Option<State<Input::Position>>, AttemptAbortReason>
     requires stands { let s = searched.now in
         IsStanding Input.Position.offset (compiled (tree_of s.program.now)) (Input.text s.input)
-        (front_of Input.Position.offset (Some start)) [] course.old }
-    ensures right { let s = searched.now in IsMemoRightForRegex s.program.now (Input.text s.input) course.new.memo }
-    ensures memo_analysis { course.new.memo.memo_analysis ≡ course.old.memo.memo_analysis }
-    ensures left { course.new.left ≤ course.old.left }
+        (front_of Input.Position.offset (Some start)) [] progress.old }
+    ensures right { let s = searched.now in IsMemoRightForRegex s.program.now (Input.text s.input) progress.new.memo }
+    ensures memo_analysis { progress.new.memo.memo_analysis ≡ progress.old.memo.memo_analysis }
+    ensures left { progress.new.left ≤ progress.old.left }
     ensures runs { let at = Input.Position.offset in let s = searched.now in
         let program = compiled (tree_of s.program.now) in let text = Input.text s.input in
-        (b : AttemptStartMemoBudgetAndResult) → Stands at program text b (front_of at (Some start)) [] course.old
-        → Runs at program text b result course.new }
+        (b : BoundedAttempt) → Stands at program text b (front_of at (Some start)) [] progress.old
+        → Runs at program text b result progress.new }
 {
     stack.clear();
     let insns = searched.program.insns();
     let mut next = Some(start);
     'search: loop {
         next = match next {
-            Some(state) => match execute_thread_step(searched, insns, state, stack, course)? {
+            Some(state) => match execute_thread_step(searched, insns, state, stack, progress)? {
                 StepResult::On(next) => next,
                 StepResult::End(end) => return Ok(Some(end)),
             },
             None => match stack.pop() {
-                Some(waiting) => resume_entry_or_record_failure(
-                    searched, insns, waiting, stack, course,
-                )?,
+                Some(waiting) => resume_or_record(searched, insns, waiting, stack, progress)?,
                 None => return Ok(None),
             },
         };
@@ -102,23 +98,23 @@ fn run<Input: InputIndexer>(
 fn preferred_final_state<Input: InputIndexer>(
     searched: &ProgramAndInput<'_, Input>,
     stack: &mut Vec<StackEntry<Input::Position>>,
-    course: &mut MemoAndWorkBudget,
+    progress: &mut MemoAndWorkBudget,
     pos: Input::Position,
 ) -> Result<Option<State<Input::Position>>, AttemptAbortReason>
     requires at { IsBoundary (Input.text searched.now.input) (Input.Position.offset pos) }
-    requires right { let s = searched.now in IsMemoRightForRegex s.program.now (Input.text s.input) course.old.memo }
-    ensures right { let s = searched.now in IsMemoRightForRegex s.program.now (Input.text s.input) course.new.memo }
+    requires right { let s = searched.now in IsMemoRightForRegex s.program.now (Input.text s.input) progress.old.memo }
+    ensures right { let s = searched.now in IsMemoRightForRegex s.program.now (Input.text s.input) progress.new.memo }
     ensures found { let s = searched.now in IfOk result (λ end. end_and_groups Input.Position.offset end
         ≡ match_end_and_groups_at (tree_of s.program.now) (Input.text s.input) (Input.Position.offset pos)) }
-    ensures memo_analysis { course.new.memo.memo_analysis ≡ course.old.memo.memo_analysis }
-    ensures left { course.new.left ≤ course.old.left }
+    ensures memo_analysis { progress.new.memo.memo_analysis ≡ progress.old.memo.memo_analysis }
+    ensures left { progress.new.left ≤ progress.old.left }
     ensures runs { let at = Input.Position.offset in let s = searched.now in
         let program = compiled (tree_of s.program.now) in let text = Input.text s.input in
-        (b : AttemptStartMemoBudgetAndResult) → AttemptBeginsWithMemoAndBudget program text (at pos) course.old b → Runs
-        at program text b result course.new }
+        (b : BoundedAttempt) → BoundedAttemptBegins program text (at pos) progress.old b → Runs
+        at program text b result progress.new }
 {
     let start = initial_state(searched.program, pos)?;
-    let end = run(searched, start, stack, course)?;
+    let end = run(searched, start, stack, progress)?;
     Ok(end)
 }
 
@@ -139,11 +135,11 @@ impl<'r, Input: InputIndexer> SingleAttemptExecutor for BoundedExecutor<'r, Inpu
 
     ghost out_of_work = { λ e. e.out };
 
-    ghost left = { λ e. e.course.left };
+    ghost left = { λ e. e.progress.left };
 
     ghost counts_work = { true };
 
-    ghost failures = { λ e. failures_of e.course.memo };
+    ghost failures = { λ e. failures_of e.progress.memo };
 
     ghost attempt_costs = { AttemptCosts };
 
@@ -159,7 +155,7 @@ impl<'r, Input: InputIndexer> SingleAttemptExecutor for BoundedExecutor<'r, Inpu
         let at = pos.to_offset();
         self.out = false;
         self.enough = self.enough && self.ahead <= at;
-        match preferred_final_state(&self.searched, &mut self.stack, &mut self.course, pos) {
+        match preferred_final_state(&self.searched, &mut self.stack, &mut self.progress, pos) {
             Ok(Some(end)) => {
                 let pos = end.pos;
                 self.ahead = least_offset_after_match(at, pos.to_offset());
@@ -190,8 +186,8 @@ impl<'r, Input: InputIndexer> SingleAttemptExecutor for BoundedExecutor<'r, Inpu
         Some(pos)
     }
 
-    fn next_start_after_failed_attempt(&self, tried: Input::Position) -> Option<Input::Position> {
-        self.searched.position_after_failed_attempt(tried)
+    fn next_start_after_failure(&self, tried: Input::Position) -> Option<Input::Position> {
+        self.searched.position_after_failure(tried)
     }
 }
 
@@ -205,7 +201,7 @@ fn least_offset_after_match(at: usize, end: usize) -> usize
 
 impl<'r, Input: InputIndexer> WorkLimitedProducer for BoundedExecutor<'r, Input> {
     fn work_left(&self) -> u64 {
-        self.course.left
+        self.progress.left
     }
 
     fn is_work_exhausted(&self) -> bool {
@@ -224,11 +220,11 @@ impl<'r, Input: InputIndexer> BoundedExecutor<'r, Input> {
     ) -> Result<Self, SearchError>
         requires { TreeHasWorkBound (tree_of searched.program.now) bound.now }
         ensures searched { IfOk result (λ e. e.searched ≡ searched.entry) }
-        ensures left { IfOk result (λ e. e.course.left ≡ work) }
+        ensures left { IfOk result (λ e. e.progress.left ≡ work) }
         ensures enough { IfOk result (λ e. e.enough
             ≡ is_work_enough_for_text bound.now.per_unit (Input.text searched.entry.input) work) }
         ensures ahead { IfOk result (λ e. e.ahead ≡ 0) }
-        ensures fresh { IfOk result (λ e. AreNone (failures_of e.course.memo)) }
+        ensures fresh { IfOk result (λ e. AreNone (failures_of e.progress.memo)) }
         ensures refused { IfErr result (λ e. e ≡ Memory) }
     {
         let alloc = searched.program.allocator();
@@ -241,7 +237,7 @@ impl<'r, Input: InputIndexer> BoundedExecutor<'r, Input> {
             searched,
             stack: Vec::new(alloc),
             groups: Vec::new(alloc),
-            course: MemoAndWorkBudget { memo, left: work },
+            progress: MemoAndWorkBudget { memo, left: work },
             enough,
             ahead: 0,
             out: false,
@@ -278,12 +274,12 @@ impl<'r, 't> BoundedExecutor<'r, Ucs2Input<'t>> {
         requires start { IsBoundaryOrPastEnd (ucs2_text text.now (tree_of re.now).flags.unicode) start }
         ensures yields { IfOk result (λ it. YieldsMatchesIfWorkSuffices (tree_of re.now)
             (ucs2_text text.now (tree_of re.now).flags.unicode)
-            start bound.now.per_unit work (remaining it)) }
+            start bound.now.per_unit work (without_costs it)) }
         ensures begins { let e = ⟦<BoundedExecutor<'r, Ucs2Input<'t>> as MatchProducer>⟧ in
             IfOk result (IteratorBeginsSearches e (tree_of re.now)
             (ucs2_text text.now (tree_of re.now).flags.unicode) start) }
-        ensures ended { IfOk result (λ it. it.come.ended
-            ≡ not (nat_le start (units (ucs2_text text.now (tree_of re.now).flags.unicode)))) }
+        ensures ended { IfOk result (λ it. it.remaining.ended
+            ≡ is_past start (units (ucs2_text text.now (tree_of re.now).flags.unicode))) }
         ensures refused { IfErr result (λ e. e ≡ Memory) }
     {
         let executor = BoundedExecutor::<Ucs2Input>::new_ucs2(re, bound, text, work)?;
@@ -299,7 +295,7 @@ impl<'r, 't> BoundedExecutor<'r, Ucs2Input<'t>> {
     ) -> Result<Self, SearchError>
         requires bound { TreeHasWorkBound (tree_of re.now) bound.now }
         ensures start { let e = ⟦<BoundedExecutor<'r, Ucs2Input<'t>> as MatchProducer>⟧ in
-            IfOk result (ExecutorIsBeforeItsFirstAttempt e (tree_of re.now) (ucs2_text text.now) bound.now work) }
+            IfOk result (HasMadeNoAttempt e (tree_of re.now) (ucs2_text text.now) bound.now work) }
         ensures refused { IfErr result (λ e. e ≡ Memory) }
     {
         BoundedExecutor::over(ProgramAndInput::pair_with_ucs2_text(re, text), bound, work)
@@ -325,12 +321,12 @@ impl<'r, 't> BoundedExecutor<'r, Utf8Input<'t>> {
         requires start { IsBoundaryOrPastEnd (utf8_text text.now (tree_of re.now).flags.unicode) start }
         ensures yields { IfOk result (λ it. YieldsMatchesIfWorkSuffices (tree_of re.now)
             (utf8_text text.now (tree_of re.now).flags.unicode)
-            start bound.now.per_unit work (remaining it)) }
+            start bound.now.per_unit work (without_costs it)) }
         ensures begins { let e = ⟦<BoundedExecutor<'r, Utf8Input<'t>> as MatchProducer>⟧ in
             IfOk result (IteratorBeginsSearches e (tree_of re.now)
             (utf8_text text.now (tree_of re.now).flags.unicode) start) }
-        ensures ended { IfOk result (λ it. it.come.ended
-            ≡ not (nat_le start (units (utf8_text text.now (tree_of re.now).flags.unicode)))) }
+        ensures ended { IfOk result (λ it. it.remaining.ended
+            ≡ is_past start (units (utf8_text text.now (tree_of re.now).flags.unicode))) }
         ensures refused { IfErr result (λ e. e ≡ Memory) }
     {
         let executor = BoundedExecutor::<Utf8Input>::new_utf8(re, bound, text, work)?;
@@ -346,7 +342,7 @@ impl<'r, 't> BoundedExecutor<'r, Utf8Input<'t>> {
     ) -> Result<Self, SearchError>
         requires bound { TreeHasWorkBound (tree_of re.now) bound.now }
         ensures start { let e = ⟦<BoundedExecutor<'r, Utf8Input<'t>> as MatchProducer>⟧ in
-            IfOk result (ExecutorIsBeforeItsFirstAttempt e (tree_of re.now) (utf8_text text.now) bound.now work) }
+            IfOk result (HasMadeNoAttempt e (tree_of re.now) (utf8_text text.now) bound.now work) }
         ensures refused { IfErr result (λ e. e ≡ Memory) }
     {
         BoundedExecutor::over(ProgramAndInput::pair_with_utf8_text(re, text), bound, work)
@@ -373,12 +369,12 @@ impl<'r, 't> BoundedExecutor<'r, AsciiInput<'t>> {
         requires start { IsBoundaryOrPastEnd (ascii_text text.now (tree_of re.now).flags.unicode) start }
         ensures yields { IfOk result (λ it. YieldsMatchesIfWorkSuffices (tree_of re.now)
             (ascii_text text.now (tree_of re.now).flags.unicode)
-            start bound.now.per_unit work (remaining it)) }
+            start bound.now.per_unit work (without_costs it)) }
         ensures begins { let e = ⟦<BoundedExecutor<'r, AsciiInput<'t>> as MatchProducer>⟧ in
             IfOk result (IteratorBeginsSearches e (tree_of re.now)
             (ascii_text text.now (tree_of re.now).flags.unicode) start) }
-        ensures ended { IfOk result (λ it. it.come.ended
-            ≡ not (nat_le start (units (ascii_text text.now (tree_of re.now).flags.unicode)))) }
+        ensures ended { IfOk result (λ it. it.remaining.ended
+            ≡ is_past start (units (ascii_text text.now (tree_of re.now).flags.unicode))) }
         ensures refused { IfErr result (λ e. e ≡ Memory) }
     {
         let executor = BoundedExecutor::<AsciiInput>::new_ascii(re, bound, text, work)?;
@@ -395,7 +391,7 @@ impl<'r, 't> BoundedExecutor<'r, AsciiInput<'t>> {
         requires bound { TreeHasWorkBound (tree_of re.now) bound.now }
         requires ascii { IsAscii text.now }
         ensures start { let e = ⟦<BoundedExecutor<'r, AsciiInput<'t>> as MatchProducer>⟧ in
-            IfOk result (ExecutorIsBeforeItsFirstAttempt e (tree_of re.now) (ascii_text text.now) bound.now work) }
+            IfOk result (HasMadeNoAttempt e (tree_of re.now) (ascii_text text.now) bound.now work) }
         ensures refused { IfErr result (λ e. e ≡ Memory) }
     {
         BoundedExecutor::over(ProgramAndInput::pair_with_ascii_text(re, text), bound, work)
@@ -421,12 +417,12 @@ impl<'r, 't> BoundedExecutor<'r, Utf16Input<'t>> {
         requires start { IsBoundaryOrPastEnd (utf16_text text.now (tree_of re.now).flags.unicode) start }
         ensures yields { IfOk result (λ it. YieldsMatchesIfWorkSuffices (tree_of re.now)
             (utf16_text text.now (tree_of re.now).flags.unicode)
-            start bound.now.per_unit work (remaining it)) }
+            start bound.now.per_unit work (without_costs it)) }
         ensures begins { let e = ⟦<BoundedExecutor<'r, Utf16Input<'t>> as MatchProducer>⟧ in
             IfOk result (IteratorBeginsSearches e (tree_of re.now)
             (utf16_text text.now (tree_of re.now).flags.unicode) start) }
-        ensures ended { IfOk result (λ it. it.come.ended
-            ≡ not (nat_le start (units (utf16_text text.now (tree_of re.now).flags.unicode)))) }
+        ensures ended { IfOk result (λ it. it.remaining.ended
+            ≡ is_past start (units (utf16_text text.now (tree_of re.now).flags.unicode))) }
         ensures refused { IfErr result (λ e. e ≡ Memory) }
     {
         let executor = BoundedExecutor::<Utf16Input>::new_utf16(re, bound, text, work)?;
@@ -442,7 +438,7 @@ impl<'r, 't> BoundedExecutor<'r, Utf16Input<'t>> {
     ) -> Result<Self, SearchError>
         requires bound { TreeHasWorkBound (tree_of re.now) bound.now }
         ensures start { let e = ⟦<BoundedExecutor<'r, Utf16Input<'t>> as MatchProducer>⟧ in
-            IfOk result (ExecutorIsBeforeItsFirstAttempt e (tree_of re.now) (utf16_text text.now) bound.now work) }
+            IfOk result (HasMadeNoAttempt e (tree_of re.now) (utf16_text text.now) bound.now work) }
         ensures refused { IfErr result (λ e. e ≡ Memory) }
     {
         BoundedExecutor::over(ProgramAndInput::pair_with_utf16_text(re, text), bound, work)

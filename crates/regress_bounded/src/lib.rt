@@ -3,7 +3,7 @@
 
 pub mod executor;
 mod memo_and_work_budget;
-mod stack_of_pending_threads_and_records;
+mod pending_stack;
 mod thread_steps_and_backtracking;
 mod unbounded_char_loops;
 pub mod work_bound;

@@ -5,9 +5,9 @@ ghost use Rattle.regress_memo.specs.CheckedAnalysis.{IsRecordableMemoKey};
 ghost use Rattle.regress_memo.specs.MemoContents.{memo_key_as_spec, memo_key_at as key_of_state};
 ghost use Rattle.regress_pikevm.specs.States.{state_of};
 ghost use Rattle.regress_bounded.specs.declared.memo_and_work_budget.AttemptAbortReason.TheVariants.{Memory, Work};
-ghost use Rattle.regress_bounded.specs.BudgetSpending.{IsTakenFromBudget, WorkExceedsBudgetLeavingNothing};
+ghost use Rattle.regress_bounded.specs.BudgetSpending.{IsTakenFromBudget, WorkExceedsBudget};
 
-use crate::stack_of_pending_threads_and_records::ThreadLoopStates;
+use crate::pending_stack::ThreadLoopStates;
 use regress_input::position::PositionType;
 use regress_memo::memo::{MemoTable, ThreadMemoKey};
 use regress_pikevm::pikevm::states::State;
@@ -44,7 +44,7 @@ impl MemoAndWorkBudget {
         ensures memo { self.new.memo ≡ self.old.memo }
         ensures left { self.new.left ≤ self.old.left }
         ensures spent { OnOk result (IsTakenFromBudget work self.old.left self.new.left) }
-        ensures over { IfErr result (λ e. (e ≡ Work) × WorkExceedsBudgetLeavingNothing work self.old.left
+        ensures over { IfErr result (λ e. (e ≡ Work) × WorkExceedsBudget work self.old.left
             self.new.left) }
     {
         if self.left < work {

@@ -6,20 +6,20 @@ ghost use Rattle.regex_pattern_front.specs.AstToSpecTree.{tree_of};
 ghost use Rattle.regress_memo.specs.MemoSearch.{tried};
 ghost use Rattle.regress_machine.specs.{InsnEffects.{IsNotStuck}, Machine.{act, running}};
 ghost use Rattle.regress_memo.specs.MemoContents.{memo_key_as_spec, has_failure};
-ghost use Rattle.regress_program.specs.{CompilationOfTreesAsFunction.{compiled}, InsnsAndStartPredicatesAsSpec.{insn_as_spec_insn}};
+ghost use Rattle.regress_program.specs.{CompilationOfTreesAsFunction.{compiled}, InsnsAsSpec.{insn_as_spec_insn}};
 ghost use Rattle.regress_memo.specs.CheckedAnalysis.{IsRecordableMemoKey};
 ghost use Rattle.regress_bounded.specs.CostsOfSearchEvents.{LeavesThreads, threads_left, work_of};
-ghost use Rattle.regress_bounded.specs.SearchStateAsMemoSearchEntries.{IsMemoRightForRegex, IsUnfailedStateKeyIfAny, char_loop_max, is_goal_insn};
-ghost use Rattle.regress_bounded.specs.SearchStateAsMemoSearchEntries.{IsNotUnboundedCharLoop, is_known_key, unbounded_char_loop_min_and_greed};
-ghost use Rattle.regress_bounded.specs.SearchStateAsMemoSearchEntries.{IsStanding, GoesFrom, TurnsFrom, HasTaken, HasTakenThreads, stack_with_record_of_key_pushed};
-ghost use Rattle.regress_bounded.specs.BudgetSpending.{IsTakenFromBudget, IsWorkOrMoreThanLeft, WorkExceedsBudgetLeavingNothing};
+ghost use Rattle.regress_bounded.specs.BoundedState.{IsMemoRightForRegex, IsUnfailedStateKeyIfAny, char_loop_max, is_goal_insn};
+ghost use Rattle.regress_bounded.specs.BoundedState.{IsNotUnboundedCharLoop, is_known_key, min_and_greed_of_loop};
+ghost use Rattle.regress_bounded.specs.BoundedState.{IsStanding, GoesFrom, TurnsFrom, HasTaken, HasTakenThreads, stack_with_record};
+ghost use Rattle.regress_bounded.specs.BudgetSpending.{IsTakenFromBudget, IsWorkOrMoreThanLeft, WorkExceedsBudget};
 ghost use Rattle.regress_bounded.specs.declared.memo_and_work_budget.AttemptAbortReason.TheVariants.{Work};
 ghost use Rattle.regress_pikevm.specs.States.{state_of};
 
 use crate::memo_and_work_budget::{AttemptAbortReason, MemoAndWorkBudget};
-use crate::stack_of_pending_threads_and_records::{StackEntry, UnboundedCharLoop, push_entry};
+use crate::pending_stack::{StackEntry, UnboundedCharLoop, push_entry};
 use crate::unbounded_char_loops::{
-    execute_unbounded_char_loop_with_memo, read_chars_within_budget, resume_pending_lazy_char_loop,
+    read_chars_within_budget, resume_lazy_char_loop, unbounded_char_loop_with_memo,
 };
 use regress_input::cursor::Forward;
 use regress_input::indexing::InputIndexer;
@@ -44,32 +44,32 @@ pub(crate) fn execute_thread_step<Input: InputIndexer>(
     insns: &[Insn],
     state: State<Input::Position>,
     stack: &mut Vec<StackEntry<Input::Position>>,
-    course: &mut MemoAndWorkBudget,
+    progress: &mut MemoAndWorkBudget,
 ) -> Result<StepResult<Input::Position>, AttemptAbortReason>
     requires code { map insn_as_spec_insn insns.now ≡ (compiled (tree_of searched.now.program.now)).insns }
     requires stands { let s = searched.now in
         IsStanding Input.Position.offset (compiled (tree_of s.program.now)) (Input.text s.input)
-        (tried (running (state_of Input.Position.offset state)) ∷ []) stack.old.items course.old }
-    ensures memo { course.new.memo ≡ course.old.memo }
-    ensures left { course.new.left ≤ course.old.left }
-    ensures goes { let at = Input.Position.offset in let s = searched.now in
+        (tried (running (state_of Input.Position.offset state)) ∷ []) stack.old.items progress.old }
+    ensures memo { progress.new.memo ≡ progress.old.memo }
+    ensures left { progress.new.left ≤ progress.old.left }
+    ensures continues { let at = Input.Position.offset in let s = searched.now in
         TurnsFrom at (compiled (tree_of s.program.now)) (Input.text s.input) (tried (running (state_of at state)) ∷ [])
-        stack.old.items course.old result stack.new.items course.new }
+        stack.old.items progress.old result stack.new.items progress.new }
 {
-    let key = course.key_at(state.ip, state.pos, &state);
-    if is_known(key, course) {
-        course.spend(1)?;
+    let key = progress.key_at(state.ip, state.pos, &state);
+    if is_known(key, progress) {
+        progress.spend(1)?;
         return Ok(StepResult::On(None));
     }
     let Some((least, greedy)) = endless(insns[state.ip]) else {
-        return turn_above(searched, insns, key, state, stack, course);
+        return turn_above(searched, insns, key, state, stack, progress);
     };
     let run = UnboundedCharLoop {
         body: insns[state.ip + 1],
         least,
         greedy,
     };
-    let next = execute_unbounded_char_loop_with_memo(searched, run, state, stack, course)?;
+    let next = unbounded_char_loop_with_memo(searched, run, state, stack, progress)?;
     Ok(StepResult::On(next))
 }
 
@@ -77,7 +77,7 @@ pub(crate) fn execute_thread_step<Input: InputIndexer>(
 // greedy. Returns `None` for any other instruction.
 #[inline(always)]
 fn endless(insn: Insn) -> Option<(usize, bool)>
-    ensures { result ≡ unbounded_char_loop_min_and_greed (insn_as_spec_insn insn) }
+    ensures { result ≡ min_and_greed_of_loop (insn_as_spec_insn insn) }
 {
     let Insn::Loop1CharBody {
         min_iters,
@@ -96,13 +96,13 @@ fn endless(insn: Insn) -> Option<(usize, bool)>
 
 // Checks whether there is a key and it is known to fail.
 #[inline(always)]
-fn is_known(key: Option<ThreadMemoKey>, course: &MemoAndWorkBudget) -> bool
-    requires { IfSome key (λ k. IsRecordableMemoKey course.now.memo.memo_analysis course.now.memo.places
+fn is_known(key: Option<ThreadMemoKey>, progress: &MemoAndWorkBudget) -> bool
+    requires { IfSome key (λ k. IsRecordableMemoKey progress.now.memo.memo_analysis progress.now.memo.places
         (memo_key_as_spec k)) }
-    ensures { result ≡ is_known_key (has_failure course.now.memo) (option_map memo_key_as_spec key) }
+    ensures { result ≡ is_known_key (has_failure progress.now.memo) (option_map memo_key_as_spec key) }
 {
     match key {
-        Some(key) => course.memo.fails(key),
+        Some(key) => progress.memo.fails(key),
         None => false,
     }
 }
@@ -115,26 +115,26 @@ fn turn_above<Input: InputIndexer>(
     key: Option<ThreadMemoKey>,
     state: State<Input::Position>,
     stack: &mut Vec<StackEntry<Input::Position>>,
-    course: &mut MemoAndWorkBudget,
+    progress: &mut MemoAndWorkBudget,
 ) -> Result<StepResult<Input::Position>, AttemptAbortReason>
     requires code { map insn_as_spec_insn insns.now ≡ (compiled (tree_of searched.now.program.now)).insns }
     requires stands { let s = searched.now in
         IsStanding Input.Position.offset (compiled (tree_of s.program.now)) (Input.text s.input)
-        (tried (running (state_of Input.Position.offset state)) ∷ []) stack.old.items course.old }
-    requires key { IsUnfailedStateKeyIfAny course.old.memo (state_of Input.Position.offset state) key }
+        (tried (running (state_of Input.Position.offset state)) ∷ []) stack.old.items progress.old }
+    requires key { IsUnfailedStateKeyIfAny progress.old.memo (state_of Input.Position.offset state) key }
     requires limited { IsNotUnboundedCharLoop (compiled (tree_of searched.now.program.now)) state.ip }
-    ensures memo { course.new.memo ≡ course.old.memo }
-    ensures left { course.new.left ≤ course.old.left }
+    ensures memo { progress.new.memo ≡ progress.old.memo }
+    ensures left { progress.new.left ≤ progress.old.left }
     ensures refused { IfErr result (λ e. e ≡ Work → stack.new.items ≡ stack.old.items) }
-    ensures goes { let at = Input.Position.offset in let s = searched.now in
+    ensures continues { let at = Input.Position.offset in let s = searched.now in
         TurnsFrom at (compiled (tree_of s.program.now)) (Input.text s.input) (tried (running (state_of at state)) ∷ [])
-        stack.old.items course.old result stack.new.items course.new }
+        stack.old.items progress.old result stack.new.items progress.new }
 {
     if is_goal(insns[state.ip]) {
         return Ok(StepResult::End(state));
     }
-    let work = work_of_step(searched, insns, &state, course);
-    spend_and_push_record(key, work, stack, course)?;
+    let work = work_of_step(searched, insns, &state, progress);
+    spend_and_push_record(key, work, stack, progress)?;
     let next = push_threads_of_step(searched, insns, state, stack)?;
     Ok(StepResult::On(next))
 }
@@ -153,12 +153,12 @@ fn work_of_step<Input: InputIndexer>(
     searched: &ProgramAndInput<'_, Input>,
     insns: &[Insn],
     state: &State<Input::Position>,
-    course: &MemoAndWorkBudget,
+    progress: &MemoAndWorkBudget,
 ) -> u64
     requires code { map insn_as_spec_insn insns.now ≡ (compiled (tree_of searched.now.program.now)).insns }
-    requires can { let s = searched.now in IsNotStuck (act (compiled (tree_of s.program.now)) (Input.text s.input)
+    requires executable { let s = searched.now in IsNotStuck (act (compiled (tree_of s.program.now)) (Input.text s.input)
         rightwards (state_of Input.Position.offset state.now)) }
-    ensures { let s = searched.now in IsWorkOrMoreThanLeft course.now.left (work_of (act
+    ensures { let s = searched.now in IsWorkOrMoreThanLeft progress.now.left (work_of (act
         (compiled (tree_of s.program.now)) (Input.text s.input) rightwards
         (state_of Input.Position.offset state.now))) result }
 {
@@ -166,7 +166,7 @@ fn work_of_step<Input: InputIndexer>(
         return 1;
     };
     let mut at = state.pos;
-    let passed = read_chars_within_budget(searched, insns[state.ip + 1], most, course, &mut at);
+    let passed = read_chars_within_budget(searched, insns[state.ip + 1], most, progress, &mut at);
     most.min(passed + 1) as u64 + 1
 }
 
@@ -215,16 +215,16 @@ fn spend_and_push_record<P: PositionType>(
     key: Option<ThreadMemoKey>,
     work: u64,
     stack: &mut Vec<StackEntry<P>>,
-    course: &mut MemoAndWorkBudget,
+    progress: &mut MemoAndWorkBudget,
 ) -> Result<(), AttemptAbortReason>
-    ensures memo { course.new.memo ≡ course.old.memo }
-    ensures left { course.new.left ≤ course.old.left }
-    ensures spent { OnOk result (IsTakenFromBudget work course.old.left course.new.left) }
-    ensures pushed { OnOk result (stack.new.items ≡ stack_with_record_of_key_pushed key stack.old.items) }
+    ensures memo { progress.new.memo ≡ progress.old.memo }
+    ensures left { progress.new.left ≤ progress.old.left }
+    ensures spent { OnOk result (IsTakenFromBudget work progress.old.left progress.new.left) }
+    ensures pushed { OnOk result (stack.new.items ≡ stack_with_record key stack.old.items) }
     ensures over { IfErr result (λ e. e ≡ Work
-        → WorkExceedsBudgetLeavingNothing work course.old.left course.new.left × (stack.new.items ≡ stack.old.items)) }
+        → WorkExceedsBudget work progress.old.left progress.new.left × (stack.new.items ≡ stack.old.items)) }
 {
-    course.spend(work)?;
+    progress.spend(work)?;
     if let Some(key) = key {
         push_entry(StackEntry::Record(key), stack)?;
     }
@@ -250,36 +250,34 @@ fn take_first<P: PositionType>(
 
 /// Backtracks to a pending entry: resumes a thread or a loop, or records a failure, because
 /// everything above a record has failed.
-pub(crate) fn resume_entry_or_record_failure<Input: InputIndexer>(
+pub(crate) fn resume_or_record<Input: InputIndexer>(
     searched: &ProgramAndInput<'_, Input>,
     insns: &[Insn],
     waiting: StackEntry<Input::Position>,
     stack: &mut Vec<StackEntry<Input::Position>>,
-    course: &mut MemoAndWorkBudget,
+    progress: &mut MemoAndWorkBudget,
 ) -> Result<Option<State<Input::Position>>, AttemptAbortReason>
     requires code { map insn_as_spec_insn insns.now ≡ (compiled (tree_of searched.now.program.now)).insns }
     requires stands { let s = searched.now in
         IsStanding Input.Position.offset (compiled (tree_of s.program.now)) (Input.text s.input)
-        [] (stack.old.items ++ waiting ∷ []) course.old }
-    ensures right { let s = searched.now in IsMemoRightForRegex s.program.now (Input.text s.input) course.new.memo }
-    ensures memo_analysis { course.new.memo.memo_analysis ≡ course.old.memo.memo_analysis }
-    ensures left { course.new.left ≤ course.old.left }
+        [] (stack.old.items ++ waiting ∷ []) progress.old }
+    ensures right { let s = searched.now in IsMemoRightForRegex s.program.now (Input.text s.input) progress.new.memo }
+    ensures memo_analysis { progress.new.memo.memo_analysis ≡ progress.old.memo.memo_analysis }
+    ensures left { progress.new.left ≤ progress.old.left }
     ensures refused { IfErr result (λ e. e ≡ Work → stack.new.items ≡ stack.old.items) }
-    ensures goes { let at = Input.Position.offset in let s = searched.now in
+    ensures continues { let at = Input.Position.offset in let s = searched.now in
         GoesFrom at (compiled (tree_of s.program.now)) (Input.text s.input) []
-        (stack.old.items ++ waiting ∷ []) course.old result stack.new.items course.new }
+        (stack.old.items ++ waiting ∷ []) progress.old result stack.new.items progress.new }
 {
     match waiting {
         StackEntry::Thread(state) => {
-            course.spend(1)?;
+            progress.spend(1)?;
             Ok(Some(state))
         }
-        StackEntry::Run(state) => resume_pending_lazy_char_loop(
-            searched, insns, state, stack, course,
-        ),
+        StackEntry::Run(state) => resume_lazy_char_loop(searched, insns, state, stack, progress),
         StackEntry::Record(key) => {
-            course.spend(1)?;
-            course.memo.record_failure(key);
+            progress.spend(1)?;
+            progress.memo.record_failure(key);
             Ok(None)
         }
     }

@@ -6,22 +6,22 @@ ghost use Rattle.regex_pattern_front.specs.AstToSpecTree.{tree_of};
 ghost use Rattle.regress_memo.specs.{CharLoopExitThreadLists.{passing}, MemoSearch.{tried}};
 ghost use Rattle.regress_machine.specs.Machine.{running};
 ghost use Rattle.regress_memo.specs.MemoContents.{has_failure};
-ghost use Rattle.regress_program.specs.{CompilationOfTreesAsFunction.{compiled}, InsnsAndStartPredicatesAsSpec.{insn_as_spec_insn}};
+ghost use Rattle.regress_program.specs.{CompilationOfTreesAsFunction.{compiled}, InsnsAsSpec.{insn_as_spec_insn}};
 ghost use Rattle.regress_search.specs.OffsetsAfterMatchedInsns.{ByteInsnHasByteText, char_test_of_insn};
-ghost use Rattle.regress_bounded.specs.SearchStateAsMemoSearchEntries.{IsMemoRightForRegex, IsRunHere, IsStanding, GoesFrom, ScansWithMemo, HasPassedOver, IsPast};
-ghost use Rattle.regress_bounded.specs.SearchStateAsMemoSearchEntries.{IsNearest};
+ghost use Rattle.regress_bounded.specs.BoundedState.{IsMemoRightForRegex, IsRunHere, IsStanding, GoesFrom, ScansWithMemo, HasPassedOver, IsPast};
+ghost use Rattle.regress_bounded.specs.BoundedState.{IsNearest};
 ghost use Rattle.regress_bounded.specs.declared.memo_and_work_budget.AttemptAbortReason.TheVariants.{Work};
-ghost use Rattle.regress_bounded.specs.declared.stack_of_pending_threads_and_records.StackEntry.TheVariants.{Run as AsRun};
+ghost use Rattle.regress_bounded.specs.declared.pending_stack.StackEntry.TheVariants.{Run as AsRun};
 ghost use Rattle.regress_pikevm.specs.States.{state_of};
 
 use crate::memo_and_work_budget::{AttemptAbortReason, MemoAndWorkBudget};
-use crate::stack_of_pending_threads_and_records::{StackEntry, UnboundedCharLoop, push_entry};
+use crate::pending_stack::{StackEntry, UnboundedCharLoop, push_entry};
 use regress_input::cursor::Forward;
 use regress_input::indexing::InputIndexer;
 use regress_input::position::PositionType;
 use regress_memo::memo::ThreadMemoKey;
 use regress_pikevm::pikevm::char_loops::copy_state_after_char_loop;
-use regress_pikevm::pikevm::read_or_assertion_insn_matchers;
+use regress_pikevm::pikevm::insn_matchers;
 use regress_pikevm::pikevm::states::State;
 use regress_program::insn::Insn;
 use regress_search::program_and_input::ProgramAndInput;
@@ -33,7 +33,7 @@ pub(crate) fn read_chars_within_budget<Input: InputIndexer>(
     searched: &ProgramAndInput<'_, Input>,
     body: Insn,
     most: usize,
-    course: &MemoAndWorkBudget,
+    progress: &MemoAndWorkBudget,
     pos: &mut Input::Position,
 ) -> usize
     requires test { IsSome (char_test_of_insn searched.now.program.now body) }
@@ -43,15 +43,13 @@ pub(crate) fn read_chars_within_budget<Input: InputIndexer>(
     ensures passed { let s = searched.now in let text = Input.text s.input in (test : ℕ → Bool) (place : ℕ)
         → char_test_of_insn s.program.now body ≡ Some test → place_at text
         (Input.Position.offset pos.old) ≡ Some place → HasPassedOver Input.Position.offset text
-        test (min most (course.now.left - 1)) place result pos.new }
+        test (min most (progress.now.left - 1)) place result pos.new }
 {
-    let limit = course.chars_within_budget(most);
+    let limit = progress.chars_within_budget(most);
     let mut count = 0;
     'characters: while count < limit {
         let mut next = *pos;
-        if !read_or_assertion_insn_matchers::insn_accepts_next_char(
-            searched, body, Forward, &mut next,
-        ) {
+        if !insn_matchers::insn_accepts_next_char(searched, body, Forward, &mut next) {
             break;
         }
         *pos = next;
@@ -65,12 +63,12 @@ pub(crate) fn read_chars_within_budget<Input: InputIndexer>(
 /// A greedy loop takes the furthest exit and pushes the nearer ones. It stops at a position from
 /// which on it is known to fail. A lazy loop takes the nearest exit and pushes one entry for all
 /// others. No more characters are read than the budget has work for.
-pub(crate) fn execute_unbounded_char_loop_with_memo<Input: InputIndexer>(
+pub(crate) fn unbounded_char_loop_with_memo<Input: InputIndexer>(
     searched: &ProgramAndInput<'_, Input>,
     run: UnboundedCharLoop,
     state: State<Input::Position>,
     stack: &mut Vec<StackEntry<Input::Position>>,
-    course: &mut MemoAndWorkBudget,
+    progress: &mut MemoAndWorkBudget,
 ) -> Result<Option<State<Input::Position>>, AttemptAbortReason>
     requires run { let s = searched.now in IsRunHere Input.Position.offset (compiled (tree_of s.program.now))
         (Input.text s.input) run run.greedy (state_of Input.Position.offset state) }
@@ -78,26 +76,26 @@ pub(crate) fn execute_unbounded_char_loop_with_memo<Input: InputIndexer>(
     requires within { state.ip + 2 < 2 ^ 64 }
     requires stands { let s = searched.now in
         IsStanding Input.Position.offset (compiled (tree_of s.program.now)) (Input.text s.input)
-        (tried (running (state_of Input.Position.offset state)) ∷ []) stack.old.items course.old }
-    ensures memo { course.new.memo ≡ course.old.memo }
-    ensures left { course.new.left ≤ course.old.left }
+        (tried (running (state_of Input.Position.offset state)) ∷ []) stack.old.items progress.old }
+    ensures memo { progress.new.memo ≡ progress.old.memo }
+    ensures left { progress.new.left ≤ progress.old.left }
     ensures refused { IfErr result (λ e. e ≡ Work → run.greedy ≡ false → stack.new.items ≡ stack.old.items) }
-    ensures goes { let at = Input.Position.offset in let s = searched.now in
+    ensures continues { let at = Input.Position.offset in let s = searched.now in
         GoesFrom at (compiled (tree_of s.program.now)) (Input.text s.input) (tried (running (state_of at state)) ∷ [])
-        stack.old.items course.old result stack.new.items course.new }
+        stack.old.items progress.old result stack.new.items progress.new }
 {
     let mut at = state.pos;
-    let passed = read_chars_within_budget(searched, run.body, run.least, course, &mut at);
+    let passed = read_chars_within_budget(searched, run.body, run.least, progress, &mut at);
     if passed < run.least {
-        course.spend(passed as u64 + 2)?;
+        progress.spend(passed as u64 + 2)?;
         return Ok(None);
     }
     if run.greedy {
-        let (next, count) = scan_with_memo(searched, run, at, &state, stack, course)?;
-        course.spend(count as u64 + 2)?;
+        let (next, count) = scan_with_memo(searched, run, at, &state, stack, progress)?;
+        progress.spend(count as u64 + 2)?;
         return Ok(next);
     }
-    course.spend(passed as u64 + 2)?;
+    progress.spend(passed as u64 + 2)?;
     let next = nearest(searched, run.body, at, state, stack)?;
     Ok(Some(next))
 }
@@ -111,9 +109,9 @@ fn scan_with_memo<Input: InputIndexer>(
     from: Input::Position,
     state: &State<Input::Position>,
     stack: &mut Vec<StackEntry<Input::Position>>,
-    course: &MemoAndWorkBudget,
+    progress: &MemoAndWorkBudget,
 ) -> Result<(Option<State<Input::Position>>, usize), AllocError>
-    requires right { let s = searched.now in IsMemoRightForRegex s.program.now (Input.text s.input) course.now.memo }
+    requires right { let s = searched.now in IsMemoRightForRegex s.program.now (Input.text s.input) progress.now.memo }
     requires run { let s = searched.now in IsRunHere Input.Position.offset (compiled (tree_of s.program.now))
         (Input.text s.input) run true (state_of Input.Position.offset state.now) }
     requires bytes { ByteInsnHasByteText run.body (Input.text searched.now.input) Input.Units.ARE_BYTES }
@@ -121,32 +119,30 @@ fn scan_with_memo<Input: InputIndexer>(
     requires test { IsSome (char_test_of_insn searched.now.program.now run.body) }
     requires at { IsBoundary (Input.text searched.now.input) (Input.Position.offset from) }
     requires few { run.least ≤ Input.Position.offset from }
-    requires paid { run.least ≤ course.now.left }
-    ensures paid { IfOk result (λ r. r.1 ≤ course.now.left) }
+    requires paid { run.least ≤ progress.now.left }
+    ensures paid { IfOk result (λ r. r.1 ≤ progress.now.left) }
     ensures scans { let at = Input.Position.offset in let s = searched.now in let text = Input.text s.input in
         (test : ℕ → Bool) (place : ℕ) → char_test_of_insn s.program.now run.body ≡ Some test
         → IsPast at text test place run.least from
-        → IfOk result (ScansWithMemo at (compiled (tree_of s.program.now)) text course.now.memo.memo_analysis
-        (has_failure course.now.memo) test place (state_of at state.now) run.least course.now.left
+        → IfOk result (ScansWithMemo at (compiled (tree_of s.program.now)) text progress.now.memo.memo_analysis
+        (has_failure progress.now.memo) test place (state_of at state.now) run.least progress.now.left
         stack.old.items stack.new.items) }
 {
     let mut at = from;
     let mut count = run.least;
     'places: loop {
-        if course.left < count as u64 + 2 {
+        if progress.left < count as u64 + 2 {
             return Ok((None, count));
         }
-        let Some(key) = course.key_at(state.ip + 1, at, state) else {
+        let Some(key) = progress.key_at(state.ip + 1, at, state) else {
             unreachable!()
         };
-        if course.memo.fails(key) {
+        if progress.memo.fails(key) {
             return Ok((None, count));
         }
         let here = copy_state_after_char_loop(at, state)?;
         push_entry(StackEntry::Record(key), stack)?;
-        if !read_or_assertion_insn_matchers::insn_accepts_next_char(
-            searched, run.body, Forward, &mut at,
-        ) {
+        if !insn_matchers::insn_accepts_next_char(searched, run.body, Forward, &mut at) {
             return Ok((Some(here), count));
         }
         push_entry(StackEntry::Thread(here), stack)?;
@@ -174,7 +170,7 @@ fn nearest<Input: InputIndexer>(
 {
     let here = copy_state_after_char_loop(at, &state)?;
     let mut next = at;
-    if read_or_assertion_insn_matchers::insn_accepts_next_char(searched, body, Forward, &mut next) {
+    if insn_matchers::insn_accepts_next_char(searched, body, Forward, &mut next) {
         state.pos = next;
         push_entry(StackEntry::Run(state), stack)?;
     }
@@ -182,33 +178,33 @@ fn nearest<Input: InputIndexer>(
 }
 
 /// Continues a lazy loop at the position of its pending entry.
-pub(crate) fn resume_pending_lazy_char_loop<Input: InputIndexer>(
+pub(crate) fn resume_lazy_char_loop<Input: InputIndexer>(
     searched: &ProgramAndInput<'_, Input>,
     insns: &[Insn],
     state: State<Input::Position>,
     stack: &mut Vec<StackEntry<Input::Position>>,
-    course: &mut MemoAndWorkBudget,
+    progress: &mut MemoAndWorkBudget,
 ) -> Result<Option<State<Input::Position>>, AttemptAbortReason>
     requires code { map insn_as_spec_insn insns.now ≡ (compiled (tree_of searched.now.program.now)).insns }
     requires stands { let s = searched.now in
         IsStanding Input.Position.offset (compiled (tree_of s.program.now)) (Input.text s.input)
-        [] (stack.old.items ++ AsRun state ∷ []) course.old }
-    ensures memo { course.new.memo ≡ course.old.memo }
-    ensures left { course.new.left ≤ course.old.left }
+        [] (stack.old.items ++ AsRun state ∷ []) progress.old }
+    ensures memo { progress.new.memo ≡ progress.old.memo }
+    ensures left { progress.new.left ≤ progress.old.left }
     ensures refused { IfErr result (λ e. e ≡ Work → stack.new.items ≡ stack.old.items) }
-    ensures goes { let at = Input.Position.offset in let s = searched.now in
+    ensures continues { let at = Input.Position.offset in let s = searched.now in
         GoesFrom at (compiled (tree_of s.program.now)) (Input.text s.input) []
-        (stack.old.items ++ AsRun state ∷ []) course.old result stack.new.items course.new }
+        (stack.old.items ++ AsRun state ∷ []) progress.old result stack.new.items progress.new }
 {
     let at = state.pos;
-    let Some(key) = course.key_at(state.ip + 1, at, &state) else {
+    let Some(key) = progress.key_at(state.ip + 1, at, &state) else {
         unreachable!()
     };
-    if course.memo.fails(key) {
-        course.spend(1)?;
+    if progress.memo.fails(key) {
+        progress.spend(1)?;
         return Ok(None);
     }
-    course.spend(2)?;
+    progress.spend(2)?;
     push_entry(StackEntry::Record(key), stack)?;
     let next = nearest(searched, insns[state.ip + 1], at, state, stack)?;
     Ok(Some(next))

@@ -4,11 +4,11 @@ ghost use Rattle.std.specs.Arc.{arc_value};
 ghost use Rattle.std.specs.Prelude.{◌≡◌, ◌+◌, ◌-◌, ◌/◌, ◌*◌, ◌≤◌, ◌^◌, ℕ, IfOk, IfSome, MatchOption, None, Some, false, map, min, nat_le, slice_get};
 ghost use Rattle.std.specs.List.{sum_by};
 ghost use Rattle.regex_pattern_front.specs.AstToSpecTree.{tree_of};
-ghost use Rattle.regress_memo.specs.CheckedAnalysis.{AreInsnCodesCountedAndDisjoint};
-ghost use Rattle.regress_memo.specs.EquivalenceAfterSkippingSucceedingLookarounds.{lookaround_at};
+ghost use Rattle.regress_memo.specs.CheckedAnalysis.{HasDisjointCodes};
+ghost use Rattle.regress_memo.specs.SkippedLookarounds.{lookaround_at};
 ghost use Rattle.regress_memo.specs.MemoContents.{IsEmptyMemo};
-ghost use Rattle.regress_program.specs.InsnsAndStartPredicatesAsSpec.{insn_as_spec_insn};
-ghost use Rattle.regress_bounded.specs.ProgramWorkBoundForAllMatches.{TreeHasWorkBound, most_memo_codes_per_insn, size_of_insn};
+ghost use Rattle.regress_program.specs.InsnsAsSpec.{insn_as_spec_insn};
+ghost use Rattle.regress_bounded.specs.WorkBoundForAllMatches.{TreeHasWorkBound, most_memo_codes_per_insn, size_of_insn};
 
 use regress_memo::analysis_result::MemoAnalysis;
 use regress_memo::memo::MemoTable;
@@ -38,7 +38,7 @@ impl WorkBound {
     pub fn bound_for_bytes(re: &CompiledRegex) -> Result<Option<WorkBound>, AllocError>
         ensures { IfOk result (λ bound. IfSome bound (TreeHasWorkBound (tree_of re.now))) }
     {
-        WorkBound::bound_of_program(re.program_common_to_both_unit_kinds())
+        WorkBound::bound_of_program(re.common_program())
     }
 
     /// Computes the bound of searches of texts of 16-bit units, as `bound_for_bytes` does for bytes.
@@ -49,7 +49,7 @@ impl WorkBound {
     pub fn bound_for_units(re: &CompiledRegexFor16BitUnits) -> Result<Option<WorkBound>, AllocError>
         ensures { IfOk result (λ bound. IfSome bound (TreeHasWorkBound (tree_of re.now))) }
     {
-        WorkBound::bound_of_program(re.program_common_to_both_unit_kinds())
+        WorkBound::bound_of_program(re.common_program())
     }
 
     // Computes the bound of a program.
@@ -98,7 +98,7 @@ impl WorkBound {
         alloc: Global,
         places: usize,
     ) -> Result<Option<MemoTable>, AllocError>
-        requires { AreInsnCodesCountedAndDisjoint (arc_value self.now.memo_analysis) }
+        requires { HasDisjointCodes (arc_value self.now.memo_analysis) }
         ensures { IfOk result (λ found. MatchOption found (2 ^ 64 ≤ (arc_value self.now.memo_analysis).codes * places)
             (IsEmptyMemo (arc_value self.now.memo_analysis) places false)) }
     {

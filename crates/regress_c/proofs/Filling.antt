@@ -9,7 +9,7 @@ use Rattle.std.proofs.lemmas.List.{append-nil, length-append}
 use Rattle.std.specs.Prelude.{flat_map, if◌then◌else◌, Result, Err}
 use Rattle.regex_meaning.specs.Laws.{Each}
 use Rattle.regex_meaning.specs.MatchGroupsByNumberAndName.{Answer}
-use Rattle.regex_meaning.specs.CodeUnitOffsets.{HasRisingPlaceOffsets, units}
+use Rattle.regex_meaning.specs.CodeUnitOffsets.{HasRisingPlaceOffsets, units, IsBoundaryOrPastEnd}
 use Rattle.regex_meaning.specs.StepBudget.{IsBudgetAtMost, answers_within, finishes_within, need_from}
 use Rattle.regex_meaning.specs.Text.{Text}
 use Rattle.regex_meaning.specs.Tree.{Tree}
@@ -19,7 +19,6 @@ use Rattle.regress_search.specs.declared.exec.SearchError.{SearchError}
 use Rattle.regress_search.specs.declared.exec.SearchError.TheVariants.{Memory, StepLimit}
 use Rattle.regress_search.proofs.Budget.{left-no_more}
 use Rattle.regress_search.proofs.Coming.{new-comes}
-use Rattle.regress_match.specs.ProgramTreesAndAnswers.{IsBoundaryOrPastEnd}
 use Rattle.regress_match.specs.Resuming.{ResumesFrom, IsExhaustedFrom, FindInTurn, FindsNext, budget_after}
 use Rattle.regress_match.specs.declared.api.searches_resumed_at_offsets.Step.{Step}
 use Rattle.regress_match.proofs.ResumingLemmas.{turn-more}

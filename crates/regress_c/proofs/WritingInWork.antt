@@ -11,7 +11,7 @@ use Rattle.regex_meaning.proofs.Each.{Each-map}
 use Rattle.regex_meaning.proofs.Ordered.{answers-IsAnswerOf}
 use Rattle.regex_meaning.proofs.TextLemmas.{utf8_text-IsText}
 use Rattle.regress_search.specs.MatchesAsSpecAnswers.{answer_of}
-use Rattle.regress_search.specs.AttemptsAndMatchesWithinWork.{NextYieldsWithinWork, RemainingAnswersAndWork}
+use Rattle.regress_search.specs.MatchesWithinWork.{NextYieldsWithinWork, RemainingAnswersAndWork}
 use Rattle.regress_search.specs.declared.exec.Match.{Match}
 use Rattle.regress_search.specs.declared.exec.work_matches.WorkError.{WorkError}
 use Rattle.regress_search.specs.declared.exec.work_matches.WorkError.TheVariants as worked
@@ -35,8 +35,8 @@ use Rattle.regress_c.proofs.Spans.{spans-count}
 -- the matches that were written so far, and the view of the iterator that yields those after them
 pub record Writing (ranges : ℕ) (start : RemainingAnswersAndWork) (before : List Span) (view : RemainingAnswersAndWork) (now : List Span) (count at : ℕ) : Type 0 where
   pub found : List Answer
-  pub answers : start.come.answers ≡ found ++ view.come.answers
-  pub each : Each (λ m. length (spans_of m) ≡ ranges) view.come.answers
+  pub answers : start.remaining.answers ≡ found ++ view.remaining.answers
+  pub each : Each (λ m. length (spans_of m) ≡ ranges) view.remaining.answers
   pub fewer : view.left ≤ start.left
   pub enough : start.enough ≡ true → view.enough ≡ true
   pub count_is : count ≡ length found
@@ -49,7 +49,7 @@ not-enough true view keeps none = absurd (cc (sym (keeps refl) ∙ none))
 not-enough false view keeps none = refl
 
 module _ {ranges : ℕ} {start : RemainingAnswersAndWork} {before : List Span} where
-  pub begun : Each (λ m. length (spans_of m) ≡ ranges) start.come.answers → Writing ranges start before start before 0 0
+  pub begun : Each (λ m. length (spans_of m) ≡ ranges) start.remaining.answers → Writing ranges start before start before 0 0
   begun each = record {
     found = [];
     answers = refl;
@@ -76,7 +76,7 @@ module _ {ranges : ℕ} {start : RemainingAnswersAndWork} {before : List Span} w
       let more = written-more f.found found before now after at ranges each.0 f.flat f.written w in
       record {
         found = f.found ++ found ∷ [];
-        answers = f.answers ∙ ap (λ xs. f.found ++ xs) gives.0.0 ∙ sym (append_assoc f.found (found ∷ []) view'.come.answers);
+        answers = f.answers ∙ ap (λ xs. f.found ++ xs) gives.0.0 ∙ sym (append_assoc f.found (found ∷ []) view'.remaining.answers);
         each = each.1;
         fewer = let less = gives.1 in let were = f.fewer in omega (arith, less, were);
         enough = λ e. gives.0.4 (f.enough e);
@@ -90,7 +90,7 @@ module _ {ranges : ℕ} {start : RemainingAnswersAndWork} {before : List Span} w
     -- there is no room for one more
     pub is-full : length before - at < ranges → reply ≡ record { code = done; count = count } → WritesInWork ranges start view before now reply
     is-full room r = (
-      record { found = f.found; rest = view.come.answers; ending = full },
+      record { found = f.found; rest = view.remaining.answers; ending = full },
       record { answers = f.answers; fewer = f.fewer; ends = let a = f.at_is in omega (arith, a, room) },
       r ∙ ap (λ n. record { code = done; count = n }) f.count_is,
       f.written,
@@ -100,14 +100,14 @@ module _ {ranges : ℕ} {start : RemainingAnswersAndWork} {before : List Span} w
     pub is-over : (view' : RemainingAnswersAndWork) → NextYieldsWithinWork view None view' → reply ≡ record { code = no_match; count = count }
         → WritesInWork ranges start view' before now reply
     is-over view' gives r = (
-      record { found = f.found; rest = view.come.answers; ending = over },
+      record { found = f.found; rest = view.remaining.answers; ending = over },
       record { answers = f.answers; fewer = let less = gives.1 in let were = f.fewer in omega (arith, less, were); ends = gives.0.0 },
       r ∙ ap (λ n. record { code = no_match; count = n }) f.count_is,
       f.written,
     )
 
     fails : (e : WorkError) (view' : RemainingAnswersAndWork) → NextYieldsWithinWork view (Some (Err e)) view'
-        → EndsIterator ranges (length before) start view' (record { found = f.found; rest = view.come.answers; ending = failed e }) (failed e)
+        → EndsIterator ranges (length before) start view' (record { found = f.found; rest = view.remaining.answers; ending = failed e }) (failed e)
     fails worked.Memory view' gives = tt
     fails worked.WorkLimit view' gives = (not-enough start.enough view.enough f.enough gives.0.0.0, gives.0.0.1)
 
@@ -115,7 +115,7 @@ module _ {ranges : ℕ} {start : RemainingAnswersAndWork} {before : List Span} w
     pub is-failed : (e : WorkError) (view' : RemainingAnswersAndWork) → NextYieldsWithinWork view (Some (Err e)) view' → reply ≡ record { code = code_of (of_work e); count = count }
         → WritesInWork ranges start view' before now reply
     is-failed e view' gives r = (
-      record { found = f.found; rest = view.come.answers; ending = failed e },
+      record { found = f.found; rest = view.remaining.answers; ending = failed e },
       record { answers = f.answers; fewer = let less = gives.1 in let were = f.fewer in omega (arith, less, were); ends = fails e view' gives },
       r ∙ ap (λ n. record { code = code_of (of_work e); count = n }) f.count_is,
       f.written,
@@ -138,7 +138,7 @@ module _ (re : Regex) (text : List ℕ) (start : ℕ) where
 
   -- and so has each match that an iterator in it yields
   pub ranges-come : (per_unit work : ℕ) (it : RemainingAnswersAndWork) → YieldsMatchesIfWorkSuffices (tree_for_byte_units re) (bytes_as_utf8_text re text) start per_unit work it
-      → Each (λ m. length (spans_of m) ≡ range_count re) it.come.answers
+      → Each (λ m. length (spans_of m) ≡ range_count re) it.remaining.answers
   ranges-come per_unit work it yields = subst (Each (λ m. length (spans_of m) ≡ range_count re)) (sym yields.answers) ranges-each
 
   module _ (per_unit work left : ℕ) (it behind : RemainingAnswersAndWork) (before after : List Span) (reply : Reply)
@@ -209,8 +209,8 @@ module _ (re : Regex) (bytes : List ℕ) (start work : ℕ) (text : Bor (List �
       subst (λ r. YieldsMatchesIfWorkSuffices (tree_for_byte_units r) (bytes_as_utf8_text r bytes) start bounded.per_unit work it) of_re
       (subst (λ t. YieldsMatchesIfWorkSuffices (tree_for_byte_units bounded.re) (bytes_as_utf8_text bounded.re t) start bounded.per_unit work it) starts.0 yields)
 
-  pub each-ranges : Each (λ m. length (spans_of m) ≡ ranges) it.come.answers
-  each-ranges = subst (λ n. Each (λ m. length (spans_of m) ≡ n) it.come.answers) (sym ranges_is) (ranges-come re bytes start bounded.per_unit work it by_re)
+  pub each-ranges : Each (λ m. length (spans_of m) ≡ ranges) it.remaining.answers
+  each-ranges = subst (λ n. Each (λ m. length (spans_of m) ≡ n) it.remaining.answers) (sym ranges_is) (ranges-come re bytes start bounded.per_unit work it by_re)
 
   pub writes : (left : ℕ) (behind : RemainingAnswersAndWork) (before after : List Span) (reply : Reply) → ranges ≤ length before → left ≡ behind.left
       → WritesInWork ranges it behind before after reply → RepliesOutcome re bytes start work left before after reply

@@ -2,7 +2,7 @@
 use Rattle.std.specs.Prelude.{◌≡◌, ◌<◌, ◌≤◌, ◌+◌, ◌*◌, ◌++◌, ℕ, false, List, [], Option, Some, None, Result, Ok, Err, IsUtf8, flat_map, length}
 use Rattle.regex_meaning.specs.Laws.{Each}
 use Rattle.regex_meaning.specs.MatchGroupsByNumberAndName.{Answer}
-use Rattle.regress_search.specs.AttemptsAndMatchesWithinWork.{RemainingAnswersAndWork}
+use Rattle.regress_search.specs.MatchesWithinWork.{RemainingAnswersAndWork}
 use Rattle.regress_search.specs.declared.exec.work_matches.WorkError.{WorkError}
 use Rattle.regress_search.specs.declared.exec.work_matches.WorkError.TheVariants as worked
 use Rattle.regress_match.specs.ProgramTreesAndAnswers.{utf8_answers}
@@ -58,7 +58,7 @@ module _ (ranges room : ℕ) (before behind : RemainingAnswersAndWork) where
 
   -- The matches of the iterator are those that were written, followed by those that remain.
   pub record IsWritten (w : Written) : Type 0 where
-    pub answers : before.come.answers ≡ w.found ++ w.rest
+    pub answers : before.remaining.answers ≡ w.found ++ w.rest
     pub fewer : behind.left ≤ before.left
     pub ends : EndsIterator w w.ending
 

@@ -1,4 +1,5 @@
 -- The matches that one call writes, and the offset from which the search continues.
+use Rattle.regex_meaning.specs.CodeUnitOffsets.{IsBoundaryOrPastEnd}
 use Rattle.std.specs.Prelude.{◌≡◌, ◌≢◌, ◌<◌, ◌+◌, ◌*◌, ℕ, false, List, [], ◌++◌, Option, Some, None, Result, Ok, Err, IsSome, flat_map, length}
 use Rattle.regex_meaning.specs.Laws.{Each}
 use Rattle.regex_meaning.specs.MatchGroupsByNumberAndName.{Answer}
@@ -6,7 +7,7 @@ use Rattle.regex_meaning.specs.StepBudget.{IsBudgetAtMost, answers_within, finis
 use Rattle.regex_meaning.specs.Text.{Text}
 use Rattle.regex_meaning.specs.Tree.{Tree, group_ids}
 use Rattle.regress_search.specs.declared.exec.SearchError.TheVariants.{Memory, StepLimit}
-use Rattle.regress_match.specs.ProgramTreesAndAnswers.{IsBoundaryOrPastEnd, units_as_ucs2_text, units_as_utf16_text, bytes_as_utf8_text, tree_for_byte_units}
+use Rattle.regress_match.specs.ProgramTreesAndAnswers.{units_as_ucs2_text, units_as_utf16_text, bytes_as_utf8_text, tree_for_byte_units}
 use Rattle.regress_match.specs.ProgramTreesAndAnswers.{tree_for_16_bit_units}
 use Rattle.regress_match.specs.Resuming.{IsExhaustedFrom, FindInTurn, budget_after}
 use Rattle.regress_match.specs.declared.api.regex.Regex.{Regex}

@@ -2,7 +2,7 @@
 
 ghost use Rattle.std.specs.Prelude.{◌≡◌, ◌<◌, Some, length};
 ghost use Rattle.regex_meaning.specs.Laws.{Each};
-ghost use Rattle.regress_search.specs.CostsOfCalls.{remaining};
+ghost use Rattle.regress_search.specs.CostsOfCalls.{without_costs};
 ghost use Rattle.regress_c.specs.{AllInWork.{FillsInWork, RepliesAllInWork, RepliesOutcome, WritesInWork}, Replies.{spans_of}};
 ghost use Rattle.regress_c.specs.{Searching.{can_start_utf8}, Texts.{range_count}};
 
@@ -82,8 +82,8 @@ fn write_all<P: WorkLimitedProducer + Drop>(
     spans: &mut [Span],
 ) -> Reply
     requires some { 0 < ranges }
-    requires each { Each (λ m. length (spans_of m) ≡ ranges) matches.old.come.answers }
-    ensures { WritesInWork ranges (remaining matches.old) (remaining matches.new) spans.old spans.new result }
+    requires each { Each (λ m. length (spans_of m) ≡ ranges) matches.old.remaining.answers }
+    ensures { WritesInWork ranges (without_costs matches.old) (without_costs matches.new) spans.old spans.new result }
 {
     let mut count = 0;
     let mut at = 0;

@@ -4,9 +4,9 @@ ghost use Rattle.std.specs.Prelude.{◌≡◌, ◌<◌, ◌≤◌, ◌+◌, ◌+
 ghost use Rattle.regress_c.specs.Codes.{code_of as number_of};
 ghost use Rattle.regress_c.specs.Going.{Fills, FillsFrom, FillsIn, RepliesNext, code_of_stop, ranges_of as ranges_by, tree_by};
 ghost use Rattle.regress_c.specs.{Searching.{can_start_utf8, can_start_utf16}, Replies.{spans_of}};
-ghost use Rattle.regex_meaning.specs.CodeUnitOffsets.{units};
+ghost use Rattle.regex_meaning.specs.CodeUnitOffsets.{units, IsBoundaryOrPastEnd};
 ghost use Rattle.regress_search.specs.MatchesAsSpecAnswers.{answer_of};
-ghost use Rattle.regress_match.specs.ProgramTreesAndAnswers.{IsBoundaryOrPastEnd, units_as_ucs2_text, units_as_utf16_text, bytes_as_utf8_text, tree_for_byte_units};
+ghost use Rattle.regress_match.specs.ProgramTreesAndAnswers.{units_as_ucs2_text, units_as_utf16_text, bytes_as_utf8_text, tree_for_byte_units};
 ghost use Rattle.regress_match.specs.ProgramTreesAndAnswers.{tree_for_16_bit_units};
 
 use crate::opening::{cuts_utf8, cuts_utf16};

@@ -22,7 +22,7 @@ pub trait SingleCharMatcher<Input: InputIndexer, Dir: Direction> {
     /// Checks whether the next character in the direction is accepted. If so, `pos` is moved past
     /// it; otherwise its new value is unspecified.
     fn matches(&self, input: &Input, dir: Dir, pos: &mut Input::Position) -> bool
-        requires can { can_match self.now }
+        requires executable { can_match self.now }
         requires at { IsBoundary (Input.text input.now) (Input.Position.offset pos.old) }
         ensures { let at = Input.Position.offset in end_if_matched result (at pos.new)
             ≡ past_if (Input.text input.now) (accepted self.now) (direction_of_forward_flag Dir.FORWARD) (at pos.old) };

@@ -12,4 +12,4 @@ pub mod CharLoopExitStatesByPreference
 pub mod LiveAlternationArms
 pub mod ForcedOneUnitLoopIterations
 pub mod LoopsReadingNothing
-pub mod LookaroundContentsMatchingWithoutEffect
+pub mod EffectlessLookarounds

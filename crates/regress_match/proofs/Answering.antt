@@ -8,7 +8,7 @@ use Rattle.regex_meaning.specs.MatchGroupsByNumberAndName.{Answer}
 use Rattle.regex_meaning.specs.Replace.{replaced}
 use Rattle.regex_meaning.proofs.Each.{Each-append}
 use Rattle.regress_search.specs.declared.exec.Match.{Match}
-use Rattle.regress_match.specs.ClosureReplacementForAnyResultType.{Answered, AllAnswered, IsClosureErrorOrOutOfMemory, CanRefuseWith, IsReplacedBy, IsRefusedAt}
+use Rattle.regress_match.specs.ClosureReplacement.{Answered, AllAnswered, IsClosureErrorOrOutOfMemory, CanRefuseWith, IsReplacedBy, IsRefusedAt}
 use Rattle.regress_match.specs.declared.api.compile_and_replace_errors.ReplaceError.{ReplaceError}
 use Rattle.regress_match.specs.declared.api.compile_and_replace_errors.ReplaceError.TheVariants.{Search, Closure}
 

@@ -10,7 +10,7 @@ use Rattle.regex_meaning.proofs.EcmaTrees.{one-tree}
 use Rattle.regex_pattern_front.proofs.OptimizedLemmas.{answers-optimized}
 use Rattle.regress_program.specs.OptimizedTreeUnlessNoOpt.{planned_tree}
 use Rattle.regress_program.proofs.RunningLemmas.{planned-same}
-use Rattle.regress_match.specs.Laws.{SearchesFollowThePattern, SearchesFollowThePatternWithSyntax}
+use Rattle.regress_match.specs.Laws.{SearchesFollowThePattern, SearchesFollowGrammar}
 use Rattle.regress_match.specs.ProgramTreesAndAnswers.{IsCompiledWithSyntax, tree_for_byte_units, tree_for_16_bit_units}
 use Rattle.regress_match.specs.declared.api.regex.Regex.{Regex}
 
@@ -37,7 +37,7 @@ module _ (s : PatternDialect) (one : HasOneTree s) (flags : Flags) (pattern : Li
       ∙ in-units of start
 
 module _ (s : PatternDialect) (one : HasOneTree s) where
-  follow : SearchesFollowThePatternWithSyntax s
+  follow : SearchesFollowGrammar s
   follow flags pattern re tree is parsed units start = (
     in-bytes s one flags pattern re tree is parsed (text.utf8_text units) start,
     in-bytes s one flags pattern re tree is parsed (text.ascii_text units) start,
@@ -48,5 +48,5 @@ module _ (s : PatternDialect) (one : HasOneTree s) where
 pub searches-follow : SearchesFollowThePattern
 searches-follow = follow profile one_tree
 
-pub ecmascript-searches-follow : SearchesFollowThePatternWithSyntax ecmascript
+pub ecmascript-searches-follow : SearchesFollowGrammar ecmascript
 ecmascript-searches-follow = follow ecmascript one-tree

@@ -8,7 +8,7 @@ use Rattle.regex_meaning.specs.MatchGroupsByNumberAndName.{Answer}
 use Rattle.regex_meaning.specs.Replace.{replaced}
 use Rattle.regress_search.specs.MatchesAsSpecAnswers.{answer_of}
 use Rattle.regress_search.specs.declared.exec.Match.{Match}
-use Rattle.regress_match.specs.ReplacementClosuresReturningStrings.{ClosureCanBeCalled}
+use Rattle.regress_match.specs.StringClosures.{ClosureCanBeCalled}
 
 -- the first of the matches alone
 pub first-stands : (from : ℕ) (ms : List Answer) → AreAscendingDisjointAnswersFrom from ms → AreAscendingDisjointAnswersFrom from (take 1 ms)

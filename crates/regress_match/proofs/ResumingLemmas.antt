@@ -8,7 +8,7 @@ use Rattle.std.specs.Result.{IsErrAnd}
 use Rattle.regex_meaning.specs.SearchAnswers.{first_answer, next_start, answer_then_list}
 use Rattle.regex_meaning.specs.Laws.{Each, IsAnswerOf}
 use Rattle.regex_meaning.specs.MatchGroupsByNumberAndName.{Answer, answers_from}
-use Rattle.regex_meaning.specs.CodeUnitOffsets.{IsBoundary, HasRisingPlaceOffsets, place_at, units}
+use Rattle.regex_meaning.specs.CodeUnitOffsets.{IsBoundary, HasRisingPlaceOffsets, place_at, units, IsBoundaryOrPastEnd}
 use Rattle.regex_meaning.specs.OutcomesWithStepTicks.{need}
 use Rattle.regex_meaning.specs.StepBudget.{answers_next, answers_within, end_next, finishes_within, is_within, remaining_budget, need_from}
 use Rattle.regex_meaning.specs.Text.{Text}
@@ -18,13 +18,12 @@ use Rattle.regex_meaning.proofs.Ordered.{answers-IsAnswerOf}
 use Rattle.regex_meaning.proofs.StepLemmas.{within-some, within-none, beyond}
 use Rattle.regex_meaning.proofs.TextLemmas.{place_at-past}
 use Rattle.regress_search.specs.MatchesAsSpecAnswers.{answer_of}
-use Rattle.regress_search.specs.StepBudgetAndContinuationAfterSearch.{SpendsNeedOrReachesLimit}
+use Rattle.regress_search.specs.SearchEffects.{SpendsNeedOrReachesLimit}
 use Rattle.regress_search.specs.declared.exec.Match.{Match}
 use Rattle.regress_search.specs.declared.exec.SearchError.{SearchError}
 use Rattle.regress_search.specs.declared.exec.SearchError.TheVariants.{Memory, StepLimit}
 use Rattle.regress_search.proofs.Budget.{handed}
 use Rattle.regress_search.proofs.Coming.{new-comes}
-use Rattle.regress_match.specs.ProgramTreesAndAnswers.{IsBoundaryOrPastEnd}
 use Rattle.regress_match.specs.Resuming.{ResumesFrom, IsExhaustedFrom, FindInTurn, FindsNext, budget_after}
 use Rattle.regress_match.specs.declared.api.searches_resumed_at_offsets.Step.{Step}
 

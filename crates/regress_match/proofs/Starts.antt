@@ -3,13 +3,12 @@ use Rattle.std.proofs.Common.{◌≡◌, ℕ, ◌<◌, ◌⊎◌, inl, inr, ◌�
 use Rattle.std.proofs.Common.{subst, arith}
 use Rattle.std.proofs.lemmas.Bool.Decides.{leb_tells}
 use Rattle.regex_meaning.specs.Text.{Text, utf8_text, ascii_text, utf16_text, ucs2_text, fold_ascii, fold_code_point, one_unit, is_unit_boundary}
-use Rattle.regex_meaning.specs.CodeUnitOffsets.{IsBoundary, units}
+use Rattle.regex_meaning.specs.CodeUnitOffsets.{IsBoundary, units, IsBoundaryOrPastEnd}
 use Rattle.regex_meaning.proofs.UnitLemmas.{AreUnits, unit_boundary-place_at, units-utf16}
 use Rattle.regex_meaning.proofs.UnitLengths.{utf8_text-units, ascii_text-units, ucs2_text-units}
 use Rattle.regress_input.proofs.OneUnit.{boundary}
 use Rattle.regress_input.proofs.Spelled.{text_of}
 use Rattle.regress_input.proofs.Utf8Slices.{boundary_of_char}
-use Rattle.regress_match.specs.ProgramTreesAndAnswers.{IsBoundaryOrPastEnd}
 
 module _ (text : Text) (bytes : List ℕ) (unicode : Bool) (same : text ≡ utf8_text bytes unicode) (is_utf8 : IsUtf8 bytes) where
   pub utf8_units : units text ≡ length bytes

@@ -13,17 +13,17 @@ use Rattle.regex_meaning.specs.Laws.{Each}
 use Rattle.regex_meaning.specs.CodeUnitOffsets.{units}
 use Rattle.regex_meaning.specs.Text.{Text}
 use Rattle.regex_meaning.specs.Tree.{Tree}
-use Rattle.regress_search.specs.AttemptsAndMatchesWithinWork.{RemainingAnswersAndWork}
+use Rattle.regress_search.specs.MatchesWithinWork.{RemainingAnswersAndWork}
 use Rattle.regress_search.specs.CostsOfCalls.{WorkMatchesView}
 use Rattle.regress_search.specs.CostsOfSearches.{Failures}
 use Rattle.regress_bounded.specs.CostsOfAttempts.{BeginsSearches}
 use Rattle.regress_search.specs.declared.exec.work_matches.WorkError.TheVariants.{Memory, WorkLimit}
-use Rattle.regress_memo.specs.AnalysisAsLivenessAndPotentials.{no_insn_analysis}
-use Rattle.regress_memo.specs.CheckedAnalysis.{AreInsnCodesCountedAndDisjoint}
+use Rattle.regress_memo.specs.AnalysisAsPotentials.{no_insn_analysis}
+use Rattle.regress_memo.specs.CheckedAnalysis.{HasDisjointCodes}
 use Rattle.regress_memo.specs.declared.analysis_result.InsnAnalysis.{InsnAnalysis}
 use Rattle.regress_memo.specs.declared.analysis_result.MemoAnalysis.{MemoAnalysis}
 use Rattle.regress_program.specs.CompilationOfTreesAsFunction.{compiled}
-use Rattle.regress_bounded.specs.ProgramWorkBoundForAllMatches.{TreeHasWorkBound, IsWorkBoundOfTree, most_memo_codes_per_insn, program_size}
+use Rattle.regress_bounded.specs.WorkBoundForAllMatches.{TreeHasWorkBound, IsWorkBoundOfTree, most_memo_codes_per_insn, program_size}
 use Rattle.regress_bounded.specs.declared.work_bound.WorkBound.{WorkBound}
 use Rattle.regress_match.specs.WorkBounds.{WorkMatchesNextResultType, AnswerInWork, BoundedView, NextCallsYieldWithinWork, SearchesAnswerInWork, WorkPerUnitLimitSuffices}
 use Rattle.regress_match.specs.WorkBounds.{CallsCost, IsNoAllocationFailure, NextCallsYieldAtCost, SearchesCostInWork}
@@ -34,7 +34,7 @@ use Rattle.regress_match.specs.declared.api.regex.Regex.{Regex}
 -- ---- Calls in a row
 
 -- what has ended answers nothing
-ended-None : (s t : RemainingAnswersAndWork) (rs : List WorkMatchesNextResultType) → s.come.ended ≡ true → NextCallsYieldWithinWork s rs t → Each (λ r. r ≡ None) rs
+ended-None : (s t : RemainingAnswersAndWork) (rs : List WorkMatchesNextResultType) → s.remaining.ended ≡ true → NextCallsYieldWithinWork s rs t → Each (λ r. r ≡ None) rs
 ended-None s t [] e h = tt
 ended-None s t (None ∷ rs) e (u, h, k) = (refl, ended-None u t rs h.0.1.2 k)
 ended-None s t (Some (Ok m) ∷ rs) e (u, h, k) = absurd (cc (sym e ∙ h.0.1))
@@ -42,11 +42,11 @@ ended-None s t (Some (Err x) ∷ rs) e (u, h, k) = absurd (cc (sym e ∙ h.0.1))
 
 -- it is enough, or there is too little
 calls-Answer : (too_little : Type 0) (s t : RemainingAnswersAndWork) (rs : List WorkMatchesNextResultType)
-    → (s.enough ≡ true) ⊎ too_little → NextCallsYieldWithinWork s rs t → AnswerInWork too_little s.come.answers rs
+    → (s.enough ≡ true) ⊎ too_little → NextCallsYieldWithinWork s rs t → AnswerInWork too_little s.remaining.answers rs
 calls-Answer too_little s t [] e h = tt
 calls-Answer too_little s t (None ∷ rs) e (u, h, k) = (h.0.0, ended-None u t rs h.0.1.2 k)
-calls-Answer too_little s t (Some (Ok m) ∷ rs) (inl e) (u, h, k) = (u.come.answers, h.0.0, calls-Answer too_little u t rs (inl (h.0.4 e)) k)
-calls-Answer too_little s t (Some (Ok m) ∷ rs) (inr l) (u, h, k) = (u.come.answers, h.0.0, calls-Answer too_little u t rs (inr l) k)
+calls-Answer too_little s t (Some (Ok m) ∷ rs) (inl e) (u, h, k) = (u.remaining.answers, h.0.0, calls-Answer too_little u t rs (inl (h.0.4 e)) k)
+calls-Answer too_little s t (Some (Ok m) ∷ rs) (inr l) (u, h, k) = (u.remaining.answers, h.0.0, calls-Answer too_little u t rs (inr l) k)
 calls-Answer too_little s t (Some (Err Memory) ∷ rs) e (u, h, k) = ended-None u t rs h.0.2.2 k
 calls-Answer too_little s t (Some (Err WorkLimit) ∷ rs) (inl e) (u, h, k) = absurd (cc (sym e ∙ h.0.0.0))
 calls-Answer too_little s t (Some (Err WorkLimit) ∷ rs) (inr l) (u, h, k) = (l, ended-None u t rs h.0.2.2 k)
@@ -152,7 +152,7 @@ codes-most : (xs : List InsnAnalysis) (most : ℕ) → most ≤ 64 → Each (λ 
 codes-most [] most l h = l
 codes-most (x ∷ xs) most l h = let few : x.codes ≤ 64 = h.0 in codes-most xs (max most x.codes) (omega (arith, l, few)) h.1
 
-codes-few : (t : MemoAnalysis) → AreInsnCodesCountedAndDisjoint t → most_memo_codes_per_insn t ≤ 64
+codes-few : (t : MemoAnalysis) → HasDisjointCodes t → most_memo_codes_per_insn t ≤ 64
 codes-few t h = codes-most t.lines.items 0 (omega arith) (codes-each t.lines.items (λ i l. subst (λ n. n ≤ 64) (h.counted i l) (h.few i)))
 
 bound-limited : (tree : Tree) (bound : WorkBound) → TreeHasWorkBound tree bound → bound.per_unit ≤ 64 * (64 * program_size (compiled tree))

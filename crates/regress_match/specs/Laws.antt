@@ -17,8 +17,8 @@ WholeMatchesGiveBack = (re : Regex) (text : List ℕ)
 
 -- The matches in a text, in each encoding, are those of the tree that the grammar gives to the
 -- pattern of this syntax.
-abbrev pub SearchesFollowThePatternWithSyntax : PatternDialect → Type 0
-SearchesFollowThePatternWithSyntax s = (flags : Flags) (pattern : List ℕ) (re : Regex) (tree : Tree)
+abbrev pub SearchesFollowGrammar : PatternDialect → Type 0
+SearchesFollowGrammar s = (flags : Flags) (pattern : List ℕ) (re : Regex) (tree : Tree)
     → IsCompiledWithSyntax s flags pattern re → ParsesBy s flags pattern tree → (text : List ℕ) (start : ℕ)
     → (utf8_answers re text start ≡ answers_from tree.root (utf8_text text flags.unicode) start)
     × (ascii_answers re text start ≡ answers_from tree.root (ascii_text text flags.unicode) start)
@@ -27,7 +27,7 @@ SearchesFollowThePatternWithSyntax s = (flags : Flags) (pattern : List ℕ) (re 
 
 -- The same for a pattern of the profile.
 abbrev pub SearchesFollowThePattern : Type 0
-SearchesFollowThePattern = SearchesFollowThePatternWithSyntax profile
+SearchesFollowThePattern = SearchesFollowGrammar profile
 
 -- The matches from a start on lie in the text, in order and without overlap, and each match and
 -- each of its groups is a range of whole characters.

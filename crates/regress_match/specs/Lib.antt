@@ -1,5 +1,5 @@
-pub mod ClosureReplacementForAnyResultType
-pub mod ReplacementClosuresReturningStrings
+pub mod ClosureReplacement
+pub mod StringClosures
 pub mod PublicFlagsAsSpecFlags
 pub mod Laws
 pub mod ProgramTreesAndAnswers

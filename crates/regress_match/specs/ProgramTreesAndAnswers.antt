@@ -1,8 +1,8 @@
 -- The trees of the programs of a `Regex`, and the matches that it finds.
-use Rattle.std.specs.Prelude.{◌≡◌, ◌<◌, ◌⊎◌, ℕ, Bool, List, Option, Some, IsTrue}
+use Rattle.std.specs.Prelude.{◌≡◌, ℕ, Bool, List, Option, Some, IsTrue}
 use Rattle.regex_meaning.specs.Tree.{Tree, Flags}
 use Rattle.regex_meaning.specs.Text.{Text, utf8_text, ascii_text, utf16_text, ucs2_text}
-use Rattle.regex_meaning.specs.CodeUnitOffsets.{IsBoundary, units}
+use Rattle.regex_meaning.specs.CodeUnitOffsets.{units}
 use Rattle.regex_meaning.specs.CompilationRelation.{IsByteProgramOfTree, Is16BitProgramOfTree}
 use Rattle.regex_meaning.specs.MatchGroupsByNumberAndName.{Answer, answers_from}
 use Rattle.regex_meaning.specs.SearchAnswers.{answer_at}
@@ -17,11 +17,11 @@ use Rattle.regress_match.specs.declared.api.regex.Regex.{Regex}
 
 -- The tree of the program that searches texts of bytes.
 abbrev pub tree_for_byte_units : Regex → Tree
-tree_for_byte_units re = tree_of re.cr
+tree_for_byte_units re = tree_of re.byte_program
 
 -- The tree of the program that searches texts of 16-bit code units.
 abbrev pub tree_for_16_bit_units : Regex → Tree
-tree_for_16_bit_units re = tree_of re.units
+tree_for_16_bit_units re = tree_of re.unit_program
 
 -- The pattern of this syntax with these flags parses to `tree_for_16_bit_units`, which is well-formed
 -- and has no char loops. The program for 16-bit code units is the code of that tree, and the program
@@ -64,8 +64,8 @@ abbrev pub utf8_answers_within_steps : (steps : ℕ) → Regex → (bytes : List
 utf8_answers_within_steps steps re bytes start = answers_within (tree_for_byte_units re) (utf8_text bytes (tree_for_byte_units re).flags.unicode) (Some steps) start
 
 -- `steps` steps are enough for the whole list and its end.
-abbrev pub steps_suffice_for_whole_utf8_search : (steps : ℕ) → Regex → (bytes : List ℕ) → (start : ℕ) → Bool
-steps_suffice_for_whole_utf8_search steps re bytes start = finishes_within (tree_for_byte_units re) (utf8_text bytes (tree_for_byte_units re).flags.unicode) (Some steps) start
+abbrev pub utf8_steps_suffice : (steps : ℕ) → Regex → (bytes : List ℕ) → (start : ℕ) → Bool
+utf8_steps_suffice steps re bytes start = finishes_within (tree_for_byte_units re) (utf8_text bytes (tree_for_byte_units re).flags.unicode) (Some steps) start
 
 -- The list of matches in an ASCII text from an offset on.
 abbrev pub ascii_answers : Regex → (bytes : List ℕ) → (start : ℕ) → List Answer
@@ -94,7 +94,3 @@ utf16_answer_beginning_at re units at = answer_at (tree_for_16_bit_units re).roo
 -- The match of highest priority that begins at an offset of a UCS-2 text, if there is one.
 abbrev pub ucs2_answer_beginning_at : Regex → (units : List ℕ) → (at : ℕ) → Option Answer
 ucs2_answer_beginning_at re units at = answer_at (tree_for_16_bit_units re).root (units_as_ucs2_text re units) at
-
--- A search may start at this offset: it is a boundary, or past the end.
-abbrev pub IsBoundaryOrPastEnd : Text → (start : ℕ) → Type 0
-IsBoundaryOrPastEnd text start = IsBoundary text start ⊎ (units text < start)

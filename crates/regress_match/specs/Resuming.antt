@@ -1,4 +1,5 @@
 -- Searches that resume from an offset.
+use Rattle.regex_meaning.specs.CodeUnitOffsets.{IsBoundaryOrPastEnd}
 use Rattle.std.specs.Prelude.{◌≡◌, ℕ, true, false, List, [], ◌∷◌, length, Option, Some, None, Result, Ok, Err}
 use Rattle.regex_meaning.specs.MatchGroupsByNumberAndName.{Answer}
 use Rattle.regex_meaning.specs.Tree.{Tree, group_ids}
@@ -7,7 +8,6 @@ use Rattle.regex_meaning.specs.StepBudget.{IsBudgetAtMost, answers_within, finis
 use Rattle.regress_search.specs.MatchesAsSpecAnswers.{answer_of}
 use Rattle.regress_search.specs.declared.exec.SearchError.{SearchError}
 use Rattle.regress_search.specs.declared.exec.SearchError.TheVariants.{Memory, StepLimit}
-use Rattle.regress_match.specs.ProgramTreesAndAnswers.{IsBoundaryOrPastEnd}
 use Rattle.regress_match.specs.declared.api.searches_resumed_at_offsets.Step.{Step}
 
 module _ (tree : Tree) (text : Text) where

@@ -31,7 +31,7 @@ NextCallsYield before [] behind = behind ≡ before
 NextCallsYield before (r ∷ rs) behind = (next : RemainingView) × NextYields before r next × NextCallsYield next rs behind
 
 -- All results are `None`.
-abbrev pub AllNone : List NextResult → Type 0
+abbrev pub AllNone : {A : Type 0} → List (Option A) → Type 0
 AllNone [] = Unit {0}
 AllNone (r ∷ rs) = (r ≡ None) × AllNone rs
 

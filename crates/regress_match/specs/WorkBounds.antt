@@ -5,17 +5,18 @@ use Rattle.regex_meaning.specs.MatchGroupsByNumberAndName.{Answer, answers_from}
 use Rattle.regex_meaning.specs.Text.{Text}
 use Rattle.regex_meaning.specs.Tree.{Tree}
 use Rattle.regress_search.specs.MatchesAsSpecAnswers.{answer_of}
-use Rattle.regress_search.specs.AttemptsAndMatchesWithinWork.{RemainingAnswersAndWork, NextYieldsWithinWork}
+use Rattle.regress_search.specs.MatchesWithinWork.{RemainingAnswersAndWork, NextYieldsWithinWork}
 use Rattle.regress_search.specs.CostsOfSearches.{Failures}
-use Rattle.regress_search.specs.CostsOfCalls.{NextCosts, NextYieldsAtCost, WorkMatchesView, remaining}
+use Rattle.regress_search.specs.CostsOfCalls.{NextCosts, NextYieldsAtCost, WorkMatchesView, without_costs}
 use Rattle.regress_search.specs.declared.exec.Match.{Match}
 use Rattle.regress_search.specs.declared.exec.work_matches.WorkError.{WorkError}
 use Rattle.regress_search.specs.declared.exec.work_matches.WorkError.TheVariants.{Memory, WorkLimit}
 use Rattle.regress_program.specs.CompilationOfTreesAsFunction.{compiled}
-use Rattle.regress_bounded.specs.ProgramWorkBoundForAllMatches.{TreeHasWorkBound, program_size}
-pub use Rattle.regress_bounded.specs.ProgramWorkBoundForAllMatches.{YieldsMatchesIfWorkSuffices, enough_work_for_text}
+use Rattle.regress_bounded.specs.WorkBoundForAllMatches.{TreeHasWorkBound, program_size}
+pub use Rattle.regress_bounded.specs.WorkBoundForAllMatches.{YieldsMatchesIfWorkSuffices, enough_work_for_text}
 use Rattle.regress_bounded.specs.declared.work_bound.WorkBound.{WorkBound}
 use Rattle.regress_match.specs.declared.api.regex.Regex.{Regex}
+use Rattle.regress_match.specs.SearchResults.{AllNone}
 use Rattle.regress_match.specs.ProgramTreesAndAnswers.{tree_for_byte_units, tree_for_16_bit_units}
 
 -- ---- Bounds
@@ -73,9 +74,9 @@ abbrev pub AnswerInWork : (too_little : Type 0) → List Answer → List WorkMat
 AnswerInWork too_little matches [] = Unit {0}
 AnswerInWork too_little matches (Some (Ok m) ∷ rs) =
     (rest : List Answer) × (matches ≡ answer_of m ∷ rest) × AnswerInWork too_little rest rs
-AnswerInWork too_little matches (None ∷ rs) = (matches ≡ []) × Each (λ r. r ≡ None) rs
-AnswerInWork too_little matches (Some (Err Memory) ∷ rs) = Each (λ r. r ≡ None) rs
-AnswerInWork too_little matches (Some (Err WorkLimit) ∷ rs) = too_little × Each (λ r. r ≡ None) rs
+AnswerInWork too_little matches (None ∷ rs) = (matches ≡ []) × AllNone rs
+AnswerInWork too_little matches (Some (Err Memory) ∷ rs) = AllNone rs
+AnswerInWork too_little matches (Some (Err WorkLimit) ∷ rs) = too_little × AllNone rs
 
 -- The results of a search within a work budget, however often it is called. No more work is left
 -- than it had.
@@ -110,6 +111,6 @@ module _ {P : Type 0} (attempt_costs : Tree → Text → (before : Failures) →
   -- an allocation fails. So with the least budget that is enough, they cost at most that.
   abbrev pub SearchesCostInWork : Type 0
   SearchesCostInWork = (tree : Tree) (text : Text) (start per_unit work : ℕ) (it behind : WorkMatchesView P) (rs : List WorkMatchesNextResultType)
-      → YieldsMatchesIfWorkSuffices tree text start per_unit work (remaining it) → enough_work_for_text per_unit text ≤ work
+      → YieldsMatchesIfWorkSuffices tree text start per_unit work (without_costs it) → enough_work_for_text per_unit text ≤ work
       → NextCallsYieldAtCost it rs behind → Each IsNoAllocationFailure rs
       → (cost : ℕ) × CallsCost it rs cost behind × (work ≡ cost + behind.left)

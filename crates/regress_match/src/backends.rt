@@ -2,12 +2,12 @@
 //! executor.
 
 ghost use Rattle.std.specs.Prelude.{◌≡◌, IfErr, IfOk, false, nat_le, not};
-ghost use Rattle.regex_meaning.specs.CodeUnitOffsets.{units};
-ghost use Rattle.regress_match.specs.{ProgramTreesAndAnswers.{IsBoundaryOrPastEnd, tree_for_byte_units}, CompileErrors.{IsOutOfMemory}, SearchResults.{YieldsMatches}};
+ghost use Rattle.regex_meaning.specs.CodeUnitOffsets.{units, IsBoundaryOrPastEnd, is_past};
+ghost use Rattle.regress_match.specs.{ProgramTreesAndAnswers.{tree_for_byte_units}, CompileErrors.{IsOutOfMemory}, SearchResults.{YieldsMatches}};
 
 use crate::api::{Regex, SearchError};
-use crate::executor_aliases_per_encoding::search_with_executor_from;
-pub use crate::executor_aliases_per_encoding::{
+use crate::executor_aliases::search_with_executor_from;
+pub use crate::executor_aliases::{
     BacktrackExecutor, DefaultAsciiExecutor, DefaultExecutor, DefaultUcs2Executor,
     DefaultUtf16Executor, LimitedExecutor,
 };
@@ -29,12 +29,12 @@ pub fn find<'a, E: Executor<'a, 'a>>(
     text: &'a str,
     start: usize,
 ) -> Result<Matches<E>, SearchError>
-    requires can { E.can_search text }
+    requires executable { E.can_search text }
     requires start { IsBoundaryOrPastEnd (E.text_of text (tree_for_byte_units re.now).flags.unicode) start }
     ensures answers { IfOk result (YieldsMatches (tree_for_byte_units re.now)
         (E.text_of text.entry (tree_for_byte_units re.now).flags.unicode) start) }
     ensures ended { IfOk result (λ it. it.ended
-        ≡ not (nat_le start (units (E.text_of text.entry (tree_for_byte_units re.now).flags.unicode)))) }
+        ≡ is_past start (units (E.text_of text.entry (tree_for_byte_units re.now).flags.unicode))) }
     ensures refused { IfErr result IsOutOfMemory }
 {
     search_with_executor_from::<E>(re.byte_program(), text, start)
@@ -52,12 +52,12 @@ pub fn find_ascii<'a, E: Executor<'a, 'a>>(
 ) -> Result<Matches<E::AsAscii>, SearchError>
 where
     E::AsAscii: Executor<'a, 'a>,
-    requires can { E.AsAscii.can_search text }
+    requires executable { E.AsAscii.can_search text }
     requires start { IsBoundaryOrPastEnd (E.AsAscii.text_of text (tree_for_byte_units re.now).flags.unicode) start }
     ensures answers { IfOk result (YieldsMatches (tree_for_byte_units re.now)
         (E.AsAscii.text_of text.entry (tree_for_byte_units re.now).flags.unicode) start) }
     ensures ended { IfOk result (λ it. it.ended
-        ≡ not (nat_le start (units (E.AsAscii.text_of text.entry (tree_for_byte_units re.now).flags.unicode)))) }
+        ≡ is_past start (units (E.AsAscii.text_of text.entry (tree_for_byte_units re.now).flags.unicode))) }
     ensures refused { IfErr result IsOutOfMemory }
 {
     search_with_executor_from::<E::AsAscii>(re.byte_program(), text, start)

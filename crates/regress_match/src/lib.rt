@@ -11,7 +11,7 @@
 
 pub mod api;
 pub mod backends;
-mod executor_aliases_per_encoding;
+mod executor_aliases;
 pub mod front;
 pub mod program;
 

@@ -1,8 +1,9 @@
 //! The program `regress-tool`.
 
-use crate::api::{Error, Flags, Regex, Syntax};
-use regress_search::exec::{Match, SearchError};
+use crate::api::{Flags, Regex, Syntax};
+use regress_search::exec::Match;
 use std::alloc::Global;
+use std::fmt::Display;
 use std::io;
 use std::io::Write;
 use std::ops::Range;
@@ -44,13 +45,12 @@ pub fn run<W: Write, W2: Write>(
     err: &mut W2,
 ) -> u8 {
     let Some(arguments) = read_arguments(words) else {
-        return print_refusal(err, "usage: regress-tool [--es2018] PATTERN FLAGS TEXT");
+        return print_refusal(err, &"usage: regress-tool [--es2018] PATTERN FLAGS TEXT");
     };
     let flags = Flags::from(arguments.flags);
     match Regex::with_syntax(alloc, arguments.pattern, flags, arguments.syntax) {
         Ok(re) => print_matches(&re, arguments.text, out, err),
-        Err(Error::Memory) => print_refusal(err, "out of memory"),
-        Err(_) => print_refusal(err, "pattern refused"),
+        Err(error) => print_refusal(err, &error),
     }
 }
 
@@ -80,16 +80,17 @@ fn read_three<'a>(
     })
 }
 
-// Writes one line that says why there is no answer.
-fn print_refusal<W: Write>(err: &mut W, why: &str) -> u8 {
+// Writes one line that says why there is no result.
+fn print_refusal<W: Write, E: Display>(err: &mut W, why: &E) -> u8 {
     let _ = writeln!(err, "{why}");
     REFUSED
 }
 
 // Writes one line for each match.
 fn print_matches<W: Write, W2: Write>(re: &Regex, text: &str, out: &mut W, err: &mut W2) -> u8 {
-    let Ok(matches) = re.find_iter(text) else {
-        return print_refusal(err, "out of memory");
+    let matches = match re.find_iter(text) {
+        Ok(matches) => matches,
+        Err(error) => return print_refusal(err, &error),
     };
     let mut status = NOT_FOUND;
     for item in matches {
@@ -100,8 +101,7 @@ fn print_matches<W: Write, W2: Write>(re: &Regex, text: &str, out: &mut W, err: 
                 }
                 status = FOUND;
             }
-            Err(SearchError::Memory) => return print_refusal(err, "out of memory"),
-            Err(SearchError::StepLimit) => return print_refusal(err, "out of steps"),
+            Err(error) => return print_refusal(err, &error),
         }
     }
     status

@@ -36,7 +36,7 @@ use Rattle.regress_memo.specs.Liveness.{Liveness, IsConsistentEdge, IsConsistent
 use Rattle.regress_memo.specs.Liveness.{Repeats}
 use Rattle.regress_memo.specs.Liveness.{IsRepeated, IsConsistentLookaround, IsSoundLivenessAt, IsNotAheadInDirection, left_from, IsSound, Similar, SimilarAt, World}
 use Rattle.regress_memo.specs.Liveness.{outermost, IsKeptIn}
-use Rattle.regress_memo.specs.Liveness.{Agree, IsLivenessFor, LiveDataDecideSearchResult, LiveDataDecideThreadListResult}
+use Rattle.regress_memo.specs.Liveness.{Agree, IsLivenessFor, LiveDataDecideSearchResult, LiveDataDecideThreadLists}
 use Rattle.regress_memo.proofs.Alike.{end-alike}
 
 -- ---- Tests
@@ -784,5 +784,5 @@ module _ (program : Program) (text : Text) (a : Liveness) (acc : IsLivenessFor p
 pub agreeing-alike : LiveDataDecideSearchResult
 agreeing-alike program text a acc turns d s t g = threads-alike program text a acc turns outermost d (running s ∷ []) (running t ∷ []) (g, tt)
 
-pub rows-alike : LiveDataDecideThreadListResult
+pub rows-alike : LiveDataDecideThreadLists
 rows-alike program text a acc turns w d ts us h = threads-alike program text a acc turns w d ts us h

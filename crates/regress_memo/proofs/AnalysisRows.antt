@@ -9,10 +9,10 @@ use Rattle.regex_meaning.specs.Text.{rightwards, leftwards}
 use Rattle.regress_memo.specs.declared.analysis_result.EnclosingLoop.{EnclosingLoop}
 use Rattle.regress_memo.specs.declared.analysis_result.InsnAnalysis.{InsnAnalysis}
 use Rattle.regress_memo.specs.declared.analysis_result.MemoAnalysis.{MemoAnalysis}
-use Rattle.regress_memo.specs.declared.analysis_result.EnclosingLoopProgressFactKind.{EnclosingLoopProgressFactKind}
-use Rattle.regress_memo.specs.declared.analysis_result.EnclosingLoopProgressFactKind.TheVariants.{Inside, Moved, Empty}
-use Rattle.regress_memo.specs.AnalysisAsLivenessAndPotentials.{insn_analysis_of, enclosing_loops_of, enclosing_loop_has_fact, states_loop_fact}
-use Rattle.regress_memo.specs.AnalysisAsLivenessAndPotentials.{iteration_char_read_known_or_distinguished, groups_stay_unchanged_from}
+use Rattle.regress_memo.specs.declared.analysis_result.LoopProgressFact.{LoopProgressFact}
+use Rattle.regress_memo.specs.declared.analysis_result.LoopProgressFact.TheVariants.{Inside, Moved, Empty}
+use Rattle.regress_memo.specs.AnalysisAsPotentials.{insn_analysis_of, enclosing_loops_of, enclosing_loop_has_fact, states_loop_fact}
+use Rattle.regress_memo.specs.AnalysisAsPotentials.{knows_iteration_reads, groups_stay_unchanged_from}
 use Rattle.regress_memo.specs.AnalysisChecks.{is_entered, LoopFactsFlow, AllLoopFactsFlow, IsConsistentFlow}
 
 or-left : (a b : Bool) → a ≡ true → (a || b) ≡ true
@@ -25,7 +25,7 @@ or-right false b e = e
 
 -- ---- One of them says it
 
-pub holds-there : (said : EnclosingLoopProgressFactKind) (l : ℕ) (rows : List EnclosingLoop) (k : ℕ) (r : EnclosingLoop) → slice_get rows k ≡ Some r → r.id ≡ l → enclosing_loop_has_fact said r ≡ true
+pub holds-there : (said : LoopProgressFact) (l : ℕ) (rows : List EnclosingLoop) (k : ℕ) (r : EnclosingLoop) → slice_get rows k ≡ Some r → r.id ≡ l → enclosing_loop_has_fact said r ≡ true
     → states_loop_fact said l rows ≡ true
 holds-there said l [] k r there is h = cc
 holds-there said l (x ∷ rows) zero r there is h =
@@ -35,18 +35,18 @@ holds-there said l (x ∷ rows) zero r there is h =
 holds-there said l (x ∷ rows) (suc k) r there is h =
     or-right ((x.id == l) && enclosing_loop_has_fact said x) (states_loop_fact said l rows) (holds-there said l rows k r there is h)
 
-pub holds-more : (said : EnclosingLoopProgressFactKind) (l : ℕ) (r : EnclosingLoop) (rows : List EnclosingLoop) → states_loop_fact said l rows ≡ true → states_loop_fact said l (r ∷ rows) ≡ true
+pub holds-more : (said : LoopProgressFact) (l : ℕ) (r : EnclosingLoop) (rows : List EnclosingLoop) → states_loop_fact said l rows ≡ true → states_loop_fact said l (r ∷ rows) ≡ true
 holds-more said l r rows h = or-right ((r.id == l) && enclosing_loop_has_fact said r) (states_loop_fact said l rows) h
 
 -- the row that does
-pub record Says (said : EnclosingLoopProgressFactKind) (l : ℕ) (rows : List EnclosingLoop) : Type 0 where
+pub record Says (said : LoopProgressFact) (l : ℕ) (rows : List EnclosingLoop) : Type 0 where
   pub k : ℕ
   pub row : EnclosingLoop
   pub there : slice_get rows k ≡ Some row
   pub is : row.id ≡ l
   pub says_it : enclosing_loop_has_fact said row ≡ true
 
-pub holds-in : (said : EnclosingLoopProgressFactKind) (l : ℕ) (rows : List EnclosingLoop) → states_loop_fact said l rows ≡ true → Says said l rows
+pub holds-in : (said : LoopProgressFact) (l : ℕ) (rows : List EnclosingLoop) → states_loop_fact said l rows ≡ true → Says said l rows
 holds-in said l [] h = cc
 holds-in said l (x ∷ rows) h = by (λ k. holds-in said l rows k) ((x.id == l) && enclosing_loop_has_fact said x) refl
   where
@@ -88,7 +88,7 @@ below-from a b l le h = elim (cases_lt l a) [
 
 module _ (t : MemoAnalysis) (reads : Bool) (entered : Option ℕ) (ip next : ℕ) (rows : AllLoopFactsFlow t reads entered ip next) where
   -- of the row that says something of a loop
-  at-row : (said : EnclosingLoopProgressFactKind) (l : ℕ) (found : Says said l (enclosing_loops_of t next)) → LoopFactsFlow t reads entered ip found.row
+  at-row : (said : LoopProgressFact) (l : ℕ) (found : Says said l (enclosing_loops_of t next)) → LoopFactsFlow t reads entered ip found.row
   at-row said l found = rows found.k found.row found.there
 
   not-entered : (l i : ℕ) → i ≡ l → is_entered entered l ≡ false → is_entered entered i ≡ false
@@ -117,7 +117,7 @@ module _ (t : MemoAnalysis) (reads : Bool) (entered : Option ℕ) (ip next : ℕ
           ((at-row Moved l found).moved (not-entered l found.row.id found.is e) r found.says_it);
       empty = λ l h e r.
           let found = holds-in Empty l (enclosing_loops_of t next) h in
-          subst (λ i. iteration_char_read_known_or_distinguished i (enclosing_loops_of t ip) ≡ true) found.is
+          subst (λ i. knows_iteration_reads i (enclosing_loops_of t ip) ≡ true) found.is
           ((at-row Empty l found).empty (not-entered l found.row.id found.is e) r found.says_it);
       fresh = λ l h. fresh l h (states_loop_fact Moved l (enclosing_loops_of t next)) refl;
       writes = λ l h. below-from (insn_analysis_of t ip).from (insn_analysis_of t next).from l from h;

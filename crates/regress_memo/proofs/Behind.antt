@@ -19,8 +19,8 @@ use Rattle.regress_memo.specs.GroupPreservingInsns.{SameGroups}
 use Rattle.regress_memo.specs.DistinctLists.{IsIn}
 use Rattle.regress_memo.specs.ThreadPotentials.{Shape, stands_there, has_shape}
 use Rattle.regress_memo.specs.LoopDataKeyCodes.{Question, is_empty, how_many, number_of_possible_answers, bool_as_digit, answer_to_loop_question, code_of, plan_code}
-use Rattle.regress_memo.specs.EquivalenceAfterSkippingSucceedingLookarounds.{LookaroundInsn, lookaround_at, GoesOn, SuccessGoesOn, TurnsAtHand, AsksOnly}
-use Rattle.regress_memo.specs.EquivalenceAfterSkippingSucceedingLookarounds.{ThreadsStayEquivalent}
+use Rattle.regress_memo.specs.SkippedLookarounds.{LookaroundInsn, lookaround_at, GoesOn, SuccessGoesOn, TurnsAtHand, AsksOnly}
+use Rattle.regress_memo.specs.SkippedLookarounds.{ThreadsStayEquivalent}
 use Rattle.regress_memo.proofs.Agree.{agree-of, agree-here, agree-inside, contents-world, agree-kept, threads-alike}
 use Rattle.regress_memo.proofs.Silent.{groups-stay}
 

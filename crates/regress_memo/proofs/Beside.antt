@@ -15,8 +15,8 @@ use Rattle.regress_memo.specs.LoopDataKeyCodes.{Question, plan_code, key_of}
 use Rattle.regress_memo.specs.UnboundedCharLoopMemoKeys.{plan_keys}
 use Rattle.regress_memo.specs.AmortizedStepCosts.{potential_by, AreCostsCovered}
 use Rattle.regress_memo.specs.MemoPlanChecksAndGuarantees.{IsPlan}
-use Rattle.regress_memo.specs.CappedCharLoopsAndLookarounds.{LimitedRunIsPaid, ScanIsPaid, EndIsPaid, ScanGives, BoundedLoopOrFailureCostsCovered}
-use Rattle.regress_memo.specs.CappedCharLoopsAndLookarounds.{CharLoopScansAreMemoSteps, LookaroundCostsAreCovered}
+use Rattle.regress_memo.specs.CappedCharLoops.{LimitedRunIsPaid, ScanIsPaid, EndIsPaid, ScanGives, BoundedLoopCostsAreCovered}
+use Rattle.regress_memo.specs.CappedCharLoops.{CharLoopScansAreMemoSteps, LookaroundCostsAreCovered}
 use Rattle.regress_memo.proofs.Onward.{turns-move-on}
 use Rattle.regress_memo.proofs.Paid.{tries-weigh, one-weighs}
 use Rattle.regress_memo.proofs.Plans.{bare-tries, own}
@@ -89,7 +89,7 @@ module _ (program : Program) (w : Potentials) (price : ℕ → ℕ) (ips : List 
         let x = one-weighs program w price ips (tried (running s)) in let y = paid.ready in omega (arith, x, y, le);
   }
 
-pub others-paid : BoundedLoopOrFailureCostsCovered
+pub others-paid : BoundedLoopCostsAreCovered
 others-paid = record {
   scans = λ program w price ips paid code s least most enough. scan-paid program w price ips paid code s least most enough;
   ends = λ program w price ips s. end-paid program w price ips s;

@@ -8,29 +8,29 @@ use Rattle.regress_memo.specs.MemoSearch.{Key}
 use Rattle.regress_memo.proofs.Codes.{digits-same}
 use Rattle.regress_memo.specs.declared.analysis_result.InsnAnalysis.{InsnAnalysis}
 use Rattle.regress_memo.specs.declared.analysis_result.MemoAnalysis.{MemoAnalysis}
-use Rattle.regress_memo.specs.AnalysisAsLivenessAndPotentials.{insn_analysis_of, number_of_memo_codes_before_insn, number_of_memo_codes_at_insn}
-use Rattle.regress_memo.specs.AnalysisAsLivenessAndPotentials.{memo_bit_index_of_key}
-use Rattle.regress_memo.specs.CheckedAnalysis.{AreInsnCodesCountedAndDisjoint, IsRecordableMemoKey, KeysHaveDistinctBits}
+use Rattle.regress_memo.specs.AnalysisAsPotentials.{insn_analysis_of, memo_codes_before_insn, number_of_memo_codes_at_insn}
+use Rattle.regress_memo.specs.AnalysisAsPotentials.{memo_bit_index_of_key}
+use Rattle.regress_memo.specs.CheckedAnalysis.{HasDisjointCodes, IsRecordableMemoKey, KeysHaveDistinctBits}
 
-module _ (t : MemoAnalysis) (coded : AreInsnCodesCountedAndDisjoint t) where
-  bases-below : (n ip : ℕ) → ip + n ≡ length t.lines.items → number_of_memo_codes_before_insn t ip ≤ t.codes
+module _ (t : MemoAnalysis) (coded : HasDisjointCodes t) where
+  bases-below : (n ip : ℕ) → ip + n ≡ length t.lines.items → memo_codes_before_insn t ip ≤ t.codes
   bases-below zero ip e =
       let past : nat_lt ip (length t.lines.items) ≡ false = le-ltb ip (length t.lines.items) (omega (arith, e)) in
-      let is : number_of_memo_codes_before_insn t ip ≡ t.codes = ap (λ b. if b then (insn_analysis_of t ip).base else t.codes) past in
+      let is : memo_codes_before_insn t ip ≡ t.codes = ap (λ b. if b then (insn_analysis_of t ip).base else t.codes) past in
       omega (arith, is)
   bases-below (suc n) ip e =
       let next = bases-below n (ip + 1) (omega (arith, e)) in
       let here = coded.apart ip (omega (arith, e)) in
       omega (arith, next, here)
 
-  bases-rise : (n ip : ℕ) → ip + n < length t.lines.items → number_of_memo_codes_before_insn t ip + number_of_memo_codes_at_insn t ip ≤ number_of_memo_codes_before_insn t (ip + n + 1)
+  bases-rise : (n ip : ℕ) → ip + n < length t.lines.items → memo_codes_before_insn t ip + number_of_memo_codes_at_insn t ip ≤ memo_codes_before_insn t (ip + n + 1)
   bases-rise zero ip less =
-      let same : number_of_memo_codes_before_insn t (ip + 1) ≡ number_of_memo_codes_before_insn t (ip + 0 + 1) = ap (λ k. number_of_memo_codes_before_insn t k) (omega arith) in
+      let same : memo_codes_before_insn t (ip + 1) ≡ memo_codes_before_insn t (ip + 0 + 1) = ap (λ k. memo_codes_before_insn t k) (omega arith) in
       let here = coded.apart ip (omega (arith, less)) in
       omega (arith, here, same)
   bases-rise (suc n) ip less =
       let before = bases-rise n ip (omega (arith, less)) in
-      let same : number_of_memo_codes_before_insn t (ip + n + 1 + 1) ≡ number_of_memo_codes_before_insn t (ip + suc n + 1) = ap (λ k. number_of_memo_codes_before_insn t k) (omega arith) in
+      let same : memo_codes_before_insn t (ip + n + 1 + 1) ≡ memo_codes_before_insn t (ip + suc n + 1) = ap (λ k. memo_codes_before_insn t k) (omega arith) in
       let here = coded.apart (ip + n + 1) (omega (arith, less)) in
       omega (arith, before, here, same)
 
@@ -38,16 +38,16 @@ module _ (t : MemoAnalysis) (coded : AreInsnCodesCountedAndDisjoint t) where
     width-is : number_of_memo_codes_at_insn t k.ip ≡ (insn_analysis_of t k.ip).codes
     width-is = ap (λ b. if b then (insn_analysis_of t k.ip).codes else 0) has.records
 
-    pub base-is : number_of_memo_codes_before_insn t k.ip ≡ (insn_analysis_of t k.ip).base
+    pub base-is : memo_codes_before_insn t k.ip ≡ (insn_analysis_of t k.ip).base
     base-is = ap (λ b. if b then (insn_analysis_of t k.ip).base else t.codes) (lt-ltb k.ip (length t.lines.items) has.there)
 
     -- it is among those of its instruction
-    pub within : (above : ℕ) → number_of_memo_codes_before_insn t k.ip + number_of_memo_codes_at_insn t k.ip ≤ above → memo_bit_index_of_key t places k.ip k.at k.code < above * places
+    pub within : (above : ℕ) → memo_codes_before_insn t k.ip + number_of_memo_codes_at_insn t k.ip ≤ above → memo_bit_index_of_key t places k.ip k.at k.code < above * places
     within above le =
         let row : suc k.at * (insn_analysis_of t k.ip).codes ≤ places * (insn_analysis_of t k.ip).codes =
         mul-le-mul_right (insn_analysis_of t k.ip).codes (omega (arith, has.at)) in
         let w = width-is in
-        let all : (number_of_memo_codes_before_insn t k.ip + (insn_analysis_of t k.ip).codes) * places ≤ above * places = mul-le-mul_right places (omega (arith, le, w)) in
+        let all : (memo_codes_before_insn t k.ip + (insn_analysis_of t k.ip).codes) * places ≤ above * places = mul-le-mul_right places (omega (arith, le, w)) in
         let code = has.code in
         omega (arith, row, all, code)
 
@@ -68,7 +68,7 @@ module _ (t : MemoAnalysis) (coded : AreInsnCodesCountedAndDisjoint t) where
     -- by the line at hand
     pub bit-bound : (x : InsnAnalysis) → x ≡ insn_analysis_of t k.ip → x.base * places + (k.at * x.codes + k.code) < t.codes * places
     bit-bound x is =
-        let base : x.base * places ≡ number_of_memo_codes_before_insn t k.ip * places = ap (λ (y : InsnAnalysis). y.base * places) is ∙ ap (λ n. n * places) (sym base-is) in
+        let base : x.base * places ≡ memo_codes_before_insn t k.ip * places = ap (λ (y : InsnAnalysis). y.base * places) is ∙ ap (λ n. n * places) (sym base-is) in
         let row : k.at * x.codes ≡ k.at * (insn_analysis_of t k.ip).codes = ap (λ (y : InsnAnalysis). k.at * y.codes) is in
         let fits = bit-fits in
         omega (arith, base, row, fits)
@@ -80,8 +80,8 @@ module _ (t : MemoAnalysis) (coded : AreInsnCodesCountedAndDisjoint t) where
       let n : ℕ = k.ip - (j.ip + 1) in
       let there = has_k.there in
       let rise = bases-rise n j.ip (omega (arith, less, there)) in
-      let same : number_of_memo_codes_before_insn t (j.ip + n + 1) ≡ number_of_memo_codes_before_insn t k.ip = ap (λ i. number_of_memo_codes_before_insn t i) (omega (arith, less)) in
-      let inside = within places j has_j (number_of_memo_codes_before_insn t k.ip) (omega (arith, rise, same)) in
+      let same : memo_codes_before_insn t (j.ip + n + 1) ≡ memo_codes_before_insn t k.ip = ap (λ i. memo_codes_before_insn t i) (omega (arith, less)) in
+      let inside = within places j has_j (memo_codes_before_insn t k.ip) (omega (arith, rise, same)) in
       omega (arith, inside)
 
   same-key : (places : ℕ) (j k : Key) → IsRecordableMemoKey t places j → IsRecordableMemoKey t places k → j.ip ≡ k.ip
@@ -94,7 +94,7 @@ module _ (t : MemoAnalysis) (coded : AreInsnCodesCountedAndDisjoint t) where
       let make : ℕ → ℕ → ℕ → Key = λ i a c. record { ip = i; at = a; code = c } in
       ap (λ i. make i j.at j.code) is ∙ ap (λ a. make k.ip a j.code) both.1 ∙ ap (λ c. make k.ip k.at c) both.0
 
-pub bits-apart : (t : MemoAnalysis) → AreInsnCodesCountedAndDisjoint t → (places : ℕ) (j k : Key) → IsRecordableMemoKey t places j → IsRecordableMemoKey t places k
+pub bits-apart : (t : MemoAnalysis) → HasDisjointCodes t → (places : ℕ) (j k : Key) → IsRecordableMemoKey t places j → IsRecordableMemoKey t places k
     → memo_bit_index_of_key t places j.ip j.at j.code ≡ memo_bit_index_of_key t places k.ip k.at k.code → j ≡ k
 bits-apart t coded places j k has_j has_k e = elim (cases_lt j.ip k.ip) [
   | inl less ↦ let before = earlier t coded places j k has_j has_k less in absurd (omega (arith, before, e))

@@ -11,7 +11,7 @@ use Rattle.regex_meaning.specs.CodeUnitOffsets.{units}
 use Rattle.regex_meaning.specs.CompilationRelation.{Program, Insn, Loop1CharBody, Lookahead, Lookbehind}
 use Rattle.regress_program.specs.InsnsAsSpecInsns.{insn_as_spec_insn}
 use Rattle.regress_program.specs.declared.instructions.Insn as declared
-use Rattle.regress_memo.specs.EquivalenceAfterSkippingSucceedingLookarounds.{LookaroundInsn, lookaround_at}
+use Rattle.regress_memo.specs.SkippedLookarounds.{LookaroundInsn, lookaround_at}
 use Rattle.regress_machine.specs.SearchFindsFirstOutcomeAtPlace.{state_before_first_insn}
 use Rattle.regress_machine.specs.Machine.{running}
 use Rattle.regress_memo.specs.DelayedMemoizationWorkBudget.{price_at_one, enough_for_one}
@@ -23,11 +23,11 @@ use Rattle.regress_memo.proofs.Budget.{budgets-enough}
 use Rattle.regress_memo.proofs.Paid.{one-weighs}
 use Rattle.regress_memo.specs.declared.analysis_result.MemoAnalysis.{MemoAnalysis}
 use Rattle.regress_memo.specs.declared.analysis_result.InsnAnalysis.{InsnAnalysis}
-use Rattle.regress_memo.specs.AnalysisAsLivenessAndPotentials.{no_insn_analysis, insn_analysis_of, analysis_as_liveness, key_code_questions_of, recorded_from}
-use Rattle.regress_memo.specs.AnalysisAsLivenessAndPotentials.{recorded}
-use Rattle.regress_memo.specs.AnalysisAsLivenessAndPotentials.{potentials_of}
-use Rattle.regress_memo.specs.AnalysisAsLivenessAndPotentials.{key_cost_of, insn_direction}
-use Rattle.regress_memo.specs.CheckedAnalysis.{AreInsnCodesCountedAndDisjoint}
+use Rattle.regress_memo.specs.AnalysisAsPotentials.{no_insn_analysis, insn_analysis_of, analysis_as_liveness, key_code_questions_of, recorded_from}
+use Rattle.regress_memo.specs.AnalysisAsPotentials.{recorded}
+use Rattle.regress_memo.specs.AnalysisAsPotentials.{potentials_of}
+use Rattle.regress_memo.specs.AnalysisAsPotentials.{key_cost_of, insn_direction}
+use Rattle.regress_memo.specs.CheckedAnalysis.{HasDisjointCodes}
 use Rattle.regress_memo.specs.AnalysisChecks.{unlimited}
 use Rattle.regress_memo.specs.Successors.{AreInsnsOfProgram, successors_of_insn_if_any}
 use Rattle.regress_memo.specs.WorkBound.{LookIsBounded, InsnIsBounded, IsStepWorkBounded, insn_keys_cost_per_position, all_keys_cost_per_position}
@@ -68,7 +68,7 @@ inside [] i x e = absurd (nothing i x e)
 inside (y ∷ lines) zero x e = omega arith
 inside (y ∷ lines) (suc i) x e = let l = inside lines i x e in omega (arith, l)
 
-module _ (t : MemoAnalysis) (coded : AreInsnCodesCountedAndDisjoint t) where
+module _ (t : MemoAnalysis) (coded : HasDisjointCodes t) where
   abbrev cost : ℕ → ℕ
   cost ip = key_cost_of t ip * plan_codes (key_code_questions_of t) ip
 

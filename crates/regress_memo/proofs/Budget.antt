@@ -6,7 +6,7 @@ use Rattle.regex_meaning.specs.NumberListHelpers.{numbers_from}
 use Rattle.regex_meaning.specs.CodeUnitOffsets.{units}
 use Rattle.regress_memo.specs.LoopDataKeyCodes.{plan_codes}
 use Rattle.regress_memo.specs.UnboundedCharLoopMemoKeys.{plan_keys}
-use Rattle.regress_memo.specs.AttemptsAndWorkOverSuccessiveMatches.{ready_at}
+use Rattle.regress_memo.specs.SuccessiveMatches.{ready_at}
 use Rattle.regress_memo.specs.DelayedMemoizationWorkBudget.{price_at_one, WorkBudgetsSuffice}
 use Rattle.regress_memo.proofs.Starts.{attempts-few}
 use Rattle.regress_memo.proofs.Plans.{plans-serve}

@@ -16,7 +16,7 @@ use Rattle.regress_memo.specs.MemoSearch.{Key}
 use Rattle.regress_memo.specs.ThreadPotentials.{Shape, is_way, stands_there, has_shape}
 use Rattle.regress_memo.specs.LoopDataKeyCodes.{Question, is_empty, how_many, number_of_possible_answers, bool_as_digit, answer_to_loop_question, code_of, codes_of}
 use Rattle.regress_memo.specs.LoopDataKeyCodes.{plan_code, plan_codes, AsksAll}
-use Rattle.regress_memo.specs.LoopDataKeyCodes.{HasSlotsOfProgram, key_of, own_row, ThreadHasKey, KeyCodesDistinguishLiveLoopData}
+use Rattle.regress_memo.specs.LoopDataKeyCodes.{HasSlotsOfProgram, key_of, own_row, ThreadHasKey, KeyCodesDistinguishLoopData}
 use Rattle.regress_memo.proofs.Keys.{unasked-count}
 
 -- ---- Digits
@@ -133,7 +133,7 @@ module _ (program : Program) (text : Text) (a : Liveness) (questions : ℕ → L
         sound = (sound, tt);
       }
 
-pub plans-tell : KeyCodesDistinguishLiveLoopData
+pub plans-tell : KeyCodesDistinguishLoopData
 plans-tell = record {
   tells = λ questions a top asks. record {
     tells = λ d s t p q place same. record {

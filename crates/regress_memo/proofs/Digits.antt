@@ -8,7 +8,7 @@ use Rattle.std.proofs.lemmas.Bool.{ltb-false}
 use Rattle.regress_machine.specs.Machine.{LoopData, State}
 use Rattle.regress_memo.specs.LoopDataKeyCodes.{Question, is_empty, how_many, bool_as_digit, answer_to_loop_question, code_of, codes_of}
 use Rattle.regress_memo.specs.declared.analysis_result.EnclosingLoop.{EnclosingLoop}
-use Rattle.regress_memo.specs.AnalysisAsLivenessAndPotentials.{with_empty, with_count, questions_on}
+use Rattle.regress_memo.specs.AnalysisAsPotentials.{with_empty, with_count, questions_on}
 use Rattle.regress_memo.specs.CheckedAnalysis.{radix_of_loop_digit, digit_of}
 
 -- ---- How many codes

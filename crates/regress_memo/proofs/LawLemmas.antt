@@ -26,13 +26,13 @@ use Rattle.regress_memo.specs.ThreadPotentials.{is_one_of}
 use Rattle.regress_memo.proofs.Codes.{plans-tell}
 use Rattle.regress_memo.proofs.Weights.{in-places}
 use Rattle.regress_memo.specs.declared.analysis_result.MemoAnalysis.{MemoAnalysis}
-use Rattle.regress_memo.specs.AnalysisAsLivenessAndPotentials.{insn_analysis_of, analysis_as_liveness, key_code_questions_of, insn_direction, recorded}
+use Rattle.regress_memo.specs.AnalysisAsPotentials.{insn_analysis_of, analysis_as_liveness, key_code_questions_of, insn_direction, recorded}
 use Rattle.regress_memo.specs.CheckedAnalysis.{IsRecordableMemoKey, IsAnalysisOf}
 use Rattle.regress_memo.proofs.WholeLemmas.{recorded-is, not-recorded}
 use Rattle.regress_memo.specs.MemoContractView.{MemoView}
 use Rattle.regress_memo.specs.MemoContents.{same_key, memo_key_at, has_failure, has_success, knows, IsEmptyMemo, RecordsFailure, RecordsSuccess}
 use Rattle.regress_memo.specs.Laws.{analysis_keys, KeyFails, KeyReaches, IsTrueOf, ListsExactlyKnownKeys, HasMemory, RecordingAddsKnownKeys, MemosAreSound}
-use Rattle.regress_memo.specs.Laws.{AnalysisKeysAreThoseAssignedBits}
+use Rattle.regress_memo.specs.Laws.{KeysAreThoseWithBits}
 use Rattle.regress_memo.proofs.MemoLemmas.{same-is, same-itself, bit-there, line-there}
 
 -- ---- Lists
@@ -161,7 +161,7 @@ run-key-is program text t d test greedy s place r =
     let make : ℕ → Key = λ c. record { ip = s.ip + 1; at = offset text place; code = c } in
     ap (λ b. if b then Some (key_of (plan_code (key_code_questions_of t)) u) else None) records ∙ ap (λ c. Some (make c)) code
 
-pub keys-are-there : AnalysisKeysAreThoseAssignedBits
+pub keys-are-there : KeysAreThoseWithBits
 keys-are-there = record { has_bit = key-has-bit; inside = key-inside; thread = λ program text t of. thread-key program text t; run = run-key-is }
 
 -- ---- What is known is so

@@ -19,7 +19,7 @@ use Rattle.regress_memo.specs.Liveness.{Liveness, World, IsLivenessFor, Agree, o
 use Rattle.regress_memo.specs.DistinctLists.{IsIn, IsNew, AreDistinct, AreIn}
 use Rattle.regress_memo.specs.MemoSearch.{Key, Keys, Entry, tried, kept, noted, IsBare, tries, threads_in, keys_in, FindEnd, KeyStandsFor, AreKeys, Succeeds}
 use Rattle.regress_memo.specs.MemoSearch.{IsKnown, known_to_reach, AreNoted, AreAnswered, HoldsInvariant, ReachesBySteps, at_first, gives, reaches, learns}
-use Rattle.regress_memo.specs.LookaroundsWithSharedMemo.{LookaroundsLearnKeys, FoundEndMakesRecordsBelowSucceed, SoundStatesLeaveSoundThreads}
+use Rattle.regress_memo.specs.LookaroundsWithSharedMemo.{LookaroundsLearnKeys, FoundEndIsShared, SoundStatesLeaveSoundThreads}
 use Rattle.regress_memo.specs.LookaroundsWithSharedMemo.{KnownResultsDecideLookarounds}
 use Rattle.regress_memo.proofs.Agree.{agree-of, agree-kept}
 use Rattle.regress_memo.proofs.Failing.{same-answers, row-ends}
@@ -128,7 +128,7 @@ module _ (program : Program) (text : Text) (d : Direction) where
       let over = left-ends program text false n d 0 s t [] f is w in
       subst IsSome over.ends_so refl
 
-pub success-shared : FoundEndMakesRecordsBelowSucceed
+pub success-shared : FoundEndIsShared
 success-shared program text a keys acc are d = record {
   ends = ends-found-here program text d;
   shared = λ memory front rest f b found h. row-found program text a keys acc are d memory front rest f b found h;

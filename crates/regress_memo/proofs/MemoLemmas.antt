@@ -12,8 +12,8 @@ use Rattle.regress_memo.specs.LoopDataKeyCodes.{code_of, plan_code, plan_codes, 
 use Rattle.regress_memo.proofs.Codes.{plans-tell}
 use Rattle.regress_memo.specs.declared.analysis_result.InsnAnalysis.{InsnAnalysis}
 use Rattle.regress_memo.specs.declared.analysis_result.MemoAnalysis.{MemoAnalysis}
-use Rattle.regress_memo.specs.AnalysisAsLivenessAndPotentials.{no_insn_analysis, insn_analysis_of, key_code_questions_of, memo_bit_index_of_key}
-use Rattle.regress_memo.specs.CheckedAnalysis.{AreInsnCodesCountedAndDisjoint, IsRecordableMemoKey}
+use Rattle.regress_memo.specs.AnalysisAsPotentials.{no_insn_analysis, insn_analysis_of, key_code_questions_of, memo_bit_index_of_key}
+use Rattle.regress_memo.specs.CheckedAnalysis.{HasDisjointCodes, IsRecordableMemoKey}
 use Rattle.regress_memo.proofs.Bits.{bits-apart}
 use Rattle.regress_memo.specs.BitSet.{is_set}
 use Rattle.regress_memo.specs.MemoContractView.{MemoView}
@@ -66,7 +66,7 @@ module _ (t : MemoAnalysis) (places : ℕ) where
     pub noted-is : (words : List ℕ) → is_set words (bit k) ≡ is_noted t places words k
     noted-is words = sym (ap (λ b. b && is_set words (bit k)) (bit-is k has))
 
-    module _ (coded : AreInsnCodesCountedAndDisjoint t) where
+    module _ (coded : HasDisjointCodes t) where
       -- another key has another bit
       bit-same : (j : Key) → IsRecordableMemoKey t places j → (bit j == bit k) ≡ same_key j k
       bit-same j has_j =
@@ -102,7 +102,7 @@ module _ (t : MemoAnalysis) (ip : ℕ) (x : InsnAnalysis) (is : x ≡ insn_analy
   records-so = ap (λ (y : InsnAnalysis). y.records) (sym is) ∙ records
 
   -- what a code tells is one of so many
-  code-few : AreInsnCodesCountedAndDisjoint t → (s : State) → s.ip ≡ ip → code_of (key_code_questions_of t ip) s < x.codes
+  code-few : HasDisjointCodes t → (s : State) → s.ip ≡ ip → code_of (key_code_questions_of t ip) s < x.codes
   code-few coded s at =
       let below : code_of (key_code_questions_of t ip) s < plan_codes (key_code_questions_of t) ip =
       subst (λ i. code_of (key_code_questions_of t i) s < plan_codes (key_code_questions_of t) i) at (plans-tell.below (key_code_questions_of t) s) in
@@ -110,7 +110,7 @@ module _ (t : MemoAnalysis) (ip : ℕ) (x : InsnAnalysis) (is : x ≡ insn_analy
       let same : x.codes ≡ (insn_analysis_of t ip).codes = ap (λ (y : InsnAnalysis). y.codes) is in
       omega (arith, below, counted, same)
 
-  pub one-code : AreInsnCodesCountedAndDisjoint t → x.codes ≡ 1 → (s : State) → s.ip ≡ ip → 0 ≡ code_of (key_code_questions_of t ip) s
+  pub one-code : HasDisjointCodes t → x.codes ≡ 1 → (s : State) → s.ip ≡ ip → 0 ≡ code_of (key_code_questions_of t ip) s
   one-code coded one s at = let few = code-few coded s at in omega (arith, few, one)
 
   pub key-is : (s : State) (at code : ℕ) → s.ip ≡ ip → s.pos ≡ at → code ≡ code_of (key_code_questions_of t ip) s
@@ -131,7 +131,7 @@ module _ (t : MemoAnalysis) (ip : ℕ) (x : InsnAnalysis) (is : x ≡ insn_analy
   }
 
   -- a code that is so of each state there
-  pub told-bit : AreInsnCodesCountedAndDisjoint t → (places at code : ℕ) (loops : List LoopData)
+  pub told-bit : HasDisjointCodes t → (places at code : ℕ) (loops : List LoopData)
       → ((s : State) → s.pos ≡ at → s.loops ≡ loops → code ≡ code_of (key_code_questions_of t ip) s)
       → at < places → IsRecordableMemoKey t places (record { ip = ip; at = at; code = code })
   told-bit coded places at code loops told within =
@@ -145,7 +145,7 @@ module _ (t : MemoAnalysis) (ip : ℕ) (x : InsnAnalysis) (is : x ≡ insn_analy
 abbrev pub known_by : MemoAnalysis → (places : ℕ) → (records_successes : Bool) → (failures ends : List ℕ) → MemoView
 known_by memo_analysis places records_successes failures ends = record { memo_analysis = memo_analysis; places = places; records_successes = records_successes; failures = failures; ends = ends }
 
-module _ (m : MemoView) (coded : AreInsnCodesCountedAndDisjoint m.memo_analysis) (k : Key) (has : IsRecordableMemoKey m.memo_analysis m.places k) (bit : ℕ)
+module _ (m : MemoView) (coded : HasDisjointCodes m.memo_analysis) (k : Key) (has : IsRecordableMemoKey m.memo_analysis m.places k) (bit : ℕ)
     (its : bit ≡ memo_bit_index_of_key m.memo_analysis m.places k.ip k.at k.code) (new : List ℕ) where
   pub notes-failure : ((i : ℕ) → is_set new i ≡ (is_set m.failures i || i == bit)) → RecordsFailure k m (record m { failures = new })
   notes-failure more = record {

@@ -13,7 +13,7 @@ use Rattle.regress_memo.specs.MemoSearch.{Key, Entry, tried, kept, noted, tries,
 use Rattle.regress_memo.specs.ThreadPotentials.{Potentials, potential_of}
 use Rattle.regress_memo.specs.LoopDataKeyCodes.{Question, key_of}
 use Rattle.regress_memo.specs.CharLoopExitThreadLists.{passing, greedy_loop_threads, pending_loop_threads}
-use Rattle.regress_memo.specs.UnboundedCharLoopsAsMemoSteps.{key_behind}
+use Rattle.regress_memo.specs.UnboundedCharLoops.{key_behind}
 use Rattle.regress_memo.specs.AmortizedStepCosts.{potential_by, IsCostCovered, AreCostsCovered, GreedyLoopIsCovered, LazyLoopIsCovered, ThreadIsPaid, places_from}
 use Rattle.regress_memo.specs.AmortizedStepCosts.{key_on, RunTurnsArePaid}
 use Rattle.regress_memo.specs.AmortizedStepCosts.{StepCostsAreCovered}

@@ -11,7 +11,7 @@ use Rattle.regress_memo.specs.Liveness.{Liveness}
 use Rattle.regress_memo.specs.MemoSearch.{Key, Keys, tried, noted, tries, threads_in, IsBare, GoesOnward, KeyStandsFor, IsMemoStep}
 use Rattle.regress_memo.specs.LoopDataKeyCodes.{Question, plan_code, plan_codes, key_of}
 use Rattle.regress_memo.specs.UnboundedCharLoopMemoKeys.{row_by, plan_rows, plan_keys, char_loop_greediness_at, insn_before}
-use Rattle.regress_memo.specs.EquivalenceAfterSkippingSucceedingLookarounds.{LookaroundInsn, lookaround_at}
+use Rattle.regress_memo.specs.SkippedLookarounds.{LookaroundInsn, lookaround_at}
 use Rattle.regress_memo.specs.MemoPlanChecksAndGuarantees.{IsPlan, IsRecorded, ThreadGives, LookGives, CheckedMemoPlansAreSound, taken_at}
 use Rattle.regress_memo.specs.MemoPlanChecksAndGuarantees.{ZeroOrOneStepBelowRecord}
 use Rattle.regress_memo.proofs.Behind.{asks-there}

@@ -25,7 +25,7 @@ use Rattle.regress_memo.specs.ThreadPotentials.{each_noted, AreOfEach}
 use Rattle.regress_memo.specs.LoopDataKeyCodes.{Question, HasSlotsOfProgram}
 use Rattle.regress_memo.specs.CharLoopExitThreadLists.{passing, greedy_loop_threads, lazy_loop_threads, pending_loop_threads}
 use Rattle.regress_memo.specs.UnboundedCharLoopMemoKeys.{CharLoopRecords, run_key, plan_keys}
-use Rattle.regress_memo.specs.UnboundedCharLoopsAsMemoSteps.{key_behind, placed, AreUnknown, AtCharLoop, UnboundedCharLoopsAreMemoSteps}
+use Rattle.regress_memo.specs.UnboundedCharLoops.{key_behind, placed, AreUnknown, AtCharLoop, UnboundedCharLoopsAreMemoSteps}
 use Rattle.regress_memo.proofs.Agree.{Moves, moves-on}
 use Rattle.regress_memo.proofs.Looks.{soundness-stays}
 use Rattle.regress_memo.proofs.Runs.{passing-left, passing-on, runs-leave, runs-begin, lazy-runs-go-on}

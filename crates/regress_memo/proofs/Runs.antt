@@ -11,8 +11,8 @@ use Rattle.regress_machine.specs.Machine.{State, running, waiting, scans, first_
 use Rattle.regress_machine.proofs.Beside.{Beside, nothing_left, one_more, beside, length-nearest, moved-suc, moved-zero}
 use Rattle.regress_machine.specs.CharLoopExitStatesByPreference.{behind, fewest_first, most_first}
 use Rattle.regress_machine.proofs.Runs.{most-parts, most-first, behind-from, fewest-from, run-turn}
-use Rattle.regress_memo.specs.CharLoopExitThreadLists.{passing, greedy_loop_threads, lazy_loop_threads, LazyRunGoesOn, CharLoopInsnYieldsExitThreads}
-use Rattle.regress_memo.specs.CharLoopExitThreadLists.{GreedyThreadsSplitAtLaterPlace, LazyCharLoopThreadsUnfold}
+use Rattle.regress_memo.specs.CharLoopExitThreadLists.{passing, greedy_loop_threads, lazy_loop_threads, LazyRunGoesOn, CharLoopYieldsExits}
+use Rattle.regress_memo.specs.CharLoopExitThreadLists.{GreedyThreadsSplit, LazyCharLoopThreadsUnfold}
 
 turn-joined : (xs ys : List State) → (xs ≡ [] → ⊥) → first_running_and_others_waiting (xs ++ ys) ≡ first_running_and_others_waiting xs ++ map waiting ys
 turn-joined [] ys some = absurd (some refl)
@@ -75,7 +75,7 @@ module _ (text : Text) (test : ℕ → Bool) (d : Direction) where
             let more : passing text test d place + 1 - least ≡ suc (passing text test d place + 1 - (least + 1)) = omega (arith, le) in
             ap (fewest_first text d place s least) more
 
-pub runs-leave : CharLoopInsnYieldsExitThreads
+pub runs-leave : CharLoopYieldsExits
 runs-leave program text test d place least most greedy s here one at few =
     let k = passing text test d place in
     let tries : min most (k + 1) ≡ k + 1 = omega (arith, few) in
@@ -89,7 +89,7 @@ runs-leave program text test d place least most greedy s here one at few =
     by true = refl
     by false = refl
 
-pub runs-begin : GreedyThreadsSplitAtLaterPlace
+pub runs-begin : GreedyThreadsSplit
 runs-begin text test d place least n s inside le few =
     let sum = passing-on text test d n place inside few in
     let q = moved text d n place in

@@ -16,7 +16,7 @@ use Rattle.regex_meaning.specs.CompilationRelation.{BeginCaptureGroup, EndCaptur
 use Rattle.regress_machine.specs.Machine.{State, Thread, running, waiting, Next, goes, scans, ends, asks, stuck, after_lookaround, state_with_ip, with_some, go}
 use Rattle.regress_machine.specs.Machine.{go_if, loop_again_effect, test_of, on_to, moved_by, read_one, stay_if, read_group, run_states, scan, act_on, act}
 use Rattle.regress_memo.specs.ThreadBisimulation.{AlikeThreads, AlikeEnds, AlikeAnswers, AlikeNext, IsBisimulation}
-use Rattle.regress_memo.specs.GroupPreservingInsns.{IsSilentAgain, IsSilentAt, AreGroupPreserving, GroupPreservingInsnsKeepGroupsToEnd}
+use Rattle.regress_memo.specs.GroupPreservingInsns.{IsSilentAgain, IsSilentAt, AreGroupPreserving, InsnsKeepGroupsToEnd}
 use Rattle.regress_machine.proofs.Leaving.{IsOfThread, IsOfNext, of-in_turn, of-with_some, of-go_if, of-map, of-loop_turn, of-again_at}
 use Rattle.regress_memo.proofs.Alike.{threads-end-alike}
 
@@ -133,7 +133,7 @@ module _ (silent : ℕ → Bool) (groups : Groups) (starts : List ℕ) (loops : 
         (next-same w d (act program text d s) (act-keeps program text d s r.keeps (slice_get program.insns s.ip) (are.silent_at s.ip r.keeps.at)));
   }
 
-pub groups-stay : GroupPreservingInsnsKeepGroupsToEnd
+pub groups-stay : InsnsKeepGroupsToEnd
 groups-stay program text silent are d turns u e f at searches ended =
     let groups = u.groups in
     let starts = u.starts in

@@ -11,7 +11,7 @@ use Rattle.regress_machine.specs.Machine.{Thread}
 use Rattle.regress_memo.specs.Liveness.{Liveness}
 use Rattle.regress_memo.specs.MemoSearch.{Key, Keys, tried, tries, AreOnward}
 use Rattle.regress_memo.specs.AllMatchesWork.{Searched, at_first as at_start, failed as search-failed, found as search-found}
-use Rattle.regress_memo.specs.AttemptsAndWorkOverSuccessiveMatches.{Attempted, at_first, passed, failed, found, ready_at, AttemptsAndTheirTotalWorkAreBounded}
+use Rattle.regress_memo.specs.SuccessiveMatches.{Attempted, at_first, passed, failed, found, ready_at, TotalWorkIsBounded}
 use Rattle.regress_memo.proofs.Matches.{matches-together}
 use Rattle.regress_memo.proofs.Turns.{turns-go-on}
 
@@ -190,7 +190,7 @@ module _ (program : Program) (text : Text) (a : Liveness) (keys : Keys) (price :
         };
       }
 
-pub attempts-few : AttemptsAndTheirTotalWorkAreBounded
+pub attempts-few : TotalWorkIsBounded
 attempts-few program text a keys acc are price weight row from next looks work memory starts s =
     let c = counts program text a keys price weight row from next looks work memory starts s in
     let paid = matches-together program text a keys acc are price weight c.searched.low work _ memory c.searched.searched in

@@ -7,18 +7,18 @@ use Rattle.regex_meaning.specs.CompilationRelation as layout
 use Rattle.regress_program.specs.InsnsAsSpecInsns.{insn_as_spec_insn}
 use Rattle.regress_program.specs.declared.instructions.Insn as declared
 use Rattle.regress_memo.specs.Liveness.{Enters, IsRepeated, IsConsistentLookaround, IsSoundLivenessAt}
-use Rattle.regress_memo.specs.EquivalenceAfterSkippingSucceedingLookarounds.{lookaround_at}
-use Rattle.regress_memo.specs.EquivalenceAfterSkippingSucceedingLookarounds as behind
+use Rattle.regress_memo.specs.SkippedLookarounds.{lookaround_at}
+use Rattle.regress_memo.specs.SkippedLookarounds as behind
 use Rattle.regress_memo.specs.GroupPreservingInsns.{IsSilentAt, IsSilentAgain}
 use Rattle.regress_memo.specs.ThreadPotentials.{Potentials, CoversOne, CoversTwo, CoversRepeat, CoversInsn}
 use Rattle.regress_memo.specs.declared.analysis_result.MemoAnalysis.{MemoAnalysis}
-use Rattle.regress_memo.specs.declared.analysis_result.EnclosingLoopProgressFactKind.TheVariants.{Inside}
+use Rattle.regress_memo.specs.declared.analysis_result.LoopProgressFact.TheVariants.{Inside}
 use Rattle.regress_memo.specs.declared.successors.LookaroundDirectionNegationAndContinuation as look
 use Rattle.regress_memo.specs.declared.successors.Successors.{Successors}
 use Rattle.regress_memo.specs.declared.successors.Successors.TheVariants.{Ends, One, Two, Enter, Again, Run, LookaroundDirectionNegationAndContinuation, Same}
-use Rattle.regress_memo.specs.AnalysisAsLivenessAndPotentials.{insn_analysis_of, enclosing_loops_of, states_loop_fact, analysis_as_liveness, potentials_of}
-use Rattle.regress_memo.specs.AnalysisAsLivenessAndPotentials.{groups_stay_unchanged_from}
-use Rattle.regress_memo.specs.AnalysisAsLivenessAndPotentials.{insn_direction}
+use Rattle.regress_memo.specs.AnalysisAsPotentials.{insn_analysis_of, enclosing_loops_of, states_loop_fact, analysis_as_liveness, potentials_of}
+use Rattle.regress_memo.specs.AnalysisAsPotentials.{groups_stay_unchanged_from}
+use Rattle.regress_memo.specs.AnalysisAsPotentials.{insn_direction}
 use Rattle.regress_memo.specs.Successors.{AreInsnsOfProgram, successors_of_insn_if_any}
 use Rattle.regress_memo.specs.AnalysisChecks.{MayBeginIteration, MayRepeatLoopAt, IsolatesLookaround, IsConsistentAt, IsCoveredAt}
 use Rattle.regress_memo.proofs.AnalysisRows.{holds-in, below-from}

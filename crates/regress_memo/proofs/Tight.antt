@@ -3,7 +3,7 @@ use Rattle.std.proofs.Common.{flat_map, ◌≡◌, ◌≤◌, ℕ, ◌+◌, List
 use Rattle.std.specs.Prelude.{if◌then◌else◌}
 use Rattle.std.proofs.lemmas.List.Sums.{sum_by-cons, sum_by-append}
 use Rattle.regex_meaning.specs.NumberListHelpers.{numbers_from}
-use Rattle.regress_memo.specs.TotalCostsOfRecordingInsns.{unrecorded, RecordingInsnsLeaveLinearPotential}
+use Rattle.regress_memo.specs.TotalCostsOfRecordingInsns.{unrecorded, RecordingCostsAreLinear}
 use Rattle.regress_memo.proofs.Distinct.{price-few}
 
 -- ---- Sums
@@ -69,7 +69,7 @@ module _ (records : ℕ → Bool) (left : ℕ → ℕ) where
           let b = sum_by-cons bare ip (unrecorded records ips) in
           omega (arith, a, b, l)
 
-pub prices-few : RecordingInsnsLeaveLinearPotential
+pub prices-few : RecordingCostsAreLinear
 prices-few e at left t =
     let all = numbers_from 0 e.count in
     let off = bare e.records left in

@@ -13,11 +13,11 @@ use Rattle.regress_memo.specs.DistinctLists.{IsIn, IsNew, AreDistinct, AreIn}
 use Rattle.regress_memo.specs.MemoSearch.{Key, Keys, Entry, tried, kept, noted, IsBare, tries, threads_in, keys_in, at_of, AreOnward, GoesOnward}
 use Rattle.regress_memo.specs.MemoSearch.{entry_potential, Answers, KeyStandsFor, AreKeys, Fails, IsKnown, known_to_fail, IsMemory, AreNoted, AreAnswered}
 use Rattle.regress_memo.specs.MemoSearch.{HoldsInvariant}
-use Rattle.regress_memo.specs.MemoSearch.{IsOpened, AreOpened, IsMemoStep, ReachesBySteps, at_first, gives, reaches, learns, PendingFailureRecordsStayRight}
+use Rattle.regress_memo.specs.MemoSearch.{IsOpened, AreOpened, IsMemoStep, ReachesBySteps, at_first, gives, reaches, learns, PendingRecordsStayRight}
 use Rattle.regress_memo.specs.MemoSearch.{TurnsOf, StepsKeepInvariant}
 use Rattle.regress_memo.specs.MemoSearch.{RightwardSearchesNeverMoveLeft, HasCome, WorkIsBounded}
 use Rattle.regress_memo.specs.StepSoundness.{IsSoundStep}
-use Rattle.regress_memo.specs.ThreadListSuccessFromPartSuccess.{KeyFailsWhenRecordReached}
+use Rattle.regress_memo.specs.SuccessOfThreadLists.{KeyFailsWhenRecordReached}
 use Rattle.regress_memo.proofs.Alone.{splits}
 use Rattle.regress_memo.proofs.Failing.{row-takes, row-shared, same-answers}
 use Rattle.regress_memo.proofs.Distinct.{Each-left, Each-right, distinct-moved, in-moved, sum-moved, distinct-joined, price-few}
@@ -389,7 +389,7 @@ module _ (program : Program) (text : Text) (a : Liveness) (keys : Keys) (d : Dir
 
 -- ---- Laws
 
-pub noted-stays : PendingFailureRecordsStayRight
+pub noted-stays : PendingRecordsStayRight
 noted-stays program text a keys d spent ts entries rest s h k = noted-stay program text a keys d spent ts entries rest s h k
 
 pub turns-right : StepsKeepInvariant

@@ -12,7 +12,7 @@ use Rattle.regress_memo.proofs.Weights.{turns-weighed}
 use Rattle.regress_memo.specs.declared.analysis_result.MemoAnalysis.{MemoAnalysis}
 use Rattle.regress_memo.specs.declared.successors.Successors.{Successors}
 use Rattle.regress_memo.specs.declared.successors.Successors.TheVariants.{Ends, One, Two, Enter, Again, Run, LookaroundDirectionNegationAndContinuation, Same}
-use Rattle.regress_memo.specs.AnalysisAsLivenessAndPotentials.{insn_direction}
+use Rattle.regress_memo.specs.AnalysisAsPotentials.{insn_direction}
 use Rattle.regress_memo.specs.Successors.{successors_of_insn_if_any}
 use Rattle.regress_memo.specs.AnalysisChecks.{MayRepeatLoopAt, IsConsistentAt}
 use Rattle.regress_memo.specs.CheckedAnalysis.{IsAnalysisOf, ip_of, DirectionsAreKept}

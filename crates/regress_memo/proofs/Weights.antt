@@ -29,7 +29,7 @@ use Rattle.regress_memo.specs.StepSoundness.{IsSoundStep, StepsAreSound}
 use Rattle.regress_memo.specs.ThreadPotentials.{Potentials, potential_of, CoversOne, CoversRepeat, CoversInsn, AreCovering, is_way, is_one_of, places_of, Shape}
 use Rattle.regress_memo.specs.ThreadPotentials.{Distinguishes}
 use Rattle.regress_memo.specs.ThreadPotentials.{stands_there, has_shape, place_keys, each_noted, AreOfEach, StepsAreMemoSteps, ThreadsLeftFitInsnPotentials}
-use Rattle.regress_memo.specs.ThreadPotentials.{RecordedLoopExitsCoveredByKeys}
+use Rattle.regress_memo.specs.ThreadPotentials.{KeysCoverRecordedExits}
 use Rattle.regress_memo.specs.ThreadPotentials.{OffsetsAndCodesAreKeys}
 use Rattle.regress_memo.proofs.Keys.{keys-agree, sound-state, unasked-count}
 use Rattle.regress_memo.proofs.Turns.{threads-joined, keys-bare, given, turn-left}
@@ -497,7 +497,7 @@ places-keys = record {
 
 -- ---- Runs
 
-pub runs-pay : RecordedLoopExitsCoveredByKeys
+pub runs-pay : KeysCoverRecordedExits
 runs-pay price weight known [] first ready more le few each = omega (arith, le, few)
 runs-pay price weight known (x ∷ xs) first ready more le few each =
     let above = known ++ x.0 ∷ [] in

@@ -18,11 +18,11 @@ use Rattle.regress_memo.specs.ThreadPotentials.{is_one_of}
 use Rattle.regress_memo.specs.declared.analysis_result.EnclosingLoop.{EnclosingLoop}
 use Rattle.regress_memo.specs.declared.analysis_result.InsnAnalysis.{InsnAnalysis}
 use Rattle.regress_memo.specs.declared.analysis_result.MemoAnalysis.{MemoAnalysis}
-use Rattle.regress_memo.specs.declared.analysis_result.EnclosingLoopProgressFactKind.TheVariants.{Inside, Empty}
-use Rattle.regress_memo.specs.AnalysisAsLivenessAndPotentials.{no_insn_analysis, insn_analysis_of, rows_in, enclosing_loops_of, states_loop_fact, count_bound_of}
-use Rattle.regress_memo.specs.AnalysisAsLivenessAndPotentials.{analysis_as_liveness}
-use Rattle.regress_memo.specs.AnalysisAsLivenessAndPotentials.{with_count, questions_on, key_code_questions_of}
-use Rattle.regress_memo.specs.AnalysisAsLivenessAndPotentials.{recorded_from, recorded, insn_direction}
+use Rattle.regress_memo.specs.declared.analysis_result.LoopProgressFact.TheVariants.{Inside, Empty}
+use Rattle.regress_memo.specs.AnalysisAsPotentials.{no_insn_analysis, insn_analysis_of, rows_in, enclosing_loops_of, states_loop_fact, count_bound_of}
+use Rattle.regress_memo.specs.AnalysisAsPotentials.{analysis_as_liveness}
+use Rattle.regress_memo.specs.AnalysisAsPotentials.{with_count, questions_on, key_code_questions_of}
+use Rattle.regress_memo.specs.AnalysisAsPotentials.{recorded_from, recorded, insn_direction}
 use Rattle.regress_memo.specs.Successors.{AreInsnsOfProgram, successors_of_insn_if_any}
 use Rattle.regress_memo.specs.AnalysisChecks.{IsConsistentAt, IsCoveredAt, IsInsnCostCovered, IsInsnChecked}
 use Rattle.regress_memo.specs.CheckedAnalysis.{IsAnalysisOf, FirstInsnForwardOutsideLoops, AnalysesAreMemoPlans}

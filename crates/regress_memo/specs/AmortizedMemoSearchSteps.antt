@@ -15,7 +15,7 @@ use Rattle.regress_memo.specs.MemoSearch.{Key, Entry, tried, noted, tries, threa
 use Rattle.regress_memo.specs.declared.analysis_result.MemoAnalysis.{MemoAnalysis}
 use Rattle.regress_memo.specs.UnreachedCharLoopBodies.{IsNotLoopBody}
 use Rattle.regress_memo.specs.WorkBound.{IsWorkBounded, first_row}
-use Rattle.regress_memo.specs.AnalysisAsLivenessAndPotentials.{analysis_as_liveness, recorded, potentials_of, key_cost_of, insn_direction}
+use Rattle.regress_memo.specs.AnalysisAsPotentials.{analysis_as_liveness, recorded, potentials_of, key_cost_of, insn_direction}
 use Rattle.regress_memo.specs.CheckedAnalysis.{IsAnalysisOf}
 use Rattle.regress_memo.specs.Laws.{analysis_keys, KeyFails}
 use Rattle.regress_memo.specs.MemoContents.{memo_key_at}

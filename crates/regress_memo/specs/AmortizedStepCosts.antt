@@ -10,7 +10,7 @@ use Rattle.regress_memo.specs.MemoSearch.{Key, Entry, tried, kept, noted, tries,
 use Rattle.regress_memo.specs.ThreadPotentials.{Potentials, potential_of, AreCovering, is_one_of, each_noted}
 use Rattle.regress_memo.specs.LoopDataKeyCodes.{Question, key_of}
 use Rattle.regress_memo.specs.CharLoopExitThreadLists.{greedy_loop_threads, pending_loop_threads}
-use Rattle.regress_memo.specs.UnboundedCharLoopsAsMemoSteps.{key_behind, placed}
+use Rattle.regress_memo.specs.UnboundedCharLoops.{key_behind, placed}
 
 module _ (program : Program) (w : Potentials) (price : ℕ → ℕ) (ips : List ℕ) where
   -- The potential of threads that wait together is that of the first one.

@@ -11,16 +11,16 @@ use Rattle.regress_memo.specs.ThreadPotentials.{CoversOne, CoversTwo, CoversRepe
 use Rattle.regress_memo.specs.AmortizedStepCosts.{GreedyLoopIsCovered, LazyLoopIsCovered}
 use Rattle.regress_memo.specs.declared.analysis_result.EnclosingLoop.{EnclosingLoop}
 use Rattle.regress_memo.specs.declared.analysis_result.MemoAnalysis.{MemoAnalysis}
-use Rattle.regress_memo.specs.declared.analysis_result.EnclosingLoopProgressFactKind.TheVariants.{Inside, Moved}
+use Rattle.regress_memo.specs.declared.analysis_result.LoopProgressFact.TheVariants.{Inside, Moved}
 use Rattle.regress_memo.specs.declared.successors.Successors.{Successors}
 use Rattle.regress_memo.specs.declared.successors.Successors.TheVariants.{Ends, One, Two, Enter, Again, Run, LookaroundDirectionNegationAndContinuation, Same}
 use Rattle.regress_memo.specs.declared.successors.LookaroundDirectionNegationAndContinuation as look
 use Rattle.regress_memo.specs.declared.successors.CharLoopMinMaxAndGreed as bounds
-use Rattle.regress_memo.specs.AnalysisAsLivenessAndPotentials.{insn_analysis_of, enclosing_loops_of, states_loop_fact}
-use Rattle.regress_memo.specs.AnalysisAsLivenessAndPotentials.{iteration_char_read_known_or_distinguished}
-use Rattle.regress_memo.specs.AnalysisAsLivenessAndPotentials.{count_bound_of}
-use Rattle.regress_memo.specs.AnalysisAsLivenessAndPotentials.{analysis_as_liveness, key_code_questions_of, recorded, potentials_of, key_cost_of, insn_direction}
-use Rattle.regress_memo.specs.AnalysisAsLivenessAndPotentials.{groups_stay_unchanged_from, number_of_memo_codes_before_insn, number_of_memo_codes_at_insn}
+use Rattle.regress_memo.specs.AnalysisAsPotentials.{insn_analysis_of, enclosing_loops_of, states_loop_fact}
+use Rattle.regress_memo.specs.AnalysisAsPotentials.{knows_iteration_reads}
+use Rattle.regress_memo.specs.AnalysisAsPotentials.{count_bound_of}
+use Rattle.regress_memo.specs.AnalysisAsPotentials.{analysis_as_liveness, key_code_questions_of, recorded, potentials_of, key_cost_of, insn_direction}
+use Rattle.regress_memo.specs.AnalysisAsPotentials.{groups_stay_unchanged_from, memo_codes_before_insn, number_of_memo_codes_at_insn}
 
 -- The loop is the one that is entered, if one is.
 abbrev pub is_entered : Option ℕ → (l : ℕ) → Bool
@@ -45,7 +45,7 @@ module _ (t : MemoAnalysis) where
     pub moved : is_entered entered row.id ≡ false → reads ≡ false → row.moved ≡ true
         → states_loop_fact Moved row.id (enclosing_loops_of t ip) ≡ true
     pub empty : is_entered entered row.id ≡ false → reads ≡ false → row.empty ≡ true
-        → iteration_char_read_known_or_distinguished row.id (enclosing_loops_of t ip) ≡ true
+        → knows_iteration_reads row.id (enclosing_loops_of t ip) ≡ true
 
   -- All entries of the successor follow.
   abbrev pub AllLoopFactsFlow : (reads : Bool) (entered : Option ℕ) (ip next : ℕ) → Type 0
@@ -74,7 +74,7 @@ module _ (t : MemoAnalysis) where
   -- An iteration may end, and all is known that decides how the loop continues.
   pub record MayEndIteration (f : layout.LoopFields) (ip : ℕ) : Type 0 where
     pub inside : states_loop_fact Inside f.loop_id (enclosing_loops_of t ip) ≡ true
-    pub empty : iteration_char_read_known_or_distinguished f.loop_id (enclosing_loops_of t ip) ≡ true
+    pub empty : knows_iteration_reads f.loop_id (enclosing_loops_of t ip) ≡ true
     pub decides : CountDecides f (states_loop_fact Moved f.loop_id (enclosing_loops_of t ip))
 
   -- An iteration may end and another one may begin.
@@ -139,10 +139,10 @@ module _ (t : MemoAnalysis) where
     pub passed : (insn_analysis_of t ip).records ≡ false → (insn_analysis_of t ip).left + 1 ≤ (insn_analysis_of t ip).ready
 
   -- The codes of an instruction are counted and few, and its bits are before those of the next one.
-  pub record AreInsnCodesCountedAndDisjointAt (ip : ℕ) : Type 0 where
+  pub record HasDisjointCodesAt (ip : ℕ) : Type 0 where
     pub codes : plan_codes (key_code_questions_of t) ip ≡ (insn_analysis_of t ip).codes
     pub few : (insn_analysis_of t ip).codes ≤ max_codes_per_insn
-    pub apart : number_of_memo_codes_before_insn t ip + number_of_memo_codes_at_insn t ip ≤ number_of_memo_codes_before_insn t (ip + 1)
+    pub apart : memo_codes_before_insn t ip + number_of_memo_codes_at_insn t ip ≤ memo_codes_before_insn t (ip + 1)
 
   module _ (program : Program) where
     -- The facts at an instruction are consistent with those at its successors.
@@ -172,4 +172,4 @@ module _ (t : MemoAnalysis) where
       pub right : IsConsistentAt step ip
       pub enough : IsCoveredAt step ip
       pub paid : IsInsnCostCovered ip
-      pub codes : AreInsnCodesCountedAndDisjointAt ip
+      pub codes : HasDisjointCodesAt ip

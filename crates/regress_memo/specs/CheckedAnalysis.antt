@@ -7,7 +7,7 @@ use Rattle.regex_meaning.specs.CodeUnitOffsets.{HasRisingPlaceOffsets, units}
 use Rattle.regex_meaning.specs.CompilationRelation.{Program, Loop1CharBody}
 use Rattle.regress_machine.specs.Machine.{State, Thread, running, waiting, LoopData, goes, act}
 use Rattle.regress_memo.specs.Liveness.{IsSoundLiveness, ReadsAsBytes}
-use Rattle.regress_memo.specs.EquivalenceAfterSkippingSucceedingLookarounds.{LookaroundInsn, lookaround_at, AsksOnly}
+use Rattle.regress_memo.specs.SkippedLookarounds.{LookaroundInsn, lookaround_at, AsksOnly}
 use Rattle.regress_memo.specs.LoopDataKeyCodes.{bool_as_digit, plan_codes}
 use Rattle.regress_memo.specs.AmortizedStepCosts.{AreCostsCovered}
 use Rattle.regress_memo.specs.MemoPlanChecksAndGuarantees.{IsPlan, PlanServes, plan_taken}
@@ -16,19 +16,19 @@ use Rattle.regress_memo.specs.MemoSearch.{Key}
 use Rattle.regress_memo.specs.declared.analysis_result.MemoAnalysis.{MemoAnalysis}
 use Rattle.regress_memo.specs.declared.loop_data_key_codes.LoopCountAndIterationStart.{LoopCountAndIterationStart}
 use Rattle.regress_memo.specs.declared.analysis_result.EnclosingLoop.{EnclosingLoop}
-use Rattle.regress_memo.specs.AnalysisAsLivenessAndPotentials.{insn_analysis_of, enclosing_loops_of, analysis_as_liveness, key_code_questions_of, recorded}
-use Rattle.regress_memo.specs.AnalysisAsLivenessAndPotentials.{potentials_of}
-use Rattle.regress_memo.specs.AnalysisAsLivenessAndPotentials.{key_cost_of}
-use Rattle.regress_memo.specs.AnalysisAsLivenessAndPotentials.{insn_direction, groups_stay_unchanged_from, number_of_memo_codes_before_insn}
-use Rattle.regress_memo.specs.AnalysisAsLivenessAndPotentials.{number_of_memo_codes_at_insn, memo_bit_index_of_key}
+use Rattle.regress_memo.specs.AnalysisAsPotentials.{insn_analysis_of, enclosing_loops_of, analysis_as_liveness, key_code_questions_of, recorded}
+use Rattle.regress_memo.specs.AnalysisAsPotentials.{potentials_of}
+use Rattle.regress_memo.specs.AnalysisAsPotentials.{key_cost_of}
+use Rattle.regress_memo.specs.AnalysisAsPotentials.{insn_direction, groups_stay_unchanged_from, memo_codes_before_insn}
+use Rattle.regress_memo.specs.AnalysisAsPotentials.{number_of_memo_codes_at_insn, memo_bit_index_of_key}
 use Rattle.regress_memo.specs.AnalysisChecks.{IsCharLoopChecked, IsConsistentAt, max_codes_per_insn}
 use Rattle.regress_memo.specs.Successors.{successors_of_insn_if_any}
 
 -- Codes are counted and few, and the bits of each instruction are before those of the next one.
-pub record AreInsnCodesCountedAndDisjoint (t : MemoAnalysis) : Type 0 where
+pub record HasDisjointCodes (t : MemoAnalysis) : Type 0 where
   pub few : (ip : ℕ) → plan_codes (key_code_questions_of t) ip ≤ max_codes_per_insn
   pub counted : (ip : ℕ) → ip < length t.lines.items → plan_codes (key_code_questions_of t) ip ≡ (insn_analysis_of t ip).codes
-  pub apart : (ip : ℕ) → ip < length t.lines.items → number_of_memo_codes_before_insn t ip + number_of_memo_codes_at_insn t ip ≤ number_of_memo_codes_before_insn t (ip + 1)
+  pub apart : (ip : ℕ) → ip < length t.lines.items → memo_codes_before_insn t ip + number_of_memo_codes_at_insn t ip ≤ memo_codes_before_insn t (ip + 1)
 
 -- The first instruction has no enclosing loop and is searched to the right.
 pub record FirstInsnForwardOutsideLoops (t : MemoAnalysis) : Type 0 where
@@ -42,7 +42,7 @@ module _ (program : Program) (t : MemoAnalysis) where
     pub starts : FirstInsnForwardOutsideLoops t
     pub steps : (ip : ℕ) → IsConsistentAt t program (successors_of_insn_if_any ip (slice_get program.insns ip)) ip
     pub right : (top : ℕ) → top < 2 ^ 63 → IsSoundLiveness (analysis_as_liveness t) top program
-    pub coded : AreInsnCodesCountedAndDisjoint t
+    pub coded : HasDisjointCodes t
     pub paid : AreCostsCovered program (potentials_of t) (key_cost_of t) (recorded t)
     pub runs : (ip least most : ℕ) (greedy : Bool) → slice_get program.insns ip ≡ Some (Loop1CharBody least most greedy)
         → IsCharLoopChecked t program (record { least = least; most = most; greedy = greedy }) ip

@@ -10,7 +10,7 @@ use Rattle.regress_memo.specs.MemoSearch.{Key}
 use Rattle.regress_memo.specs.LoopDataKeyCodes.{Question, plan_codes}
 use Rattle.regress_memo.specs.UnboundedCharLoopMemoKeys.{plan_keys}
 use Rattle.regress_memo.specs.MemoPlanChecksAndGuarantees.{IsPlan}
-use Rattle.regress_memo.specs.AttemptsAndWorkOverSuccessiveMatches.{Attempted, ready_at}
+use Rattle.regress_memo.specs.SuccessiveMatches.{Attempted, ready_at}
 
 -- The cost of the keys at one offset.
 abbrev pub price_at_one : (questions : ℕ → List Question) (ips : List ℕ) (price : ℕ → ℕ) → ℕ

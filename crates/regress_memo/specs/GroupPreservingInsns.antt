@@ -41,6 +41,6 @@ pub record SameGroups (s t : State) : Type 0 where
 -- ---- Laws
 
 -- A search from a silent instruction ends with the groups with which it began.
-abbrev pub GroupPreservingInsnsKeepGroupsToEnd : Type 0
-GroupPreservingInsnsKeepGroupsToEnd = (program : Program) (text : Text) (silent : ℕ → Bool) → AreGroupPreserving silent program → (d : Direction) (turns : ℕ) (u e : State) (f : Found) → silent u.ip ≡ true
+abbrev pub InsnsKeepGroupsToEnd : Type 0
+InsnsKeepGroupsToEnd = (program : Program) (text : Text) (silent : ℕ → Bool) → AreGroupPreserving silent program → (d : Direction) (turns : ℕ) (u e : State) (f : Found) → silent u.ip ≡ true
     → search program text turns d (running u ∷ []) ≡ Some f → f.end ≡ Some e → SameGroups e u

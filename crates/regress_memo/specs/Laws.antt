@@ -11,7 +11,7 @@ use Rattle.regress_memo.specs.UnboundedCharLoopMemoKeys.{plan_keys, char_loop_gr
 use Rattle.regress_memo.specs.MemoPlanChecksAndGuarantees.{plan_taken}
 use Rattle.regress_memo.specs.MemoSearch.{Key, Keys, KeyStandsFor, Fails, Succeeds, IsMemory}
 use Rattle.regress_memo.specs.declared.analysis_result.MemoAnalysis.{MemoAnalysis}
-use Rattle.regress_memo.specs.AnalysisAsLivenessAndPotentials.{analysis_as_liveness, key_code_questions_of, insn_direction, recorded}
+use Rattle.regress_memo.specs.AnalysisAsPotentials.{analysis_as_liveness, key_code_questions_of, insn_direction, recorded}
 use Rattle.regress_memo.specs.CheckedAnalysis.{IsRecordableMemoKey, IsAnalysisOf}
 use Rattle.regress_memo.specs.MemoContractView.{MemoView}
 use Rattle.regress_memo.specs.MemoContents.{memo_key_at, has_failure, has_success, knows, IsEmptyMemo, RecordsFailure, RecordsSuccess}
@@ -82,7 +82,7 @@ pub record MemosAreSound : Type 0 where
   pub all : (program : Program) (text : Text) (m : MemoView) → IsTrueOf program text m → HasMemory program text m (knows m)
 
 -- The keys of a memo analysis are exactly those that have bits.
-pub record AnalysisKeysAreThoseAssignedBits : Type 0 where
+pub record KeysAreThoseWithBits : Type 0 where
   -- A key that stands for threads has a bit.
   pub has_bit : (program : Program) (text : Text) (t : MemoAnalysis) → IsAnalysisOf program t
       → (d : Direction) (k : Key) (ts : List Thread)

@@ -225,8 +225,8 @@ abbrev pub LiveDataDecideSearchResult : Type 0
 LiveDataDecideSearchResult = (program : Program) (text : Text) (a : Liveness) → AgreeingEndAlike program text a
 
 -- Lists of threads that agree have searches that end alike.
-abbrev pub LiveDataDecideThreadListResult : Type 0
-LiveDataDecideThreadListResult = (program : Program) (text : Text) (a : Liveness) → AgreeingRowsEndAlike program text a
+abbrev pub LiveDataDecideThreadLists : Type 0
+LiveDataDecideThreadLists = (program : Program) (text : Text) (a : Liveness) → AgreeingRowsEndAlike program text a
 
 -- States that agree fail alike.
 abbrev pub LiveDataDecideFailure : Type 0

@@ -10,7 +10,7 @@ use Rattle.regress_memo.specs.Liveness.{Liveness, IsSoundLiveness}
 use Rattle.regress_memo.specs.MemoKeys.{AsksNoGroups, AsksPlacesAlone}
 use Rattle.regress_memo.specs.LoopDataKeyCodes.{Question, is_empty, how_many, plan_codes, AsksAll}
 use Rattle.regress_memo.specs.UnboundedCharLoopMemoKeys.{CharLoopRecords}
-use Rattle.regress_memo.specs.EquivalenceAfterSkippingSucceedingLookarounds.{AsksOnly}
+use Rattle.regress_memo.specs.SkippedLookarounds.{AsksOnly}
 use Rattle.regress_memo.specs.MemoSearch.{Key}
 use Rattle.regress_memo.specs.MemoPlanChecksAndGuarantees.{IsPlan}
 use Rattle.regress_memo.specs.ThreadPotentials.{Potentials}

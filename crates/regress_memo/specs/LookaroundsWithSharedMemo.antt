@@ -88,6 +88,6 @@ module _ (program : Program) (text : Text) (a : Liveness) (keys : Keys) (d : Dir
         → IsSome f.end × Each (Succeeds program text a keys) (keys_in rest)
 
 -- Success is shared in each search.
-abbrev pub FoundEndMakesRecordsBelowSucceed : Type 0
-FoundEndMakesRecordsBelowSucceed = (program : Program) (text : Text) (a : Liveness) (keys : Keys)
+abbrev pub FoundEndIsShared : Type 0
+FoundEndIsShared = (program : Program) (text : Text) (a : Liveness) (keys : Keys)
     → IsLivenessFor program text a → AreKeys program text a keys → (d : Direction) → SuccessOf program text a keys d

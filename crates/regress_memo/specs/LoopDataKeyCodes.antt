@@ -100,7 +100,7 @@ module _ (program : Program) (text : Text) (a : Liveness) where
 
 -- The code of a plan whose questions include all live data distinguishes these. It is less than the
 -- product of the numbers of answers to the questions of the instruction.
-pub record KeyCodesDistinguishLiveLoopData : Type 0 where
+pub record KeyCodesDistinguishLoopData : Type 0 where
   pub tells : (questions : ℕ → List Question) (a : Liveness) (top : ℕ) → AsksAll questions a
       → Distinguishes a top (plan_code questions)
   pub below : (questions : ℕ → List Question) (s : State) → plan_code questions s < plan_codes questions s.ip

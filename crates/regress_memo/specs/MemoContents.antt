@@ -4,7 +4,7 @@ use Rattle.regress_machine.specs.Machine.{State}
 use Rattle.regress_memo.specs.MemoSearch.{Key}
 use Rattle.regress_memo.specs.LoopDataKeyCodes.{plan_code, key_of}
 use Rattle.regress_memo.specs.declared.analysis_result.MemoAnalysis.{MemoAnalysis}
-use Rattle.regress_memo.specs.AnalysisAsLivenessAndPotentials.{insn_analysis_of, key_code_questions_of, memo_bit_index_of_key}
+use Rattle.regress_memo.specs.AnalysisAsPotentials.{insn_analysis_of, key_code_questions_of, memo_bit_index_of_key}
 use Rattle.regress_memo.specs.declared.memo.ThreadMemoKey.{ThreadMemoKey as Stored}
 use Rattle.regress_memo.specs.BitSet.{is_set}
 use Rattle.regress_memo.specs.MemoContractView.{MemoView}

@@ -13,10 +13,10 @@ use Rattle.regress_memo.specs.MemoKeys.{AsksNoGroups}
 use Rattle.regress_memo.specs.DistinctLists.{IsNew}
 use Rattle.regress_memo.specs.MemoSearch.{Key, Entry, tried, noted, tries, FindEnd, AreKeys, IsMemoStep}
 use Rattle.regress_memo.specs.ThreadPotentials.{is_one_of}
-use Rattle.regress_memo.specs.AttemptsAndWorkOverSuccessiveMatches.{Attempted, ready_at}
+use Rattle.regress_memo.specs.SuccessiveMatches.{Attempted, ready_at}
 use Rattle.regress_memo.specs.LoopDataKeyCodes.{Question, plan_code, plan_codes, AsksAll, HasSlotsOfProgram, key_of}
 use Rattle.regress_memo.specs.UnboundedCharLoopMemoKeys.{char_loop_greediness_at, insn_before, plan_keys}
-use Rattle.regress_memo.specs.EquivalenceAfterSkippingSucceedingLookarounds.{LookaroundInsn, lookaround_at}
+use Rattle.regress_memo.specs.SkippedLookarounds.{LookaroundInsn, lookaround_at}
 
 module _ (program : Program) (text : Text) (a : Liveness) (questions : ℕ → List Question)
     (way : ℕ → Direction) (ips : List ℕ) (taken : Key → ℕ) where

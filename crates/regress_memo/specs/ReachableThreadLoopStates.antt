@@ -6,7 +6,7 @@ use Rattle.regress_memo.specs.Liveness.{IsNotAheadInDirection, left_from}
 use Rattle.regress_memo.specs.declared.analysis_result.EnclosingLoop.{EnclosingLoop}
 use Rattle.regress_memo.specs.declared.analysis_result.LoopCountsDistinguishedUpTo.{LoopCountsDistinguishedUpTo}
 use Rattle.regress_memo.specs.declared.analysis_result.MemoAnalysis.{MemoAnalysis}
-use Rattle.regress_memo.specs.AnalysisAsLivenessAndPotentials.{count_bound_of}
+use Rattle.regress_memo.specs.AnalysisAsPotentials.{count_bound_of}
 
 -- The direction of an instruction.
 abbrev pub direction_from_forward : (forward : Bool) → Direction

@@ -167,8 +167,8 @@ pub record ThreadsLeftFitInsnPotentials : Type 0 where
 
 -- A char loop that records each of its positions is covered by its potential and by these keys:
 -- each covers a character, a thread and a record.
-abbrev pub RecordedLoopExitsCoveredByKeys : Type 0
-RecordedLoopExitsCoveredByKeys = (price : Key → ℕ) (weight : List Thread → ℕ) (known : List Thread) (xs : List (Thread × Key)) (first ready more : ℕ) → first ≤ ready → more ≤ first + length xs
+abbrev pub KeysCoverRecordedExits : Type 0
+KeysCoverRecordedExits = (price : Key → ℕ) (weight : List Thread → ℕ) (known : List Thread) (xs : List (Thread × Key)) (first ready more : ℕ) → first ≤ ready → more ≤ first + length xs
     → Each (λ x. weight (x.0 ∷ []) + 2 ≤ price x.1) xs → more + sum_by (entry_potential weight) (each_noted known xs) ≤ ready + sum_by price (keys_in (each_noted known xs))
 
 -- If a code distinguishes live loop data, instructions, offsets and codes are keys, also of lists

@@ -7,7 +7,7 @@ use Rattle.regex_meaning.specs.CompilationRelation.{Program, Insn, Loop1CharBody
 use Rattle.regress_machine.specs.SearchFindsFirstOutcomeAtPlace.{state_before_first_insn}
 use Rattle.regress_machine.specs.Machine.{Thread, running}
 use Rattle.regress_memo.specs.Liveness.{ReadsAsBytes}
-use Rattle.regress_memo.specs.EquivalenceAfterSkippingSucceedingLookarounds.{LookaroundInsn, lookaround_at}
+use Rattle.regress_memo.specs.SkippedLookarounds.{LookaroundInsn, lookaround_at}
 use Rattle.regress_memo.specs.DelayedMemoizationWorkBudget.{AreInTwoStages}
 use Rattle.regress_memo.specs.AmortizedStepCosts.{potential_by}
 use Rattle.regress_memo.specs.MemoPlanChecksAndGuarantees.{plan_taken}
@@ -17,9 +17,9 @@ use Rattle.regress_memo.specs.declared.successors.Successors.{Successors}
 use Rattle.regress_memo.specs.declared.successors.Successors.TheVariants.{Run as AsRun, LookaroundDirectionNegationAndContinuation as AsLook}
 use Rattle.regress_memo.specs.UnreachedCharLoopBodies.{FlowsPastBodies}
 use Rattle.regress_memo.specs.AnalysisChecks.{unlimited}
-use Rattle.regress_memo.specs.AnalysisAsLivenessAndPotentials.{insn_analysis_of, analysis_as_liveness, key_code_questions_of, recorded, potentials_of}
-use Rattle.regress_memo.specs.AnalysisAsLivenessAndPotentials.{key_cost_of}
-use Rattle.regress_memo.specs.AnalysisAsLivenessAndPotentials.{insn_direction}
+use Rattle.regress_memo.specs.AnalysisAsPotentials.{insn_analysis_of, analysis_as_liveness, key_code_questions_of, recorded, potentials_of}
+use Rattle.regress_memo.specs.AnalysisAsPotentials.{key_cost_of}
+use Rattle.regress_memo.specs.AnalysisAsPotentials.{insn_direction}
 use Rattle.regress_memo.specs.Successors.{successors_of_insn_if_any}
 use Rattle.regress_memo.specs.CheckedAnalysis.{IsAnalysisOf}
 

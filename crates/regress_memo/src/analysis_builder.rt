@@ -2,15 +2,13 @@
 
 ghost use Rattle.std.specs.Prelude.{◌<◌, ◌^◌, length, IfOk, IfSome};
 ghost use Rattle.regex_meaning.specs.CompilationRelation.{Program};
-ghost use Rattle.regress_memo.specs.{Successors.{AreInsnsOfProgram}, CheckedAnalysis.{IsAnalysisOf, AreInsnCodesCountedAndDisjoint}};
+ghost use Rattle.regress_memo.specs.{Successors.{AreInsnsOfProgram}, CheckedAnalysis.{IsAnalysisOf, HasDisjointCodes}};
 
 use crate::analysis_result::{
-    EnclosingLoop, EnclosingLoopProgressFactKind, InsnAnalysis, LoopCountsDistinguishedUpTo,
-    MemoAnalysis, bound_of_undistinguished_loop_count, default_insn_analysis,
+    EnclosingLoop, InsnAnalysis, LoopCountsDistinguishedUpTo, LoopProgressFact, MemoAnalysis,
+    default_insn_analysis, undistinguished_loop_bound,
 };
-use crate::flow_edges::{
-    FlowEdge, edge_enters_loop, flow_edges_skipping_lookaround_contents, loop_ending_at,
-};
+use crate::flow_edges::{FlowEdge, edge_enters_loop, edges_past_lookarounds, loop_ending_at};
 use crate::successors::{Successors, successors_at};
 use regex_pattern_front::types::LoopID;
 use regress_program::instructions::{Insn, LoopFields};
@@ -54,7 +52,7 @@ impl MemoAnalysis {
     ) -> Result<Option<MemoAnalysis>, AllocError>
         ensures of { IfOk result (λ found. IfSome found (λ memo_analysis. (program : Program)
             → AreInsnsOfProgram program insns.now → IsAnalysisOf program memo_analysis)) }
-        ensures coded { IfOk result (λ found. IfSome found AreInsnCodesCountedAndDisjoint) }
+        ensures coded { IfOk result (λ found. IfSome found HasDisjointCodes) }
     {
         let made = MemoAnalysis::build_unchecked_analysis(alloc, insns, loops)?;
         if made.is_analysis_of_program(insns) {
@@ -73,7 +71,7 @@ impl MemoAnalysis {
         let mut made = MemoAnalysis {
             lines: Vec::with_capacity(alloc, insns.len())?,
             rows: Vec::new(alloc),
-            counts: Vec::from_elem(alloc, bound_of_undistinguished_loop_count(), loops)?,
+            counts: Vec::from_elem(alloc, undistinguished_loop_bound(), loops)?,
             codes: 0,
         };
         made.open_all(alloc, insns)?;
@@ -159,7 +157,7 @@ impl MemoAnalysis {
         for _pass in 0..PASSES {
             let mut changed = false;
             for ip in 0..insns.len() {
-                let [first, second] = flow_edges_skipping_lookaround_contents(insns, ip);
+                let [first, second] = edges_past_lookarounds(insns, ip);
                 changed |= self.spread(first);
                 changed |= self.spread(second);
             }
@@ -190,19 +188,14 @@ impl MemoAnalysis {
     // Checks whether a character has been read in a loop's iteration after this edge is taken.
     fn is_moved_along(&self, edge: FlowEdge, id: LoopID) -> bool {
         !edge_enters_loop(edge, id)
-            && (edge.reads
-                || self.states_loop_fact(edge.ip, EnclosingLoopProgressFactKind::Moved, id))
+            && (edge.reads || self.states_loop_fact(edge.ip, LoopProgressFact::Moved, id))
     }
 
     // Sets the count bound of each loop.
     fn set_count_bounds(&mut self, insns: &[Insn]) {
         for ip in 0..insns.len() {
             if let Some(fields) = loop_ending_at(insns, ip) {
-                let moved = self.states_loop_fact(
-                    ip,
-                    EnclosingLoopProgressFactKind::Moved,
-                    fields.loop_id,
-                );
+                let moved = self.states_loop_fact(ip, LoopProgressFact::Moved, fields.loop_id);
                 if let Some(count) = self.counts.get_mut(usize::from(fields.loop_id)) {
                     *count = count_for(&fields, moved);
                 }
@@ -215,7 +208,7 @@ impl MemoAnalysis {
         for _pass in 0..PASSES {
             let mut changed = false;
             for ip in (0..insns.len()).rev() {
-                let [first, second] = flow_edges_skipping_lookaround_contents(insns, ip);
+                let [first, second] = edges_past_lookarounds(insns, ip);
                 changed |= self.ask_at_end(insns, ip);
                 changed |= self.ask_before(first);
                 changed |= self.ask_before(second);

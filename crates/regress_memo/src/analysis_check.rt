@@ -4,19 +4,17 @@ ghost use Rattle.std.specs.Prelude.{◌≡◌, ◌≤◌, ◌<◌, ◌+◌, ◌^
 ghost use Rattle.regex_meaning.specs.CompilationRelation.{Program};
 ghost use Rattle.regress_program.specs.InsnsAsSpecInsns.{insn_as_spec_insn, loop_fields_as_spec};
 ghost use Rattle.regress_memo.specs.ThreadPotentials.{CoversOne, CoversTwo};
-ghost use Rattle.regress_memo.specs.AnalysisAsLivenessAndPotentials.{enclosing_loops_of, insn_analysis_of, groups_stay_unchanged_from, potentials_of};
-ghost use Rattle.regress_memo.specs.AnalysisAsLivenessAndPotentials.{states_loop_fact};
-ghost use Rattle.regress_memo.specs.AnalysisAsLivenessAndPotentials.{iteration_char_read_known_or_distinguished};
+ghost use Rattle.regress_memo.specs.AnalysisAsPotentials.{enclosing_loops_of, insn_analysis_of, groups_stay_unchanged_from, potentials_of};
+ghost use Rattle.regress_memo.specs.AnalysisAsPotentials.{states_loop_fact};
+ghost use Rattle.regress_memo.specs.AnalysisAsPotentials.{knows_iteration_reads};
 ghost use Rattle.regress_memo.specs.Successors.{AreInsnsOfProgram, successors_of_insn_if_any};
 ghost use Rattle.regress_memo.specs.AnalysisChecks.{is_entered, LoopFactsFlow, AllLoopFactsFlow, IsConsistentFlow, MayBeginIteration, MayRepeatLoop};
 ghost use Rattle.regress_memo.specs.AnalysisChecks.{MayEndIteration, MayRepeatLoopAt};
 ghost use Rattle.regress_memo.specs.AnalysisChecks.{CountDecides, LoopsAreBefore, IsolatesLookaround, IsConsistentAt, IsCoveredAt, IsInsnCostCovered};
 ghost use Rattle.regress_memo.specs.AnalysisChecks.{IsCharLoopChecked, IsInsnChecked};
-ghost use Rattle.regress_memo.specs.CheckedAnalysis.{IsAnalysisOf, AreInsnCodesCountedAndDisjoint, FirstInsnForwardOutsideLoops};
+ghost use Rattle.regress_memo.specs.CheckedAnalysis.{IsAnalysisOf, HasDisjointCodes, FirstInsnForwardOutsideLoops};
 
-use crate::analysis_result::{
-    EnclosingLoop, EnclosingLoopProgressFactKind, InsnAnalysis, MemoAnalysis,
-};
+use crate::analysis_result::{EnclosingLoop, InsnAnalysis, LoopProgressFact, MemoAnalysis};
 use crate::flow_edges::{FlowEdge, edge_enters_loop};
 use crate::successors::{
     LookaroundDirectionNegationAndContinuation, SingleSuccessorReadAndCaptureEffects, Successors,
@@ -30,7 +28,7 @@ impl MemoAnalysis {
     pub(crate) fn is_analysis_of_program(&self, insns: &[Insn]) -> bool
         ensures of { result ≡ true → (program : Program) → AreInsnsOfProgram program insns.now → IsAnalysisOf
             program self.now }
-        ensures coded { result ≡ true → AreInsnCodesCountedAndDisjoint self.now }
+        ensures coded { result ≡ true → HasDisjointCodes self.now }
     {
         if !self.starts_outside() {
             return false;
@@ -66,9 +64,9 @@ impl MemoAnalysis {
             → IsInsnChecked self.now program (successors_of_insn_if_any ip (slice_get program.insns ip)) ip }
     {
         self.is_right_at(insns, ip)
-            && self.remaining_potential_covers_successors_at(insns, ip)
+            && self.covers_successors_at(insns, ip)
             && self.insn_cost_is_covered(ip)
-            && self.are_codes_counted_and_disjoint_at(ip)
+            && self.has_disjoint_codes_at(ip)
     }
 
     // ---- Consistency
@@ -82,8 +80,8 @@ impl MemoAnalysis {
         match successors_at(insns, ip) {
             Successors::Ends => true,
             Successors::One(next) => self.agrees_with_only_successor(ip, next),
-            Successors::Two(other) => self.agrees_with_nonreading_successor(ip, ip + 1)
-                && self.agrees_with_nonreading_successor(ip, other),
+            Successors::Two(other) => self.agrees_with_successor(ip, ip + 1)
+                && self.agrees_with_successor(ip, other),
             Successors::Enter(fields) => self.begins(&fields, ip, ip),
             Successors::Again(begin) => self.begins_again_at(insns, ip, begin),
             Successors::Run(bounds) => self.leads(FlowEdge {
@@ -116,7 +114,7 @@ impl MemoAnalysis {
     }
 
     // Checks consistency with a successor that is reached without reading a character.
-    fn agrees_with_nonreading_successor(&self, ip: usize, to: usize) -> bool
+    fn agrees_with_successor(&self, ip: usize, to: usize) -> bool
         ensures { result ≡ true → IsConsistentFlow self.now false None ip to }
     {
         self.leads(FlowEdge {
@@ -156,30 +154,30 @@ impl MemoAnalysis {
         if edge_enters_loop(edge, row.id) {
             return !row.moved;
         }
-        self.states_loop_fact(edge.ip, EnclosingLoopProgressFactKind::Inside, row.id)
+        self.states_loop_fact(edge.ip, LoopProgressFact::Inside, row.id)
             && (edge.reads || self.row_stays(edge.ip, row))
     }
 
     // Checks that the facts of an entry hold at the source of an edge that reads no character.
     fn row_stays(&self, ip: usize, row: &EnclosingLoop) -> bool
         ensures moved { result ≡ true → row.now.moved ≡ true
-            → states_loop_fact EnclosingLoopProgressFactKind.Moved row.now.id
+            → states_loop_fact LoopProgressFact.Moved row.now.id
             (enclosing_loops_of self.now ip) ≡ true }
-        ensures empty { result ≡ true → row.now.empty ≡ true → iteration_char_read_known_or_distinguished row.now.id
+        ensures empty { result ≡ true → row.now.empty ≡ true → knows_iteration_reads row.now.id
             (enclosing_loops_of self.now ip) ≡ true }
     {
-        (!row.moved || self.states_loop_fact(ip, EnclosingLoopProgressFactKind::Moved, row.id))
-            && (!row.empty || self.iteration_char_read_known_or_distinguished(ip, row.id))
+        (!row.moved || self.states_loop_fact(ip, LoopProgressFact::Moved, row.id))
+            && (!row.empty || self.knows_iteration_reads(ip, row.id))
     }
 
     // Checks whether a character is known to have been read in a loop's iteration, or the memo key
     // distinguishes whether one was.
-    fn iteration_char_read_known_or_distinguished(&self, ip: usize, id: LoopID) -> bool
-        ensures { result ≡ true → iteration_char_read_known_or_distinguished id
+    fn knows_iteration_reads(&self, ip: usize, id: LoopID) -> bool
+        ensures { result ≡ true → knows_iteration_reads id
             (enclosing_loops_of self.now ip) ≡ true }
     {
-        self.states_loop_fact(ip, EnclosingLoopProgressFactKind::Empty, id)
-            || self.states_loop_fact(ip, EnclosingLoopProgressFactKind::Moved, id)
+        self.states_loop_fact(ip, LoopProgressFact::Empty, id)
+            || self.states_loop_fact(ip, LoopProgressFact::Moved, id)
     }
 
     // ---- Loops
@@ -192,7 +190,7 @@ impl MemoAnalysis {
         let count = self.count_bound_of_loop(fields.loop_id);
         (!count.counted || fields.max_iters <= usize::from(count.up_to) + 1)
             && self.insn_analysis_at(ip).from <= u32::from(fields.loop_id)
-            && self.agrees_with_nonreading_successor(ip, fields.exit as usize)
+            && self.agrees_with_successor(ip, fields.exit as usize)
             && self.leads(FlowEdge {
                 ip,
                 to: begin + 1,
@@ -226,15 +224,15 @@ impl MemoAnalysis {
     fn goes_round(&self, fields: &LoopFields, ip: usize) -> bool
         ensures { result ≡ true → MayEndIteration self.now (loop_fields_as_spec fields.now) ip }
     {
-        self.states_loop_fact(ip, EnclosingLoopProgressFactKind::Inside, fields.loop_id)
-            && self.iteration_char_read_known_or_distinguished(ip, fields.loop_id)
+        self.states_loop_fact(ip, LoopProgressFact::Inside, fields.loop_id)
+            && self.knows_iteration_reads(ip, fields.loop_id)
             && self.decides(fields, ip)
     }
 
     // Checks that the distinguished iteration counts decide how the loop continues.
     fn decides(&self, fields: &LoopFields, ip: usize) -> bool
         ensures { let f = loop_fields_as_spec fields.now in result ≡ true
-            → CountDecides self.now f (states_loop_fact EnclosingLoopProgressFactKind.Moved f.loop_id
+            → CountDecides self.now f (states_loop_fact LoopProgressFact.Moved f.loop_id
             (enclosing_loops_of self.now ip)) }
     {
         let count = self.count_bound_of_loop(fields.loop_id);
@@ -245,11 +243,7 @@ impl MemoAnalysis {
         fields.max_iters == usize::MAX
             && (fields.min_iters <= up_to
                 || fields.min_iters <= up_to + 1
-                    && self.states_loop_fact(
-                        ip,
-                        EnclosingLoopProgressFactKind::Moved,
-                        fields.loop_id,
-                    ))
+                    && self.states_loop_fact(ip, LoopProgressFact::Moved, fields.loop_id))
     }
 
     // ---- Lookarounds
@@ -266,7 +260,7 @@ impl MemoAnalysis {
             && (inner.silent || !here.silent && look.negate)
             && self.enclosing_loops(ip + 1).is_empty()
             && self.are_left(look.past, inner.from)
-            && self.agrees_with_nonreading_successor(ip, look.past)
+            && self.agrees_with_successor(ip, look.past)
     }
 
     // Checks that all loops that enclose an instruction have numbers below `from`.

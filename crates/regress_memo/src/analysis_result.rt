@@ -1,9 +1,9 @@
 //! The memo analysis of a program: what it states of each instruction and each loop.
 
 ghost use Rattle.std.specs.Prelude.{◌≡◌, true};
-ghost use Rattle.regress_memo.specs.AnalysisAsLivenessAndPotentials.{no_insn_analysis, insn_analysis_of, enclosing_loops_of, bound_of_undistinguished_count};
-ghost use Rattle.regress_memo.specs.AnalysisAsLivenessAndPotentials.{count_bound_of};
-ghost use Rattle.regress_memo.specs.AnalysisAsLivenessAndPotentials.{enclosing_loop_has_fact, states_loop_fact};
+ghost use Rattle.regress_memo.specs.AnalysisAsPotentials.{no_insn_analysis, insn_analysis_of, enclosing_loops_of, undistinguished_count_bound};
+ghost use Rattle.regress_memo.specs.AnalysisAsPotentials.{count_bound_of};
+ghost use Rattle.regress_memo.specs.AnalysisAsPotentials.{enclosing_loop_has_fact, states_loop_fact};
 
 use regex_pattern_front::types::LoopID;
 
@@ -64,7 +64,7 @@ pub struct MemoAnalysis {
 
 /// A fact that an entry may state of its loop.
 #[derive(Clone, Copy)]
-pub(crate) enum EnclosingLoopProgressFactKind {
+pub(crate) enum LoopProgressFact {
     Inside,
     Moved,
     Empty,
@@ -94,23 +94,18 @@ impl MemoAnalysis {
         }
     }
 
-    // Returns the count bound of a loop, or `bound_of_undistinguished_loop_count()` if it has none.
+    // Returns the count bound of a loop, or `undistinguished_loop_bound()` if it has none.
     pub(crate) fn count_bound_of_loop(&self, id: LoopID) -> LoopCountsDistinguishedUpTo
         ensures { result ≡ count_bound_of self.now id }
     {
         match self.counts.get(usize::from(id)) {
             Some(count) => *count,
-            None => bound_of_undistinguished_loop_count(),
+            None => undistinguished_loop_bound(),
         }
     }
 
     // Checks whether an entry of the instruction states this fact of a loop.
-    pub(crate) fn states_loop_fact(
-        &self,
-        ip: usize,
-        said: EnclosingLoopProgressFactKind,
-        id: LoopID,
-    ) -> bool
+    pub(crate) fn states_loop_fact(&self, ip: usize, said: LoopProgressFact, id: LoopID) -> bool
         ensures { result ≡ true → states_loop_fact said id (enclosing_loops_of self.now ip) ≡ true }
     {
         let rows = self.enclosing_loops(ip);
@@ -144,8 +139,8 @@ pub(crate) fn default_insn_analysis() -> InsnAnalysis
 }
 
 // Returns the count bound of a loop whose iteration count is never distinguished.
-pub(crate) fn bound_of_undistinguished_loop_count() -> LoopCountsDistinguishedUpTo
-    ensures { result ≡ bound_of_undistinguished_count }
+pub(crate) fn undistinguished_loop_bound() -> LoopCountsDistinguishedUpTo
+    ensures { result ≡ undistinguished_count_bound }
 {
     LoopCountsDistinguishedUpTo {
         up_to: 0,
@@ -154,12 +149,12 @@ pub(crate) fn bound_of_undistinguished_loop_count() -> LoopCountsDistinguishedUp
 }
 
 // Checks whether an entry states this fact of its loop.
-fn says_of(said: EnclosingLoopProgressFactKind, row: &EnclosingLoop) -> bool
+fn says_of(said: LoopProgressFact, row: &EnclosingLoop) -> bool
     ensures { result ≡ enclosing_loop_has_fact said row.now }
 {
     match said {
-        EnclosingLoopProgressFactKind::Inside => true,
-        EnclosingLoopProgressFactKind::Moved => row.moved,
-        EnclosingLoopProgressFactKind::Empty => row.empty,
+        LoopProgressFact::Inside => true,
+        LoopProgressFact::Moved => row.moved,
+        LoopProgressFact::Empty => row.empty,
     }
 }

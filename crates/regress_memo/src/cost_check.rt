@@ -3,7 +3,7 @@
 ghost use Rattle.std.specs.Prelude.{◌≡◌, ◌≤◌, ◌<◌, ◌+◌, ◌-◌, ◌*◌, ◌^◌, true, length, slice_get};
 ghost use Rattle.regex_meaning.specs.CompilationRelation.{Program};
 ghost use Rattle.regress_memo.specs.ThreadPotentials.{CoversOne, CoversTwo, CoversRepeat};
-ghost use Rattle.regress_memo.specs.AnalysisAsLivenessAndPotentials.{insn_analysis_of, potentials_of, key_code_questions_of, insn_direction};
+ghost use Rattle.regress_memo.specs.AnalysisAsPotentials.{insn_analysis_of, potentials_of, key_code_questions_of, insn_direction};
 ghost use Rattle.regress_memo.specs.Successors.{AreInsnsOfProgram, successors_of_insn_if_any};
 ghost use Rattle.regress_memo.specs.AnalysisChecks.{IsCoveredAt, IsInsnCostCovered, IsCharLoopChecked, CoversUnboundedLoop, CoversBoundedLoop, unlimited};
 
@@ -16,7 +16,7 @@ const MOST_CHARACTERS: usize = 0x1_0000;
 
 impl MemoAnalysis {
     // Checks that the potential that an instruction leaves covers its successors.
-    pub(crate) fn remaining_potential_covers_successors_at(&self, insns: &[Insn], ip: usize) -> bool
+    pub(crate) fn covers_successors_at(&self, insns: &[Insn], ip: usize) -> bool
         requires { ip < length insns.now }
         ensures { result ≡ true → (program : Program) → AreInsnsOfProgram program insns.now
             → IsCoveredAt self.now program (successors_of_insn_if_any ip (slice_get program.insns ip)) ip }

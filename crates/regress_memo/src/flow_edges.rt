@@ -27,10 +27,7 @@ pub(crate) fn edge_enters_loop(edge: FlowEdge, id: LoopID) -> bool
 }
 
 /// Returns the edges from an instruction, except that to the contents of a lookaround.
-pub(crate) fn flow_edges_skipping_lookaround_contents(
-    insns: &[Insn],
-    ip: usize,
-) -> [Option<FlowEdge>; 2]
+pub(crate) fn edges_past_lookarounds(insns: &[Insn], ip: usize) -> [Option<FlowEdge>; 2]
     requires { ip < length insns.now }
 {
     match successors_at(insns, ip) {

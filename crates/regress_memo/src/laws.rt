@@ -1,6 +1,6 @@
 //! Laws of memo tables.
 
-ghost use Rattle.regress_memo.specs.{Laws.{RecordingAddsKnownKeys, MemosAreSound, AnalysisKeysAreThoseAssignedBits}, AmortizedMemoSearchSteps.{WorkIsCoveredByKeyCosts}};
+ghost use Rattle.regress_memo.specs.{Laws.{RecordingAddsKnownKeys, MemosAreSound, KeysAreThoseWithBits}, AmortizedMemoSearchSteps.{WorkIsCoveredByKeyCosts}};
 
 /// The contents of a memo table are a list of keys, and recording a key adds it to that list.
 pub fn recording_adds_known_keys()
@@ -16,7 +16,7 @@ pub fn memos_are_sound()
 /// Each memo key has a bit, and the keys that have bits are exactly those that may be remembered. A
 /// thread at an instruction that records has such a key.
 pub fn bits_are_keys()
-    ensures { AnalysisKeysAreThoseAssignedBits }
+    ensures { KeysAreThoseWithBits }
 {}
 
 /// If the memo analysis is bounded, each thread of a search has a key where its instruction

@@ -7,15 +7,15 @@ mod analysis_check;
 pub mod analysis_laws;
 pub mod analysis_result;
 mod bit_set;
-mod char_loop_bodies_unreached_check;
 mod cost_check;
 mod flow_edges;
 pub mod laws;
 pub mod loop_data_key_codes;
 pub mod memo;
 mod memo_points_and_costs;
-pub mod runtime_thread_loop_state_check;
+pub mod runtime_loop_state;
 pub mod successors;
+mod unreached_loop_bodies;
 pub mod work_bound;
 
 ghost use Rattle.regress_memo.specs.LawReExports as laws;
@@ -64,8 +64,8 @@ pub fn liveness_examples_are_right()
 
 /// Lists of threads that agree one by one have searches that end alike, in every search and with
 /// the live groups.
-pub fn live_data_decide_thread_list_result()
-    ensures { laws.LiveDataDecideThreadListResult }
+pub fn live_data_decide_thread_lists()
+    ensures { laws.LiveDataDecideThreadLists }
 {}
 
 /// Distinct keys from a finite list are no more than the list has, and cost no more.
@@ -76,7 +76,7 @@ pub fn distinct_keys_are_few()
 /// The records in a list of entries stay right if the threads on top of them are replaced by
 /// threads that simulate these, whichever records are added with them.
 pub fn recorded_failures_stay_right()
-    ensures { laws.PendingFailureRecordsStayRight }
+    ensures { laws.PendingRecordsStayRight }
 {}
 
 /// Each step keeps the invariant: the entries find what the search is to find, the records and the
@@ -120,7 +120,7 @@ pub fn offsets_and_codes_are_keys()
 /// and is less than the product of the numbers of answers, so each thread at an instruction that
 /// records has a key.
 pub fn codes_distinguish()
-    ensures { laws.KeyCodesDistinguishLiveLoopData }
+    ensures { laws.KeyCodesDistinguishLoopData }
 {}
 
 /// In a rightward search no instruction moves to a smaller offset.
@@ -150,12 +150,12 @@ pub fn lookarounds_learn_keys()
 /// Success is shared as failure is: if a search ends, or reaches a key that is known to find an
 /// end, all its records are of threads that find one.
 pub fn success_is_shared()
-    ensures { laws.FoundEndMakesRecordsBelowSucceed }
+    ensures { laws.FoundEndIsShared }
 {}
 
 /// A char loop that records each of its positions is covered by its potential and by these keys.
 pub fn recorded_loop_is_covered()
-    ensures { laws.RecordedLoopExitsCoveredByKeys }
+    ensures { laws.KeysCoverRecordedExits }
 {}
 
 /// Each step from sound threads leaves sound threads, also in a lookaround's contents and after
@@ -172,13 +172,13 @@ pub fn known_contents_decide_lookarounds()
 
 /// A search of contents without groups ends with the groups with which it began.
 pub fn silent_searches_keep_groups()
-    ensures { laws.GroupPreservingInsnsKeepGroupsToEnd }
+    ensures { laws.InsnsKeepGroupsToEnd }
 {}
 
 /// The threads of a greedy char loop begin with those that it leaves from each later position that
 /// it reaches.
-pub fn greedy_threads_split_at_later_place()
-    ensures { laws.GreedyThreadsSplitAtLaterPlace }
+pub fn greedy_threads_split()
+    ensures { laws.GreedyThreadsSplit }
 {}
 
 /// A lazy char loop takes its nearest position. The threads that wait from a position on are the
@@ -196,13 +196,13 @@ pub fn char_loops_have_keys()
 
 /// The threads that the instruction of a char loop leaves if its maximum is out of reach.
 pub fn char_loops_leave_threads()
-    ensures { laws.CharLoopInsnYieldsExitThreads }
+    ensures { laws.CharLoopYieldsExits }
 {}
 
 /// In searches for successive matches a position is tried twice at most. The numbers of looks, the
 /// potentials and the work are linear in the positions and in the costs of all keys.
-pub fn attempts_and_their_work_are_bounded()
-    ensures { laws.AttemptsAndTheirTotalWorkAreBounded }
+pub fn total_work_is_bounded()
+    ensures { laws.TotalWorkIsBounded }
 {}
 
 /// The state that continues after a lookaround's contents without groups agrees with the state
@@ -271,7 +271,7 @@ pub fn searches_stay_sound()
 /// of those that record are linear in the program: an amount of its own for each instruction, and 1
 /// for each edge to another one.
 pub fn recording_costs_linear_in_program()
-    ensures { laws.RecordingInsnsLeaveLinearPotential }
+    ensures { laws.RecordingCostsAreLinear }
 {}
 
 /// A budget for each offset of a text that suffices for all searches: the initial allowance and one
@@ -284,7 +284,7 @@ pub fn work_budgets_suffice()
 /// The checks at each instruction also cover the steps of char loops with a maximum, and of threads
 /// that are known to fail.
 pub fn bounded_char_loop_costs_covered()
-    ensures { laws.BoundedLoopOrFailureCostsCovered }
+    ensures { laws.BoundedLoopCostsAreCovered }
 {}
 
 /// The steps of all char loops are memo steps, like those of threads.

@@ -4,10 +4,10 @@
 ghost use Rattle.std.specs.Prelude.{◌≡◌, ◌≤◌, ◌<◌, ◌+◌, ◌*◌, ◌^◌, true, List, option_map, map, length, slice_get, IfSome};
 ghost use Rattle.regress_machine.specs.Machine.{State, LoopData};
 ghost use Rattle.regress_memo.specs.LoopDataKeyCodes.{code_of, codes_of, plan_codes};
-ghost use Rattle.regress_memo.specs.AnalysisAsLivenessAndPotentials.{insn_analysis_of, count_bound_of, key_code_questions_of, number_of_memo_codes_before_insn};
-ghost use Rattle.regress_memo.specs.AnalysisAsLivenessAndPotentials.{number_of_memo_codes_at_insn, memo_bit_index_of_key};
-ghost use Rattle.regress_memo.specs.AnalysisChecks.{AreInsnCodesCountedAndDisjointAt, max_codes_per_insn};
-ghost use Rattle.regress_memo.specs.CheckedAnalysis.{loop_iteration_state_as_spec, digit_of, radix_of_loop_digit, AreInsnCodesCountedAndDisjoint};
+ghost use Rattle.regress_memo.specs.AnalysisAsPotentials.{insn_analysis_of, count_bound_of, key_code_questions_of, memo_codes_before_insn};
+ghost use Rattle.regress_memo.specs.AnalysisAsPotentials.{number_of_memo_codes_at_insn, memo_bit_index_of_key};
+ghost use Rattle.regress_memo.specs.AnalysisChecks.{HasDisjointCodesAt, max_codes_per_insn};
+ghost use Rattle.regress_memo.specs.CheckedAnalysis.{loop_iteration_state_as_spec, digit_of, radix_of_loop_digit, HasDisjointCodes};
 ghost use Rattle.regress_memo.specs.CheckedAnalysis.{IsRecordableMemoKey};
 
 use crate::analysis_result::{EnclosingLoop, MemoAnalysis};
@@ -50,7 +50,7 @@ struct KeyCodePrefix {
 impl MemoAnalysis {
     /// Returns the code of a thread at an instruction and an offset with these loop states.
     pub fn code_at<R: IterationStatesOfAllLoops>(&self, ip: usize, at: usize, rounds: &R) -> usize
-        requires { AreInsnCodesCountedAndDisjoint self.now }
+        requires { HasDisjointCodes self.now }
         ensures { (s : State) → s.pos ≡ at → s.loops ≡ R.rounds rounds.now
             → result ≡ code_of (key_code_questions_of self.now ip) s }
     {
@@ -115,9 +115,9 @@ impl MemoAnalysis {
 
     // Checks that the codes of an instruction are counted, and that its bits are before those of
     // the next instruction.
-    pub(crate) fn are_codes_counted_and_disjoint_at(&self, ip: usize) -> bool
+    pub(crate) fn has_disjoint_codes_at(&self, ip: usize) -> bool
         requires { ip + 1 < 2 ^ 64 }
-        ensures { result ≡ true → AreInsnCodesCountedAndDisjointAt self.now ip }
+        ensures { result ≡ true → HasDisjointCodesAt self.now ip }
     {
         let codes = self.insn_analysis_at(ip).codes;
         self.code_count_at(ip) == Some(codes) && self.is_apart(ip)
@@ -126,8 +126,8 @@ impl MemoAnalysis {
     // Checks that the bits of an instruction are before those of the next one.
     fn is_apart(&self, ip: usize) -> bool
         requires { ip + 1 < 2 ^ 64 }
-        ensures { result ≡ true → number_of_memo_codes_before_insn self.now ip + number_of_memo_codes_at_insn self.now
-            ip ≤ number_of_memo_codes_before_insn self.now (ip + 1) }
+        ensures { result ≡ true → memo_codes_before_insn self.now ip + number_of_memo_codes_at_insn self.now
+            ip ≤ memo_codes_before_insn self.now (ip + 1) }
     {
         let line = self.insn_analysis_at(ip);
         let width = if line.records { line.codes } else { 0 };
@@ -137,7 +137,7 @@ impl MemoAnalysis {
 
     // Returns the number of codes at recording instructions before this one.
     fn base(&self, ip: usize) -> usize
-        ensures { result ≡ number_of_memo_codes_before_insn self.now ip }
+        ensures { result ≡ memo_codes_before_insn self.now ip }
     {
         if ip < self.lines.len() {
             self.insn_analysis_at(ip).base
@@ -149,7 +149,7 @@ impl MemoAnalysis {
     /// Returns the bit index of a key in a memo table for `places` offsets.
     #[inline(always)]
     pub fn key_bit_index_at(&self, places: usize, ip: usize, at: usize, code: usize) -> usize
-        requires coded { AreInsnCodesCountedAndDisjoint self.now }
+        requires coded { HasDisjointCodes self.now }
         requires key { IsRecordableMemoKey self.now places (record { ip = ip; at = at; code = code }) }
         requires fits { self.now.codes * places < 2 ^ 64 }
         ensures bit { result ≡ memo_bit_index_of_key self.now places ip at code }

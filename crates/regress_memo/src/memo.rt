@@ -3,8 +3,8 @@
 ghost use Rattle.std.specs.Prelude.{◌≡◌, ◌≤◌, ◌<◌, ◌*◌, ◌^◌, ◌↔◌, true, option_map, IfOk, IfSome, IsTrue, MatchOption};
 ghost use Rattle.std.specs.Arc.{arc_value};
 ghost use Rattle.regress_machine.specs.Machine.{State};
-ghost use Rattle.regress_memo.specs.AnalysisAsLivenessAndPotentials.{memo_bit_index_of_key as bit_of_key};
-ghost use Rattle.regress_memo.specs.CheckedAnalysis.{AreInsnCodesCountedAndDisjoint, IsRecordableMemoKey};
+ghost use Rattle.regress_memo.specs.AnalysisAsPotentials.{memo_bit_index_of_key as bit_of_key};
+ghost use Rattle.regress_memo.specs.CheckedAnalysis.{HasDisjointCodes, IsRecordableMemoKey};
 ghost use Rattle.regress_memo.specs.MemoContents.{memo_key_as_spec, memo_key_at as key_of_state, has_failure, has_success, IsEmptyMemo, RecordsFailure, RecordsSuccess};
 ghost use Rattle.regress_memo.specs.MemoContractView.{MemoView, HasRoom};
 
@@ -61,7 +61,7 @@ impl MemoTable {
         places: usize,
         records_successes: bool,
     ) -> Result<Option<MemoTable>, AllocError>
-        requires { AreInsnCodesCountedAndDisjoint memo_analysis }
+        requires { HasDisjointCodes memo_analysis }
         ensures { IfOk result (λ found. MatchOption found (2 ^ 64 ≤ memo_analysis.codes * places)
             (IsEmptyMemo memo_analysis places records_successes)) }
     {
@@ -80,7 +80,7 @@ impl MemoTable {
         places: usize,
         records_successes: bool,
     ) -> Result<Option<MemoTable>, AllocError>
-        requires { AreInsnCodesCountedAndDisjoint (arc_value memo_analysis) }
+        requires { HasDisjointCodes (arc_value memo_analysis) }
         ensures { IfOk result (λ found. MatchOption found (2 ^ 64 ≤ (arc_value memo_analysis).codes * places)
             (IsEmptyMemo (arc_value memo_analysis) places records_successes)) }
     {
@@ -197,7 +197,7 @@ impl MemoTable {
 // Returns the index of a key's bit.
 #[inline(always)]
 fn memo_bit_index_of_key(memo_analysis: &MemoAnalysis, places: usize, key: ThreadMemoKey) -> usize
-    requires coded { AreInsnCodesCountedAndDisjoint memo_analysis.now }
+    requires coded { HasDisjointCodes memo_analysis.now }
     requires key { IsRecordableMemoKey memo_analysis.now places (memo_key_as_spec key) }
     requires fits { memo_analysis.now.codes * places < 2 ^ 64 }
     ensures bit { result ≡ bit_of_key memo_analysis.now places key.ip key.at key.code }

@@ -4,7 +4,7 @@ ghost use Rattle.std.specs.Prelude.{◌<◌, ◌+◌, ◌^◌, length};
 
 use crate::analysis_builder::PASSES;
 use crate::analysis_result::MemoAnalysis;
-use crate::flow_edges::{FlowEdge, flow_edges_skipping_lookaround_contents, loop_ending_at};
+use crate::flow_edges::{FlowEdge, edges_past_lookarounds, loop_ending_at};
 use crate::successors::{CharLoopMinMaxAndGreed, Successors, successors_at};
 use regress_program::instructions::Insn;
 use std::alloc::{AllocError, Global};
@@ -100,7 +100,7 @@ impl MemoAnalysis {
             },
             Successors::LookaroundDirectionNegationAndContinuation(look) => self.ready(ip + 1)
                 + self.ready(look.past),
-            _ => match flow_edges_skipping_lookaround_contents(insns, ip) {
+            _ => match edges_past_lookarounds(insns, ip) {
                 [Some(next), Some(other)] => self.ready_for_two(next.to, other.to),
                 [Some(next), None] => self.ready(next.to),
                 _ => 0,
@@ -149,7 +149,7 @@ fn count_ways(alloc: Global, insns: &[Insn]) -> Result<Vec<u8>, AllocError> {
     let mut ways = Vec::from_elem(alloc, 0u8, insns.len())?;
     count_flow_edge(&mut ways, 0);
     for ip in 0..insns.len() {
-        let [first, second] = flow_edges_skipping_lookaround_contents(insns, ip);
+        let [first, second] = edges_past_lookarounds(insns, ip);
         add_edge(&mut ways, first);
         add_edge(&mut ways, second);
     }

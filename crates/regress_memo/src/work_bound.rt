@@ -4,12 +4,12 @@ ghost use Rattle.std.specs.Prelude.{◌≡◌, ◌≤◌, ◌<◌, ◌+◌, ◌^
 ghost use Rattle.regress_program.specs.InsnsAsSpecInsns.{insn_as_spec_insn};
 ghost use Rattle.regex_meaning.specs.CompilationRelation.{Program};
 ghost use Rattle.regress_memo.specs.WorkBound.{insn_keys_cost_per_position, all_keys_cost_per_position, work_per_position, IsStepWorkBounded, IsWorkBounded};
-ghost use Rattle.regress_memo.specs.AnalysisAsLivenessAndPotentials.{insn_analysis_of};
+ghost use Rattle.regress_memo.specs.AnalysisAsPotentials.{insn_analysis_of};
 ghost use Rattle.regress_memo.specs.Successors.{AreInsnsOfProgram, successors_of_insn_if_any};
 
 use crate::analysis_result::{InsnAnalysis, MemoAnalysis};
-use crate::char_loop_bodies_unreached_check::no_char_loop_body_is_reached;
 use crate::successors::{LookaroundDirectionNegationAndContinuation, Successors, successors_at};
+use crate::unreached_loop_bodies::no_char_loop_body_is_reached;
 use regress_program::instructions::Insn;
 
 impl MemoAnalysis {

@@ -10,7 +10,7 @@ use Rattle.regex_meaning.specs.CodeUnitOffsets.{HasRisingPlaceOffsets, units}
 use Rattle.regex_meaning.specs.CompilationRelation.{Program, Insn}
 use Rattle.regex_meaning.specs.Tree.{Tree}
 use Rattle.regress_input.specs.CharAndByteReadsFromOffset.{direction_of_forward_flag}
-use Rattle.regress_program.specs.TextsSearchableByBytePrograms.{IsByteText}
+use Rattle.regress_program.specs.SearchableTexts.{IsByteText}
 use Rattle.regress_search.proofs.Literals.{literal-reads}
 use Rattle.regress_program.specs.CompilationOfTreesAsFunction.{compiled}
 use Rattle.regress_machine.specs.TextsForBytePrograms.{HasUtf8CharactersAndOffsets, tree_contains_byte_nodes}

@@ -4,15 +4,15 @@
 ghost use Rattle.std.specs.Prelude.{◌≡◌, ◌<◌, ◌≤◌, ◌++◌, map, IsTrue, IsAscii, IsSome, IfOk, option_map, ⊤};
 ghost use Rattle.regex_meaning.specs.{Text.{ascii_text, ucs2_text, utf16_text, utf8_text}, CodeUnitOffsets.{IsBoundary, units}};
 ghost use Rattle.regex_pattern_front.specs.AstToSpecTree.{tree_of};
-ghost use Rattle.regress_program.specs.{CompilationOfTreesAsFunction.{compiled}, InsnsAndStartPredicatesAsSpec.{insn_as_spec_insn}};
+ghost use Rattle.regress_program.specs.{CompilationOfTreesAsFunction.{compiled}, InsnsAsSpec.{insn_as_spec_insn}};
 ghost use Rattle.regress_machine.specs.{Machine.{first_running_and_others_waiting}, InsnEffects.{IsNotStuck}};
-ghost use Rattle.regress_search.specs.AttemptResultsAndStartsToTry.{match_end_and_groups_at};
-ghost use Rattle.regress_search.specs.NewExecutorsAndAsciiTexts.{IsNewExecutorWithoutStepLimit, ReadsBytesAsAscii, CanSearchAllAsciiTexts};
+ghost use Rattle.regress_search.specs.AttemptsAndStarts.{match_end_and_groups_at};
+ghost use Rattle.regress_search.specs.NewExecutorsAndAsciiTexts.{IsNewExecutor, ReadsBytesAsAscii, CanSearchAllAsciiTexts};
 ghost use Rattle.regress_pikevm.specs.InsnEffects.{end_and_groups, search_at, effect_at, HasRun};
 ghost use Rattle.regress_pikevm.specs.States.{groups_of, next_threads, waiting_threads, pending_threads, preferred_last, TakesNextThread};
 
 pub mod char_loops;
-pub mod read_or_assertion_insn_matchers;
+pub mod insn_matchers;
 pub mod single_insn_execution;
 pub mod states;
 
@@ -31,9 +31,9 @@ use std::alloc::{AllocError, Global};
 #[derive(Drop)]
 pub struct PikeVMExecutor<'r, Input: InputIndexer> {
     searched: ProgramAndInput<'r, Input>,
-    // the pending threads, the next one last
+    // The pending threads, the next one last.
     stack: Vec<State<Input::Position>>,
-    // the groups of the last attempt that found an end
+    // The groups of the last attempt that found an end.
     groups: Vec<Option<(Input::Position, Input::Position)>>,
 }
 
@@ -60,7 +60,7 @@ fn execute_in_direction<Input: InputIndexer>(
     state: State<Input::Position>,
 ) -> Result<NextStates<Input::Position>, AllocError>
     requires code { map insn_as_spec_insn insns.now ≡ (compiled (tree_of searched.now.program.now)).insns }
-    requires can { let s = searched.now in
+    requires executable { let s = searched.now in
         IsNotStuck (effect_at Input.Position.offset s.program.now (Input.text s.input) forward state) }
     requires inside { Input.Position.offset state.pos ≤ units (Input.text searched.now.input) }
     ensures { let s = searched.now in IfOk result (λ t. next_threads Input.Position.offset t
@@ -113,7 +113,7 @@ fn run<Input: InputIndexer>(
     start: State<Input::Position>,
 ) -> Result<Option<State<Input::Position>>, AllocError>
     requires inside { Input.Position.offset start.pos ≤ units (Input.text searched.now.input) }
-    requires answers { let s = searched.now in IsSome (search_at Input.Position.offset s.program.now
+    requires terminates { let s = searched.now in IsSome (search_at Input.Position.offset s.program.now
         (Input.text s.input) forward (Input.Position.offset at) start) }
     ensures { let s = searched.now in IfOk result (HasRun Input.Position.offset s.program.now
         (Input.text s.input) forward (Input.Position.offset at) start) }
@@ -205,8 +205,8 @@ impl<'r, Input: InputIndexer> SingleAttemptExecutor for PikeVMExecutor<'r, Input
         Some(pos)
     }
 
-    fn next_start_after_failed_attempt(&self, tried: Input::Position) -> Option<Input::Position> {
-        self.searched.position_after_failed_attempt(tried)
+    fn next_start_after_failure(&self, tried: Input::Position) -> Option<Input::Position> {
+        self.searched.position_after_failure(tried)
     }
 }
 
@@ -254,7 +254,7 @@ impl<'r, 't> PikeVMExecutor<'r, Utf16Input<'t>> {
         text: &'t [u16],
     ) -> Result<Self, AllocError>
         ensures { IfOk result
-            (IsNewExecutorWithoutStepLimit ⟦<PikeVMExecutor<'r, Utf16Input<'t>> as MatchProducer>⟧ (tree_of re.now)
+            (IsNewExecutor ⟦<PikeVMExecutor<'r, Utf16Input<'t>> as MatchProducer>⟧ (tree_of re.now)
             (utf16_text text.now)) }
     {
         Ok(PikeVMExecutor::new_executor(ProgramAndInput::pair_with_utf16_text(re, text)))
@@ -269,7 +269,7 @@ impl<'r, 't> PikeVMExecutor<'r, Ucs2Input<'t>> {
     /// None so far: it allocates no memory.
     pub fn new_ucs2(re: &'r CompiledRegexFor16BitUnits, text: &'t [u16]) -> Result<Self, AllocError>
         ensures { IfOk result
-            (IsNewExecutorWithoutStepLimit ⟦<PikeVMExecutor<'r, Ucs2Input<'t>> as MatchProducer>⟧ (tree_of re.now)
+            (IsNewExecutor ⟦<PikeVMExecutor<'r, Ucs2Input<'t>> as MatchProducer>⟧ (tree_of re.now)
             (ucs2_text text.now)) }
     {
         Ok(PikeVMExecutor::new_executor(ProgramAndInput::pair_with_ucs2_text(re, text)))

@@ -15,12 +15,12 @@ use Rattle.regex_meaning.specs.StartPredicate.{start_arbitrary, start_byte_set, 
 use Rattle.regex_meaning.proofs.Clean.{predicate-sound}
 use Rattle.regress_program.proofs.LeafLemmas.{leaf-bare}
 use Rattle.regress_program.specs.declared.insn.start_predicate_type.StartPredicate as declared
-use Rattle.regress_program.specs.InsnsAndStartPredicatesAsSpec.{start_predicate_as_spec as predicate_of}
-use Rattle.regress_program.specs.JoinedStartPredicatesOfAlternatives.{set_bytes_from, join_starts, join_alternative_starts_skipping_empty}
-use Rattle.regress_program.specs.JoinedStartPredicatesOfAlternatives.{join_starts_empty_node_as_anything}
+use Rattle.regress_program.specs.InsnsAsSpec.{start_predicate_as_spec as predicate_of}
+use Rattle.regress_program.specs.JoinedStarts.{set_bytes_from, join_starts, join_nonempty_starts}
+use Rattle.regress_program.specs.JoinedStarts.{join_starts_of_alternatives}
 use Rattle.regress_program.specs.LeafNodesAndOptimizableLoops.{is_leaf}
-use Rattle.regress_program.specs.StartPredicatesAndWhenTheyAllocate.{predicate_says_reads_nothing, predicate_is_byte_sequence, making_node_start_predicate_may_allocate}
-use Rattle.regress_program.specs.StartPredicatesAndWhenTheyAllocate.{making_start_predicate_may_allocate}
+use Rattle.regress_program.specs.StartPredicates.{predicate_says_reads_nothing, predicate_is_byte_sequence, making_node_start_predicate_may_allocate}
+use Rattle.regress_program.specs.StartPredicates.{start_predicate_may_allocate}
 use Rattle.regress_program.proofs.ByteSetLemmas.{union-both, union-assoc, union-again, union-same}
 
 -- ---- Shared fronts
@@ -190,29 +190,29 @@ joined_to-join arbitrary a b h = sym (join-assoc arbitrary a b)
 joined_to-join (sequence xs) a b h = sym (joined_to-reads (join (sequence xs) a) b (join-reads (sequence xs) a) ∙ join-assoc (sequence xs) a b)
 joined_to-join (one_of xs) a b h = sym (joined_to-reads (join (one_of xs) a) b (join-reads (one_of xs) a) ∙ join-assoc (one_of xs) a b)
 
-after_arm-reads : (shared more : AbstractStartPredicate) → predicate_says_reads_nothing more ≡ false → join_starts_empty_node_as_anything shared more ≡ join_starts shared more
+after_arm-reads : (shared more : AbstractStartPredicate) → predicate_says_reads_nothing more ≡ false → join_starts_of_alternatives shared more ≡ join_starts shared more
 after_arm-reads shared open_ended h = cc
 after_arm-reads shared arbitrary h = refl
 after_arm-reads shared (sequence xs) h = refl
 after_arm-reads shared (one_of xs) h = refl
 
-after-reads : (shared more : AbstractStartPredicate) → predicate_says_reads_nothing more ≡ false → join_alternative_starts_skipping_empty shared more ≡ join_starts shared more
+after-reads : (shared more : AbstractStartPredicate) → predicate_says_reads_nothing more ≡ false → join_nonempty_starts shared more ≡ join_starts shared more
 after-reads shared open_ended h = cc
 after-reads shared arbitrary h = refl
 after-reads shared (sequence xs) h = refl
 after-reads shared (one_of xs) h = refl
 
-after_arm-anything : (more : AbstractStartPredicate) → join_starts_empty_node_as_anything arbitrary more ≡ arbitrary
+after_arm-anything : (more : AbstractStartPredicate) → join_starts_of_alternatives arbitrary more ≡ arbitrary
 after_arm-anything open_ended = refl
 after_arm-anything arbitrary = refl
 after_arm-anything (sequence xs) = refl
 after_arm-anything (one_of xs) = refl
 
 -- alternatives one after another
-pub arms-joined : (shared a b : AbstractStartPredicate) → join_starts_empty_node_as_anything shared (join a b) ≡ join_starts_empty_node_as_anything (join_starts_empty_node_as_anything shared a) b
+pub arms-joined : (shared a b : AbstractStartPredicate) → join_starts_of_alternatives shared (join a b) ≡ join_starts_of_alternatives (join_starts_of_alternatives shared a) b
 arms-joined shared open_ended b = joined_to-arbitrary shared ∙ sym (after_arm-anything b)
 arms-joined shared arbitrary b =
-    joined_to-join shared arbitrary b refl ∙ ap (λ s. join_starts s b) (joined_to-arbitrary shared) ∙ sym (ap (λ s. join_starts_empty_node_as_anything s b) (joined_to-arbitrary shared) ∙ after_arm-anything b)
+    joined_to-join shared arbitrary b refl ∙ ap (λ s. join_starts s b) (joined_to-arbitrary shared) ∙ sym (ap (λ s. join_starts_of_alternatives s b) (joined_to-arbitrary shared) ∙ after_arm-anything b)
 arms-joined shared (sequence xs) open_ended = joined_to-arbitrary shared
 arms-joined shared (sequence xs) arbitrary = joined_to-join shared (sequence xs) arbitrary refl
 arms-joined shared (sequence xs) (sequence ys) =
@@ -223,7 +223,7 @@ arms-joined shared (one_of xs) arbitrary = joined_to-join shared (one_of xs) arb
 arms-joined shared (one_of xs) (sequence ys) = joined_to-join shared (one_of xs) (sequence ys) refl
 arms-joined shared (one_of xs) (one_of ys) = joined_to-join shared (one_of xs) (one_of ys) refl
 
-pub arms-after : (shared : AbstractStartPredicate) (left right : Node) → join_starts_empty_node_as_anything (join_starts_empty_node_as_anything shared (abstract_start_predicate left)) (abstract_start_predicate right) ≡ join_alternative_starts_skipping_empty shared (abstract_start_predicate (alt left right))
+pub arms-after : (shared : AbstractStartPredicate) (left right : Node) → join_starts_of_alternatives (join_starts_of_alternatives shared (abstract_start_predicate left)) (abstract_start_predicate right) ≡ join_nonempty_starts shared (abstract_start_predicate (alt left right))
 unfolding abstract_start_predicate
 arms-after shared left right =
     let both = join (abstract_start_predicate left) (abstract_start_predicate right) in
@@ -231,13 +231,13 @@ arms-after shared left right =
     sym (arms-joined shared (abstract_start_predicate left) (abstract_start_predicate right)) ∙ after_arm-reads shared both reads ∙ sym (after-reads shared both reads)
 
 -- one arm more
-pub arms-next : (before one all : AbstractStartPredicate) (left right : Node) → one ≡ join_starts_empty_node_as_anything before (abstract_start_predicate left)
-    → join_starts_empty_node_as_anything before (abstract_start_predicate (alt left right)) ≡ all → join_starts_empty_node_as_anything one (abstract_start_predicate right) ≡ all
+pub arms-next : (before one all : AbstractStartPredicate) (left right : Node) → one ≡ join_starts_of_alternatives before (abstract_start_predicate left)
+    → join_starts_of_alternatives before (abstract_start_predicate (alt left right)) ≡ all → join_starts_of_alternatives one (abstract_start_predicate right) ≡ all
 unfolding abstract_start_predicate
 arms-next before one all left right e h =
-    ap (λ s. join_starts_empty_node_as_anything s (abstract_start_predicate right)) e ∙ sym (arms-joined before (abstract_start_predicate left) (abstract_start_predicate right)) ∙ h
+    ap (λ s. join_starts_of_alternatives s (abstract_start_predicate right)) e ∙ sym (arms-joined before (abstract_start_predicate left) (abstract_start_predicate right)) ∙ h
 
-pub after-nothing : (more : AbstractStartPredicate) → join_alternative_starts_skipping_empty open_ended more ≡ more
+pub after-nothing : (more : AbstractStartPredicate) → join_nonempty_starts open_ended more ≡ more
 after-nothing open_ended = refl
 after-nothing arbitrary = refl
 after-nothing (sequence xs) = refl
@@ -245,7 +245,7 @@ after-nothing (one_of xs) = refl
 
 -- ---- Leaves
 
-pub leaf-after : (n : Node) (shared after_it b : AbstractStartPredicate) → is_leaf n ≡ true → b ≡ abstract_start_predicate n → after_it ≡ join_starts shared b → after_it ≡ join_alternative_starts_skipping_empty shared (abstract_start_predicate n)
+pub leaf-after : (n : Node) (shared after_it b : AbstractStartPredicate) → is_leaf n ≡ true → b ≡ abstract_start_predicate n → after_it ≡ join_starts shared b → after_it ≡ join_nonempty_starts shared (abstract_start_predicate n)
 leaf-after n shared after_it b leaf e f = f ∙ ap (join_starts shared) e ∙ sym (after-reads shared (abstract_start_predicate n) (leaf-bare n leaf).reads)
 
 -- ---- Memory
@@ -306,7 +306,7 @@ quiet-unless false grows e h = h
 quiet-unless true grows e h = cc
 
 -- the predicate that comes of a root for which no memory is taken
-pub quiet-root : (tree : Tree) → (not tree.flags.multiline && is_anchored tree.root) ≡ false → making_start_predicate_may_allocate tree ≡ false → making_node_start_predicate_may_allocate tree.root ≡ false
+pub quiet-root : (tree : Tree) → (not tree.flags.multiline && is_anchored tree.root) ≡ false → start_predicate_may_allocate tree ≡ false → making_node_start_predicate_may_allocate tree.root ≡ false
 quiet-root tree = quiet-unless (not tree.flags.multiline && is_anchored tree.root) (making_node_start_predicate_may_allocate tree.root)
 
 -- ---- Members of a set

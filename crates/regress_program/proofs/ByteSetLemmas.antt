@@ -8,7 +8,7 @@ use Rattle.regex_meaning.specs.NumberListHelpers.{contains, numbers_from}
 use Rattle.regex_meaning.specs.Tree.{Intervals}
 use Rattle.regex_meaning.specs.StartPredicate.{bytes_that_pass, chars_with_first_byte, intersects, union_of_byte_sets, first_byte_as_set}
 use Rattle.regex_pattern_front.proofs.ByteLemmas.{contains-bytes_where, bytes_where-same}
-use Rattle.regress_program.specs.JoinedStartPredicatesOfAlternatives.{set_bytes_from}
+use Rattle.regress_program.specs.JoinedStarts.{set_bytes_from}
 use Rattle.std.proofs.Math.Bool.{or-false, or_assoc}
 
 or-comm : (s t : Bool) → (s || t) ≡ (t || s)

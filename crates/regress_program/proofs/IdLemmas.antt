@@ -18,9 +18,9 @@ use Rattle.regex_pattern_front.proofs.ByteLemmas.{contains-numbers_from}
 use Rattle.regress_program.specs.LeafNodesAndOptimizableLoops.{is_leaf}
 use Rattle.regress_program.specs.GroupIdSpans.{group_id_span_as_numbers}
 use Rattle.regress_program.specs.declared.emit.group_id_and_range_check.GroupIdCountAndBounds as spans
-use Rattle.regress_program.specs.GroupIdsInWellFormednessCheck.{is_outside_bitmap, is_group_id_seen, are_distinct_unseen, least_group_id, id_end}
-use Rattle.regress_program.specs.GroupIdsInWellFormednessCheck.{GroupIdCountAndSpanNumbers, count_and_span_of_group_ids, joined, group_ids_distinct_and_ranges_exact}
-use Rattle.regress_program.specs.GroupIdsInWellFormednessCheck.{is_well_formed_node}
+use Rattle.regress_program.specs.GroupIdCheck.{is_outside_bitmap, is_group_id_seen, are_distinct_unseen, least_group_id, id_end}
+use Rattle.regress_program.specs.GroupIdCheck.{GroupIdCountAndSpanNumbers, count_and_span_of_group_ids, joined, has_exact_group_ids}
+use Rattle.regress_program.specs.GroupIdCheck.{is_well_formed_node}
 use Rattle.regex_meaning.proofs.Booleans.{or-false-left, or-false-right, same-truth, and-left, and-right}
 use Rattle.std.proofs.Math.Bool.{or-false, or_assoc, and-true, and_assoc}
 use Rattle.regex_meaning.proofs.Lists.{list_all-members}
@@ -102,11 +102,11 @@ fresh-change (id ∷ ids) f g h u =
     rw (here, later)
 
 -- where there is a bit for each id, and none is set, none is seen
-pub none_stand : (n : Node) → group_ids_distinct_and_ranges_exact (is_group_id_seen (replicate 1024 0)) n ≡ group_ids_distinct_and_ranges_exact (λ k. false) n
+pub none_stand : (n : Node) → has_exact_group_ids (is_group_id_seen (replicate 1024 0)) n ≡ has_exact_group_ids (λ k. false) n
 none_stand n = ap (λ b. b && every_node_passes names_the_groups_inside n) (fresh-same (is_group_id_seen (replicate 1024 0)) (λ k. false) (group_ids n) (none-seen 1024))
 
 -- ids that are fresh at all are where none is seen
-pub unseen_stand : (n : Node) (f : ℕ → Bool) → true ≡ group_ids_distinct_and_ranges_exact f n → true ≡ group_ids_distinct_and_ranges_exact (λ k. false) n
+pub unseen_stand : (n : Node) (f : ℕ → Bool) → true ≡ has_exact_group_ids f n → true ≡ has_exact_group_ids (λ k. false) n
 unseen_stand n f h =
     let fresh = fresh-change (group_ids n) f (λ k. false) (and-left (are_distinct_unseen f (group_ids n)) (every_node_passes names_the_groups_inside n) (sym h)) (λ k c. refl) in
     sym (and_from (are_distinct_unseen (λ k. false) (group_ids n)) (every_node_passes names_the_groups_inside n) fresh (and-right (are_distinct_unseen f (group_ids n)) (every_node_passes names_the_groups_inside n) (sym h)))

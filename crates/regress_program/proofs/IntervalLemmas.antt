@@ -13,8 +13,8 @@ use Rattle.regex_pattern_front.specs.Intervals.{interval_of}
 use Rattle.regex_pattern_front.specs.declared.codepointset.Interval.{Interval}
 use Rattle.regress_machine.specs.FirstSetTables.{is_character_in_encoding, first_unit_key}
 use Rattle.regress_program.specs.TableKeysOfUnits.{key, is_16_bit_encoding, first_utf8_byte, IsSurrogatePairOf, HasKeysBetween, is_read_length_right}
-use Rattle.regress_program.specs.ClassReadLengthsAndScanStopBytes.{IsReadLengthRightForKey, IsReadLengthAfterAddingInterval, IntervalLacksSurrogatePairsOfKey}
-use Rattle.regress_program.specs.ClassReadLengthsAndScanStopBytes.{LengthUndecidedOrUnchangedByInterval}
+use Rattle.regress_program.specs.ClassReadLengths.{IsReadLengthRightForKey, IsReadLengthWithInterval, LacksPairsOfKey}
+use Rattle.regress_program.specs.ClassReadLengths.{IntervalKeepsLength}
 use Rattle.regress_program.proofs.KeyLemmas.{first-key-at, first-key-below, key_of_first}
 use Rattle.regress_program.proofs.ShareLemmas.{ascii-key, no_interval}
 use Rattle.regress_program.proofs.StepLemmas.{more-intervals}
@@ -102,7 +102,7 @@ or-none false b none = none
 -- a step stays where no character of the key is in the interval
 step-stays : (wide inverted : Bool) (i : Interval) (k step : ℕ)
     → ((e : Encoding) → is_16_bit_encoding e ≡ wide → (c : ℕ) → is_character_in_encoding e c ≡ true → first_unit_key e (key wide) c ≡ Some k → is_in_range i.first i.last c ≡ false)
-    → IsReadLengthAfterAddingInterval wide inverted i k step step
+    → IsReadLengthWithInterval wide inverted i k step step
 step-stays wide inverted i k step none taken before e w c is first =
     subst (λ b. is_read_length_right step (exclusive_or inverted b) (length (spelled_in e c)) ≡ true)
     (sym (or-none (taken c) (is_in_range i.first i.last c) (none e w c is first))) (before e w c is first)
@@ -111,8 +111,8 @@ step-stays wide inverted i k step none taken before e w c is first =
 
 -- pairs have to decide, and then the interval is added at its keys
 pub interval-added : (wide inverted : Bool) (i : Interval) (first last k old left new : ℕ) → HasKeysBetween wide i first last → 128 ≤ k
-    → LengthUndecidedOrUnchangedByInterval wide i k old left → (first ≤ k → k ≤ last → (left ≡ 5) ⊎ IntervalLacksSurrogatePairsOfKey wide i k → IsReadLengthAfterAddingInterval wide inverted i k left new)
-    → ((k < first) ⊎ (last < k) → new ≡ left) → IsReadLengthAfterAddingInterval wide inverted i k old new
+    → IntervalKeepsLength wide i k old left → (first ≤ k → k ≤ last → (left ≡ 5) ⊎ LacksPairsOfKey wide i k → IsReadLengthWithInterval wide inverted i k left new)
+    → ((k < first) ⊎ (last < k) → new ≡ left) → IsReadLengthWithInterval wide inverted i k old new
 interval-added wide inverted i first last k old left new between past leaves there elsewhere taken before =
     elim (cases_lt k first) [
       | inl a ↦ outside leaves (inl a) (elsewhere (inl a))
@@ -128,11 +128,11 @@ interval-added wide inverted i first last k old left new between past leaves the
     Old : ℕ → Type 0
     Old n = IsReadLengthRightForKey wide (λ c. exclusive_or inverted (taken c)) k n
 
-    within : LengthUndecidedOrUnchangedByInterval wide i k old left → first ≤ k → k ≤ last → New new
+    within : IntervalKeepsLength wide i k old left → first ≤ k → k ≤ last → New new
     within (inl asks) a b = there a b (inl asks) taken (step-asked wide _ k left asks)
     within (inr stays) a b = there a b (inr stays.1) taken (subst Old (sym stays.0) before)
 
-    not-there : IntervalLacksSurrogatePairsOfKey wide i k → (k < first) ⊎ (last < k) → (e : Encoding) → is_16_bit_encoding e ≡ wide → (c : ℕ) → is_character_in_encoding e c ≡ true
+    not-there : LacksPairsOfKey wide i k → (k < first) ⊎ (last < k) → (e : Encoding) → is_16_bit_encoding e ≡ wide → (c : ℕ) → is_character_in_encoding e c ≡ true
         → first_unit_key e (key wide) c ≡ Some k → is_in_range i.first i.last c ≡ false
     not-there none side e w c is at = elim (cases_lt c i.first) [
       | inl low ↦ in_range-below i.first i.last c low
@@ -147,7 +147,7 @@ interval-added wide inverted i first last k old left new between past leaves the
         by (inr keys) (inl away) = absurd (omega (arith, keys.0, away))
         by (inr keys) (inr away) = absurd (omega (arith, keys.1, away))
 
-    outside : LengthUndecidedOrUnchangedByInterval wide i k old left → (k < first) ⊎ (last < k) → new ≡ left → New new
+    outside : IntervalKeepsLength wide i k old left → (k < first) ⊎ (last < k) → new ≡ left → New new
     outside (inl asks) side same = step-asked wide _ k new (same ∙ asks)
     outside (inr stays) side same =
         subst New (sym (same ∙ stays.0)) (step-stays wide inverted i k old (not-there stays.1 side) taken before)
@@ -155,26 +155,26 @@ interval-added wide inverted i first last k old left new between past leaves the
 -- one more of its keys
 pub key-added : (wide inverted : Bool) (i : Interval) (first key step : ℕ) (left steps : List ℕ) → length steps ≡ 256 → key < 256
     → get_or steps key 0 ≡ get_or left key 0
-    → ((get_or steps key 0 ≡ 5) ⊎ IntervalLacksSurrogatePairsOfKey wide i key → IsReadLengthAfterAddingInterval wide inverted i key (get_or steps key 0) step)
-    → ((k : ℕ) → first ≤ k → k < key → (get_or left k 0 ≡ 5) ⊎ IntervalLacksSurrogatePairsOfKey wide i k → IsReadLengthAfterAddingInterval wide inverted i k (get_or left k 0) (get_or steps k 0))
-    → (k : ℕ) → first ≤ k → k < key + 1 → (get_or left k 0 ≡ 5) ⊎ IntervalLacksSurrogatePairsOfKey wide i k
-    → IsReadLengthAfterAddingInterval wide inverted i k (get_or left k 0) (get_or (set steps key step) k 0)
+    → ((get_or steps key 0 ≡ 5) ⊎ LacksPairsOfKey wide i key → IsReadLengthWithInterval wide inverted i key (get_or steps key 0) step)
+    → ((k : ℕ) → first ≤ k → k < key → (get_or left k 0 ≡ 5) ⊎ LacksPairsOfKey wide i k → IsReadLengthWithInterval wide inverted i k (get_or left k 0) (get_or steps k 0))
+    → (k : ℕ) → first ≤ k → k < key + 1 → (get_or left k 0 ≡ 5) ⊎ LacksPairsOfKey wide i k
+    → IsReadLengthWithInterval wide inverted i k (get_or left k 0) (get_or (set steps key step) k 0)
 key-added wide inverted i first key step left steps sized inside same one before k low below leaves = by (cases_eq k key)
   where
     S : ℕ → Type 0
-    S n = IsReadLengthAfterAddingInterval wide inverted i k (get_or left k 0) n
+    S n = IsReadLengthWithInterval wide inverted i k (get_or left k 0) n
 
     L : ℕ → Type 0
-    L n = (n ≡ 5) ⊎ IntervalLacksSurrogatePairsOfKey wide i key
+    L n = (n ≡ 5) ⊎ LacksPairsOfKey wide i key
 
     B : ℕ → Type 0
-    B n = IsReadLengthAfterAddingInterval wide inverted i key n step
+    B n = IsReadLengthWithInterval wide inverted i key n step
 
     K : ℕ → Type 0
-    K n = (get_or left n 0 ≡ 5) ⊎ IntervalLacksSurrogatePairsOfKey wide i n
+    K n = (get_or left n 0 ≡ 5) ⊎ LacksPairsOfKey wide i n
 
     A : ℕ → Type 0
-    A n = IsReadLengthAfterAddingInterval wide inverted i n (get_or left n 0) step
+    A n = IsReadLengthWithInterval wide inverted i n (get_or left n 0) step
 
     by : (k ≡ key) ⊎ (k ≢ key) → S (get_or (set steps key step) k 0)
     by (inl e) =
@@ -209,7 +209,7 @@ all-yet wide true k step turned all = all
 all-yet wide false k step turned all = absurd (let never : false ≡ true = turned in cc)
 
 pub interval-more : (wide : Bool) (is : List Interval) (cps : List (ℕ × ℕ)) → map interval_of is ≡ cps → (inverted : Bool) (n k old new : ℕ) → n < length is
-    → IsReadLengthAfterAddingInterval wide inverted (get_or is n no_interval) k old new → IsReadLengthRightForKey wide (λ c. exclusive_or inverted (in_intervals (take n cps) c)) k old
+    → IsReadLengthWithInterval wide inverted (get_or is n no_interval) k old new → IsReadLengthRightForKey wide (λ c. exclusive_or inverted (in_intervals (take n cps) c)) k old
     → IsReadLengthRightForKey wide (λ c. exclusive_or inverted (in_intervals (take (n + 1) cps) c)) k new
 interval-more wide is cps same inverted n k old new below with_one before =
     let i = get_or is n no_interval in

@@ -14,9 +14,9 @@ use Rattle.regex_pattern_front.specs.declared.ir.Node.TheViews.{roll-Node}
 use Rattle.regex_pattern_front.specs.declared.ir.Node.TheFolds.{ind-Node}
 use denote.Hole.Carrier.{roll}
 use Rattle.regex_pattern_front.proofs.NodeLemmas.{HasNone}
-use Rattle.regress_program.specs.GroupIdsInWellFormednessCheck.{is_well_formed_node}
+use Rattle.regress_program.specs.GroupIdCheck.{is_well_formed_node}
 use Rattle.regress_program.specs.LeafNodesAndOptimizableLoops.{cat_of, is_leaf, becomes_char_loop}
-use Rattle.regress_program.specs.StartPredicatesAndWhenTheyAllocate.{predicate_says_reads_nothing}
+use Rattle.regress_program.specs.StartPredicates.{predicate_says_reads_nothing}
 use Rattle.regex_meaning.specs.WellFormedTrees.{ends_in_goal}
 use Rattle.regex_pattern_front.specs.declared.ir.Quantifier.{Quantifier}
 use Rattle.std.specs.declared.ops.Range.{Range}

@@ -25,7 +25,7 @@ use Rattle.regress_program.specs.declared.plan.Plan.{Plan}
 use Rattle.regress_program.specs.TableKeysOfUnits.{key, is_16_bit_encoding, is_read_length_right, read_length_at_key, unit_table_of_set}
 use Rattle.regress_program.specs.Plans.{IsClass, IsOpOf, reads_class_char, span_bytes, IsCharLoopOf, HasCountedLoop}
 use Rattle.regress_program.specs.PrefixesAndPrefilters.{PrefixAt}
-use Rattle.regress_program.specs.RequiredPrefixAnalysis.{allows_only_key, units_allowed_by_first_set, AreOpsOfProgram, PrefixFollowsFromSuccessorPrefixes}
+use Rattle.regress_program.specs.RequiredPrefixAnalysis.{allows_only_key, units_allowed_by_first_set, AreOpsOfProgram, FollowsFromSuccessors}
 use Rattle.regress_program.specs.LeapCertificates.{AcceptsOver, ReadsBytesOver, RepeatsLoop, LeadsOn, CertifiesLeap}
 use Rattle.regress_program.specs.Leaps.{is_goal_key, is_passed_key, leap_to_goal, AreHighKeysAlike}
 use Rattle.regress_program.specs.LeapOps.{AreGoals, PassesUnits, PassesReadLengths, PassesClass, ArrivesAtGoal, LoopLeads, OpLeads, AllLead}
@@ -184,7 +184,7 @@ module _ (leap : Leap) (alike : AreHighKeysAlike leap) where
 
 module _ (plan : Plan) (leap : Leap) (ip : ℕ) where
   -- one unit, which is the goal
-  pub arrives-by-unit : (k to : ℕ) → ((wide : Bool) (program : Program) → AreOpsOfProgram wide program plan → PrefixFollowsFromSuccessorPrefixes wide program ip (ahead.OneUnit k to))
+  pub arrives-by-unit : (k to : ℕ) → ((wide : Bool) (program : Program) → AreOpsOfProgram wide program plan → FollowsFromSuccessors wide program ip (ahead.OneUnit k to))
       → is_goal_key leap k ≡ true → ArrivesAtGoal plan leap ip
   arrives-by-unit k to says goal wide program ops =
       less-prefix wide program ip 1 1 (allows_only_key k) (λ ahead. (leap_to_goal leap).goal) (units-there wide program ip 1 (allows_only_key k) (Some to) (says wide program ops)) (omega arith)
@@ -192,7 +192,7 @@ module _ (plan : Plan) (leap : Leap) (ip : ℕ) where
 
   -- units of a set, which are all the goal's
   pub arrives-by-units : (set : FirstSet) (count : ℕ) (to : Option ℕ)
-      → ((wide : Bool) (program : Program) → AreOpsOfProgram wide program plan → PrefixFollowsFromSuccessorPrefixes wide program ip (ahead.Units set count to))
+      → ((wide : Bool) (program : Program) → AreOpsOfProgram wide program plan → FollowsFromSuccessors wide program ip (ahead.Units set count to))
       → 0 < count → AreGoals leap (unit_table_of_set set) → ArrivesAtGoal plan leap ip
   arrives-by-units set count to says some goals wide program ops =
       less-prefix wide program ip 1 count (units_allowed_by_first_set set) (λ ahead. (leap_to_goal leap).goal)

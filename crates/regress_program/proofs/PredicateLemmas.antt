@@ -7,7 +7,7 @@ use Rattle.regex_meaning.specs.StartPredicate.{AbstractStartPredicate, open_ende
 use Rattle.regex_meaning.specs.StartPredicate.{start_anchored, start_predicate}
 use Rattle.regex_pattern_front.specs.declared.ir.Regex.{Regex}
 use Rattle.regress_program.specs.CompilationOfTreesAsFunction.{compiled}
-use Rattle.regress_program.specs.StartPredicatesAndWhenTheyAllocate.{IsCopyOfPredicate, IsStartOf, is_anchored_predicate, is_anchored_tree}
+use Rattle.regress_program.specs.StartPredicates.{IsCopyOfPredicate, IsStartOf, is_anchored_predicate, is_anchored_tree}
 use Rattle.regress_program.specs.declared.insn.start_predicate_type.StartPredicate.{StartPredicate}
 use Rattle.regress_program.specs.declared.insn.start_predicate_type.StartPredicate.TheVariants.{Arbitrary, ByteSet1, ByteSet2, ByteSet3, ByteSeq, ByteBracket}
 use Rattle.regress_program.specs.declared.insn.start_predicate_type.StartPredicate.TheVariants.{StartAnchored}

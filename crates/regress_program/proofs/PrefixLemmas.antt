@@ -38,9 +38,9 @@ use Rattle.regress_program.specs.declared.plan.Plan.{Plan}
 use Rattle.regress_program.specs.TableKeysOfUnits.{key, is_16_bit_encoding, is_read_length_right, read_length_at_key, unit_table_of_set}
 use Rattle.regress_program.specs.Plans.{IsClass, reads_class_char, op_as_char_loop, IsOpOf}
 use Rattle.regress_program.specs.PrefixesAndPrefilters.{units_allowed_by_prefix, PrefixAt, IsRequiredPrefixFromInsn, ExcludesKeys}
-use Rattle.regress_program.specs.RequiredPrefixAnalysis.{low_bits_followed_by_shifted_mask, then_allowed, allows_only_key, units_allowed_by_first_set, falls_through}
-use Rattle.regress_program.specs.RequiredPrefixAnalysis.{ExtendsPrefixByAllowedUnitSequence, AllowsWhateverEitherPrefixAllows, IsPrefixSoFar, AreOpsOfProgram, PrefixAfter}
-use Rattle.regress_program.specs.RequiredPrefixAnalysis.{PrefixBeginsWith, PrefixFollowsFromSuccessorPrefixes, IsOpPrefixContributionOf, IsPrefixContributionOfCharLoop}
+use Rattle.regress_program.specs.RequiredPrefixAnalysis.{joined_masks, then_allowed, allows_only_key, units_allowed_by_first_set, falls_through}
+use Rattle.regress_program.specs.RequiredPrefixAnalysis.{ExtendsPrefix, AllowsEitherPrefix, IsPrefixSoFar, AreOpsOfProgram, PrefixAfter}
+use Rattle.regress_program.specs.RequiredPrefixAnalysis.{PrefixBeginsWith, FollowsFromSuccessors, IsOpPrefixContributionOf, IsPrefixOfCharLoop}
 use Rattle.regress_program.proofs.KeyLemmas.{first-key-at, first-key-below, key_of_first}
 use Rattle.regress_program.proofs.ClosingLemmas.{told-some}
 use Rattle.regress_program.proofs.RowLemmas.{get-below, runs-of}
@@ -57,7 +57,7 @@ moved-bit mask count ahead less =
     sym (bit_at_cat_low (all / 2 ^ 16) 16 (all % 2 ^ 16) ahead less) ∙ ap (λ v. bit_at v ahead) parts ∙ ap (λ v. bit_at v ahead) (let z : all ≡ all + 0 = omega arith in z)
 
 -- the first bits are those of the first mask
-joined-first : (first count behind ahead : ℕ) → ahead < count → count < 16 → bit_at (low_bits_followed_by_shifted_mask first count behind) ahead ≡ bit_at first ahead
+joined-first : (first count behind ahead : ℕ) → ahead < count → count < 16 → bit_at (joined_masks first count behind) ahead ≡ bit_at first ahead
 joined-first first count behind ahead less few =
     let low : bit_at (bit_and first (2 ^ count - 1)) ahead ≡ min (bit_at first ahead) 1 =
     bit_at_and first (2 ^ count - 1) ahead ∙ ap (λ b. min (bit_at first ahead) b) (bit_at_ones count ahead less) in
@@ -68,7 +68,7 @@ joined-first first count behind ahead less few =
     ∙ (let z : max (bit_at (bit_and first (2 ^ count - 1)) ahead) (bit_at (behind * 2 ^ count % 2 ^ 16) ahead) ≡ bit_at first ahead = omega (arith, low, high, small) in z)
 
 -- and those behind them the bits of the other one
-joined-behind : (first count behind ahead : ℕ) → count ≤ ahead → ahead < 16 → bit_at (low_bits_followed_by_shifted_mask first count behind) ahead ≡ bit_at behind (ahead - count)
+joined-behind : (first count behind ahead : ℕ) → count ≤ ahead → ahead < 16 → bit_at (joined_masks first count behind) ahead ≡ bit_at behind (ahead - count)
 joined-behind first count behind ahead more few =
     let low : bit_at (bit_and first (2 ^ count - 1)) ahead ≡ min (bit_at first ahead) 0 =
     bit_at_and first (2 ^ count - 1) ahead ∙ ap (λ b. min (bit_at first ahead) b) (bit_at_ones_above count ahead more) in
@@ -98,11 +98,11 @@ both-set x y ahead set = (by-first (bit_at x ahead == 0) refl, by-second (bit_at
     by-second true is = is ∙ no (and-clear x y ahead (inr (eqb-true (bit_at y ahead) 0 is)))
 
 -- the bits that all masks from a key on have, with that of the next key
-pub barred-next : (prefix : Prefix) (from key mask_of_positions_excluding_keys ahead : ℕ)
-    → ((ahead : ℕ) → (bit_at mask_of_positions_excluding_keys ahead == 0) ≡ false → ExcludesKeys prefix from key ahead)
-    → (bit_at (bit_and mask_of_positions_excluding_keys (slice_index prefix.masks key)) ahead == 0) ≡ false → ExcludesKeys prefix from (key + 1) ahead
-barred-next prefix from key mask_of_positions_excluding_keys ahead before set k more less =
-    let both = both-set mask_of_positions_excluding_keys (slice_index prefix.masks key) ahead set in
+pub barred-next : (prefix : Prefix) (from key mask_excluding_keys ahead : ℕ)
+    → ((ahead : ℕ) → (bit_at mask_excluding_keys ahead == 0) ≡ false → ExcludesKeys prefix from key ahead)
+    → (bit_at (bit_and mask_excluding_keys (slice_index prefix.masks key)) ahead == 0) ≡ false → ExcludesKeys prefix from (key + 1) ahead
+barred-next prefix from key mask_excluding_keys ahead before set k more less =
+    let both = both-set mask_excluding_keys (slice_index prefix.masks key) ahead set in
     elim (cases_lt k key) [
       | inl early ↦ before ahead both.0 k more early
       | inr last ↦
@@ -111,7 +111,7 @@ barred-next prefix from key mask_of_positions_excluding_keys ahead before set k 
     ]
 
 -- so many bits from one on are those that were not moved in
-pub clear-between : (from count ahead : ℕ) → from + count < 16 → from ≤ ahead → ahead < from + count → bit_at (low_bits_followed_by_shifted_mask 65535 from (65535 * 2 ^ count % 2 ^ 16)) ahead ≡ 0
+pub clear-between : (from count ahead : ℕ) → from + count < 16 → from ≤ ahead → ahead < from + count → bit_at (joined_masks 65535 from (65535 * 2 ^ count % 2 ^ 16)) ahead ≡ 0
 clear-between from count ahead room more less =
     joined-behind 65535 from (65535 * 2 ^ count % 2 ^ 16) ahead more (omega (arith, room, less))
     ∙ moved-bit 65535 count (ahead - from) (omega (arith, room, less))
@@ -157,7 +157,7 @@ then-late count first after ahead k more = ap (λ (b : Bool). if b then first ah
 
 -- units, and those behind them
 pub then-of : (p q prefix : Prefix) → length prefix.masks ≡ 256 → prefix.len ≡ min (p.len + q.len) 15
-    → ((k : ℕ) → k < 256 → get_or prefix.masks k 0 ≡ low_bits_followed_by_shifted_mask (get_or p.masks k 0) p.len (get_or q.masks k 0)) → ExtendsPrefixByAllowedUnitSequence p q.len (units_allowed_by_prefix q) prefix
+    → ((k : ℕ) → k < 256 → get_or prefix.masks k 0 ≡ joined_masks (get_or p.masks k 0) p.len (get_or q.masks k 0)) → ExtendsPrefix p q.len (units_allowed_by_prefix q) prefix
 then-of p q prefix sized len each = record { len = len; within = λ ahead k less h. by ahead k less h (cases_lt k 256) }
   where
     here : (ahead k : ℕ) → ahead < prefix.len → k < 256 → then_allowed p.len (units_allowed_by_prefix p) (units_allowed_by_prefix q) ahead k ≡ true → (ahead < p.len) ⊎ (p.len ≤ ahead)
@@ -179,7 +179,7 @@ then-of p q prefix sized len each = record { len = len; within = λ ahead k less
 -- units of which bits are cleared
 pub then-cleared : (p prefix : Prefix) (count : ℕ) (has : ℕ → Bool) → length prefix.masks ≡ 256 → prefix.len ≡ min (p.len + count) 15
     → ((k : ℕ) → k < 256 → (ahead : ℕ) → (bit_at (get_or p.masks k 0) ahead ≡ 0) ⊎ ((has k ≡ true) × (p.len ≤ ahead) × (ahead < prefix.len)) → bit_at (get_or prefix.masks k 0) ahead ≡ 0)
-    → ExtendsPrefixByAllowedUnitSequence p count (λ ahead k. has k) prefix
+    → ExtendsPrefix p count (λ ahead k. has k) prefix
 then-cleared p prefix count has sized len each = record { len = len; within = λ ahead k less h. by ahead k less h (cases_lt k 256) }
   where
     here : (ahead k : ℕ) → ahead < prefix.len → k < 256 → then_allowed p.len (units_allowed_by_prefix p) (λ ahead k. has k) ahead k ≡ true → (ahead < p.len) ⊎ (p.len ≤ ahead)
@@ -198,7 +198,7 @@ then-cleared p prefix count has sized len each = record { len = len; within = λ
 -- those of a set
 pub units-cleared : (p prefix : Prefix) (count kept : ℕ) (has : ℕ → Bool) → length prefix.masks ≡ 256 → prefix.len ≡ min (p.len + count) 15
     → ((ahead : ℕ) → p.len ≤ ahead → ahead < prefix.len → bit_at kept ahead ≡ 0)
-    → ((k : ℕ) → k < 256 → get_or prefix.masks k 0 ≡ bit_and (get_or p.masks k 0) (if has k then kept else 65535)) → ExtendsPrefixByAllowedUnitSequence p count (λ ahead k. has k) prefix
+    → ((k : ℕ) → k < 256 → get_or prefix.masks k 0 ≡ bit_and (get_or p.masks k 0) (if has k then kept else 65535)) → ExtendsPrefix p count (λ ahead k. has k) prefix
 units-cleared p prefix count kept has sized len clear each = then-cleared p prefix count has sized len
     (λ k below ahead w.
     ap (λ m. bit_at m ahead) (each k below) ∙ and-clear (get_or p.masks k 0) (if has k then kept else 65535) ahead (by k ahead w))
@@ -211,7 +211,7 @@ units-cleared p prefix count kept has sized len clear each = then-cleared p pref
 -- one alone
 pub unit-cleared : (p prefix : Prefix) (key at kept : ℕ) → at ≡ key → length p.masks ≡ 256 → at < 256 → p.len < 15 → prefix.len ≡ p.len + 1
     → ((ahead : ℕ) → p.len ≤ ahead → ahead < p.len + 1 → bit_at kept ahead ≡ 0)
-    → prefix.masks ≡ slice_set p.masks at (bit_and (get_or p.masks at 0) kept) → ExtendsPrefixByAllowedUnitSequence p 1 (allows_only_key key) prefix
+    → prefix.masks ≡ slice_set p.masks at (bit_and (get_or p.masks at 0) kept) → ExtendsPrefix p 1 (allows_only_key key) prefix
 unit-cleared p prefix key at kept here sized low room len clear is = then-cleared p prefix 1 (λ k. k == key)
     (ap length is ∙ length-set p.masks at (bit_and (get_or p.masks at 0) kept) ∙ sized) (omega (arith, len, room))
     (λ k below ahead w. ap (λ (l : List ℕ). bit_at (get_or l k 0) ahead) is ∙ by k ahead w (k == key) refl)
@@ -235,7 +235,7 @@ unit-cleared p prefix key at kept here sized low room len clear is = then-cleare
 
 -- either
 pub either-of : (a b prefix : Prefix) → length prefix.masks ≡ 256 → prefix.len ≡ min a.len b.len
-    → ((k : ℕ) → k < 256 → get_or prefix.masks k 0 ≡ low_bits_followed_by_shifted_mask (bit_and (get_or a.masks k 0) (get_or b.masks k 0)) prefix.len 65535) → AllowsWhateverEitherPrefixAllows a b prefix
+    → ((k : ℕ) → k < 256 → get_or prefix.masks k 0 ≡ joined_masks (bit_and (get_or a.masks k 0) (get_or b.masks k 0)) prefix.len 65535) → AllowsEitherPrefix a b prefix
 either-of a b prefix sized len each = record {
   first = omega (arith, len);
   second = omega (arith, len);
@@ -267,8 +267,8 @@ prefix-unknown wide program ip prefix none =
     let P : ℕ → Type 0 = λ n. PrefixAt wide program ip n (units_allowed_by_prefix prefix) in
     subst P (sym none) (none-prefix wide program ip (units_allowed_by_prefix prefix))
 
-pub prefix-of-either : (wide : Bool) (program : Program) (ip x y : ℕ) (a b prefix : Prefix) → PrefixFollowsFromSuccessorPrefixes wide program ip (ahead.UnionOf x y) → IsRequiredPrefixFromInsn wide program x a → IsRequiredPrefixFromInsn wide program y b
-    → AllowsWhateverEitherPrefixAllows a b prefix → IsRequiredPrefixFromInsn wide program ip prefix
+pub prefix-of-either : (wide : Bool) (program : Program) (ip x y : ℕ) (a b prefix : Prefix) → FollowsFromSuccessors wide program ip (ahead.UnionOf x y) → IsRequiredPrefixFromInsn wide program x a → IsRequiredPrefixFromInsn wide program y b
+    → AllowsEitherPrefix a b prefix → IsRequiredPrefixFromInsn wide program ip prefix
 prefix-of-either wide program ip x y a b prefix leads first second either =
     leads prefix.len (units_allowed_by_prefix prefix)
     (less-prefix wide program x prefix.len a.len (units_allowed_by_prefix a) (units_allowed_by_prefix prefix) first either.first either.within_first)
@@ -287,12 +287,12 @@ path-start wide program ip prefix none = record {
 }
 
 -- an operation that leads on to another one
-pub path-at : (wide : Bool) (program : Program) (from ip to : ℕ) (prefix : Prefix) → IsPrefixSoFar wide program from prefix ip → PrefixFollowsFromSuccessorPrefixes wide program ip (ahead.SameAs to) → IsPrefixSoFar wide program from prefix to
+pub path-at : (wide : Bool) (program : Program) (from ip to : ℕ) (prefix : Prefix) → IsPrefixSoFar wide program from prefix ip → FollowsFromSuccessors wide program ip (ahead.SameAs to) → IsPrefixSoFar wide program from prefix to
 path-at wide program from ip to prefix path leads = record { so_far = path.so_far; on = λ room len allowed there. path.on room len allowed (leads len allowed there) }
 
 -- what stands at the operation stands behind the units
 pub path-then : (wide : Bool) (program : Program) (from ip len : ℕ) (prefix next : Prefix) (allowed : Allowed) → IsPrefixSoFar wide program from prefix ip → prefix.len < 15
-    → PrefixAt wide program ip len allowed → ExtendsPrefixByAllowedUnitSequence prefix len allowed next → IsRequiredPrefixFromInsn wide program from next
+    → PrefixAt wide program ip len allowed → ExtendsPrefix prefix len allowed next → IsRequiredPrefixFromInsn wide program from next
 path-then wide program from ip len prefix next allowed path room there is =
     less-prefix wide program from next.len (prefix.len + len) (then_allowed prefix.len (units_allowed_by_prefix prefix) allowed) (units_allowed_by_prefix next) (path.on room len allowed there)
     (let l = is.len in omega (arith, l)) (λ ahead k less h. is.within ahead k less h)
@@ -309,13 +309,13 @@ units-there wide program ip count units to leads =
     nothing (Some next) = none-prefix wide program next units
 
 pub path-last : (wide : Bool) (program : Program) (from ip count : ℕ) (units : Allowed) (to : Option ℕ) (prefix next : Prefix) → IsPrefixSoFar wide program from prefix ip → prefix.len < 15
-    → PrefixBeginsWith wide program ip units count to → ExtendsPrefixByAllowedUnitSequence prefix count units next → IsRequiredPrefixFromInsn wide program from next
+    → PrefixBeginsWith wide program ip units count to → ExtendsPrefix prefix count units next → IsRequiredPrefixFromInsn wide program from next
 path-last wide program from ip count units to prefix next path room leads is =
     path-then wide program from ip count prefix next units path room (units-there wide program ip count units to leads) is
 
 -- behind which it leads on
 pub path-units : (wide : Bool) (program : Program) (from ip count to : ℕ) (units : Allowed) (prefix next : Prefix) → IsPrefixSoFar wide program from prefix ip → prefix.len < 15
-    → PrefixBeginsWith wide program ip units count (Some to) → ExtendsPrefixByAllowedUnitSequence prefix count units next → IsPrefixSoFar wide program from next to
+    → PrefixBeginsWith wide program ip units count (Some to) → ExtendsPrefix prefix count units next → IsPrefixSoFar wide program from next to
 path-units wide program from ip count to units prefix next path room leads is = record {
   so_far = path-last wide program from ip count units (Some to) prefix next path room leads is;
   on = λ more len allowed there.
@@ -351,7 +351,7 @@ path-units wide program from ip count to units prefix next path room leads is = 
 
 -- one of two operations
 pub path-either : (wide : Bool) (program : Program) (from ip x y : ℕ) (prefix a b either next : Prefix) → IsPrefixSoFar wide program from prefix ip → prefix.len < 15
-    → PrefixFollowsFromSuccessorPrefixes wide program ip (ahead.UnionOf x y) → IsRequiredPrefixFromInsn wide program x a → IsRequiredPrefixFromInsn wide program y b → AllowsWhateverEitherPrefixAllows a b either → ExtendsPrefixByAllowedUnitSequence prefix either.len (units_allowed_by_prefix either) next
+    → FollowsFromSuccessors wide program ip (ahead.UnionOf x y) → IsRequiredPrefixFromInsn wide program x a → IsRequiredPrefixFromInsn wide program y b → AllowsEitherPrefix a b either → ExtendsPrefix prefix either.len (units_allowed_by_prefix either) next
     → IsRequiredPrefixFromInsn wide program from next
 path-either wide program from ip x y prefix a b either next path room leads first second of is =
     path-then wide program from ip either.len prefix next (units_allowed_by_prefix either) path room (prefix-of-either wide program ip x y a b either leads first second of) is
@@ -375,7 +375,7 @@ pub said-as : (plan : Plan) (ip : ℕ) (said : OpPrefixContribution) (o shown : 
 said-as plan ip said o shown is leads = let P : Op → Type 0 = λ x. IsOpPrefixContributionOf plan x ip said in subst P (sym is) leads
 
 -- what is said of a run, by what its rows say
-pub said-of-run : (plan : Plan) (ip : ℕ) (said : OpPrefixContribution) (o : Op) (r : run.CharLoop) → op_as_char_loop o ≡ Some r → IsPrefixContributionOfCharLoop plan r ip said → IsOpPrefixContributionOf plan o ip said
+pub said-of-run : (plan : Plan) (ip : ℕ) (said : OpPrefixContribution) (o : Op) (r : run.CharLoop) → op_as_char_loop o ≡ Some r → IsPrefixOfCharLoop plan r ip said → IsOpPrefixContributionOf plan o ip said
 said-of-run plan ip said o r is leads wide program ops there =
     let i = insn-of plan program ops o ip there in
     let h = runs-of program plan o r ip i.0 is i.2 in
@@ -383,7 +383,7 @@ said-of-run plan ip said o r is leads wide program ops there =
 
 -- an instruction that leads on to one other
 led-on : (wide : Bool) (program : Program) (ip to : ℕ) (insn form : Insn) → slice_get program.insns ip ≡ Some insn → insn ≡ form
-    → ((may : ℕ → Bool) → may to ≡ false → (text : Text) (at : ℕ) → may_at program text at may (Some form) ip ≡ false) → PrefixFollowsFromSuccessorPrefixes wide program ip (ahead.SameAs to)
+    → ((may : ℕ → Bool) → may to ≡ false → (text : Text) (at : ℕ) → may_at program text at may (Some form) ip ≡ false) → FollowsFromSuccessors wide program ip (ahead.SameAs to)
 led-on wide program ip to insn form there is leads len allowed prefix =
     λ e same. prefix-on e (key wide) program ip to len allowed (prefix e same)
     (λ may never text at.
@@ -419,7 +419,7 @@ said-edge plan ip e wide program ops there =
     let i = insn-of plan program ops (op.WordEdge e) ip there in by e.unicode_icase i.0 i.1 i.2
   where
     by : (icase : Bool) (insn : Insn) → slice_get program.insns ip ≡ Some insn → insn ≡ (if icase then WordBoundaryUnicodeICase e.invert else WordBoundary e.invert)
-        → PrefixFollowsFromSuccessorPrefixes wide program ip (ahead.SameAs (ip + 1))
+        → FollowsFromSuccessors wide program ip (ahead.SameAs (ip + 1))
     by true insn there is = led-on wide program ip (ip + 1) insn (WordBoundaryUnicodeICase e.invert) there is (λ may never text at. and-never _ (may (ip + 1)) never)
     by false insn there is = led-on wide program ip (ip + 1) insn (WordBoundary e.invert) there is (λ may never text at. and-never _ (may (ip + 1)) never)
 
@@ -446,7 +446,7 @@ said-look plan ip l wide program ops there =
     never-then false b h = refl
 
     by : (forward : Bool) (insn : Insn) → slice_get program.insns ip ≡ Some insn → (first last : ℕ)
-        → insn ≡ (if forward then Lookahead l.negate first last l.past else Lookbehind l.negate first last l.past) → PrefixFollowsFromSuccessorPrefixes wide program ip (ahead.SameAs l.past)
+        → insn ≡ (if forward then Lookahead l.negate first last l.past else Lookbehind l.negate first last l.past) → FollowsFromSuccessors wide program ip (ahead.SameAs l.past)
     by true insn there first last is =
         led-on wide program ip l.past insn (Lookahead l.negate first last l.past) there is (λ may never text at. never-then (may l.past) _ never)
     by false insn there first last is = led-on wide program ip l.past insn (Lookbehind l.negate first last l.past) there is (λ may never text at. never)
@@ -558,7 +558,7 @@ said-class plan ip number class set here single_unit keys wide program ops there
 pub said-run : (plan : Plan) (ip : ℕ) (r : run.CharLoop) (class : Class) (bounds : CharLoopBounds) (set : FirstSet) (to : Option ℕ) → slice_get plan.classes.items r.class ≡ Some class
     → slice_get plan.bounds.items r.bounds ≡ Some bounds → class.single_unit ≡ true
     → ((k : ℕ) → k < 256 → (unit_table_of_set set).keys k ≡ not (slice_index_or class.steps k 0 == 0))
-    → ((to ≡ Some (ip + 2)) × (bounds.min ≡ bounds.max)) ⊎ (to ≡ None) → IsPrefixContributionOfCharLoop plan r ip (ahead.Units set bounds.min to)
+    → ((to ≡ Some (ip + 2)) × (bounds.min ≡ bounds.max)) ⊎ (to ≡ None) → IsPrefixOfCharLoop plan r ip (ahead.Units set bounds.min to)
 said-run plan ip r class bounds set to here bounded single_unit keys way wide program ops greedy insn there runs len allowed behind =
     λ e same. prefix-run e (key wide) program ip len bounds.min bounds.max greedy (then_allowed bounds.min (units_allowed_by_first_set set) allowed) allowed
     (there ∙ ap Some (runs.insn_is ∙ ap (λ (b : CharLoopBounds). Loop1CharBody b.min b.max greedy) same_bounds)) (λ test t. are test t e same)

@@ -17,7 +17,7 @@ use Rattle.regress_program.specs.EmitterStateAndAppendedCode.{with_insns_appende
 use Rattle.regress_program.specs.EmitterStateAndAppendedCode.{with_insn_at, with_loop}
 use Rattle.regress_program.specs.LeafNodesAndOptimizableLoops.{cat_of, is_leaf}
 use Rattle.regress_program.specs.PendingEmission.{EmitWork, FitsIndexWidths, CanEmitPendingPart, ExpandsPending, with_arm_end, with_jump}
-use Rattle.regress_program.specs.PendingEmission.{with_remaining_alternatives_emitted, with_lookaround_end, with_loop_end}
+use Rattle.regress_program.specs.PendingEmission.{with_alternatives_emitted, with_lookaround_end, with_loop_end}
 use Rattle.regress_program.specs.PendingEmission.{with_pending, with_all_pending, is_emittable, are_emittable, node_measure, pending_measure, total_measure}
 use Rattle.regress_program.specs.declared.emit.nested_nodes.UnemittedCodePart.{UnemittedCodePart}
 use Rattle.regress_program.specs.declared.emit.nested_nodes.UnemittedCodePart.TheVariants.{Node, Row, Others, Jump as JumpLeft, GroupEnd, LookaroundEnd, LoopEnd}
@@ -95,12 +95,12 @@ grows-code u d n s = record { insns = omega (arith, length-with_code u d n s); l
 grows-written : (place : ℕ) (x y : Insn) (s : EmitterState) → Grows s (with_insn_at place y (with_insn_appended x s))
 grows-written place x y s = grows-then s (with_insn_appended x s) (with_insn_at place y (with_insn_appended x s)) (grows-insn x s) (grows-insn_at place y (with_insn_appended x s))
 
-grows-others : (u d : Bool) (branch : ℕ) (n : TreeNode) (s : EmitterState) → Grows s (with_remaining_alternatives_emitted u d branch n s)
+grows-others : (u d : Bool) (branch : ℕ) (n : TreeNode) (s : EmitterState) → Grows s (with_alternatives_emitted u d branch n s)
 grows-others u d branch n s =
     let t = with_arm_end branch s in
     let v = with_code u d n t in
-    grows-then s t (with_remaining_alternatives_emitted u d branch n s) (grows-written branch (Jump 0) (Alt (length (with_insn_appended (Jump 0) s).insns)) s)
-    (grows-then t v (with_remaining_alternatives_emitted u d branch n s) (grows-code u d n t) (grows-insn_at (length s.insns) (Jump (length v.insns)) v))
+    grows-then s t (with_alternatives_emitted u d branch n s) (grows-written branch (Jump 0) (Alt (length (with_insn_appended (Jump 0) s).insns)) s)
+    (grows-then t v (with_alternatives_emitted u d branch n s) (grows-code u d n t) (grows-insn_at (length s.insns) (Jump (length v.insns)) v))
 
 pub grows-left : (r : UnemittedCodePart) (s : EmitterState) → Grows s (with_pending r s)
 unfolding with_pending
@@ -196,7 +196,7 @@ begun-cheap effect low high before after b h = record { code = b.code; ready = b
 -- ---- What they come to
 
 pub put-alternatives : (u d : Bool) (a b : TreeNode) (branch : ℕ) (s t : EmitterState) → t ≡ with_insn_appended (Alt 0) s → branch ≡ length s.insns
-    → with_remaining_alternatives_emitted u d branch b (with_code u d a t) ≡ with_code u d (alt a b) s
+    → with_alternatives_emitted u d branch b (with_code u d a t) ≡ with_code u d (alt a b) s
 put-alternatives u d a b branch s t is place =
     let s2 = with_code u d a t in
     let s3 = with_insn_appended (Jump 0) s2 in
@@ -254,7 +254,7 @@ arm-ended branch second s s1 t e1 e2 e3 =
     e3 ∙ ap (λ n. with_insn_at branch (Alt n) s1) e2 ∙ ap (λ w. with_insn_at branch (Alt (length w.insns)) w) e1
 
 pub put-others : (u d : Bool) (branch jump : ℕ) (n : TreeNode) (s t : EmitterState) → t ≡ with_arm_end branch s → jump ≡ length s.insns
-    → with_jump jump (with_code u d n t) ≡ with_remaining_alternatives_emitted u d branch n s
+    → with_jump jump (with_code u d n t) ≡ with_alternatives_emitted u d branch n s
 put-others u d branch jump n s t is at = rw (is, at) refl
 
 pub grows-arm : (branch : ℕ) (s t : EmitterState) → t ≡ with_arm_end branch s → Grows s t

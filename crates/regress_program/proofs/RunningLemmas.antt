@@ -9,8 +9,8 @@ use Rattle.regex_meaning.specs.WellFormedTrees.{is_well_formed}
 use Rattle.regex_pattern_front.specs.OptimizedTrees.{optimized}
 use Rattle.regex_pattern_front.proofs.OptimizedLemmas.{well_formed-optimized, group_ids-optimized, names_by_id-optimized, reads_bytes-optimized}
 use Rattle.regress_program.specs.CompilationOfTreesAsFunction.{compiled, brackets_of, node_insn_count}
-use Rattle.regress_program.specs.EmitterStateAndAppendedCode.{tree_with_char_loops_if_enabled}
-use Rattle.regress_program.specs.InsnsAndStartPredicatesAsSpec.{insn_as_spec_insn}
+use Rattle.regress_program.specs.EmitterStateAndAppendedCode.{tree_with_char_loops}
+use Rattle.regress_program.specs.InsnsAsSpec.{insn_as_spec_insn}
 use Rattle.regress_program.specs.ProgramFieldsMatchTree.{IsCodeOfTree}
 use Rattle.regress_program.specs.declared.insn.emitted_code.EmittedCode.{EmittedCode}
 use Rattle.regress_program.proofs.CodeLemmas.{compiled-length}
@@ -65,7 +65,7 @@ to_run-same t same = go t.flags.no_opt
     go false = ap (λ (n : Node). record { root = n; flags = t.flags }) same
 
 -- the tree with narrow loops is that which is run, unless the flags say that there is none
-pub to_run-shaped : (t : Tree) → t.flags.no_opt ≡ false → tree_with_char_loops_if_enabled true t ≡ optimized_tree_unless_no_opt t
+pub to_run-shaped : (t : Tree) → t.flags.no_opt ≡ false → tree_with_char_loops true t ≡ optimized_tree_unless_no_opt t
 to_run-shaped t h = ap (λ (n : Node). record { root = n; flags = t.flags }) (shaped-narrow t.root ∙ sym (to_run-optimized t h))
 
 pub size-to_run : (t : Tree) → node_insn_count (optimized_tree_unless_no_opt t).root ≤ node_insn_count t.root

@@ -15,14 +15,14 @@ use Rattle.regex_meaning.specs.CompilationRelation.{is_uninverted_ascii_class, c
 
 -- ---- Counts
 
--- the number of instructions of a set of strings, of which each but the last has a branch before it
--- and a jump after it
+-- The number of instructions of a set of strings, of which each but the last has a branch before it
+-- and a jump after it.
 abbrev pub strings_size : List (List ℕ) → ℕ
 strings_size [] = 1
 strings_size (s ∷ []) = length s
 strings_size (s ∷ t ∷ more) = length s + 2 + strings_size (t ∷ more)
 
--- the number of instructions of a node
+-- The number of instructions of a node.
 unfoldable pub node_insn_count : Node → ℕ
 node_insn_count empty = 0
 node_insn_count end_of_cat = 0
@@ -36,7 +36,7 @@ node_insn_count (loop q start_group end_group loopee) = (end_group - start_group
 node_insn_count (loop_1_char_body q loopee) = node_insn_count loopee + 1
 node_insn_count _ = 1
 
--- the number of instructions of a node without those of its children
+-- The number of instructions of a node without those of its children.
 abbrev pub own_size : Node → ℕ
 own_size empty = 0
 own_size end_of_cat = 0
@@ -49,7 +49,7 @@ own_size (lookaround l contents) = 2
 own_size (loop q start_group end_group loopee) = (end_group - start_group) + 2
 own_size _ = 1
 
--- the number of loops of a node that are not char loops
+-- The number of loops of a node that are not char loops.
 unfoldable pub loop_count : Node → ℕ
 loop_count (cat first rest) = loop_count first + loop_count rest
 loop_count (alt left right) = loop_count left + loop_count right
@@ -59,7 +59,7 @@ loop_count (loop q start_group end_group loopee) = loop_count loopee + 1
 loop_count (loop_1_char_body q loopee) = loop_count loopee
 loop_count _ = 0
 
--- the brackets of a node that are in the list of brackets, and not in the instruction
+-- The brackets of a node that are in the list of brackets, and not in the instruction.
 unfoldable pub brackets_of : Node → List BracketContents
 brackets_of (bracket contents) = if is_uninverted_ascii_class contents then [] else contents ∷ []
 brackets_of (cat first rest) = brackets_of first ++ brackets_of rest
@@ -72,11 +72,11 @@ brackets_of _ = []
 
 -- ---- Instructions
 
--- the code of a string: one instruction for each code point, with its case variants
+-- The code of a string: one instruction for each code point, with its case variants.
 abbrev pub string_code : (unicode icase behind : Bool) → List ℕ → List Insn
 string_code unicode icase behind string = map (λ c. case_variants_insn (expand_code_point c icase unicode)) (ordered behind string)
 
--- the code of a set of strings whose first instruction is at index `at`
+-- The code of a set of strings whose first instruction is at index `at`.
 abbrev pub strings_code : (unicode icase behind : Bool) → List (List ℕ) → (at : ℕ) → List Insn
 strings_code unicode icase behind [] at = JustFail ∷ []
 strings_code unicode icase behind (s ∷ []) at = string_code unicode icase behind s
@@ -85,12 +85,12 @@ strings_code unicode icase behind (s ∷ t ∷ more) at =
     Alt second ∷ (string_code unicode icase behind s
     ++ Jump (second + strings_size (t ∷ more)) ∷ strings_code unicode icase behind (t ∷ more) second)
 
--- the instructions that reset the groups from `start_group` up to `end_group`, without the latter
+-- The instructions that reset the groups from `start_group` up to `end_group`, without the latter.
 abbrev pub group_reset_insns : (start_group end_group : ℕ) → List Insn
 group_reset_insns start_group end_group = map ResetCaptureGroup (numbers_from start_group (end_group - start_group))
 
--- the code of a node whose first instruction is at index `at`, and whose loops and brackets are
--- numbered from `loops` and `brackets`
+-- The code of a node whose first instruction is at index `at`, and whose loops and brackets are
+-- numbered from `loops` and `brackets`.
 unfoldable pub code_of : (unicode behind : Bool) → Node → (at loops brackets : ℕ) → List Insn
 code_of unicode behind empty at loops brackets = []
 code_of unicode behind goal at loops brackets = Goal ∷ []
@@ -128,7 +128,7 @@ code_of unicode behind (loop_1_char_body q loopee) at loops brackets =
 
 -- ---- The whole program
 
--- the program of a tree
+-- The program of a tree.
 unfoldable pub compiled : Tree → Program
 compiled tree = record {
   insns = code_of tree.flags.unicode false tree.root 0 0 0;

@@ -33,9 +33,9 @@ pub record HasTooManyInstructions (tree : Tree) : Type 0 where
   pub loops : loop_count tree.root < 2 ^ 16
   pub insns : 2 ^ 32 ≤ node_insn_count tree.root
 
--- the cause of each error, where no earlier cause holds; allocation failure comes last, for a tree
+-- The cause of each error, where no earlier cause holds; allocation failure comes last, for a tree
 -- that is compiled; `bytes_in_units` says that a tree for 16-bit code units has a node that reads
--- bytes
+-- bytes.
 abbrev pub IsCompileErrorCause : (bytes_in_units : Bool) → EmitError → Tree → Type 0
 IsCompileErrorCause bytes_in_units NotWellFormed tree = ¬ (IsWellFormed tree.root)
 IsCompileErrorCause bytes_in_units BytesInUnits tree = IsWellFormed tree.root × IsTrue bytes_in_units
@@ -44,10 +44,10 @@ IsCompileErrorCause bytes_in_units TooManyLoops tree = (bytes_in_units ≡ false
 IsCompileErrorCause bytes_in_units TooManyInstructions tree = (bytes_in_units ≡ false) × HasTooManyInstructions tree
 IsCompileErrorCause bytes_in_units Memory tree = (bytes_in_units ≡ false) × IsWellFormedWithinLimits tree
 
--- the cause of an error of compiling for bytes
+-- The cause of an error of compiling for bytes.
 abbrev pub TreeHasByteCompileErrorCause : EmitError → Tree → Type 0
 TreeHasByteCompileErrorCause e tree = IsCompileErrorCause false e tree
 
--- the cause of an error of compiling for 16-bit code units
+-- The cause of an error of compiling for 16-bit code units.
 abbrev pub Is16BitUnitCompileErrorCause : EmitError → Tree → Type 0
 Is16BitUnitCompileErrorCause e tree = IsCompileErrorCause (tree_contains_byte_nodes tree.root) e tree

@@ -1,13 +1,13 @@
 -- A span of group ids, as numbers.
 use Rattle.std.specs.Prelude.{◌≡◌, ℕ, List}
-use Rattle.regress_program.specs.GroupIdsInWellFormednessCheck as ids
-use Rattle.regress_program.specs.GroupIdsInWellFormednessCheck.{joined, count_and_span_of_group_ids}
+use Rattle.regress_program.specs.GroupIdCheck as ids
+use Rattle.regress_program.specs.GroupIdCheck.{joined, count_and_span_of_group_ids}
 use Rattle.regress_program.specs.declared.emit.group_id_and_range_check.GroupIdCountAndBounds.{GroupIdCountAndBounds}
 
--- a declared span as numbers
+-- A declared span as numbers.
 abbrev pub group_id_span_as_numbers : GroupIdCountAndBounds → ids.GroupIdCountAndSpanNumbers
 group_id_span_as_numbers s = record { count = s.count; low = s.low; high = s.high }
 
--- the span of these ids is joined to the span before
+-- The span of these ids is joined to the span before.
 abbrev pub JoinsGroupIdSpan : (ids : List ℕ) → (before after : GroupIdCountAndBounds) → Type 0
 JoinsGroupIdSpan ids before after = group_id_span_as_numbers after ≡ joined (group_id_span_as_numbers before) (count_and_span_of_group_ids ids)

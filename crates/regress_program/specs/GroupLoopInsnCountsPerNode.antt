@@ -4,11 +4,11 @@ use Rattle.regex_meaning.specs.Tree.{Node, cat, end_of_cat, capture_group, loop}
 use Rattle.regress_program.specs.CompilationOfTreesAsFunction.{own_size}
 use Rattle.regress_program.specs.declared.emit.program_size.ProgramSize.{ProgramSize}
 
--- a sum that saturates at 2^64 - 1
+-- A sum that saturates at 2^64 - 1.
 abbrev pub saturating_sum : (count more : ℕ) → ℕ
 saturating_sum count more = min (count + more) (2 ^ 64 - 1)
 
--- the counts after a node by itself was added
+-- The counts after a node by itself was added.
 abbrev pub count_node : Node → ProgramSize → ProgramSize
 count_node (cat first rest) it = it
 count_node end_of_cat it = it

@@ -2,7 +2,7 @@
 use Rattle.std.specs.Prelude.{ℕ, ◌+◌}
 use Rattle.regex_meaning.specs.Tree.{Node, cat, alt, capture_group, lookaround, loop, loop_1_char_body}
 
--- the number of nodes with children in a node, the node itself included
+-- The number of nodes with children in a node, the node itself included.
 unfoldable pub inner_node_count : Node → ℕ
 inner_node_count (cat first rest) = inner_node_count first + inner_node_count rest + 1
 inner_node_count (alt left right) = inner_node_count left + inner_node_count right + 1

@@ -4,7 +4,7 @@ use Rattle.std.specs.Prelude.{Bool, true, false}
 use Rattle.regex_meaning.specs.Tree as tree
 use Rattle.regex_pattern_front.specs.OptimizedTrees.{reads_one_character}
 
--- the node has no children
+-- The node has no children.
 abbrev pub is_leaf : tree.Node → Bool
 is_leaf (tree.cat first rest) = false
 is_leaf tree.end_of_cat = false
@@ -15,7 +15,7 @@ is_leaf (tree.loop q start_group end_group loopee) = false
 is_leaf (tree.loop_1_char_body q loopee) = false
 is_leaf _ = true
 
--- the node is a loop that optimizing makes a char loop
+-- The node is a loop that optimizing makes a char loop.
 abbrev pub becomes_char_loop : tree.Node → Bool
 becomes_char_loop (tree.loop q start_group end_group loopee) = reads_one_character loopee
 becomes_char_loop _ = false

@@ -26,11 +26,11 @@ abbrev pub allows_start : Encoding → PrecedingCharFilter → Text → (at : �
 allows_start e before text at = option_map_or (unit_at_has_filter_key e before text) (previous_char text at) before.edge
 
 -- In bytes, all keys of the filter are lead bytes.
-abbrev pub LookbehindFilterKeysAreLeadBytes : (wide : Bool) → PrecedingCharFilter → Type 0
-LookbehindFilterKeysAreLeadBytes wide before = wide ≡ false → (i : ℕ) → i < before.len → begins_utf8_character (slice_index_or before.keys i 0) ≡ true
+abbrev pub FilterKeysAreLeadBytes : (wide : Bool) → PrecedingCharFilter → Type 0
+FilterKeysAreLeadBytes wide before = wide ≡ false → (i : ℕ) → i < before.len → begins_utf8_character (slice_index_or before.keys i 0) ≡ true
 
 -- No match begins where the filter does not allow it.
 pub record IsLookbehindFilter (wide : Bool) (program : Program) (before : PrecedingCharFilter) : Type 0 where
-  pub leads : LookbehindFilterKeysAreLeadBytes wide before
+  pub leads : FilterKeysAreLeadBytes wide before
   pub excludes : (e : Encoding) → is_16_bit_encoding e ≡ wide → (text : Text) → HasUnitsForTables e text → (s : State) → s.ip ≡ 0 → IsBoundary text s.pos
       → allows_start e before text s.pos ≡ false → FindsNothing program text rightwards (running s)

@@ -12,49 +12,49 @@ use Rattle.regress_program.specs.InnerNodeCountMeasure.{inner_node_count}
 use Rattle.regress_program.specs.EmitterStateAndAppendedCode.{EmitterState, emitter_state, with_code, with_insn_appended, with_insn_at, node_with_char_loops_if_enabled}
 use Rattle.regress_program.specs.EmitterStateAndAppendedCode.{lookaround_as_spec}
 use Rattle.regress_program.specs.declared.emit.emitter.Emitter.{Emitter}
-use Rattle.regress_program.specs.declared.emit.emitter.FoldingCharLoopLookbehindMode.{FoldingCharLoopLookbehindMode}
+use Rattle.regress_program.specs.declared.emit.emitter.EmitMode.{EmitMode}
 use Rattle.regress_program.specs.declared.emit.nested_nodes.UnemittedCodePart.{UnemittedCodePart}
 use Rattle.regress_program.specs.declared.emit.nested_nodes.UnemittedCodePart.TheVariants.{Node, Row, Others, Jump as JumpLeft, GroupEnd, LookaroundEnd, LoopEnd}
 
 -- ---- The effect of each part
 
--- the jump at an index gets the current end of the code as its target
+-- The jump at an index gets the current end of the code as its target.
 abbrev pub with_jump : (place : ℕ) → EmitterState → EmitterState
 with_jump place s = with_insn_at place (Jump (length s.insns)) s
 
--- an alternative ends with a jump, and the branch before it gets the next alternative as its target
+-- An alternative ends with a jump, and the branch before it gets the next alternative as its target.
 abbrev pub with_arm_end : (branch : ℕ) → EmitterState → EmitterState
 with_arm_end branch s =
     let t = with_insn_appended (Jump 0) s in
     with_insn_at branch (Alt (length t.insns)) t
 
--- the other alternatives are emitted, and the jump before them gets their end as its target
-abbrev pub with_remaining_alternatives_emitted : (unicode behind : Bool) → (branch : ℕ) → (others : TreeNode) → EmitterState → EmitterState
-with_remaining_alternatives_emitted unicode behind branch others s = with_jump (length s.insns) (with_code unicode behind others (with_arm_end branch s))
+-- The other alternatives are emitted, and the jump before them gets their end as its target.
+abbrev pub with_alternatives_emitted : (unicode behind : Bool) → (branch : ℕ) → (others : TreeNode) → EmitterState → EmitterState
+with_alternatives_emitted unicode behind branch others s = with_jump (length s.insns) (with_code unicode behind others (with_arm_end branch s))
 
--- a lookaround ends with `Goal`, and its first instruction gets the current end as its continuation
+-- A lookaround ends with `Goal`, and its first instruction gets the current end as its continuation.
 abbrev pub with_lookaround_end : Lookaround → (head : ℕ) → EmitterState → EmitterState
 with_lookaround_end l head s =
     let t = with_insn_appended Goal s in
     with_insn_at head (lookaround_insn l (length t.insns)) t
 
--- a loop ends with `LoopAgain`, and its first instruction gets the current end as its exit
+-- A loop ends with `LoopAgain`, and its first instruction gets the current end as its exit.
 abbrev pub with_loop_end : LoopFields → (begin : ℕ) → EmitterState → EmitterState
 with_loop_end f begin s =
     let t = with_insn_appended (LoopAgain begin) s in
     with_insn_at begin (EnterLoop (record { loop_id = f.loop_id; min_iters = f.min_iters; max_iters = f.max_iters; greedy = f.greedy; exit = length t.insns })) t
 
--- the state after a pending part was emitted
+-- The state after a pending part was emitted.
 unfoldable pub with_pending : UnemittedCodePart → EmitterState → EmitterState
 with_pending (Node mode node) s = with_code mode.unicode mode.behind (node_with_char_loops_if_enabled mode.narrow (node_of node.now)) s
 with_pending (Row mode nodes) s = with_code mode.unicode mode.behind (node_with_char_loops_if_enabled mode.narrow (cat_of nodes.now)) s
-with_pending (Others mode branch others) s = with_remaining_alternatives_emitted mode.unicode mode.behind branch (node_with_char_loops_if_enabled mode.narrow (node_of others.now)) s
+with_pending (Others mode branch others) s = with_alternatives_emitted mode.unicode mode.behind branch (node_with_char_loops_if_enabled mode.narrow (node_of others.now)) s
 with_pending (JumpLeft place) s = with_jump place s
 with_pending (GroupEnd id) s = with_insn_appended (EndCaptureGroup id) s
 with_pending (LookaroundEnd look head) s = with_lookaround_end (lookaround_as_spec look) head s
 with_pending (LoopEnd fields begin) s = with_loop_end fields begin s
 
--- the state after all pending parts were emitted, the last one first
+-- The state after all pending parts were emitted, the last one first.
 abbrev pub with_all_pending : List UnemittedCodePart → EmitterState → EmitterState
 with_all_pending [] s = s
 with_all_pending (r ∷ rest) s = with_pending r (with_all_pending rest s)
@@ -71,11 +71,11 @@ is_emittable end (GroupEnd id) = true
 is_emittable end (LookaroundEnd look head) = nat_lt head end
 is_emittable end (LoopEnd fields begin) = nat_lt begin end
 
--- all pending parts are emittable
+-- All pending parts are emittable.
 abbrev pub are_emittable : (end : ℕ) → List UnemittedCodePart → Bool
 are_emittable end rest = list_all (is_emittable end) rest
 
--- the indexes of the instructions and loops are in range
+-- The indexes of the instructions and loops are in range.
 pub record FitsIndexWidths (s : EmitterState) : Type 0 where
   pub insns : length s.insns < 2 ^ 32
   pub loops : s.loops < 2 ^ 16
@@ -87,25 +87,25 @@ pub record CanEmitPendingPart (r : UnemittedCodePart) (s : EmitterState) : Type 
 
 -- ---- The measure
 
--- the measure of the code of a node
+-- The measure of the code of a node.
 abbrev pub node_measure : TreeNode → ℕ
 node_measure node = 5 * inner_node_count node + 2
 
--- the measure of a pending part
+-- The measure of a pending part.
 unfoldable pub pending_measure : UnemittedCodePart → ℕ
 pending_measure (Node mode node) = node_measure (node_with_char_loops_if_enabled mode.narrow (node_of node.now))
 pending_measure (Row mode nodes) = 5 * inner_node_count (node_with_char_loops_if_enabled mode.narrow (cat_of nodes.now)) + 1
 pending_measure (Others mode branch others) = node_measure (node_with_char_loops_if_enabled mode.narrow (node_of others.now)) + 2
 pending_measure _ = 1
 
--- the sum of the measures of the pending parts
+-- The sum of the measures of the pending parts.
 abbrev pub total_measure : List UnemittedCodePart → ℕ
 total_measure [] = 0
 total_measure (r ∷ rest) = pending_measure r + total_measure rest
 
 -- ---- The effect of a step
 
--- a program that is being built, and its pending parts
+-- A program that is being built, and its pending parts.
 pub record EmitWork : Type 0 where
   pub state : EmitterState
   pub rest : List UnemittedCodePart
@@ -117,25 +117,25 @@ pub record ExpandsPending (effect : EmitterState → EmitterState) (cost : ℕ) 
   pub ready : are_emittable (length before.state.insns) before.rest ≡ true → are_emittable (length after.state.insns) after.rest ≡ true
   pub less : total_measure after.rest < total_measure before.rest + cost
 
--- a pending part was emitted or begun
+-- A pending part was emitted or begun.
 abbrev pub PendingPartIsEmittedOrBegun : UnemittedCodePart → (before after : EmitWork) → Type 0
 PendingPartIsEmittedOrBegun r before after = ExpandsPending (with_pending r) (pending_measure r) before after
 
--- the code of a node was begun
-abbrev pub BeginsEmittingNode : FoldingCharLoopLookbehindMode → TreeNode → (before after : EmitWork) → Type 0
+-- The code of a node was begun.
+abbrev pub BeginsEmittingNode : EmitMode → TreeNode → (before after : EmitWork) → Type 0
 BeginsEmittingNode mode node before after = ExpandsPending (with_code mode.unicode mode.behind node) (node_measure node) before after
 
--- the alternatives after the first were begun
-abbrev pub BeginsEmittingRemainingAlternatives : FoldingCharLoopLookbehindMode → (branch : ℕ) → TreeNode → (before after : EmitWork) → Type 0
-BeginsEmittingRemainingAlternatives mode branch others before after =
-    ExpandsPending (with_remaining_alternatives_emitted mode.unicode mode.behind branch others) (node_measure others + 2) before after
+-- The alternatives after the first were begun.
+abbrev pub BeginsEmittingAlternatives : EmitMode → (branch : ℕ) → TreeNode → (before after : EmitWork) → Type 0
+BeginsEmittingAlternatives mode branch others before after =
+    ExpandsPending (with_alternatives_emitted mode.unicode mode.behind branch others) (node_measure others + 2) before after
 
--- the nodes of a list were begun
-abbrev pub BeginsEmittingNodeList : FoldingCharLoopLookbehindMode → List ir.Node → (before after : EmitWork) → Type 0
+-- The nodes of a list were begun.
+abbrev pub BeginsEmittingNodeList : EmitMode → List ir.Node → (before after : EmitWork) → Type 0
 BeginsEmittingNodeList mode nodes before after =
     let row = node_with_char_loops_if_enabled mode.narrow (cat_of nodes) in
     ExpandsPending (with_code mode.unicode mode.behind row) (5 * inner_node_count row + 1) before after
 
--- the state of an emitter, and its pending parts
+-- The state of an emitter, and its pending parts.
 abbrev pub emitter_and_pending_parts : {A : Type 0} → Emitter → Vec UnemittedCodePart A → EmitWork
 emitter_and_pending_parts e rest = record { state = emitter_state e; rest = rest.items }

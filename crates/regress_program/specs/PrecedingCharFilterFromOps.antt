@@ -9,12 +9,12 @@ use Rattle.regress_program.specs.declared.ops.Op.TheVariants.{UnitChar, Char, On
 use Rattle.regress_program.specs.declared.plan.Plan.{Plan}
 use Rattle.regress_program.specs.TableKeysOfUnits.{unit_table_of_set}
 use Rattle.regress_program.specs.ClosedFirstSets.{IncludesFirstSet}
-use Rattle.regress_program.specs.LookbehindFilter.{LookbehindFilterKeysAreLeadBytes}
+use Rattle.regress_program.specs.LookbehindFilter.{FilterKeysAreLeadBytes}
 
 -- The filter has all keys of the set and this `edge`. In bytes, all its keys are lead bytes.
 pub record FilterIncludesAllKeysOfSet (wide : Bool) (set : FirstSet) (edge : Bool) (before : PrecedingCharFilter) : Type 0 where
   pub edge_is : before.edge ≡ edge
-  pub leads : LookbehindFilterKeysAreLeadBytes wide before
+  pub leads : FilterKeysAreLeadBytes wide before
   pub among : (k : ℕ) → k < 256 → (unit_table_of_set set).keys k ≡ true → contains (take before.len before.keys) k ≡ true
 
 -- Whether an operation reads one character.

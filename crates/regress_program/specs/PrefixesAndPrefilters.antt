@@ -62,24 +62,24 @@ abbrev pub unit_passes_probe : MaskedUnitProbe → (unit : ℕ) → Bool
 unit_passes_probe probe unit = bit_and (unit % 256) probe.mask == probe.bits
 
 -- Only units below 128 that pass the probe are allowed at its position.
-pub record ProbePassesAllUnitsPrefixAllows (prefix : Prefix) (probe : MaskedUnitProbe) : Type 0 where
+pub record ProbePassesPrefix (prefix : Prefix) (probe : MaskedUnitProbe) : Type 0 where
   pub inside : probe.ahead < prefix.len
   pub low : AllowsOnlyAsciiAt prefix probe.ahead
   pub only : (k : ℕ) → k < 256 → units_allowed_by_prefix prefix probe.ahead k ≡ true → unit_passes_probe probe k ≡ true
 
 -- There are four probes, and each of them is right for the prefix.
-pub record ProbesPassAllUnitsPrefixAllows (prefix : Prefix) (probes : List MaskedUnitProbe) : Type 0 where
+pub record ProbesPassPrefix (prefix : Prefix) (probes : List MaskedUnitProbe) : Type 0 where
   pub four : length probes ≡ 4
-  pub each : (i : ℕ) (probe : MaskedUnitProbe) → slice_get probes i ≡ Some probe → ProbePassesAllUnitsPrefixAllows prefix probe
+  pub each : (i : ℕ) (probe : MaskedUnitProbe) → slice_get probes i ≡ Some probe → ProbePassesPrefix prefix probe
 
 -- The literal is right for the prefix, and so are the rare unit and the probes, if any.
 pub record IsLiteralPrefilterOfPrefix (prefix : Prefix) (known : LiteralPrefilter) : Type 0 where
   pub literal : IsLiteralForcedByPrefix prefix known.literal
   pub rare : IfSome known.rare (IsOnlyUnitAllowedAtPosition prefix)
-  pub probes : IfSome known.probes (ProbesPassAllUnitsPrefixAllows prefix)
+  pub probes : IfSome known.probes (ProbesPassPrefix prefix)
 
 -- The prefilter is right for the prefix. Without one, or with a literal, units are bytes.
 abbrev pub IsPrefilterOfPrefix : (wide : Bool) → Prefix → RequiredPrefixPrefilter → Type 0
 IsPrefilterOfPrefix wide prefix filter.Absent = wide ≡ false
 IsPrefilterOfPrefix wide prefix (filter.ByLiteral known) = (wide ≡ false) × IsLiteralPrefilterOfPrefix prefix known
-IsPrefilterOfPrefix wide prefix (filter.Probes probes) = ProbesPassAllUnitsPrefixAllows prefix probes
+IsPrefilterOfPrefix wide prefix (filter.Probes probes) = ProbesPassPrefix prefix probes

@@ -8,22 +8,22 @@ use Rattle.regex_meaning.specs.CompilationRelation.{Program, tree_contains_byte_
 use Rattle.regex_pattern_front.specs.declared.ir.Regex.{Regex}
 use Rattle.regress_program.specs.declared.plan.Plan.{Plan}
 use Rattle.regress_program.specs.Plans.{IsPlanOf}
-use Rattle.regress_program.specs.InsnsAndStartPredicatesAsSpec.{insn_as_spec_insn}
+use Rattle.regress_program.specs.InsnsAsSpec.{insn_as_spec_insn}
 use Rattle.regress_program.specs.declared.insn.start_predicate_type.StartPredicate.{StartPredicate}
-use Rattle.regress_program.specs.StartPredicatesAndWhenTheyAllocate.{IsStartOf, is_anchored_tree}
+use Rattle.regress_program.specs.StartPredicates.{IsStartOf, is_anchored_tree}
 use Rattle.regress_program.specs.CompilationOfTreesAsFunction.{compiled}
 use Rattle.regress_program.specs.OptimizedTreeUnlessNoOpt.{planned_tree, optimized_tree_unless_no_opt}
 use Rattle.regress_program.specs.declared.insn.emitted_code.EmittedCode.{EmittedCode}
 use Rattle.regress_program.specs.declared.insn.plan_for_16_bit_units.PlanAndCodeFor16BitUnits.{PlanAndCodeFor16BitUnits}
 use Rattle.regress_program.specs.declared.insn.common_program_part.Program.TheInside.{Inside}
 
--- the emitted code is that of the tree
+-- The emitted code is that of the tree.
 pub record IsCodeOfTree (tree : Tree) (code : EmittedCode) : Type 0 where
   pub insns : map insn_as_spec_insn code.insns.items ≡ (compiled tree).insns
   pub brackets : map class_as_spec code.brackets.items ≡ (compiled tree).brackets
   pub loops : code.loops ≡ (compiled tree).loops
 
--- the fields are those of the tree's program, and the tree is well formed
+-- The fields are those of the tree's program, and the tree is well formed.
 pub record IsCompiledProgram (p : Inside) : Type 0 where
   pub code : IsCodeOfTree (tree_of p.tree.value) (arc_value p.code)
   pub groups : p.groups ≡ (compiled (tree_of p.tree.value)).groups
@@ -31,26 +31,26 @@ pub record IsCompiledProgram (p : Inside) : Type 0 where
   pub group_names : p.group_names ≡ (compiled (tree_of p.tree.value)).group_names
   pub well_formed : IsTrue (is_well_formed (tree_of p.tree.value).root)
 
--- the plan is that of the tree's program for bytes or, for 16-bit code units, of the program of the
--- tree to run
+-- The plan is that of the tree's program for bytes or, for 16-bit code units, of the program of the
+-- tree to run.
 abbrev pub IsPlanForUnitWidth : (wide : Bool) → Regex → Plan → Type 0
 IsPlanForUnitWidth wide re plan = IsPlanOf wide (compiled (planned_tree wide (tree_of re))) plan
 
--- the second plan is a plan of each program that the first is a plan of
+-- The second plan is a plan of each program that the first is a plan of.
 abbrev pub IsSamePlan : Plan → Plan → Type 0
 IsSamePlan plan other = (wide : Bool) (program : Program) → IsPlanOf wide program plan → IsPlanOf wide program other
 
--- what programs for bytes hold in addition
+-- What programs for bytes hold in addition.
 pub record IsByteProgram (re : Regex) (start : StartPredicate) (plan : Plan) : Type 0 where
   pub starts : IsStartOf start re
   pub planned : IsPlanForUnitWidth false re plan
 
--- the plan and the code are those of the tree to run for 16-bit code units
+-- The plan and the code are those of the tree to run for 16-bit code units.
 pub record Is16BitPlanAndCodeOf (re : Regex) (run : PlanAndCodeFor16BitUnits) : Type 0 where
   pub planned : IsPlanForUnitWidth true re run.plan.value
   pub code : IsCodeOfTree (optimized_tree_unless_no_opt (tree_of re)) (arc_value run.code)
 
--- what programs for 16-bit code units hold in addition
+-- What programs for 16-bit code units hold in addition.
 pub record IsUnitProgram (re : Regex) (anchored : Bool) (run : PlanAndCodeFor16BitUnits) : Type 0 where
   pub anchors : anchored ≡ is_anchored_tree (tree_of re)
   pub no_bytes : tree_contains_byte_nodes (tree_of re).root ≡ false

@@ -19,8 +19,8 @@ use Rattle.regress_program.specs.Plans.{IsOpOf, IsClass, IsCharLoopOf}
 -- ---- Masks
 
 -- The lowest `count` bits of a mask, followed by the bits of another one.
-abbrev pub low_bits_followed_by_shifted_mask : (first count behind : ℕ) → ℕ
-low_bits_followed_by_shifted_mask first count behind = bit_or (bit_and first (2 ^ count - 1)) (behind * 2 ^ count % 2 ^ 16)
+abbrev pub joined_masks : (first count behind : ℕ) → ℕ
+joined_masks first count behind = bit_or (bit_and first (2 ^ count - 1)) (behind * 2 ^ count % 2 ^ 16)
 
 -- What `first` allows for the first `count` units, and `after` for the units after them.
 abbrev pub then_allowed : (count : ℕ) → Allowed → Allowed → Allowed
@@ -35,12 +35,12 @@ abbrev pub units_allowed_by_first_set : FirstSet → Allowed
 units_allowed_by_first_set set ahead k = (unit_table_of_set set).keys k
 
 -- The prefix allows `before`, then `more` units that `allowed` allows, cut off at 15 units.
-pub record ExtendsPrefixByAllowedUnitSequence (before : Prefix) (more : ℕ) (allowed : Allowed) (prefix : Prefix) : Type 0 where
+pub record ExtendsPrefix (before : Prefix) (more : ℕ) (allowed : Allowed) (prefix : Prefix) : Type 0 where
   pub len : prefix.len ≡ min (before.len + more) 15
   pub within : (ahead k : ℕ) → ahead < prefix.len → then_allowed before.len (units_allowed_by_prefix before) allowed ahead k ≡ true → units_allowed_by_prefix prefix ahead k ≡ true
 
 -- The prefix allows what either of two prefixes allows.
-pub record AllowsWhateverEitherPrefixAllows (a b prefix : Prefix) : Type 0 where
+pub record AllowsEitherPrefix (a b prefix : Prefix) : Type 0 where
   pub first : prefix.len ≤ a.len
   pub second : prefix.len ≤ b.len
   pub within_first : (ahead k : ℕ) → ahead < prefix.len → units_allowed_by_prefix a ahead k ≡ true → units_allowed_by_prefix prefix ahead k ≡ true
@@ -65,13 +65,13 @@ PrefixBeginsWith wide program ip units count to =
     (len : ℕ) (allowed : Allowed) → PrefixAfter wide program to len allowed → PrefixAt wide program ip (count + len) (then_allowed count units allowed)
 
 -- The required prefix at `ip` follows in this way from those at its successors.
-abbrev pub PrefixFollowsFromSuccessorPrefixes : (wide : Bool) → Program → (ip : ℕ) → OpPrefixContribution → Type 0
-PrefixFollowsFromSuccessorPrefixes wide program ip Unknown = ⊤
-PrefixFollowsFromSuccessorPrefixes wide program ip (SameAs to) = (len : ℕ) (allowed : Allowed) → PrefixAt wide program to len allowed → PrefixAt wide program ip len allowed
-PrefixFollowsFromSuccessorPrefixes wide program ip (UnionOf a b) =
+abbrev pub FollowsFromSuccessors : (wide : Bool) → Program → (ip : ℕ) → OpPrefixContribution → Type 0
+FollowsFromSuccessors wide program ip Unknown = ⊤
+FollowsFromSuccessors wide program ip (SameAs to) = (len : ℕ) (allowed : Allowed) → PrefixAt wide program to len allowed → PrefixAt wide program ip len allowed
+FollowsFromSuccessors wide program ip (UnionOf a b) =
     (len : ℕ) (allowed : Allowed) → PrefixAt wide program a len allowed → PrefixAt wide program b len allowed → PrefixAt wide program ip len allowed
-PrefixFollowsFromSuccessorPrefixes wide program ip (OneUnit key to) = PrefixBeginsWith wide program ip (allows_only_key key) 1 (Some to)
-PrefixFollowsFromSuccessorPrefixes wide program ip (Units set count to) = PrefixBeginsWith wide program ip (units_allowed_by_first_set set) count to
+FollowsFromSuccessors wide program ip (OneUnit key to) = PrefixBeginsWith wide program ip (allows_only_key key) 1 (Some to)
+FollowsFromSuccessors wide program ip (Units set count to) = PrefixBeginsWith wide program ip (units_allowed_by_first_set set) count to
 
 -- The prefix is required at `from`. If it has room for more, the prefix at `ip` comes after it.
 pub record IsPrefixSoFar (wide : Bool) (program : Program) (from : ℕ) (prefix : Prefix) (ip : ℕ) : Type 0 where
@@ -91,10 +91,10 @@ falls_through _ = false
 -- What an operation of the plan contributes to the required prefix, if it is at `ip`.
 abbrev pub IsOpPrefixContributionOf : Plan → Op → (ip : ℕ) → OpPrefixContribution → Type 0
 IsOpPrefixContributionOf plan op ip ahead =
-    (wide : Bool) (program : Program) → AreOpsOfProgram wide program plan → slice_get plan.ops.items ip ≡ Some op → PrefixFollowsFromSuccessorPrefixes wide program ip ahead
+    (wide : Bool) (program : Program) → AreOpsOfProgram wide program plan → slice_get plan.ops.items ip ≡ Some op → FollowsFromSuccessors wide program ip ahead
 
 -- What a char loop of the plan contributes to the required prefix, if it is at `ip`.
-abbrev pub IsPrefixContributionOfCharLoop : Plan → run.CharLoop → (ip : ℕ) → OpPrefixContribution → Type 0
-IsPrefixContributionOfCharLoop plan r ip ahead =
+abbrev pub IsPrefixOfCharLoop : Plan → run.CharLoop → (ip : ℕ) → OpPrefixContribution → Type 0
+IsPrefixOfCharLoop plan r ip ahead =
     (wide : Bool) (program : Program) → AreOpsOfProgram wide program plan → (greedy : Bool) (insn : Insn) → slice_get program.insns ip ≡ Some insn
-    → IsCharLoopOf program plan greedy r ip insn → PrefixFollowsFromSuccessorPrefixes wide program ip ahead
+    → IsCharLoopOf program plan greedy r ip insn → FollowsFromSuccessors wide program ip ahead

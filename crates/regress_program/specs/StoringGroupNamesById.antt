@@ -10,49 +10,49 @@ use Rattle.regress_program.specs.InnerNodeCountMeasure.{inner_node_count}
 use Rattle.regress_program.specs.declared.emit.storing_group_names_by_id.NodeOrListWithUnstoredNames.{NodeOrListWithUnstoredNames}
 use Rattle.regress_program.specs.declared.emit.storing_group_names_by_id.NodeOrListWithUnstoredNames.TheVariants.{Node, Row}
 
--- the node is no group with a name
+-- The node is no group with a name.
 abbrev pub is_nameless : TreeNode → Bool
 is_nameless node = list_all (λ p. length p.1 == 0) (own_name node)
 
--- no group of the tree has a name
+-- No group of the tree has a name.
 abbrev pub tree_has_no_named_groups : TreeNode → Bool
 tree_has_no_named_groups root = list_all (λ p. length p.1 == 0) (capturing_group_ids_and_names root)
 
--- the names after each given name was stored at the index of its id, one after another
+-- The names after each given name was stored at the index of its id, one after another.
 abbrev pub with_names_stored_by_id : List (ℕ × List ℕ) → (names : List (List ℕ)) → List (List ℕ)
 with_names_stored_by_id [] names = names
 with_names_stored_by_id (named ∷ others) names = with_names_stored_by_id others (set names named.0 named.1)
 
--- storing these names leads from the old strings to the new ones
+-- Storing these names leads from the old strings to the new ones.
 abbrev pub IsNameListAfterStoringNames : {R : Type 0} → List (ℕ × List ℕ) → (old new : List (String R)) → Type 0
 IsNameListAfterStoringNames named old new = map string_bytes new ≡ with_names_stored_by_id named (map string_bytes old)
 
 -- ---- Pending parts
 
--- the names in a pending part, with their ids
+-- The names in a pending part, with their ids.
 unfoldable pub names_in_pending_part : NodeOrListWithUnstoredNames → List (ℕ × List ℕ)
 names_in_pending_part (Node node) = capturing_group_ids_and_names (node_of node.now)
 names_in_pending_part (Row nodes) = capturing_group_ids_and_names (cat_of nodes.now)
 
--- the names after all pending parts were stored, the last one first
+-- The names after all pending parts were stored, the last one first.
 abbrev pub pending_names_stored : List NodeOrListWithUnstoredNames → (names : List (List ℕ)) → List (List ℕ)
 pending_names_stored [] names = names
 pending_names_stored (next ∷ rest) names = with_names_stored_by_id (names_in_pending_part next) (pending_names_stored rest names)
 
--- the measure of a node, which decreases when the node is expanded
+-- The measure of a node, which decreases when the node is expanded.
 abbrev pub node_measure : TreeNode → ℕ
 node_measure node = 3 * inner_node_count node + 2
 
--- the measure of a list of nodes
+-- The measure of a list of nodes.
 abbrev pub node_list_measure : List ir.Node → ℕ
 node_list_measure nodes = 3 * inner_node_count (cat_of nodes) + 1
 
--- the measure of a pending part
+-- The measure of a pending part.
 unfoldable pub naming_measure_of_pending_part : NodeOrListWithUnstoredNames → ℕ
 naming_measure_of_pending_part (Node node) = node_measure (node_of node.now)
 naming_measure_of_pending_part (Row nodes) = node_list_measure nodes.now
 
--- the sum of the measures of the pending parts
+-- The sum of the measures of the pending parts.
 abbrev pub total_measure : List NodeOrListWithUnstoredNames → ℕ
 total_measure [] = 0
 total_measure (next ∷ rest) = naming_measure_of_pending_part next + total_measure rest
@@ -64,14 +64,14 @@ pub record StoresNamesOrPushesNodes (named : List (ℕ × List ℕ)) (cost : ℕ
   pub less : total_measure after < total_measure before + cost
 
 -- `StoresNamesOrPushesNodes` for strings
-abbrev pub StoresNameStringsOrPushesNodes : {R : Type 0} → List (ℕ × List ℕ) → (cost : ℕ) → (old new : List (String R)) → (before after : List NodeOrListWithUnstoredNames) → Type 0
-StoresNameStringsOrPushesNodes named cost old new before after = StoresNamesOrPushesNodes named cost (map string_bytes old) (map string_bytes new) before after
+abbrev pub StoresOrPushesNodes : {R : Type 0} → List (ℕ × List ℕ) → (cost : ℕ) → (old new : List (String R)) → (before after : List NodeOrListWithUnstoredNames) → Type 0
+StoresOrPushesNodes named cost old new before after = StoresNamesOrPushesNodes named cost (map string_bytes old) (map string_bytes new) before after
 
--- the nodes of a list were put before the rest, except for leading ones without names
-abbrev pub PushesNodesSkippingLeadingNameless : List ir.Node → (before after : List NodeOrListWithUnstoredNames) → Type 0
-PushesNodesSkippingLeadingNameless nodes before after = (names : List (List ℕ)) → StoresNamesOrPushesNodes (capturing_group_ids_and_names (cat_of nodes)) (node_list_measure nodes) names names before after
+-- The nodes of a list were put before the rest, except for leading ones without names.
+abbrev pub PushesNamedNodes : List ir.Node → (before after : List NodeOrListWithUnstoredNames) → Type 0
+PushesNamedNodes nodes before after = (names : List (List ℕ)) → StoresNamesOrPushesNodes (capturing_group_ids_and_names (cat_of nodes)) (node_list_measure nodes) names names before after
 
--- two nodes were put before the rest
+-- Two nodes were put before the rest.
 abbrev pub PushesTwoNodes : (first others : ir.Node) → (before after : List NodeOrListWithUnstoredNames) → Type 0
 PushesTwoNodes first others before after =
     let cost = node_measure (node_of first) + node_measure (node_of others) + 1 in

@@ -3,7 +3,7 @@
 ghost use Rattle.std.specs.Prelude.{◌≡◌, ℕ, Bool, not, map};
 ghost use Rattle.regex_meaning.specs.Outcomes.{in_intervals};
 ghost use Rattle.regex_pattern_front.specs.Intervals.{interval_of};
-ghost use Rattle.regress_program.specs.ClassReadLengthsAndScanStopBytes.{AcceptsNoneSomeOrAllOfRange, bracket_accepts};
+ghost use Rattle.regress_program.specs.ClassReadLengths.{AcceptsNoneSomeOrAllOfRange, bracket_accepts};
 
 use regex_pattern_front::codepointset::Interval;
 use regex_pattern_front::types::BracketContents;

@@ -5,26 +5,24 @@ ghost use Rattle.std.specs.Arc.{arc_value};
 ghost use Rattle.regex_meaning.specs.{Tree.{group_ids}, CompilationRelation.{IsByteProgramOfTree, Is16BitProgramOfTree}};
 ghost use Rattle.regex_pattern_front.specs.AstToSpecTree.{tree_of};
 ghost use Rattle.regex_pattern_front.specs.declared.ir.Regex.{Regex};
-ghost use Rattle.regress_program.specs.{CompilationOfTreesAsFunction.{compiled, node_insn_count}, EmitterStateAndAppendedCode.{tree_with_char_loops_if_enabled}};
+ghost use Rattle.regress_program.specs.{CompilationOfTreesAsFunction.{compiled, node_insn_count}, EmitterStateAndAppendedCode.{tree_with_char_loops}};
 ghost use Rattle.regress_program.specs.{ProgramFieldsMatchTree.{IsCodeOfTree, Is16BitPlanAndCodeOf}, OptimizedTreeUnlessNoOpt.{optimized_tree_unless_no_opt}};
 ghost use Rattle.regress_program.specs.CompileRefusals.{TreeHasByteCompileErrorCause, Is16BitUnitCompileErrorCause, IsCompileErrorCause, IsWellFormedWithinLimits};
 
 mod brackets;
-mod byte_node_and_optimizable_loop_detectors;
 mod byte_sequences_and_string_sets;
 mod emitter;
 mod group_id_and_range_check;
 mod nested_nodes;
+mod node_detectors;
 mod program_size;
 mod small_set_and_assertion_insns;
 mod storing_group_names_by_id;
 mod tree_walk_with_visitor;
 mod well_formedness_check;
 
-use crate::emit::byte_node_and_optimizable_loop_detectors::{
-    has_no_loop_left_to_optimize, tree_contains_byte_nodes,
-};
-use crate::emit::emitter::{Emitter, FoldingCharLoopLookbehindMode};
+use crate::emit::emitter::{EmitMode, Emitter};
+use crate::emit::node_detectors::{has_no_loop_left_to_optimize, tree_contains_byte_nodes};
 use crate::emit::program_size::ProgramSize;
 use crate::emit::storing_group_names_by_id::names_by_id;
 pub use crate::emit::well_formedness_check::is_well_formed;
@@ -240,11 +238,11 @@ fn emit_code(
     room: usize,
 ) -> Result<Arc<EmittedCode, Global>, AllocError>
     requires { IsWellFormedWithinLimits (tree_of re.now) }
-    ensures { IfOk result (λ code. IsCodeOfTree (tree_with_char_loops_if_enabled narrow (tree_of re.now))
+    ensures { IfOk result (λ code. IsCodeOfTree (tree_with_char_loops narrow (tree_of re.now))
         (arc_value code)) }
 {
     let mut emitter = Emitter::new(alloc, room)?;
-    let mode = FoldingCharLoopLookbehindMode {
+    let mode = EmitMode {
         unicode: re.flags.unicode,
         narrow,
         behind: false,
@@ -269,7 +267,7 @@ fn compile_common_part(
     let GroupAndInsnCounts {
         groups,
         insns: room,
-    } = check_tree_compilable_and_count_size(re, bytes_in_units)?;
+    } = check_tree_and_count_size(re, bytes_in_units)?;
     let code = emit_code(alloc, re, false, room)?;
     let group_names = GroupNames::from_names_to_share(names_by_id(alloc, &re.node, groups)?)?;
     Ok(Program {
@@ -289,7 +287,7 @@ struct GroupAndInsnCounts {
 }
 
 // Counts the groups and instructions of a tree, or returns why the tree is not compiled.
-fn check_tree_compilable_and_count_size(
+fn check_tree_and_count_size(
     re: &ir::Regex,
     bytes_in_units: bool,
 ) -> Result<GroupAndInsnCounts, EmitError>

@@ -6,7 +6,7 @@ ghost use Rattle.regress_machine.specs.FirstSetTables.{TableAllowsAll, IsSubtabl
 ghost use Rattle.regress_program.specs.AlternationDispatch.{key_or_end_of_table_index};
 ghost use Rattle.regress_program.specs.TableKeysOfUnits.{is_16_bit_width, is_16_bit_encoding, begins_utf8_character, unit_table_of_set, KeyCharsLieInRangeOrPairs};
 ghost use Rattle.regress_program.specs.Plans.{IsCharOrEnd, allows_next, HasOnlyLeadBytes};
-ghost use Rattle.regress_program.specs.{ClosedFirstSets.{AllowsLineEnd}, KeyEquivalenceClassBoundaries.{AreDistinguishedBy}};
+ghost use Rattle.regress_program.specs.{ClosedFirstSets.{AllowsLineEnd}, KeyClassBoundaries.{AreDistinguishedBy}};
 
 use crate::char_class_tables::Class;
 use crate::equal_tables::ComparedTable;
@@ -148,7 +148,7 @@ impl FirstSet {
     }
 
     /// Returns `others` with the keys added that the set distinguishes from the key before them.
-    pub(crate) fn with_keys_unlike_previous_key(&self, others: &[bool; 256]) -> [bool; 256]
+    pub(crate) fn with_unlike_keys(&self, others: &[bool; 256]) -> [bool; 256]
         ensures { AreDistinguishedBy self.now others.now result }
     {
         let mut told = *others;

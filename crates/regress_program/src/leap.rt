@@ -15,7 +15,7 @@ use crate::char_class_tables::Class;
 use crate::first_set_type::FirstSet;
 use crate::ops::{CharLoop, LookaroundAndNextOp, Op};
 use crate::plan::{CandidateStarts, Plan};
-use crate::required_prefix_analysis::{OpPrefixContribution, said_at};
+use crate::required_prefix_analysis::{OpPrefixContribution, prefix_step_at};
 use crate::required_prefix_prefilters::{RequiredPrefixPrefilter, frequency};
 use crate::table_keys_of_units::{KEYS, UnitWidth};
 use std::alloc::{AllocError, Global};
@@ -140,14 +140,14 @@ impl Leap {
 /// A leap of a plan, and for each operation whether it is on the way to the goal: it has been
 /// reached, and the goal has not.
 #[derive(Clone, Copy)]
-struct LeapAndWay<'p> {
+struct LeapCheck<'p> {
     plan: &'p Plan,
     units: UnitWidth,
     leap: &'p Leap,
     on_way: &'p [bool],
 }
 
-impl LeapAndWay<'_> {
+impl LeapCheck<'_> {
     // Checks whether an operation is on the way.
     fn has(self, ip: usize) -> bool
         ensures { result ≡ is_on_way self.entry.on_way.now ip }
@@ -162,7 +162,7 @@ impl LeapAndWay<'_> {
     fn arrives(self, ip: usize) -> bool
         ensures { result ≡ true → ArrivesAtGoal self.entry.plan.now self.entry.leap.now ip }
     {
-        match said_at(self.plan, ip) {
+        match prefix_step_at(self.plan, ip) {
             OpPrefixContribution::OneUnit { key, .. } => self.leap.is_goal(usize::from(key)),
             OpPrefixContribution::Units { set, count, .. } => {
                 count > 0 && self.leap.has_as_goals(&set)
@@ -598,7 +598,7 @@ fn leap_of_walk(
     if !is_rarer(&leap, &plan.start) {
         return Ok(None);
     }
-    let way = LeapAndWay {
+    let way = LeapCheck {
         plan,
         units,
         leap: &leap,

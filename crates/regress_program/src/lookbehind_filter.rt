@@ -9,9 +9,7 @@ ghost use Rattle.regress_program.specs.RequiredPrefixAnalysis.{AreOpsOfProgram};
 
 use crate::first_set_fixpoint::{FirstSets, first_set_from_successors};
 use crate::first_set_type::FirstSet;
-use crate::loop_follow_sets_and_candidate_starts::{
-    OnlyAsciiOrOnlyLeadKeys, UpToThreeKeys, up_to_three_keys_of_kind,
-};
+use crate::follow_sets::{OnlyAsciiOrOnlyLeadKeys, UpToThreeKeys, up_to_three_keys_of_kind};
 use crate::ops::{LookaroundAndNextOp, Op};
 use crate::plan::Plan;
 use crate::table_keys_of_units::UnitWidth;

@@ -9,11 +9,11 @@ ghost use Rattle.std.specs.Int.{bit_at};
 ghost use Rattle.regex_meaning.specs.CompilationRelation.{Program};
 ghost use Rattle.regress_program.specs.declared.ops.Op.TheVariants.{UnitChar, One, Enter};
 ghost use Rattle.regress_program.specs.PrefixesAndPrefilters.{units_allowed_by_prefix, IsRequiredPrefixFromInsn, AllowsOnlyAsciiAt, ExcludesKeys};
-ghost use Rattle.regress_program.specs.RequiredPrefixAnalysis.{allows_only_key, units_allowed_by_first_set, low_bits_followed_by_shifted_mask, falls_through as leads_on_op};
-ghost use Rattle.regress_program.specs.RequiredPrefixAnalysis.{ExtendsPrefixByAllowedUnitSequence, AllowsWhateverEitherPrefixAllows, AreOpsOfProgram};
-ghost use Rattle.regress_program.specs.RequiredPrefixAnalysis.{PrefixFollowsFromSuccessorPrefixes};
+ghost use Rattle.regress_program.specs.RequiredPrefixAnalysis.{allows_only_key, units_allowed_by_first_set, joined_masks, falls_through as leads_on_op};
+ghost use Rattle.regress_program.specs.RequiredPrefixAnalysis.{ExtendsPrefix, AllowsEitherPrefix, AreOpsOfProgram};
+ghost use Rattle.regress_program.specs.RequiredPrefixAnalysis.{FollowsFromSuccessors};
 ghost use Rattle.regress_program.specs.RequiredPrefixAnalysis.{IsOpPrefixContributionOf};
-ghost use Rattle.regress_program.specs.RequiredPrefixAnalysis.{IsPrefixContributionOfCharLoop};
+ghost use Rattle.regress_program.specs.RequiredPrefixAnalysis.{IsPrefixOfCharLoop};
 
 use crate::first_set_type::FirstSet;
 use crate::ops::{CharLoop, Op};
@@ -60,7 +60,7 @@ impl Prefix {
     // Appends one unit.
     fn add_unit(&mut self, key: u8)
         requires { self.old.len < 15 }
-        ensures { ExtendsPrefixByAllowedUnitSequence self.old 1 (allows_only_key key) self.new }
+        ensures { ExtendsPrefix self.old 1 (allows_only_key key) self.new }
     {
         self.masks[usize::from(key)] &= all_but(self.len, 1);
         self.len += 1;
@@ -68,7 +68,7 @@ impl Prefix {
 
     // Appends `count` units of a set, as far as there is room.
     fn add_units(&mut self, set: &FirstSet, count: usize)
-        ensures { ExtendsPrefixByAllowedUnitSequence self.old count (units_allowed_by_first_set set.now) self.new }
+        ensures { ExtendsPrefix self.old count (units_allowed_by_first_set set.now) self.new }
     {
         let more = count.min(MOST - self.len);
         let kept = all_but(self.len, more);
@@ -80,7 +80,7 @@ impl Prefix {
 
     // Appends the units of another prefix, as far as there is room.
     fn add_prefix(&mut self, behind: &Prefix)
-        ensures { ExtendsPrefixByAllowedUnitSequence self.old behind.now.len
+        ensures { ExtendsPrefix self.old behind.now.len
             (units_allowed_by_prefix behind.now) self.new }
     {
         for key in 0..KEYS {
@@ -91,7 +91,7 @@ impl Prefix {
 
     // Makes this prefix the union of both.
     fn or(&mut self, other: &Prefix)
-        ensures { AllowsWhateverEitherPrefixAllows self.old other.now self.new }
+        ensures { AllowsEitherPrefix self.old other.now self.new }
     {
         let len = self.len.min(other.len);
         for key in 0..KEYS {
@@ -124,21 +124,21 @@ impl Prefix {
         requires ahead { ahead < 16 }
         ensures { result ≡ true → ExcludesKeys self.now from end ahead }
     {
-        !is_mask_bit_clear(self.mask_of_positions_excluding_keys(from, end), ahead)
+        !is_mask_bit_clear(self.mask_excluding_keys(from, end), ahead)
     }
 
     /// Returns a mask: bit `j` is set if no unit with a key in `from..end` may occur `j` units
     /// after the start.
-    pub(crate) fn mask_of_positions_excluding_keys(&self, from: usize, end: usize) -> u16
+    pub(crate) fn mask_excluding_keys(&self, from: usize, end: usize) -> u16
         requires inside { end ≤ 256 }
         ensures { (ahead : ℕ) → (bit_at result ahead == 0) ≡ false → ExcludesKeys self.now from end ahead }
     {
         // Without an early exit, the loop can process many keys at a time.
-        let mut mask_of_positions_excluding_keys = u16::MAX;
+        let mut mask_excluding_keys = u16::MAX;
         for key in from..end {
-            mask_of_positions_excluding_keys &= self.masks[key];
+            mask_excluding_keys &= self.masks[key];
         }
-        mask_of_positions_excluding_keys
+        mask_excluding_keys
     }
 }
 
@@ -146,7 +146,7 @@ impl Prefix {
 #[inline(always)]
 fn join_masks(first: u16, count: usize, behind: u16) -> u16
     requires { count < 16 }
-    ensures { result ≡ low_bits_followed_by_shifted_mask first count behind }
+    ensures { result ≡ joined_masks first count behind }
 {
     first & ((1 << count) - 1) | behind << count
 }
@@ -179,7 +179,7 @@ fn prefix_at(plan: &Plan, from: usize, steps: usize) -> Prefix
     let mut left = steps;
     'path: while left > 0 && prefix.len < MOST {
         left -= 1;
-        match said_at(plan, ip) {
+        match prefix_step_at(plan, ip) {
             OpPrefixContribution::Unknown => return prefix,
             OpPrefixContribution::SameAs(to) => ip = to,
             OpPrefixContribution::UnionOf(a, b) => {
@@ -210,27 +210,27 @@ fn prefix_at(plan: &Plan, from: usize, steps: usize) -> Prefix
 /// Returns what the operation at `ip` says. Inlined into its callers, since the result has room for
 /// a set, which each call would clear and copy.
 #[inline(always)]
-pub(crate) fn said_at(plan: &Plan, ip: usize) -> OpPrefixContribution
+pub(crate) fn prefix_step_at(plan: &Plan, ip: usize) -> OpPrefixContribution
     ensures { (wide : Bool) (program : Program)
-        → AreOpsOfProgram wide program plan.now → PrefixFollowsFromSuccessorPrefixes wide program ip result }
+        → AreOpsOfProgram wide program plan.now → FollowsFromSuccessors wide program ip result }
 {
     match plan.ops.get(ip) {
-        Some(op) => said_of_op(plan, *op, ip),
+        Some(op) => prefix_step_of_op(plan, *op, ip),
         None => OpPrefixContribution::Unknown,
     }
 }
 
 // Returns what this operation at `ip` says.
 #[inline(always)]
-fn said_of_op(plan: &Plan, op: Op, ip: usize) -> OpPrefixContribution
+fn prefix_step_of_op(plan: &Plan, op: Op, ip: usize) -> OpPrefixContribution
     requires { ip < length plan.now.ops.items }
     ensures { IsOpPrefixContributionOf plan.now op ip result }
 {
-    if falls_through_reading_nothing(op) {
+    if falls_through_silently(op) {
         return OpPrefixContribution::SameAs(ip + 1);
     }
     if let Some(run) = op.as_char_loop() {
-        return said_of_run(plan, run, ip);
+        return prefix_step_of_run(plan, run, ip);
     }
     match op {
         Op::UnitChar(c) => said_of_unit(c, ip),
@@ -238,13 +238,13 @@ fn said_of_op(plan: &Plan, op: Op, ip: usize) -> OpPrefixContribution
         Op::Goto(to) => OpPrefixContribution::SameAs(to as usize),
         Op::Look(look) => OpPrefixContribution::SameAs(look.past as usize),
         Op::Either(other) => OpPrefixContribution::UnionOf(ip + 1, other as usize),
-        Op::Enter(number) => said_of_entry(plan, number, ip),
+        Op::Enter(number) => prefix_step_of_entry(plan, number, ip),
         _ => OpPrefixContribution::Unknown,
     }
 }
 
 // Checks whether an operation reads nothing, and continues at the next one or fails.
-fn falls_through_reading_nothing(op: Op) -> bool
+fn falls_through_silently(op: Op) -> bool
     ensures { result ≡ leads_on_op op }
 {
     matches!(
@@ -288,9 +288,9 @@ fn said_of_class(plan: &Plan, number: u32, ip: usize) -> OpPrefixContribution
 
 // Returns what a char loop says: its minimum number of characters and, if that is its maximum too,
 // what comes after it.
-fn said_of_run(plan: &Plan, run: CharLoop, ip: usize) -> OpPrefixContribution
+fn prefix_step_of_run(plan: &Plan, run: CharLoop, ip: usize) -> OpPrefixContribution
     requires { ip + 2 < 2 ^ 64 }
-    ensures { IsPrefixContributionOfCharLoop plan.now run ip result }
+    ensures { IsPrefixOfCharLoop plan.now run ip result }
 {
     match (
         plan.classes.get(run.class as usize),
@@ -310,7 +310,7 @@ fn said_of_run(plan: &Plan, run: CharLoop, ip: usize) -> OpPrefixContribution
 }
 
 // Returns what the head of a loop says, if the loop cannot be exited at once.
-fn said_of_entry(plan: &Plan, number: u32, ip: usize) -> OpPrefixContribution
+fn prefix_step_of_entry(plan: &Plan, number: u32, ip: usize) -> OpPrefixContribution
     requires { ip + 1 < 2 ^ 64 }
     ensures { IsOpPrefixContributionOf plan.now (Enter number) ip result }
 {

@@ -2,7 +2,7 @@
 
 ghost use Rattle.std.specs.Prelude.{◌≡◌, ◌<◌, ◌≤◌, ℕ, true, IfSome};
 ghost use Rattle.regress_program.specs.PrefixesAndPrefilters.{units_allowed_by_prefix, unit_passes_probe as has_bits, IsOnlyUnitAllowedAtPosition};
-ghost use Rattle.regress_program.specs.PrefixesAndPrefilters.{IsLiteralForcedByPrefix, ProbePassesAllUnitsPrefixAllows, ProbesPassAllUnitsPrefixAllows, IsPrefilterOfPrefix};
+ghost use Rattle.regress_program.specs.PrefixesAndPrefilters.{IsLiteralForcedByPrefix, ProbePassesPrefix, ProbesPassPrefix, IsPrefilterOfPrefix};
 ghost use Rattle.regress_program.specs.TableKeysOfUnits.{is_16_bit_width};
 
 use crate::required_prefix_types::{
@@ -117,17 +117,14 @@ impl Prefix {
     /// positions pass them. Not inlined, since most patterns have no prefilter, and its buffers
     /// would be cleared in the caller.
     #[inline(never)]
-    pub(crate) fn choose_literal_or_probe_prefilter(
-        &self,
-        units: UnitWidth,
-    ) -> Option<RequiredPrefixPrefilter>
+    pub(crate) fn choose_prefilter(&self, units: UnitWidth) -> Option<RequiredPrefixPrefilter>
         ensures { IfSome result (IsPrefilterOfPrefix (is_16_bit_width units) self.now) }
     {
-        let commons = self.commons();
-        let probes = self.probes(&commons);
+        let common_bits = self.common_bits();
+        let probes = self.probes(&common_bits);
         if let UnitWidth::Bytes = units {
-            if let Some(literal) = self.literal(&commons) {
-                let rare = self.rare(&commons);
+            if let Some(literal) = self.literal(&common_bits) {
+                let rare = self.rare(&common_bits);
                 return Some(RequiredPrefixPrefilter::ByLiteral(LiteralPrefilter {
                     literal,
                     rare,
@@ -146,35 +143,35 @@ impl Prefix {
 
     // Returns, for each position, what the units that may occur there have in common; `NO_UNIT`
     // where some are not below 128.
-    fn commons(&self) -> [CommonBitsOfUnits; 16] {
-        let others = !self.mask_of_positions_excluding_keys(128, KEYS);
-        let mut commons = [NO_UNIT; 16];
+    fn common_bits(&self) -> [CommonBitsOfUnits; 16] {
+        let others = !self.mask_excluding_keys(128, KEYS);
+        let mut common_bits = [NO_UNIT; 16];
         for block in 0..8 {
             let from = block * 16;
-            if self.mask_of_positions_excluding_keys(from, from + 16) | others != u16::MAX {
-                self.add_keys(from, others, &mut commons);
+            if self.mask_excluding_keys(from, from + 16) | others != u16::MAX {
+                self.add_keys(from, others, &mut common_bits);
             }
         }
-        commons
+        common_bits
     }
 
     // Adds the units of 16 keys from `from` on, except at positions in the mask `others`.
-    fn add_keys(&self, from: usize, others: u16, commons: &mut [CommonBitsOfUnits; 16])
+    fn add_keys(&self, from: usize, others: u16, common_bits: &mut [CommonBitsOfUnits; 16])
         requires { from ≤ 240 }
     {
         for key in from..from + 16 {
             let mask = self.masks[key] | others;
             if mask != u16::MAX {
-                add_key(commons, self.len, mask, key as u8);
+                add_key(common_bits, self.len, mask, key as u8);
             }
         }
     }
 
     // Returns the longest literal, unless it is a single unit of a longer prefix.
-    fn literal(&self, commons: &[CommonBitsOfUnits; 16]) -> Option<Literal>
+    fn literal(&self, common_bits: &[CommonBitsOfUnits; 16]) -> Option<Literal>
         ensures { IfSome result (IsLiteralForcedByPrefix self.now) }
     {
-        let literal = longest_literal(commons, self.len);
+        let literal = longest_literal(common_bits, self.len);
         if (literal.len > 1 || literal.len == self.len) && self.has_literal(&literal) {
             Some(literal)
         } else {
@@ -203,13 +200,13 @@ impl Prefix {
     }
 
     // Returns the rarest unit, if each position allows one unit alone and this one is rare.
-    fn rare(&self, commons: &[CommonBitsOfUnits; 16]) -> Option<RequiredUnitAndOffset>
+    fn rare(&self, common_bits: &[CommonBitsOfUnits; 16]) -> Option<RequiredUnitAndOffset>
         ensures { IfSome result (λ rare. IsOnlyUnitAllowedAtPosition self.now rare) }
     {
         let mut rare = RequiredUnitAndOffset { unit: 0, ahead: 0 };
         let mut least = OFTEN;
         for ahead in 0..self.len {
-            let common = commons[ahead];
+            let common = common_bits[ahead];
             if !common.is_unit() {
                 return None;
             }
@@ -242,10 +239,10 @@ impl Prefix {
     }
 
     // Returns the probes to search for, if they are rare.
-    fn probes(&self, commons: &[CommonBitsOfUnits; 16]) -> Option<[MaskedUnitProbe; 4]>
-        ensures { IfSome result (λ probes. ProbesPassAllUnitsPrefixAllows self.now probes) }
+    fn probes(&self, common_bits: &[CommonBitsOfUnits; 16]) -> Option<[MaskedUnitProbe; 4]>
+        ensures { IfSome result (λ probes. ProbesPassPrefix self.now probes) }
     {
-        let [a, b, c, d] = seldom(commons)?;
+        let [a, b, c, d] = rarest_probes(common_bits)?;
         if self.has_probe(a) && self.has_probe(b) && self.has_probe(c) && self.has_probe(d) {
             Some([a, b, c, d])
         } else {
@@ -255,7 +252,7 @@ impl Prefix {
 
     // Checks whether only units below 128 that pass the probe may occur at its position.
     fn has_probe(&self, probe: MaskedUnitProbe) -> bool
-        ensures { result ≡ true → ProbePassesAllUnitsPrefixAllows self.now probe }
+        ensures { result ≡ true → ProbePassesPrefix self.now probe }
     {
         probe.ahead < self.len && self.allows_only_ascii_at(probe.ahead) && self.ascii_passes(probe)
     }
@@ -276,7 +273,7 @@ impl Prefix {
 }
 
 // Returns the longest sequence of positions below `len` that allow one unit each.
-fn longest_literal(commons: &[CommonBitsOfUnits; 16], len: usize) -> Literal {
+fn longest_literal(common_bits: &[CommonBitsOfUnits; 16], len: usize) -> Literal {
     let none = Literal {
         units: [0; 15],
         len: 0,
@@ -285,8 +282,8 @@ fn longest_literal(commons: &[CommonBitsOfUnits; 16], len: usize) -> Literal {
     let mut longest_literal = none;
     let mut row = none;
     for ahead in 0..MOST {
-        if ahead < len && commons[ahead].is_unit() && row.len < MOST {
-            row.units[row.len] = commons[ahead].all;
+        if ahead < len && common_bits[ahead].is_unit() && row.len < MOST {
+            row.units[row.len] = common_bits[ahead].all;
             row.len += 1;
         } else {
             row = Literal {
@@ -302,27 +299,27 @@ fn longest_literal(commons: &[CommonBitsOfUnits; 16], len: usize) -> Literal {
 }
 
 // Adds a key at each position below `len` at which its mask allows it.
-fn add_key(commons: &mut [CommonBitsOfUnits; 16], len: usize, mask: u16, key: u8) {
+fn add_key(common_bits: &mut [CommonBitsOfUnits; 16], len: usize, mask: u16, key: u8) {
     let often = frequency(key);
     for ahead in 0..len.min(16) {
         if is_mask_bit_clear(mask, ahead) {
-            commons[ahead] = commons[ahead].with(key, often);
+            common_bits[ahead] = common_bits[ahead].with(key, often);
         }
     }
 }
 
 // Returns the four rarest probes, the rarest one first, if they are rare enough.
-fn seldom(commons: &[CommonBitsOfUnits; 16]) -> Option<[MaskedUnitProbe; 4]> {
+fn rarest_probes(common_bits: &[CommonBitsOfUnits; 16]) -> Option<[MaskedUnitProbe; 4]> {
     let mut often = [ALWAYS; 16];
     for ahead in 0..16 {
-        often[ahead] = commons[ahead].frequency().min(ALWAYS);
+        often[ahead] = common_bits[ahead].frequency().min(ALWAYS);
     }
-    let mut probes = [commons[0].probe(0); 4];
+    let mut probes = [common_bits[0].probe(0); 4];
     let mut pass = 1_000_000u32;
     for i in 0..4 {
         let ahead = least(&often);
         pass = pass.saturating_mul(often[ahead]) / 1000;
-        probes[i] = commons[ahead].probe(ahead);
+        probes[i] = common_bits[ahead].probe(ahead);
         often[ahead] = ALWAYS;
     }
     if pass > MOST_THAT_PASS {

@@ -6,9 +6,9 @@ ghost use Rattle.regex_meaning.specs.StartPredicate.{IsSoundStartPredicateOf, is
 ghost use Rattle.regex_meaning.specs.WellFormedTrees.{IsWellFormed};
 ghost use Rattle.regex_pattern_front.specs.ByteSetMembers.{member_bytes_of_byte_bitmap};
 ghost use Rattle.regex_pattern_front.specs.AstToSpecTree.{node_of, tree_of};
-ghost use Rattle.regress_program.specs.{JoinedStartPredicatesOfAlternatives.{abstract_start_predicate_as_spec}, InsnsAndStartPredicatesAsSpec.{start_predicate_as_spec}};
-ghost use Rattle.regress_program.specs.StartPredicatesAndWhenTheyAllocate.{PredicateBitmapHasOverThreeBytes, is_anchored_tree, predicate_is_byte_sequence};
-ghost use Rattle.regress_program.specs.StartPredicatesAndWhenTheyAllocate.{making_start_predicate_may_allocate};
+ghost use Rattle.regress_program.specs.{JoinedStarts.{abstract_start_as_spec}, InsnsAsSpec.{start_predicate_as_spec}};
+ghost use Rattle.regress_program.specs.StartPredicates.{HasOverThreeBytes, is_anchored_tree, predicate_is_byte_sequence};
+ghost use Rattle.regress_program.specs.StartPredicates.{start_predicate_may_allocate};
 
 mod abstract_start;
 mod first_bytes_of_chars_and_classes;
@@ -39,8 +39,8 @@ pub fn predicate_for_re(alloc: Global, re: &ir::Regex) -> Result<StartPredicate,
     ensures predicate { IfOk result (λ p. start_predicate_as_spec p ≡ start_predicate (tree_of re.now)) }
     ensures sound { IsWellFormed (tree_of re.now).root
         → IfOk result (λ p. IsSoundStartPredicateOf (start_predicate_as_spec p) (tree_of re.now).root) }
-    ensures short { IfOk result PredicateBitmapHasOverThreeBytes }
-    ensures no_memory { making_start_predicate_may_allocate (tree_of re.now) ≡ false → IsOk result }
+    ensures short { IfOk result HasOverThreeBytes }
+    ensures no_memory { start_predicate_may_allocate (tree_of re.now) ≡ false → IsOk result }
 {
     if matches_at_left_end(re) {
         return Ok(StartPredicate::StartAnchored);
@@ -54,9 +54,9 @@ fn beginning_predicate(
     beginning: AbstractStartPredicate<'_>,
 ) -> Result<StartPredicate, AllocError>
     ensures predicate { IfOk result (λ p. start_predicate_as_spec p ≡ predicate_of
-        (abstract_start_predicate_as_spec beginning.entry)) }
-    ensures short { IfOk result PredicateBitmapHasOverThreeBytes }
-    ensures no_memory { predicate_is_byte_sequence (abstract_start_predicate_as_spec beginning.entry) ≡ false →
+        (abstract_start_as_spec beginning.entry)) }
+    ensures short { IfOk result HasOverThreeBytes }
+    ensures no_memory { predicate_is_byte_sequence (abstract_start_as_spec beginning.entry) ≡ false →
         IsOk result }
 {
     match beginning {
@@ -71,7 +71,7 @@ fn beginning_predicate(
 // Returns the predicate that a text starts with these bytes.
 fn bytes_predicate(alloc: Global, bytes: &[u8]) -> Result<StartPredicate, AllocError>
     ensures predicate { IfOk result (λ p. start_predicate_as_spec p ≡ predicate_of (sequence bytes.now)) }
-    ensures short { IfOk result PredicateBitmapHasOverThreeBytes }
+    ensures short { IfOk result HasOverThreeBytes }
 {
     match bytes {
         [] => Ok(StartPredicate::Arbitrary),
@@ -83,7 +83,7 @@ fn bytes_predicate(alloc: Global, bytes: &[u8]) -> Result<StartPredicate, AllocE
 // Returns the predicate that a text starts with a byte of the set.
 fn set_predicate(set: ByteBitmap) -> StartPredicate
     ensures predicate { start_predicate_as_spec result ≡ predicate_of (one_of (member_bytes_of_byte_bitmap set)) }
-    ensures short { PredicateBitmapHasOverThreeBytes result }
+    ensures short { HasOverThreeBytes result }
 {
     let Some(a) = least_byte_in_set_from(&set, 0) else {
         return StartPredicate::Arbitrary;

@@ -128,10 +128,7 @@ pub fn key_of_first_unit(c: u32, units: UnitWidth) -> usize
 
 /// Returns the first and the last key with which characters of an interval begin, except those of
 /// ASCII and surrogate pairs.
-pub(crate) fn non_ascii_key_range_of_interval(
-    interval: Interval,
-    units: UnitWidth,
-) -> (usize, usize)
+pub(crate) fn non_ascii_keys_of_interval(interval: Interval, units: UnitWidth) -> (usize, usize)
     ensures between { HasKeysBetween (is_16_bit_width units) interval result.0 result.1 }
     ensures inside { result.1 < 256 }
 {

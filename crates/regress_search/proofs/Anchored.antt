@@ -17,8 +17,8 @@ use Rattle.regex_meaning.proofs.Booleans.{and-left, and-right}
 use Rattle.regex_meaning.proofs.TextLemmas.{IsBoundary-place, offset-IsBoundary, offset-less, offset-le, place-less}
 use Rattle.regex_meaning.proofs.Sound.{predicate-holds}
 use Rattle.regress_program.specs.CompilationOfTreesAsFunction.{compiled}
-use Rattle.regress_program.specs.StartPredicatesAndWhenTheyAllocate.{is_anchored_tree}
-use Rattle.regress_search.specs.AttemptResultsAndStartsToTry.{offset_after_failed_attempt, NextStartSkipsNoMatch, NoMatchAt, NoMatchStartsBetween, match_end_and_groups_at}
+use Rattle.regress_program.specs.StartPredicates.{is_anchored_tree}
+use Rattle.regress_search.specs.AttemptsAndStarts.{offset_after_failed_attempt, NextStartSkipsNoMatch, NoMatchAt, NoMatchStartsBetween, match_end_and_groups_at}
 use Rattle.regress_search.proofs.FirstMatch.{vain-at, read-inside, read-end}
 
 pub predicate-compiled : (tree : Tree) → (compiled tree).start_pred ≡ start_predicate tree

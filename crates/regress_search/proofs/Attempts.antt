@@ -12,7 +12,7 @@ use Rattle.regress_machine.specs.Machine.{running, search}
 use Rattle.regress_machine.specs.SearchFindsFirstOutcomeAtPlace.{state_before_first_insn, end_of, first_pair, end_in_offsets, TreeProgramCanSearchText, turns_at}
 use Rattle.regress_machine.proofs.Whole.{searches-find}
 use Rattle.regress_machine.specs.InsnEffects.{end_of_search}
-use Rattle.regress_search.specs.AttemptResultsAndStartsToTry.{match_end_and_groups_at, steps_for_attempt, search_from}
+use Rattle.regress_search.specs.AttemptsAndStarts.{match_end_and_groups_at, steps_for_attempt, search_from}
 
 -- the search from the first state of an attempt ends with the first outcome
 pub record Begins (tree : Tree) (text : Text) (at : ℕ) : Type 0 where

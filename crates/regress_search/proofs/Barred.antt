@@ -7,9 +7,9 @@ use Rattle.regress_program.specs.declared.char_class_tables.Class.{Class}
 use Rattle.regress_program.specs.declared.first_set_type.FirstSet.{FirstSet}
 use Rattle.regress_machine.specs.Machine.{test_of}
 use Rattle.regress_search.specs.declared.lazy_char_loops.LazyCharLoopExit.{LazyCharLoopExit}
-use Rattle.regress_search.specs.LazyCharLoopExits.{AreDeadExits, IsFirstLiveExit, place_behind}
+use Rattle.regress_search.specs.LazyCharLoopExits.{AreDeadExits, IsFirstLiveExit, place_after_match}
 use Rattle.regress_search.specs.CharLoopExits.{ClassFitsText}
-use Rattle.regress_search.specs.UnitsAndInsnReadsAtOffset.{IsPastNextCharIfAccepted}
+use Rattle.regress_search.specs.ReadsAtOffset.{IsPastNextCharIfAccepted}
 use Rattle.regress_search.specs.TreePlanAndText.{SearchInput, program_of}
 use Rattle.regress_search.specs.StartSearch.{table_allows_unit_or_end_at}
 use Rattle.regress_search.proofs.FurtherPlaces.{OneOn, one-accepted}
@@ -21,7 +21,7 @@ module _ (w : SearchInput) (class : Class) (set : FirstSet) (from : LazyCharLoop
   barred-none on =
       let at : from.at ≡ from.at + 0 = omega arith in
       let left : from.left ≡ from.left - 0 = omega arith in
-      let same : from ≡ place_behind from 0 = ap₂ (λ at left. record { at = at; left = left }) at left in
+      let same : from ≡ place_after_match from 0 = ap₂ (λ at left. record { at = at; left = left }) at left in
       record {
         boundary = subst (IsBoundary w.text) at on;
         preferred =

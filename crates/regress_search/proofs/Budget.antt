@@ -17,10 +17,10 @@ use Rattle.regex_meaning.specs.OutcomesWithStepTicks.{tried_places}
 use Rattle.regex_meaning.proofs.TextLemmas.{IsBoundary-place, offset-place_at, place_at-offset}
 use Rattle.regex_meaning.proofs.Options.{some-same}
 use Rattle.regress_machine.specs.SearchFindsFirstOutcomeAtPlace.{end_in_offsets, first_pair}
-use Rattle.regress_search.specs.AttemptResultsAndStartsToTry.{NoMatchAt, filtered_start_after, match_end_and_groups_at, first_of_places, first_filtered_start}
-use Rattle.regress_search.specs.AttemptResultsAndStartsToTry.{next_filtered_start}
-use Rattle.regress_search.specs.AttemptResultsAndStartsToTry.{ticks_of_attempt_at}
-use Rattle.regress_search.specs.StepBudgetAndContinuationAfterSearch.{SpendsNeedOrReachesLimit}
+use Rattle.regress_search.specs.AttemptsAndStarts.{NoMatchAt, filtered_start_after, match_end_and_groups_at, first_of_places, first_filtered_start}
+use Rattle.regress_search.specs.AttemptsAndStarts.{next_filtered_start}
+use Rattle.regress_search.specs.AttemptsAndStarts.{ticks_of_attempt_at}
+use Rattle.regress_search.specs.SearchEffects.{SpendsNeedOrReachesLimit}
 use Rattle.regress_search.specs.declared.exec.SearchError.{SearchError}
 use Rattle.regress_search.specs.declared.exec.SearchError.TheVariants.{Memory, StepLimit}
 use Rattle.regress_search.proofs.FirstMatch.{found-on, read-inside, read-end}

@@ -8,7 +8,7 @@ use Rattle.regress_search.specs.declared.exec.work_matches.WorkError.{WorkError}
 use Rattle.regress_search.specs.declared.exec.work_matches.WorkError.TheVariants.{Memory, WorkLimit}
 use Rattle.regress_search.specs.declared.exec.MatchProducer.{Ghosts}
 use Rattle.regress_search.specs.RemainingAnswers.{NextYields, remaining_answers_from}
-use Rattle.regress_search.specs.AttemptsAndMatchesWithinWork.{CallKeepsWorkEnough, IsWorkLimitOrMemoryCause, is_work_enough}
+use Rattle.regress_search.specs.MatchesWithinWork.{CallKeepsWorkEnough, IsWorkLimitOrMemoryCause, is_work_enough}
 use Rattle.regress_search.specs.CostsOfSearches.{CallSpendsExactCost, ContinuesAfterCall, Failures, MayStopShort}
 use Rattle.regress_search.specs.CostsOfCalls.{NextCosts, NextYieldsAtCost, WorkMatchesView}
 
@@ -21,7 +21,7 @@ module _ {P : Type 0} (attempt_costs : Tree → Text → (before : Failures) →
     (s t : WorkMatchesView P) (out : Bool) where
   -- What the function that searches ensures of a result.
   pub record Called (r : Option (Result Match SearchError)) : Type 0 where
-    pub yields : NextYields s.come r t.come
+    pub yields : NextYields s.remaining r t.remaining
     pub enough : CallKeepsWorkEnough s.enough r t.enough out
     pub less : t.left ≤ s.left
     pub spends : CallSpendsExactCost (NextCosts attempt_costs tree text failures s) s.left r out t.left (failures t.producer)
@@ -52,25 +52,25 @@ module _ {P : Type 0} (attempt_costs : Tree → Text → (before : Failures) →
 
 -- The view of an iterator, by its producer and its position.
 abbrev pub view-of : {E Q : Type 0} (e : Ghosts E Q) (offset : Q → ℕ) → E → Option Q → WorkMatchesView E
-view-of e offset mp position = record {
-  come = remaining_answers_from (e.tree mp) (e.text mp) (e.budget mp) (option_map offset position) (e.out_of_steps mp);
-  left = e.left mp;
-  enough = is_work_enough (e.enough mp) (e.ahead mp) (option_map offset position);
-  producer = mp;
+view-of e offset producer position = record {
+  remaining = remaining_answers_from (e.tree producer) (e.text producer) (e.budget producer) (option_map offset position) (e.out_of_steps producer);
+  left = e.left producer;
+  enough = is_work_enough (e.enough producer) (e.ahead producer) (option_map offset position);
+  producer = producer;
   position = option_map offset position;
 }
 
-module _ {E Q : Type 0} (e : Ghosts E Q) (offset : Q → ℕ) (mp : E) (position : Option Q) (mp' : E) (position' : Option Q) where
+module _ {E Q : Type 0} (e : Ghosts E Q) (offset : Q → ℕ) (producer : E) (position : Option Q) (producer' : E) (position' : Option Q) where
   abbrev pub CalledBy : Option (Result Match SearchError) → Type 0
-  CalledBy = Called e.attempt_costs e.tree e.text e.failures (view-of e offset mp position) (view-of e offset mp' position') (e.out_of_work mp')
+  CalledBy = Called e.attempt_costs e.tree e.text e.failures (view-of e offset producer position) (view-of e offset producer' position') (e.out_of_work producer')
 
   abbrev pub Gives : Option (Result Match WorkError) → Type 0
-  Gives result = NextYieldsAtCost e.attempt_costs e.tree e.text e.failures (view-of e offset mp position) result (view-of e offset mp' position')
+  Gives result = NextYieldsAtCost e.attempt_costs e.tree e.text e.failures (view-of e offset producer position) result (view-of e offset producer' position')
 
   module _ (r : Option (Result Match SearchError)) (called : CalledBy r) (result : Option (Result Match WorkError)) where
     pub gives-Ok : (m : Match) → r ≡ Some (Ok m) → result ≡ Some (Ok m) → Gives result
-    gives-Ok m is some = subst Gives (sym some) (called-Ok e.attempt_costs e.tree e.text e.failures _ _ (e.out_of_work mp') m (subst CalledBy is called))
+    gives-Ok m is some = subst Gives (sym some) (called-Ok e.attempt_costs e.tree e.text e.failures _ _ (e.out_of_work producer') m (subst CalledBy is called))
 
-    pub gives-Err : (x : SearchError) (w : WorkError) → r ≡ Some (Err x) → result ≡ Some (Err w) → IsWorkLimitOrMemoryCause w (e.out_of_work mp') (e.left mp') → Gives result
+    pub gives-Err : (x : SearchError) (w : WorkError) → r ≡ Some (Err x) → result ≡ Some (Err w) → IsWorkLimitOrMemoryCause w (e.out_of_work producer') (e.left producer') → Gives result
     gives-Err x w is some cause =
-        subst Gives (sym some) (called-Err e.attempt_costs e.tree e.text e.failures _ _ (e.out_of_work mp') x w cause (subst CalledBy is called))
+        subst Gives (sym some) (called-Err e.attempt_costs e.tree e.text e.failures _ _ (e.out_of_work producer') x w cause (subst CalledBy is called))

@@ -16,8 +16,8 @@ use Rattle.regex_meaning.proofs.TextLemmas.{place_at-past}
 use Rattle.regex_meaning.proofs.AnswerLemmas.{next_start-ahead}
 use Rattle.regress_search.specs.declared.exec.SearchError.{SearchError}
 use Rattle.regress_search.specs.declared.exec.SearchError.TheVariants.{Memory, StepLimit}
-use Rattle.regress_search.specs.StepBudgetAndContinuationAfterSearch.{SpendsNeedOrReachesLimit}
-use Rattle.regress_search.specs.RemainingAnswers.{NextYields, EndsAfterMatchStartingAtTextEnd, MayRefuse, RemainingView, remaining_answers_from, items_left}
+use Rattle.regress_search.specs.SearchEffects.{SpendsNeedOrReachesLimit}
+use Rattle.regress_search.specs.RemainingAnswers.{NextYields, EndsAtTextEnd, MayRefuse, RemainingView, remaining_answers_from, items_left}
 use Rattle.regress_search.specs.declared.exec.Match.{Match}
 use Rattle.regress_search.proofs.LastMatch.{ends-behind}
 
@@ -96,6 +96,6 @@ ended-none s t None e g = refl
 ended-none s t (Some (Ok m)) e g = absurd (cc (sym e ∙ g.2))
 ended-none s t (Some (Err x)) e g = absurd (cc (sym e ∙ g.1))
 
-pub last-ends : EndsAfterMatchStartingAtTextEnd
+pub last-ends : EndsAtTextEnd
 last-ends s t u m next g at k =
     ended-none t u next (g.4 ∙ eq-eqb m.range.start s.text_end at) k

@@ -5,7 +5,7 @@ use Rattle.std.proofs.Math.Logic.{∥∥₁_map}
 use Rattle.regex_meaning.specs.Tree.{Tree}
 use Rattle.regex_meaning.specs.Text.{Text}
 use Rattle.regex_meaning.specs.Outcomes.{Groups}
-use Rattle.regress_search.specs.AttemptResultsAndStartsToTry.{NoMatchAt, end_with_groups, match_end_and_groups_at}
+use Rattle.regress_search.specs.AttemptsAndStarts.{NoMatchAt, end_with_groups, match_end_and_groups_at}
 use Rattle.regress_search.specs.CostsOfSearches.{AttemptsFail, CallSpendsExactCost, CostsMoreThanLeft, Failures, IfCounted, MayStopShort, SearchCosts, SpendsExactCost, TakesExactCost, no_attempt, one_more}
 use Rattle.regress_search.specs.CostsOfSearches.{finds_none, finds_match, is_begun, next_attempt_offset}
 

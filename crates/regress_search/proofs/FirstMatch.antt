@@ -9,7 +9,7 @@ use Rattle.regex_meaning.specs.Tree.{Tree, Flags}
 use Rattle.regex_meaning.specs.Text.{Text, rightwards, last_place}
 use Rattle.regex_meaning.specs.CodeUnitOffsets.{HasRisingPlaceOffsets, IsBoundary, offset, place_at, read, read_at, units}
 use Rattle.regex_meaning.specs.Outcomes.{Groups, Outcome}
-use Rattle.regex_meaning.specs.FirstAndAllMatches.{Found, first_outcome, match_at, first_match, place_behind, no_groups}
+use Rattle.regex_meaning.specs.FirstAndAllMatches.{Found, first_outcome, match_at, first_match, place_after_match, no_groups}
 use Rattle.regex_meaning.specs.MatchGroupsByNumberAndName.{Answer, answer, group_names_by_id}
 use Rattle.regex_meaning.specs.SearchAnswers.{first_found, first_answer, next_start}
 use Rattle.regex_meaning.specs.OutcomesWithStepTicks.{TickOrOutcome, tick, pair, outcomes_without_ticks, items_at}
@@ -21,7 +21,7 @@ use Rattle.regex_pattern_front.specs.declared.ir.Regex.{Regex}
 use Rattle.regress_program.specs.CompilationOfTreesAsFunction.{compiled}
 use Rattle.regress_machine.specs.SearchFindsFirstOutcomeAtPlace.{first_pair, end_in_offsets, groups_in_offsets}
 use Rattle.regress_search.specs.MatchesAsSpecAnswers.{answer_from_parts}
-use Rattle.regress_search.specs.AttemptResultsAndStartsToTry.{match_end_and_groups_at, next_search_offset}
+use Rattle.regress_search.specs.AttemptsAndStarts.{match_end_and_groups_at, next_search_offset}
 
 -- ---- Records
 
@@ -99,7 +99,7 @@ module _ (tree : Tree) (text : Text) (is : HasRisingPlaceOffsets text) where
       by false q = let past = nltb→le e (last_place text) (rw q tt) in sym (ap (option_map (λ (r : ℕ × ℕ). r.1)) (read-end e inside past))
 
   behind-is : (m : Found) → m.start ≤ m.end → m.end ≤ last_place text
-      → option_map (offset text) (place_behind tree.root text m) ≡ next_search_offset text (offset text m.start) (offset text m.end)
+      → option_map (offset text) (place_after_match tree.root text m) ≡ next_search_offset text (offset text m.start) (offset text m.end)
   behind-is m le inside = by (nat_lt m.start m.end) refl
     where
       by : (b : Bool) → nat_lt m.start m.end ≡ b
@@ -130,7 +130,7 @@ module _ (tree : Tree) (text : Text) (is : HasRisingPlaceOffsets text) where
       record {
         first = ap (option_map (answer tree.root text)) here
             ∙ ap Some (same-answer (offset text p) (offset text o.end) at e (groups_in_offsets text o.groups) gs (group_names_by_id tree.root) (group_names_by_id tree.root) place.0 end_is groups_are refl);
-        behind = ap (λ x. option_map (offset text) (option_and_then (place_behind tree.root text) x)) here
+        behind = ap (λ x. option_map (offset text) (option_and_then (place_after_match tree.root text) x)) here
             ∙ behind-is m stands.1 stands.2 ∙ ap₂ (next_search_offset text) place.0 end_is;
         boundary = subst (IsBoundary text) end_is (offset-IsBoundary text o.end is stands.2);
       }
@@ -245,7 +245,7 @@ module _ (tree : Tree) (text : Text) (is : HasRisingPlaceOffsets text) where
   found-first first at e gs g end =
       let f = found-here at e gs g.boundary end in (
         sym (ap (option_map (answer tree.root text)) g.same ∙ f.first),
-        sym (ap (λ x. option_map (offset text) (option_and_then (place_behind tree.root text) x)) g.same ∙ f.behind),
+        sym (ap (λ x. option_map (offset text) (option_and_then (place_after_match tree.root text) x)) g.same ∙ f.behind),
         f.boundary,
       )
 

@@ -5,13 +5,13 @@ use Rattle.std.proofs.lemmas.Bool.{and_from, and_parts, le-leb, leb-true}
 use Rattle.regex_meaning.specs.Tree.{Tree}
 use Rattle.regex_meaning.specs.Text.{Text, rightwards}
 use Rattle.regex_meaning.specs.CodeUnitOffsets.{IsBoundary, HasRisingPlaceOffsets, read}
-use Rattle.regress_search.specs.AttemptResultsAndStartsToTry.{NextStartSkipsNoMatch, next_search_offset}
-use Rattle.regress_search.specs.AttemptsAndMatchesWithinWork.{OrderedAttemptKeepsWorkEnough, IsOrderedAttempt, offset_after_attempt, least_offset_after_match}
-use Rattle.regress_search.specs.AttemptsAndMatchesWithinWork.{is_work_enough}
+use Rattle.regress_search.specs.AttemptsAndStarts.{NextStartSkipsNoMatch, next_search_offset}
+use Rattle.regress_search.specs.MatchesWithinWork.{AttemptKeepsWorkEnough, IsOrderedAttempt, offset_after_attempt, least_offset_after_match}
+use Rattle.regress_search.specs.MatchesWithinWork.{is_work_enough}
 use Rattle.regress_search.proofs.Anchored.{one-on}
 
 -- who counts no work has enough
-pub goes-on-free : {P E : Type 0} (offset : P → ℕ) (at : ℕ) (result : Result (Option P) E) → OrderedAttemptKeepsWorkEnough offset true 0 at result true 0 false
+pub goes-on-free : {P E : Type 0} (offset : P → ℕ) (at : ℕ) (result : Result (Option P) E) → AttemptKeepsWorkEnough offset true 0 at result true 0 false
 goes-on-free offset at (Ok end) turn = (refl, record { is = refl; past = omega arith })
 goes-on-free offset at (Err e) turn = (refl, tt)
 

@@ -17,7 +17,7 @@ use Rattle.regress_machine.specs.InsnEffects.{is_byte_sequence_insn}
 use Rattle.regress_machine.proofs.Search.{never_stuck}
 use Rattle.regress_machine.proofs.Whole.{searches-find}
 use Rattle.regress_machine.specs.FirstSetTables.{HasUnitsForTables}
-use Rattle.regress_program.specs.TextsSearchableByBytePrograms.{IsByteText}
+use Rattle.regress_program.specs.SearchableTexts.{IsByteText}
 use Rattle.regress_program.specs.InsnsAsSpecInsns.{insn_as_spec_insn}
 use Rattle.regress_program.specs.TableKeysOfUnits.{is_16_bit_encoding}
 use Rattle.regress_program.specs.Plans.{IsPlanOf, IsClass, op_as_char_loop, IsCharLoopOf}
@@ -27,7 +27,7 @@ use Rattle.regress_program.specs.declared.ops.Op.{Op}
 use Rattle.regress_program.specs.declared.ops.CharLoop.{CharLoop}
 use Rattle.regress_program.proofs.RowLemmas.{runs-of}
 use Rattle.regress_search.specs.DeadThreads.{MatchFailureExtendsUntil}
-use Rattle.regress_search.specs.CharLoopExits.{ClassFitsText, IsClassTest, HasAdvancedTo, in_a_row}
+use Rattle.regress_search.specs.CharLoopExits.{ClassFitsText, IsClassTest, HasAdvancedTo, accepted_run_len}
 use Rattle.regress_search.specs.TreePlanAndText.{SearchInput, program_of, insn_at}
 use Rattle.regress_search.proofs.LeadingLoops.{none-along}
 use Rattle.regress_search.proofs.Reach.{some-of}
@@ -128,7 +128,7 @@ module _ (w : SearchInput) (has : HasUnitsForTables w.encoding w.text) (plan : I
         tested = some-of (test_of (program_of w) (Some (insn_as_spec_insn class.insn))) tests-one
 
         abbrev count : ℕ
-        count = in_a_row w.text tested.0 rightwards (units w.text) (place w.text from)
+        count = accepted_run_len w.text tested.0 rightwards (units w.text) (place w.text from)
 
         pub leads-boundary : IsBoundary w.text far
         leads-boundary =

@@ -13,8 +13,8 @@ use Rattle.regress_program.specs.LeapsToGoals.{goal_occurs_at, GoalIsAbsentBetwe
 use Rattle.regress_program.specs.TableKeysOfUnits.{key, is_16_bit_encoding}
 use Rattle.regress_search.specs.TreePlanAndText.{SearchInput}
 use Rattle.regress_search.specs.StartSearch.{table_allows_unit_or_end_at, table_of_listed_units, NoneWhere}
-use Rattle.regress_search.specs.UnitsAndInsnReadsAtOffset.{unit_key_in_search}
-use Rattle.regress_search.specs.Leaping.{is_passed_at, IsFirstPassed, IsBehindBarrier}
+use Rattle.regress_search.specs.ReadsAtOffset.{unit_key_in_search}
+use Rattle.regress_search.specs.Leaping.{is_passed_at, IsFirstPassed, IsPastBarrier}
 use Rattle.regress_search.proofs.LowUnits.{low-boundary, key-small, key-own}
 use Rattle.regress_search.proofs.NextUnits.{unit-fits}
 use Rattle.regress_search.proofs.Starting.{low-listed}
@@ -94,7 +94,7 @@ module _ (w : SearchInput) (has : HasUnitsForTables w.encoding w.text) where
     passed-key at k b here is = ap (λ o. is_some_and o (is_passed_key leap)) (sym here) ∙ is
 
     -- back at a barrier below 128
-    pub at-barrier : (at k : ℕ) → IsFirstPassed w leap from goal at → from < at → unit_key_in_search w (at - 1) ≡ Some k → k < 128 → IsBehindBarrier w leap from goal (at - 1)
+    pub at-barrier : (at k : ℕ) → IsFirstPassed w leap from goal at → from < at → unit_key_in_search w (at - 1) ≡ Some k → k < 128 → IsPastBarrier w leap from goal (at - 1)
     at-barrier at k first after here low = record {
       boundary = low-key-boundary (at - 1) k here low;
       ahead = omega (arith, after);
@@ -125,7 +125,7 @@ module _ (w : SearchInput) (has : HasUnitsForTables w.encoding w.text) where
 
     -- behind another one
     pub behind-high : (at k : ℕ) → IsFirstPassed w leap from goal at → from < at → unit_key_in_search w (at - 1) ≡ Some k → 128 ≤ k → k < 256
-        → IsBoundary w.text goal → IsBehindBarrier w leap from goal at
+        → IsBoundary w.text goal → IsPastBarrier w leap from goal at
     behind-high at k first after here high below end = record {
       boundary = elim (cases_lt at goal) [
         | inl before ↦ passed-low at k (first.passed before) (passed-key (at - 1) k false here (first.barred after)) high below
@@ -141,7 +141,7 @@ module _ (w : SearchInput) (has : HasUnitsForTables w.encoding w.text) where
     }
 
     -- nothing before
-    pub at-first : (at : ℕ) → IsFirstPassed w leap from goal at → at ≤ from → IsBoundary w.text from → IsBehindBarrier w leap from goal at
+    pub at-first : (at : ℕ) → IsFirstPassed w leap from goal at → at ≤ from → IsBoundary w.text from → IsPastBarrier w leap from goal at
     at-first at first le on = record {
       boundary = subst (IsBoundary w.text) (let ahead = first.ahead in let same : from ≡ at = omega (arith, le, ahead) in same) on;
       ahead = first.ahead;

@@ -15,7 +15,7 @@ use Rattle.std.specs.Option.{option_map_or}
 use Rattle.regex_meaning.proofs.TextLemmas.{offset-place_at, place_at-past}
 use Rattle.regress_machine.specs.SearchFindsFirstOutcomeAtPlace.{end_in_offsets, first_pair}
 use Rattle.regress_search.specs.MatchesAsSpecAnswers.{answer_from_parts}
-use Rattle.regress_search.specs.AttemptResultsAndStartsToTry.{match_end_and_groups_at, end_with_groups, ticks_of_attempt_at}
+use Rattle.regress_search.specs.AttemptsAndStarts.{match_end_and_groups_at, end_with_groups, ticks_of_attempt_at}
 use Rattle.regress_search.proofs.FirstMatch.{found_by, match-first, same-answer}
 
 -- the position of an offset is at it

@@ -16,7 +16,7 @@ use Rattle.regress_machine.specs.FirstSetTables.{HasUnitsForTables, unit_key_at}
 use Rattle.regress_machine.specs.RequiredPrefixes.{unit_is_allowed}
 use Rattle.regress_program.specs.declared.required_prefix_types.Prefix.{Prefix}
 use Rattle.regress_program.specs.declared.required_prefix_prefilters.MaskedUnitProbe.{MaskedUnitProbe}
-use Rattle.regress_program.specs.PrefixesAndPrefilters.{units_allowed_by_prefix, prefix_allows_units_at, unit_passes_probe, ProbePassesAllUnitsPrefixAllows}
+use Rattle.regress_program.specs.PrefixesAndPrefilters.{units_allowed_by_prefix, prefix_allows_units_at, unit_passes_probe, ProbePassesPrefix}
 use Rattle.regress_program.specs.PrefixesAndPrefilters.{PrefixAllowsOnlyAsciiFirst}
 use Rattle.regress_program.specs.TableKeysOfUnits.{key, is_16_bit_encoding}
 use Rattle.regress_search.specs.TreePlanAndText.{SearchInput}
@@ -49,7 +49,7 @@ module _ (w : SearchInput) where
 -- ---- Bits
 
 -- where the first units may stand a probe passes
-pub probe-passes : (w : SearchInput) → HasUnitsForTables w.encoding w.text → (prefix : Prefix) (at : ℕ) → prefix_fits_at w prefix at ≡ true → (probe : MaskedUnitProbe) → ProbePassesAllUnitsPrefixAllows prefix probe
+pub probe-passes : (w : SearchInput) → HasUnitsForTables w.encoding w.text → (prefix : Prefix) (at : ℕ) → prefix_fits_at w prefix at ≡ true → (probe : MaskedUnitProbe) → ProbePassesPrefix prefix probe
     → (u : ℕ) → slice_get (text_units_in_encoding w.encoding w.text) (at + probe.ahead) ≡ Some u → unit_passes_probe probe u ≡ true
 probe-passes w has prefix at fit probe is u there =
     let one = fit-unit w has prefix at fit probe.ahead is.inside is.low in
@@ -58,7 +58,7 @@ probe-passes w has prefix at fit probe is u there =
     ap (unit_passes_probe probe) (sym same) ∙ is.only one.0 (omega (arith, small)) one.3
 
 -- it passes at each of the offsets that are marked
-pub probe-marks : (w : SearchInput) → HasUnitsForTables w.encoding w.text → (prefix : Prefix) (probe : MaskedUnitProbe) → ProbePassesAllUnitsPrefixAllows prefix probe → (at marks : ℕ)
+pub probe-marks : (w : SearchInput) → HasUnitsForTables w.encoding w.text → (prefix : Prefix) (probe : MaskedUnitProbe) → ProbePassesPrefix prefix probe → (at marks : ℕ)
     → at + probe.ahead + 32 ≤ units w.text → MarksUnitsWithBits (text_units_in_encoding w.encoding w.text) (at + probe.ahead) probe.mask probe.bits marks
     → MarksAllPassing (prefix_fits_at w prefix) at marks
 probe-marks w has prefix probe is at marks room are = record {

@@ -10,7 +10,7 @@ use Rattle.regex_meaning.specs.FirstAndAllMatches.{match_at, first_match}
 use Rattle.regex_meaning.specs.SearchAnswers.{first_found}
 use Rattle.regex_meaning.proofs.Matches.{first-unfolds, first-past}
 use Rattle.regex_meaning.proofs.TextLemmas.{IsBoundary-place, offset-IsBoundary, offset-le, offset-less, place-le, place_at-offset}
-use Rattle.regress_search.specs.AttemptResultsAndStartsToTry.{NextStartSkipsNoMatch, NoMatchAt, NoMatchStartsBetween}
+use Rattle.regress_search.specs.AttemptsAndStarts.{NextStartSkipsNoMatch, NoMatchAt, NoMatchStartsBetween}
 use Rattle.regress_search.proofs.FirstMatch.{GoesFrom, found-at, none-at}
 
 module _ (tree : Tree) (text : Text) where

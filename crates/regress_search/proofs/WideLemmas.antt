@@ -19,11 +19,11 @@ use Rattle.regex_meaning.proofs.Booleans.{and-left, and-right}
 use Rattle.std.specs.List.{list_all}
 use Rattle.regress_program.specs.declared.char_class_tables.Class.{Class}
 use Rattle.regress_program.specs.declared.char_class_tables.LeadBytesWhereScanMayStop.{LeadBytesWhereScanMayStop}
-use Rattle.regress_program.specs.ClassReadLengthsAndScanStopBytes.{StopBytesCoverPossibleEnds, is_stop, may_end_at}
+use Rattle.regress_program.specs.ClassReadLengths.{StopBytesCoverPossibleEnds, is_stop, may_end_at}
 use Rattle.regress_program.specs.TableKeysOfUnits.{key, is_16_bit_encoding, may_begin_surrogate_pair}
 use Rattle.regress_search.specs.CharLoopExits.{ClassFitsText, AcceptsTo}
 use Rattle.regress_search.specs.MarkedOffsets.{NonePasses, IsFirstPassing, MarksAllPassing}
-use Rattle.regress_search.specs.UnitsAndInsnReadsAtOffset.{unit_in}
+use Rattle.regress_search.specs.ReadsAtOffset.{unit_in}
 use Rattle.regress_search.specs.StartSearch.{NoneWhere, IsFirstAllowedBoundary, AllowsOnlyLeadBytes, table_of_listed_units, table_allows_unit_or_end_at}
 use Rattle.regress_search.specs.TreePlanAndText.{SearchInput}
 use Rattle.regress_search.specs.UnitRuns.{IsKeyTestAt}

@@ -6,22 +6,22 @@ use Rattle.regress_search.specs.declared.exec.Match.{Match}
 use Rattle.regress_search.specs.declared.exec.work_matches.WorkError.{WorkError}
 use Rattle.regress_search.specs.declared.exec.work_matches.WorkError.TheVariants.{Memory, WorkLimit}
 use Rattle.regress_search.specs.RemainingAnswers.{RemainingView}
-use Rattle.regress_search.specs.AttemptsAndMatchesWithinWork.{RemainingAnswersAndWork, NextYieldsWithinWork}
+use Rattle.regress_search.specs.MatchesWithinWork.{RemainingAnswersAndWork, NextYieldsWithinWork}
 use Rattle.regress_search.specs.CostsOfSearches.{ContinuesAfterCall, CostsMoreThanLeft, Failures, SearchCosts, TakesExactCost}
 
 -- What contracts see of an iterator: the answers still to come, the amount of work that may still be
 -- done, and whether the work limit is enough for all of them. The cost of the next call depends on the
 -- producer and on the offset at which the list continues.
 pub record WorkMatchesView (P : Type 0) : Type 0 where
-  pub come : RemainingView
+  pub remaining : RemainingView
   pub left : ℕ
   pub enough : Bool
   pub producer : P
   pub position : Option ℕ
 
 -- The view without the producer and the offset.
-abbrev pub remaining : {P : Type 0} → WorkMatchesView P → RemainingAnswersAndWork
-remaining v = record { come = v.come; left = v.left; enough = v.enough }
+abbrev pub without_costs : {P : Type 0} → WorkMatchesView P → RemainingAnswersAndWork
+without_costs v = record { remaining = v.remaining; left = v.left; enough = v.enough }
 
 -- The work of one call, whose search costs `costs`. It takes exactly the cost of the search from the
 -- work that was left. It returns `WorkLimit` only if a part of the search costs more than was left.
@@ -40,7 +40,7 @@ module _ {P : Type 0} (attempt_costs : Tree → Text → (before : Failures) →
   -- The effect of one call, its work, and where the list continues.
   abbrev pub NextYieldsAtCost : WorkMatchesView P → Option (Result Match WorkError) → WorkMatchesView P → Type 0
   NextYieldsAtCost s result t =
-      NextYieldsWithinWork (remaining s) result (remaining t)
+      NextYieldsWithinWork (without_costs s) result (without_costs t)
       × CostsInWork (NextCosts s) s.left result t.left (failures t.producer)
       × ContinuesAfterCall (tree s.producer) (text s.producer) s.position result t.position
       × (tree t.producer ≡ tree s.producer) × (text t.producer ≡ text s.producer)

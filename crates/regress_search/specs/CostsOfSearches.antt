@@ -7,9 +7,9 @@
 use Rattle.std.specs.Prelude.{◌≡◌, ◌<◌, ◌≤◌, ◌+◌, ℕ, Bool, true, false, Option, Some, None, Result, Ok, Err, IfSome, IsSome}
 use Rattle.regex_meaning.specs.Tree.{Tree}
 use Rattle.regex_meaning.specs.Text.{Text}
-use Rattle.regress_program.specs.StartPredicatesAndWhenTheyAllocate.{is_anchored_tree}
-use Rattle.regress_search.specs.AttemptResultsAndStartsToTry.{NoMatchAt, match_end_and_groups_at, offset_after_failed_attempt}
-use Rattle.regress_search.specs.StepBudgetAndContinuationAfterSearch.{IsNextStartAfterFirstMatch}
+use Rattle.regress_program.specs.StartPredicates.{is_anchored_tree}
+use Rattle.regress_search.specs.AttemptsAndStarts.{NoMatchAt, match_end_and_groups_at, offset_after_failed_attempt}
+use Rattle.regress_search.specs.SearchEffects.{IsNextStartAfterFirstMatch}
 
 -- The failures that are known, by instruction, offset and code of the loop data.
 abbrev pub Failures : Type 0

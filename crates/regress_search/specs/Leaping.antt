@@ -21,7 +21,7 @@ module _ (w : SearchInput) (leap : Leap) (from goal : ℕ) where
     pub barred : from < at → is_passed_at w leap (at - 1) ≡ false
 
   -- Between each offset from `from` on and before `to`, and the goal, there is a barrier.
-  pub record IsBehindBarrier (to : ℕ) : Type 0 where
+  pub record IsPastBarrier (to : ℕ) : Type 0 where
     pub boundary : IsBoundary w.text to
     pub ahead : from ≤ to
     pub barred : (at : ℕ) → from ≤ at → at < to → HasBarrierBetween (leap_to_goal leap) w.encoding w.text at goal
@@ -31,7 +31,7 @@ module _ (w : SearchInput) (leap : Leap) (from : ℕ) where
   pub record LeadsTo (target : LeapTarget) : Type 0 where
     pub occurs : goal_occurs_at (leap_to_goal leap) w.encoding w.text target.goal ≡ true
     pub absent : GoalIsAbsentBetween (leap_to_goal leap) w.encoding w.text from target.goal
-    pub behind : IsBehindBarrier w leap from target.goal target.to
+    pub behind : IsPastBarrier w leap from target.goal target.to
 
   -- Where a leap leads; there is no goal from `from` on without a target.
   abbrev pub LeapLeads : Option LeapTarget → Type 0

@@ -5,11 +5,11 @@ use Rattle.regex_meaning.specs.MatchGroupsByNumberAndName.{Answer}
 use Rattle.regex_meaning.specs.Outcomes.{Groups}
 use Rattle.regress_search.specs.declared.exec.Match.{Match}
 
--- a declared range as a pair of its start and its end
+-- A declared range as a pair of its start and its end.
 abbrev pub range_as_pair : Range ℕ → ℕ × ℕ
 range_as_pair r = (r.start, r.end)
 
--- the range of a match, its groups by id, and the names by id
+-- The range of a match, its groups by id, and the names by id.
 abbrev pub answer_of : Match → Answer
 answer_of m = record {
   range = range_as_pair m.range;
@@ -17,6 +17,6 @@ answer_of m = record {
   names = m.names;
 }
 
--- the answer with this range, these groups and these names
+-- The answer with this range, these groups and these names.
 abbrev pub answer_from_parts : (start end : ℕ) → Groups → (names : List (List ℕ)) → Answer
 answer_from_parts start end groups names = record { range = (start, end); captures = groups; names = names }

@@ -5,15 +5,15 @@ use Rattle.regex_meaning.specs.Text.{Text, ascii_text}
 use Rattle.regex_meaning.specs.Tree.{Tree}
 use Rattle.regress_search.specs.declared.exec.MatchProducer.{Ghosts}
 
--- a new executor searches the tree in the text, read by the tree's flags, without a limit of steps
-abbrev pub IsNewExecutorWithoutStepLimit : {E P : Type 0} → Ghosts E P → Tree → (text_of : (unicode : Bool) → Text) → E → Type 0
-IsNewExecutorWithoutStepLimit ghosts tree text_of e =
+-- A new executor searches the tree in the text, read by the tree's flags, without a limit of steps.
+abbrev pub IsNewExecutor : {E P : Type 0} → Ghosts E P → Tree → (text_of : (unicode : Bool) → Text) → E → Type 0
+IsNewExecutor ghosts tree text_of e =
     (ghosts.tree e ≡ tree) × (ghosts.text e ≡ text_of tree.flags.unicode) × (ghosts.budget e ≡ None)
 
--- the executor takes each ASCII text
+-- The executor takes each ASCII text.
 abbrev pub CanSearchAllAsciiTexts : (can_search : Bor (List ℕ) → Type 0) → Type 0
 CanSearchAllAsciiTexts can_search = (text : Bor (List ℕ)) → IsAscii text.now → can_search text
 
--- the executor reads each byte of the text as a character
+-- The executor reads each byte of the text as a character.
 abbrev pub ReadsBytesAsAscii : (text_of : Bor (List ℕ) → (unicode : Bool) → Text) → Type 0
 ReadsBytesAsAscii text_of = text_of ≡ (λ text. ascii_text text.now)

@@ -10,7 +10,7 @@ use Rattle.regress_search.specs.declared.exec.Match.{Match}
 use Rattle.regress_search.specs.declared.exec.SearchError.{SearchError}
 use Rattle.regress_search.specs.declared.exec.SearchError.TheVariants.{Memory, StepLimit}
 use Rattle.regress_search.specs.MatchesAsSpecAnswers.{answer_of}
-use Rattle.regress_search.specs.StepBudgetAndContinuationAfterSearch.{step_limit_error_else_memory_error}
+use Rattle.regress_search.specs.SearchEffects.{cause_of_error}
 
 -- The answers still to come, and whether a step limit follows them instead of the end of the list.
 -- An iterator that has ended yields no more. The view also has the end of the text, in code units,
@@ -22,11 +22,11 @@ pub record RemainingView : Type 0 where
   pub text_end : ℕ
   pub out_of_steps : Bool
 
--- nothing is still to be yielded
+-- Nothing is still to be yielded.
 abbrev pub HasEnded : RemainingView → Type 0
 HasEnded t = (t.answers ≡ []) × (t.limited ≡ false) × (t.ended ≡ true)
 
--- what is still to be yielded within a budget, where the list continues at `position` or has ended
+-- What is still to be yielded within a budget, where the list continues at `position` or has ended.
 abbrev pub remaining_answers_from : Tree → Text → (budget position : Option ℕ) → (out_of_steps : Bool) → RemainingView
 remaining_answers_from tree text budget position out_of_steps = record {
   answers = answers_next tree text budget position;
@@ -36,8 +36,8 @@ remaining_answers_from tree text budget position out_of_steps = record {
   out_of_steps = out_of_steps;
 }
 
--- when an error may be returned: the step limit only where it follows, an allocation failure
--- anywhere
+-- When an error may be returned: the step limit only where it follows, an allocation failure
+-- anywhere.
 abbrev pub MayRefuse : SearchError → RemainingView → Type 0
 MayRefuse Memory s = Unit {0}
 MayRefuse StepLimit s = (s.answers ≡ []) × (s.limited ≡ true)
@@ -50,13 +50,13 @@ NextYields s None t = (s.answers ≡ []) × (s.limited ≡ false) × HasEnded t
 NextYields s (Some (Ok m)) t =
     (s.answers ≡ answer_of m ∷ t.answers) × (s.limited ≡ t.limited) × (s.ended ≡ false)
     × (t.text_end ≡ s.text_end) × (t.ended ≡ (m.range.start == s.text_end))
-NextYields s (Some (Err e)) t = MayRefuse e s × (s.ended ≡ false) × HasEnded t × (e ≡ step_limit_error_else_memory_error t.out_of_steps)
+NextYields s (Some (Err e)) t = MayRefuse e s × (s.ended ≡ false) × HasEnded t × (e ≡ cause_of_error t.out_of_steps)
 
--- an upper bound of the number of items still to be yielded, where an error counts as an item
+-- An upper bound of the number of items still to be yielded, where an error counts as an item.
 abbrev pub items_left : RemainingView → ℕ
 items_left s = if s.ended then 0 else length s.answers + 1
 
--- after a match that begins at the end of the text, the next call returns none
-abbrev pub EndsAfterMatchStartingAtTextEnd : Type 0
-EndsAfterMatchStartingAtTextEnd = (before behind later : RemainingView) (m : Match) (next : Option (Result Match SearchError))
+-- After a match that begins at the end of the text, the next call returns none.
+abbrev pub EndsAtTextEnd : Type 0
+EndsAtTextEnd = (before behind later : RemainingView) (m : Match) (next : Option (Result Match SearchError))
     → NextYields before (Some (Ok m)) behind → m.range.start ≡ before.text_end → NextYields behind next later → next ≡ None

@@ -11,7 +11,7 @@ use Rattle.regress_program.specs.declared.plan.CandidateStarts.{CandidateStarts}
 use Rattle.regress_program.specs.declared.plan.CandidateStarts.TheVariants as variant
 use Rattle.regress_program.specs.PrefixesAndPrefilters.{units_allowed_by_prefix, prefix_allows_units_at}
 use Rattle.regress_program.specs.TableKeysOfUnits.{key, is_16_bit_encoding, begins_utf8_character}
-use Rattle.regress_program.specs.Plans.{unit_table_at_candidate_starts}
+use Rattle.regress_program.specs.Plans.{units_at_candidate_starts}
 use Rattle.regress_machine.specs.FirstSetTables.{AllowedNextKeys, table_allows_key_or_end, unit_key_at}
 use Rattle.regress_search.specs.TreePlanAndText.{SearchInput}
 
@@ -70,8 +70,8 @@ abbrev pub prefix_fits_at : SearchInput → Prefix → (at : ℕ) → Bool
 prefix_fits_at w prefix at = prefix_allows_units_at (units_allowed_by_prefix prefix) (keys_in w) at prefix.len
 
 -- The first boundary from `from` on where the prefix may occur.
-abbrev pub IsFirstBoundaryWherePrefixFits : SearchInput → Prefix → (from : ℕ) → Option ℕ → Type 0
-IsFirstBoundaryWherePrefixFits w prefix from next = IsFirstBoundaryWhere w (prefix_fits_at w prefix) from next
+abbrev pub IsFirstPrefixFit : SearchInput → Prefix → (from : ℕ) → Option ℕ → Type 0
+IsFirstPrefixFit w prefix from next = IsFirstBoundaryWhere w (prefix_fits_at w prefix) from next
 
 -- The offset past the first character that the table allows.
 abbrev pub IsPastFirstAllowedChar : SearchInput → AllowedNextKeys → (from : ℕ) → Option ℕ → Type 0
@@ -82,7 +82,7 @@ IsPastFirstAllowedChar w table from (Some to) = (hit : ℕ) × IsFirstAllowedBou
 abbrev pub may_start_at : SearchInput → CandidateStarts → (at : ℕ) → Bool
 may_start_at w (variant.Prefix prefix prefilter) at = prefix_fits_at w prefix at
 may_start_at w (variant.Behind before) at = allows_start w.encoding before w.text at
-may_start_at w start at = table_allows_unit_or_end_at w (unit_table_at_candidate_starts w.plan start) at
+may_start_at w start at = table_allows_unit_or_end_at w (units_at_candidate_starts w.plan start) at
 
 -- The first candidate start from `from` on, by the plan.
 abbrev pub IsFirstCandidate : SearchInput → (from : ℕ) → Option ℕ → Type 0

@@ -1,7 +1,7 @@
 -- Runs of code units whose keys pass a test.
 use Rattle.std.specs.Prelude.{◌≡◌, ◌≤◌, ◌<◌, ℕ, ◌+◌, Bool, true, false, Some}
 use Rattle.regress_search.specs.TreePlanAndText.{SearchInput}
-use Rattle.regress_search.specs.UnitsAndInsnReadsAtOffset.{unit_key_in_search}
+use Rattle.regress_search.specs.ReadsAtOffset.{unit_key_in_search}
 
 -- The test gives this answer for the key of the unit at an offset.
 abbrev pub IsKeyTestAt : SearchInput → (test : ℕ → Bool) → (at : ℕ) → (answer : Bool) → Type 0

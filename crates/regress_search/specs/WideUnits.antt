@@ -6,7 +6,7 @@ use Rattle.regress_input.specs.TextCodeUnits.{has_bits}
 use Rattle.regress_program.specs.TableKeysOfUnits.{key, may_begin_surrogate_pair}
 use Rattle.regress_search.specs.declared.few_wide_units.UnitBits.{UnitBits}
 use Rattle.regress_search.specs.TreePlanAndText.{SearchInput}
-use Rattle.regress_search.specs.UnitsAndInsnReadsAtOffset.{unit_in}
+use Rattle.regress_search.specs.ReadsAtOffset.{unit_in}
 
 -- The bits tell the units with this key.
 abbrev pub TellsUnitsOfKey : UnitBits → (k : ℕ) → Type 0

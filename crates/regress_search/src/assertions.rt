@@ -5,9 +5,7 @@ ghost use Rattle.regex_meaning.specs.{Tree.{start_of_line, end_of_line}, CodeUni
 ghost use Rattle.regress_input.specs.CharAndByteReadsFromOffset.{place};
 ghost use Rattle.regress_search.specs.OffsetsAfterMatchedInsns.{anchor_matches_at};
 
-use crate::insns_that_read_or_test_text::{
-    at_line_end, at_line_start, passes_word_boundary_assertion,
-};
+use crate::insns_that_read_or_test_text::{at_line_end, at_line_start, passes_word_boundary};
 use crate::search_context::position_of_offset;
 use regress_input::indexing::InputIndexer;
 use regress_program::ops::WordBoundaryKind;
@@ -45,7 +43,7 @@ pub fn is_word_boundary_at_offset<Input: InputIndexer>(
     ensures { let text = Input.text input.now in
         result ≡ exclusive_or edge.invert (is_at_word_boundary text edge.unicode_icase (place text at)) }
 {
-    passes_word_boundary_assertion(
+    passes_word_boundary(
         input,
         edge.invert,
         edge.unicode_icase,

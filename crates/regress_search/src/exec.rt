@@ -1,15 +1,15 @@
 //! Finding matches one after another.
 
-ghost use Rattle.std.specs.Prelude.{◌≡◌, ◌<◌, ◌≤◌, ◌⊎◌, ℕ, ⊤, Bool, true, false, Option, map, option_map, IfOk, IfErr, OnErr, OnSome, IfNone, if◌then◌else◌, nat_le, not};
+ghost use Rattle.std.specs.Prelude.{◌≡◌, ◌≤◌, ℕ, ⊤, Bool, true, false, Option, map, option_map, IfOk, IfErr, OnErr, OnSome, IfNone, if◌then◌else◌, not};
 ghost use Rattle.std.specs.Prelude.{Some, None, string_bytes};
 ghost use Rattle.std.specs.Iterator.{at_most};
 ghost use Rattle.std.specs.Option.{ForSome};
-ghost use Rattle.regex_meaning.specs.{Tree.{Tree}, Text.{Text}, CodeUnitOffsets.{HasRisingPlaceOffsets, IsBoundary, units}, SearchAnswers.{first_answer}};
+ghost use Rattle.regex_meaning.specs.{Tree.{Tree}, Text.{Text}, CodeUnitOffsets.{HasRisingPlaceOffsets, IsBoundary, IsBoundaryOrPastEnd, is_past, offset_within, units}, SearchAnswers.{first_answer}};
 ghost use Rattle.regex_meaning.specs.StepBudget.{answers_within, finishes_within, need_from};
 ghost use Rattle.regex_pattern_front.specs.AstToSpecTree.{tree_of};
-ghost use Rattle.regress_search.specs.StepBudgetAndContinuationAfterSearch.{IsNextStartAfterFirstMatch, SpendsNeedOrReachesLimit, step_limit_error_else_memory_error};
-ghost use Rattle.regress_search.specs.RemainingAnswers.{RemainingView, remaining_answers_from, NextYields, EndsAfterMatchStartingAtTextEnd, items_left};
-ghost use Rattle.regress_search.specs.AttemptsAndMatchesWithinWork.{CallKeepsWorkEnough, OrderedSearchKeepsWorkEnough, is_work_enough};
+ghost use Rattle.regress_search.specs.SearchEffects.{IsNextStartAfterFirstMatch, SpendsNeedOrReachesLimit, cause_of_error};
+ghost use Rattle.regress_search.specs.RemainingAnswers.{RemainingView, remaining_answers_from, NextYields, EndsAtTextEnd, items_left};
+ghost use Rattle.regress_search.specs.MatchesWithinWork.{CallKeepsWorkEnough, SearchKeepsWorkEnough, is_work_enough};
 ghost use Rattle.regress_search.specs.CostsOfSearches.{CallSpendsExactCost, ContinuesAfterCall, Failures, IfCounted, SearchCosts, SpendsExactCost};
 
 use regress_input::position::PositionType;
@@ -33,7 +33,7 @@ pub enum SearchError {
     #[error("out of memory")]
     Memory,
     /// The step limit is reached. This never occurs without a limit.
-    #[error("the steps are used up")]
+    #[error("the step limit is reached")]
     StepLimit,
 }
 
@@ -113,31 +113,31 @@ pub trait MatchProducer {
 
     ghost out_of_steps: { Self → Bool } = { λ _. false };
 
-    // the work limit is enough for attempts in ascending order of offsets, each at `ahead` or later
+    // The work limit is enough for attempts in ascending order of offsets, each at `ahead` or later.
     ghost enough: { Self → Bool } = { λ _. true };
 
     ghost ahead: { Self → ℕ } = { λ _. 0 };
 
     ghost out_of_work: { Self → Bool } = { λ _. false };
 
-    // the amount of work that may still be done, where work is counted
+    // The amount of work that may still be done, where work is counted.
     ghost left: { Self → ℕ } = { λ _. 0 };
 
-    // whether work is counted
+    // Whether work is counted.
     ghost counts_work: { Bool } = { false };
 
-    // the failures that are known, on which the costs of attempts depend
+    // The failures that are known, on which the costs of attempts depend.
     ghost failures: { Self → Failures } = { λ _ _ _ _. false };
 
-    // what an attempt costs (`CostsOfSearches`), where work is counted
+    // What an attempt costs (`CostsOfSearches`), where work is counted.
     ghost attempt_costs: { Tree → Text → Failures → (at cost : ℕ) → Option Failures → Type 0 } = { λ _ _ _ _ _ _. ⊤ };
 
     /// Returns the position of an offset in code units, which is a boundary or past the end.
     /// Returns `None` if it is past the end.
     fn initial_position(&self, offset: usize) -> Option<Self::Position>
-        requires { IsBoundary (text self.now) offset ⊎ (units (text self.now) < offset) }
+        requires { IsBoundaryOrPastEnd (text self.now) offset }
         ensures { option_map Self.Position.offset result
-            ≡ (if nat_le offset (units (text self.now)) then Some offset else None) };
+            ≡ offset_within (text self.now) offset };
 
     /// Finds the first match from a position on. `next_start` becomes the position at which the
     /// list of matches continues, or `None` if it ends. It is unchanged if there is no match or an
@@ -161,8 +161,8 @@ pub trait MatchProducer {
             × OnErr result (next_start.new ≡ next_start.old) }
         ensures steps { SpendsNeedOrReachesLimit (need_from (tree self.old) (text self.old) (Self.Position.offset pos))
             (budget self.old) result (budget self.new) }
-        ensures cause { IfErr result (λ e. e ≡ step_limit_error_else_memory_error (out_of_steps self.new)) }
-        ensures work { let at = Self.Position.offset in OrderedSearchKeepsWorkEnough (enough self.old)
+        ensures cause { IfErr result (λ e. e ≡ cause_of_error (out_of_steps self.new)) }
+        ensures work { let at = Self.Position.offset in SearchKeepsWorkEnough (enough self.old)
             (ahead self.old) (at pos)
             result (enough self.new) (ahead self.new) (option_map at next_start.new) (out_of_work self.new) }
         ensures left { left self.new ≤ left self.old }
@@ -209,31 +209,31 @@ pub trait Executor<'r, 't>: ProducerFromProgramAndText<'r, Text = &'t str> {
 /// still to come.
 #[derive(Drop)]
 pub struct Matches<P: MatchProducer> {
-    mp: P,
+    producer: P,
     position: Option<P::Position>,
 }
 
 impl<P: MatchProducer> Model for Matches<P> {
     ghost Value = { RemainingView };
 
-    ghost view = { λ m. remaining_answers_from (P.tree m.mp) (P.text m.mp) (P.budget m.mp)
-        (option_map P.Position.offset m.position) (P.out_of_steps m.mp) };
+    ghost view = { λ m. remaining_answers_from (P.tree m.producer) (P.text m.producer) (P.budget m.producer)
+        (option_map P.Position.offset m.position) (P.out_of_steps m.producer) };
 
-    ghost invariant = { λ m. ForSome m.position (λ p. IsBoundary (P.text m.mp) (P.Position.offset p)) };
+    ghost invariant = { λ m. ForSome m.position (λ p. IsBoundary (P.text m.producer) (P.Position.offset p)) };
 }
 
 impl<P: MatchProducer> Matches<P> {
     /// Iterates over the matches from an offset in code units on, which is a boundary or past the
     /// end. Past the end there are none.
-    pub fn new(mp: P, start: usize) -> Self
-        requires { IsBoundary (P.text mp) start ⊎ (units (P.text mp) < start) }
-        ensures answers { result.answers ≡ answers_within (P.tree mp) (P.text mp) (P.budget mp) start }
-        ensures limited { result.limited ≡ not (finishes_within (P.tree mp) (P.text mp) (P.budget mp) start) }
-        ensures ended { result.ended ≡ not (nat_le start (units (P.text mp))) }
-        ensures text_end { result.text_end ≡ units (P.text mp) }
+    pub fn new(producer: P, start: usize) -> Self
+        requires { IsBoundaryOrPastEnd (P.text producer) start }
+        ensures answers { result.answers ≡ answers_within (P.tree producer) (P.text producer) (P.budget producer) start }
+        ensures limited { result.limited ≡ not (finishes_within (P.tree producer) (P.text producer) (P.budget producer) start) }
+        ensures ended { result.ended ≡ is_past start (units (P.text producer)) }
+        ensures text_end { result.text_end ≡ units (P.text producer) }
     {
-        let position = mp.initial_position(start);
-        Matches { mp, position }
+        let position = producer.initial_position(start);
+        Matches { producer, position }
     }
 }
 
@@ -247,40 +247,40 @@ impl<P: MatchProducer + Drop> Iterator for Matches<P> {
     /// Returns the next match. Once there is no other match, or after an error, it always returns
     /// `None`.
     fn next(&mut self) -> Option<Result<Match, SearchError>> {
-        advance_matches(&mut self.mp, &mut self.position)
+        advance_matches(&mut self.producer, &mut self.position)
     }
 }
 
 // Returns the next match from a position on, if there is one. The position becomes the one at which
 // the list continues, or `None` if it ends.
 fn advance_matches<P: MatchProducer>(
-    mp: &mut P,
+    producer: &mut P,
     position: &mut Option<P::Position>,
 ) -> Option<Result<Match, SearchError>>
-    requires at { ForSome position.old (λ p. IsBoundary (P.text mp.old) (P.Position.offset p)) }
-    ensures at { ForSome position.new (λ p. IsBoundary (P.text mp.new) (P.Position.offset p)) }
+    requires at { ForSome position.old (λ p. IsBoundary (P.text producer.old) (P.Position.offset p)) }
+    ensures at { ForSome position.new (λ p. IsBoundary (P.text producer.new) (P.Position.offset p)) }
     ensures gives { let offset = option_map P.Position.offset in
-        let before = remaining_answers_from (P.tree mp.old) (P.text mp.old) (P.budget mp.old) (offset position.old)
-        (P.out_of_steps mp.old) in
-        let behind = remaining_answers_from (P.tree mp.new) (P.text mp.new) (P.budget mp.new) (offset position.new)
-        (P.out_of_steps mp.new) in
+        let before = remaining_answers_from (P.tree producer.old) (P.text producer.old) (P.budget producer.old) (offset position.old)
+        (P.out_of_steps producer.old) in
+        let behind = remaining_answers_from (P.tree producer.new) (P.text producer.new) (P.budget producer.new) (offset position.new)
+        (P.out_of_steps producer.new) in
         NextYields before result behind }
     ensures work { let offset = option_map P.Position.offset in
-        let before = is_work_enough (P.enough mp.old) (P.ahead mp.old) (offset position.old) in
-        let behind = is_work_enough (P.enough mp.new) (P.ahead mp.new) (offset position.new) in
-        CallKeepsWorkEnough before result behind (P.out_of_work mp.new) }
-    ensures left { P.left mp.new ≤ P.left mp.old }
+        let before = is_work_enough (P.enough producer.old) (P.ahead producer.old) (offset position.old) in
+        let behind = is_work_enough (P.enough producer.new) (P.ahead producer.new) (offset position.new) in
+        CallKeepsWorkEnough before result behind (P.out_of_work producer.new) }
+    ensures left { P.left producer.new ≤ P.left producer.old }
     ensures cost { let offset = option_map P.Position.offset in
-        let costs = SearchCosts P.attempt_costs (P.tree mp.old) (P.text mp.old) (P.failures mp.old)
+        let costs = SearchCosts P.attempt_costs (P.tree producer.old) (P.text producer.old) (P.failures producer.old)
         (offset position.old) in
-        IfCounted P.counts_work (CallSpendsExactCost costs (P.left mp.old) result (P.out_of_work mp.new)
-        (P.left mp.new) (P.failures mp.new)) }
-    ensures continues { let offset = option_map P.Position.offset in ContinuesAfterCall (P.tree mp.old) (P.text mp.old)
+        IfCounted P.counts_work (CallSpendsExactCost costs (P.left producer.old) result (P.out_of_work producer.new)
+        (P.left producer.new) (P.failures producer.new)) }
+    ensures continues { let offset = option_map P.Position.offset in ContinuesAfterCall (P.tree producer.old) (P.text producer.old)
         (offset position.old) result (offset position.new) }
-    ensures same { (P.tree mp.new ≡ P.tree mp.old) × (P.text mp.new ≡ P.text mp.old) }
+    ensures same { (P.tree producer.new ≡ P.tree producer.old) × (P.text producer.new ≡ P.text producer.old) }
 {
     let pos = (*position)?;
-    match mp.next_match(pos, position) {
+    match producer.next_match(pos, position) {
         Ok(Some(found)) => Some(Ok(found)),
         Ok(None) => {
             *position = None;
@@ -296,5 +296,5 @@ fn advance_matches<P: MatchProducer>(
 /// After a match at the end of the text, which is empty, nothing more is searched: the next call
 /// returns `None` and allocates no memory.
 pub fn match_at_text_end_is_last()
-    ensures { EndsAfterMatchStartingAtTextEnd }
+    ensures { EndsAtTextEnd }
 {}

@@ -7,7 +7,7 @@ ghost use Rattle.regex_meaning.specs.CodeUnitOffsets.{units};
 ghost use Rattle.regress_input.specs.TextCodeUnits.{has_bits};
 ghost use Rattle.regress_program.specs.TableKeysOfUnits.{is_16_bit_encoding};
 ghost use Rattle.regress_search.specs.MarkedOffsets.{IsFirstPassing};
-ghost use Rattle.regress_search.specs.UnitsAndInsnReadsAtOffset.{unit_in};
+ghost use Rattle.regress_search.specs.ReadsAtOffset.{unit_in};
 ghost use Rattle.regress_search.specs.WideUnits.{TellsUnitsOfKey, AreListedKeysTold, unit_has_listed_key, is_told_by_bits as is_told};
 
 use crate::class_char_and_table_lookups::unit_at_offset;
@@ -28,13 +28,13 @@ impl<W: SearchContext> OffsetTest<W> for UnitBits {
     ghost reach = { λ _. 1 };
 
     #[inline(always)]
-    fn marks(&self, planned: &W, at: usize) -> u64 {
-        units_with_bits(planned, at, self.mask, self.bits)
+    fn marks(&self, context: &W, at: usize) -> u64 {
+        units_with_bits(context, at, self.mask, self.bits)
     }
 
     #[inline(always)]
-    fn passes(&self, planned: &W, at: usize) -> bool {
-        unit_at_offset(planned, at) & u32::from(self.mask) == u32::from(self.bits)
+    fn passes(&self, context: &W, at: usize) -> bool {
+        unit_at_offset(context, at) & u32::from(self.mask) == u32::from(self.bits)
     }
 }
 
@@ -50,13 +50,13 @@ impl<W: SearchContext> OffsetTest<W> for OneUnit {
     ghost reach = { λ _. 1 };
 
     #[inline(always)]
-    fn marks(&self, planned: &W, at: usize) -> u64 {
-        units_with_bits(planned, at, 0xFFFF, self.unit)
+    fn marks(&self, context: &W, at: usize) -> u64 {
+        units_with_bits(context, at, 0xFFFF, self.unit)
     }
 
     #[inline(always)]
-    fn passes(&self, planned: &W, at: usize) -> bool {
-        unit_at_offset(planned, at) & 0xFFFF == u32::from(self.unit)
+    fn passes(&self, context: &W, at: usize) -> bool {
+        unit_at_offset(context, at) & 0xFFFF == u32::from(self.unit)
     }
 }
 
@@ -73,13 +73,13 @@ impl<W: SearchContext, A: OffsetTest<W>, B: OffsetTest<W>> OffsetTest<W> for Eit
     ghost reach = { λ either. max (A.reach either.a) (B.reach either.b) };
 
     #[inline(always)]
-    fn marks(&self, planned: &W, at: usize) -> u64 {
-        self.a.marks(planned, at) | self.b.marks(planned, at)
+    fn marks(&self, context: &W, at: usize) -> u64 {
+        self.a.marks(context, at) | self.b.marks(context, at)
     }
 
     #[inline(always)]
-    fn passes(&self, planned: &W, at: usize) -> bool {
-        self.a.passes(planned, at) || self.b.passes(planned, at)
+    fn passes(&self, context: &W, at: usize) -> bool {
+        self.a.passes(context, at) || self.b.passes(context, at)
     }
 }
 
@@ -127,52 +127,52 @@ fn is_told_by_bits(key: u8) -> bool
 // Returns the first of the offsets `from..to` of a unit with these bits.
 #[inline(always)]
 fn first_with_bits<W: SearchContext>(
-    planned: &W,
+    context: &W,
     kind: UnitBits,
     from: usize,
     to: usize,
 ) -> Option<usize>
     requires order { from ≤ to }
-    requires inside { to ≤ units (W.searching planned.now).text }
-    ensures { let w = W.searching planned.now in
+    requires inside { to ≤ units (W.searching context.now).text }
+    ensures { let w = W.searching context.now in
         IsFirstPassing (λ at. is_some_and (unit_in w at) (has_bits kind.mask kind.bits)) from to result }
 {
     if kind.mask == 0xFFFF {
-        first_by_marks(planned, &OneUnit { unit: kind.bits }, from, to)
+        first_by_marks(context, &OneUnit { unit: kind.bits }, from, to)
     } else {
-        first_by_marks(planned, &kind, from, to)
+        first_by_marks(context, &kind, from, to)
     }
 }
 
 /// Returns the first offset from `from` on of a 16-bit unit with one of these keys.
 #[inline(always)]
 pub(crate) fn next_wide<W: SearchContext>(
-    planned: &W,
+    context: &W,
     few: FewUnitsFinder,
     from: usize,
 ) -> Option<usize>
-    requires wide { is_16_bit_encoding (W.searching planned.now).encoding ≡ true }
+    requires wide { is_16_bit_encoding (W.searching context.now).encoding ≡ true }
     requires told { AreListedKeysTold few.units few.len }
-    requires at { from ≤ units (W.searching planned.now).text }
-    ensures { let w = W.searching planned.now in
+    requires at { from ≤ units (W.searching context.now).text }
+    ensures { let w = W.searching context.now in
         IsFirstPassing (unit_has_listed_key false few.units few.len w) from (units w.text) result }
 {
-    let end = text_end(planned);
+    let end = text_end(context);
     let [a, b, c] = few.units;
     match few.len {
         0 => None,
-        1 => first_with_bits(planned, units_of_key(a), from, end),
+        1 => first_with_bits(context, units_of_key(a), from, end),
         2 => {
             let a = units_of_key(a);
             let b = units_of_key(b);
-            first_by_marks(planned, &Either { a, b }, from, end)
+            first_by_marks(context, &Either { a, b }, from, end)
         }
         _ => {
             let a = units_of_key(a);
             let b = units_of_key(b);
             let c = units_of_key(c);
             let a = Either { a, b };
-            first_by_marks(planned, &Either { a, b: c }, from, end)
+            first_by_marks(context, &Either { a, b: c }, from, end)
         }
     }
 }
@@ -181,17 +181,17 @@ pub(crate) fn next_wide<W: SearchContext>(
 /// begin a surrogate pair.
 #[inline(always)]
 pub(crate) fn next_wide_or_pair<W: SearchContext>(
-    planned: &W,
+    context: &W,
     few: FewUnitsFinder,
     from: usize,
 ) -> Option<usize>
-    requires wide { is_16_bit_encoding (W.searching planned.now).encoding ≡ true }
+    requires wide { is_16_bit_encoding (W.searching context.now).encoding ≡ true }
     requires told { AreListedKeysTold few.units few.len }
-    requires at { from ≤ units (W.searching planned.now).text }
-    ensures { let w = W.searching planned.now in
+    requires at { from ≤ units (W.searching context.now).text }
+    ensures { let w = W.searching context.now in
         IsFirstPassing (unit_has_listed_key true few.units few.len w) from (units w.text) result }
 {
-    let end = text_end(planned);
+    let end = text_end(context);
     let [a, b, c] = few.units;
     let a = Either {
         a: PAIRS,
@@ -200,12 +200,12 @@ pub(crate) fn next_wide_or_pair<W: SearchContext>(
     let b = units_of_key(b);
     let c = units_of_key(c);
     match few.len {
-        0 => first_by_marks(planned, &PAIRS, from, end),
-        1 => first_by_marks(planned, &a, from, end),
-        2 => first_by_marks(planned, &Either { a, b }, from, end),
+        0 => first_by_marks(context, &PAIRS, from, end),
+        1 => first_by_marks(context, &a, from, end),
+        2 => first_by_marks(context, &Either { a, b }, from, end),
         _ => {
             let a = Either { a, b };
-            first_by_marks(planned, &Either { a, b: c }, from, end)
+            first_by_marks(context, &Either { a, b: c }, from, end)
         }
     }
 }

@@ -7,7 +7,7 @@ ghost use Rattle.regex_meaning.specs.{Outcomes.{is_at_word_boundary, is_line_bou
 ghost use Rattle.regex_meaning.specs.CompilationRelation.{ByteSeq, Bracket};
 ghost use Rattle.regex_pattern_front.specs.AstToSpecTree.{sameness_of, tree_of};
 ghost use Rattle.regress_input.specs.CharAndByteReadsFromOffset.{end_if_matched, place};
-ghost use Rattle.regress_program.specs.{CompilationOfTreesAsFunction.{compiled}, InsnsAndStartPredicatesAsSpec.{insn_as_spec_insn}};
+ghost use Rattle.regress_program.specs.{CompilationOfTreesAsFunction.{compiled}, InsnsAsSpec.{insn_as_spec_insn}};
 ghost use Rattle.regress_machine.specs.{Machine.{test_of}, InsnEffects.{is_byte_sequence_insn}};
 ghost use Rattle.regress_search.specs.OffsetsAfterMatchedInsns.{anchor_matches_at, past_backref, char_test_of_insn};
 
@@ -139,7 +139,7 @@ pub fn at_line_end<Input: InputIndexer>(
 
 /// Checks whether the position is a word boundary, or with `invert`, that it is none.
 #[inline(always)]
-pub fn passes_word_boundary_assertion<Input: InputIndexer>(
+pub fn passes_word_boundary<Input: InputIndexer>(
     input: &Input,
     invert: bool,
     unicode_icase: bool,

@@ -57,52 +57,52 @@ fn max_char_units_of(plan: &Plan, run: CharLoop) -> usize {
 /// continues. Returns `from` itself if matches begin with no char loop, or if its maximum is less
 /// than the length of the text.
 #[inline(always)]
-pub fn skip_leading_char_loop<W: SearchContext>(planned: &W, from: usize) -> usize
-    requires at { IsBoundary (W.searching planned.now).text from }
-    requires can { let w = W.searching planned.now in TreeProgramCanSearchText (program_of w) w.tree w.text }
-    ensures at { IsBoundary (W.searching planned.now).text result }
-    ensures vain { MatchFailureExtendsUntil (W.searching planned.now) from result }
+pub fn skip_leading_char_loop<W: SearchContext>(context: &W, from: usize) -> usize
+    requires at { IsBoundary (W.searching context.now).text from }
+    requires executable { let w = W.searching context.now in TreeProgramCanSearchText (program_of w) w.tree w.text }
+    ensures at { IsBoundary (W.searching context.now).text result }
+    ensures no_match { MatchFailureExtendsUntil (W.searching context.now) from result }
 {
-    let Some(op) = planned.op_at(0) else {
+    let Some(op) = context.op_at(0) else {
         return from;
     };
     match op.as_char_loop() {
-        Some(run) => past_run(planned, run, from),
+        Some(run) => past_run(context, run, from),
         None => from,
     }
 }
 
 // Returns that end for an existing char loop.
 #[inline(always)]
-fn past_run<W: SearchContext>(planned: &W, run: CharLoop, from: usize) -> usize
-    requires run { let ops = (W.searching planned.now).plan.ops.items in
+fn past_run<W: SearchContext>(context: &W, run: CharLoop, from: usize) -> usize
+    requires run { let ops = (W.searching context.now).plan.ops.items in
         option_and_then op_as_char_loop (slice_get ops 0) ≡ Some run }
-    requires at { IsBoundary (W.searching planned.now).text from }
-    requires can { let w = W.searching planned.now in TreeProgramCanSearchText (program_of w) w.tree w.text }
-    ensures at { IsBoundary (W.searching planned.now).text result }
-    ensures vain { MatchFailureExtendsUntil (W.searching planned.now) from result }
+    requires at { IsBoundary (W.searching context.now).text from }
+    requires executable { let w = W.searching context.now in TreeProgramCanSearchText (program_of w) w.tree w.text }
+    ensures at { IsBoundary (W.searching context.now).text result }
+    ensures no_match { MatchFailureExtendsUntil (W.searching context.now) from result }
 {
-    planned.lemma_plan_fits_program();
-    let most = planned.char_loop_bounds_with_number(run.bounds).max;
-    let end = text_end(planned);
+    context.lemma_plan_fits_program();
+    let most = context.char_loop_bounds_with_number(run.bounds).max;
+    let end = text_end(context);
     if most < end {
         return from;
     }
-    let class = planned.class_with_number(run.class);
-    far_end(planned, class, from)
+    let class = context.class_with_number(run.class);
+    far_end(context, class, from)
 }
 
 // Scans over all characters of a class to the right.
 #[inline(always)]
-fn far_end<W: SearchContext>(planned: &W, class: &Class, from: usize) -> usize
-    requires class { ClassFitsText (W.searching planned.now) class.now }
-    requires at { IsBoundary (W.searching planned.now).text from }
-    ensures { let w = W.searching planned.now in HasAdvancedTo w true class.now from (units w.text) result }
+fn far_end<W: SearchContext>(context: &W, class: &Class, from: usize) -> usize
+    requires class { ClassFitsText (W.searching context.now) class.now }
+    requires at { IsBoundary (W.searching context.now).text from }
+    ensures { let w = W.searching context.now in HasAdvancedTo w true class.now from (units w.text) result }
 {
-    let end = text_end(planned);
+    let end = text_end(context);
     if !class.single_unit {
-        return scan_chars_of_class_end(planned, Forward, class, from, end);
+        return scan_chars_of_class_end(context, Forward, class, from, end);
     }
-    let (far, _count) = scan_single_unit_chars(planned, class, from, end);
+    let (far, _count) = scan_single_unit_chars(context, class, from, end);
     far
 }

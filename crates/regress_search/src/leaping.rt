@@ -3,7 +3,7 @@
 ghost use Rattle.std.specs.Prelude.{◌≤◌, ◌≡◌, ◌<◌, true};
 ghost use Rattle.regex_meaning.specs.CodeUnitOffsets.{IsBoundary, units};
 ghost use Rattle.regress_program.specs.Leaps.{AreGoalsFewAscii, AreHighKeysAlike};
-ghost use Rattle.regress_search.specs.Leaping.{is_passed_at, IsBehindBarrier, IsFirstPassed, LeapLeads};
+ghost use Rattle.regress_search.specs.Leaping.{is_passed_at, IsPastBarrier, IsFirstPassed, LeapLeads};
 ghost use Rattle.regress_search.specs.StartSearch.{IsFirstAllowedBoundary, table_of_listed_units};
 
 use crate::class_char_and_table_lookups::{unit_at_offset, unit_key_at_offset};
@@ -25,15 +25,15 @@ pub struct LeapTarget {
 
 /// Returns where a leap leads from an offset on, or `None` if there is no goal.
 #[inline(never)]
-pub fn leap_from<W: SearchContext>(planned: &W, leap: &Leap, from: usize) -> Option<LeapTarget>
-    requires at { IsBoundary (W.searching planned.now).text from }
+pub fn leap_from<W: SearchContext>(context: &W, leap: &Leap, from: usize) -> Option<LeapTarget>
+    requires at { IsBoundary (W.searching context.now).text from }
     requires ascii { AreGoalsFewAscii leap.now }
     requires alike { AreHighKeysAlike leap.now }
-    ensures { LeapLeads (W.searching planned.now) leap.now from result }
+    ensures { LeapLeads (W.searching context.now) leap.now from result }
 {
-    match next_goal(planned, leap, from) {
+    match next_goal(context, leap, from) {
         Some(goal) => {
-            let to = behind_barrier(planned, leap, from, goal);
+            let to = behind_barrier(context, leap, from, goal);
             Some(LeapTarget { to, goal })
         }
         None => None,
@@ -42,53 +42,53 @@ pub fn leap_from<W: SearchContext>(planned: &W, leap: &Leap, from: usize) -> Opt
 
 // Returns the first offset from `from` on of a unit of the goal.
 #[inline(always)]
-fn next_goal<W: SearchContext>(planned: &W, leap: &Leap, from: usize) -> Option<usize>
-    requires at { IsBoundary (W.searching planned.now).text from }
+fn next_goal<W: SearchContext>(context: &W, leap: &Leap, from: usize) -> Option<usize>
+    requires at { IsBoundary (W.searching context.now).text from }
     requires ascii { AreGoalsFewAscii leap.now }
-    ensures { IsFirstAllowedBoundary (W.searching planned.now) (table_of_listed_units leap.now.units leap.now.len) from result }
+    ensures { IsFirstAllowedBoundary (W.searching context.now) (table_of_listed_units leap.now.units leap.now.len) from result }
 {
     let few = FewUnitsFinder {
         units: leap.units,
         len: leap.len,
     };
     if <<W::Input as HasUnitType>::Units as CodeUnitEncoding>::ARE_BYTES {
-        next_of_few_units(planned, few, from)
+        next_of_few_units(context, few, from)
     } else {
-        next_wide(planned, few, from)
+        next_wide(context, few, from)
     }
 }
 
 // Returns an offset from `from` on. No match comes from an offset before it to `goal`, because of a
 // unit that it may not read on the way: the barrier, which is at that offset or before it.
 #[inline(always)]
-fn behind_barrier<W: SearchContext>(planned: &W, leap: &Leap, from: usize, goal: usize) -> usize
-    requires from { IsBoundary (W.searching planned.now).text from }
-    requires goal { IsBoundary (W.searching planned.now).text goal }
+fn behind_barrier<W: SearchContext>(context: &W, leap: &Leap, from: usize, goal: usize) -> usize
+    requires from { IsBoundary (W.searching context.now).text from }
+    requires goal { IsBoundary (W.searching context.now).text goal }
     requires ahead { from ≤ goal }
-    requires inside { goal ≤ units (W.searching planned.now).text }
+    requires inside { goal ≤ units (W.searching context.now).text }
     requires alike { AreHighKeysAlike leap.now }
-    ensures { IsBehindBarrier (W.searching planned.now) leap.now from goal result }
+    ensures { IsPastBarrier (W.searching context.now) leap.now from goal result }
 {
-    let at = first_passed(planned, leap, from, goal);
+    let at = first_passed(context, leap, from, goal);
     if at <= from {
         return at;
     }
-    let key = unit_key_at_offset(planned, at - 1);
+    let key = unit_key_at_offset(context, at - 1);
     if key < 128 { at - 1 } else { at }
 }
 
 // Returns the first offset from `from` on such that all units from there up to `goal` may be
 // passed.
 #[inline(always)]
-fn first_passed<W: SearchContext>(planned: &W, leap: &Leap, from: usize, goal: usize) -> usize
+fn first_passed<W: SearchContext>(context: &W, leap: &Leap, from: usize, goal: usize) -> usize
     requires ahead { from ≤ goal }
-    requires inside { goal ≤ units (W.searching planned.now).text }
+    requires inside { goal ≤ units (W.searching context.now).text }
     requires alike { AreHighKeysAlike leap.now }
-    ensures { IsFirstPassed (W.searching planned.now) leap.now from goal result }
+    ensures { IsFirstPassed (W.searching context.now) leap.now from goal result }
 {
     let mut at = goal;
     'back: while at > from {
-        if !is_passed(planned, leap, at - 1) {
+        if !is_passed(context, leap, at - 1) {
             return at;
         }
         at -= 1;
@@ -98,14 +98,14 @@ fn first_passed<W: SearchContext>(planned: &W, leap: &Leap, from: usize, goal: u
 
 // Checks whether the unit at an offset may be passed. All 16-bit units from 128 on are as 128 is.
 #[inline(always)]
-fn is_passed<W: SearchContext>(planned: &W, leap: &Leap, at: usize) -> bool
-    requires inside { at < units (W.searching planned.now).text }
+fn is_passed<W: SearchContext>(context: &W, leap: &Leap, at: usize) -> bool
+    requires inside { at < units (W.searching context.now).text }
     requires alike { AreHighKeysAlike leap.now }
-    ensures { result ≡ is_passed_at (W.searching planned.now) leap.now at }
+    ensures { result ≡ is_passed_at (W.searching context.now) leap.now at }
 {
     if <<W::Input as HasUnitType>::Units as CodeUnitEncoding>::ARE_BYTES {
-        leap.over[unit_key_at_offset(planned, at)]
+        leap.over[unit_key_at_offset(context, at)]
     } else {
-        leap.over[unit_at_offset(planned, at).min(128) as usize]
+        leap.over[unit_at_offset(context, at).min(128) as usize]
     }
 }

@@ -3,9 +3,9 @@
 ghost use Rattle.std.specs.Prelude.{◌≡◌, ◌+◌, IsAscii, IsTrue, option_map};
 ghost use Rattle.regex_meaning.specs.{Text.{ascii_text, ucs2_text, utf16_text, utf8_text}, WellFormedTrees.{is_well_formed}, CodeUnitOffsets.{IsBoundary}};
 ghost use Rattle.regex_pattern_front.specs.AstToSpecTree.{tree_of};
-ghost use Rattle.regress_program.specs.{StartPredicatesAndWhenTheyAllocate.{is_anchored_tree}, TextsSearchableByBytePrograms.{IsByteText}};
+ghost use Rattle.regress_program.specs.{StartPredicates.{is_anchored_tree}, SearchableTexts.{IsByteText}};
 ghost use Rattle.regress_machine.specs.TextsForBytePrograms.{tree_contains_byte_nodes};
-ghost use Rattle.regress_search.specs.AttemptResultsAndStartsToTry.{NextStartSkipsNoMatch, offset_after_failed_attempt};
+ghost use Rattle.regress_search.specs.AttemptsAndStarts.{NextStartSkipsNoMatch, offset_after_failed_attempt};
 ghost use Rattle.regress_search.specs.CostsOfSearches.{next_attempt_offset};
 
 use regress_input::indexing::{AsciiInput, InputIndexer, Ucs2Input, Utf8Input, Utf16Input};
@@ -40,7 +40,7 @@ impl<'r, Input: InputIndexer> ProgramAndInput<'r, Input> {
     /// that the pattern matches only at the left end, and otherwise the position is one character
     /// further.
     #[inline(always)]
-    pub fn position_after_failed_attempt(&self, tried: Input::Position) -> Option<Input::Position>
+    pub fn position_after_failure(&self, tried: Input::Position) -> Option<Input::Position>
         requires { IsBoundary (Input.text self.now.input) (Input.Position.offset tried) }
         ensures next { let at = Input.Position.offset in
             NextStartSkipsNoMatch (tree_of self.now.program.now)
@@ -78,7 +78,7 @@ impl<'r, Input: InputIndexer> ProgramAndInput<'r, Input> {
         ensures same { result.program.now ≡ re.now }
         ensures input { result.input ≡ input }
     {
-        let program = re.program_common_to_both_unit_kinds();
+        let program = re.common_program();
         let _well_formed = program.insns();
         ProgramAndInput {
             program,
@@ -97,7 +97,7 @@ impl<'r, 't> ProgramAndInput<'r, Utf8Input<'t>> {
     {
         ProgramAndInput::pair_with_bytes(
             re,
-            Utf8Input::new(text, re.program_common_to_both_unit_kinds().flags().unicode),
+            Utf8Input::new(text, re.common_program().flags().unicode),
         )
     }
 }
@@ -112,7 +112,7 @@ impl<'r, 't> ProgramAndInput<'r, AsciiInput<'t>> {
     {
         ProgramAndInput::pair_with_bytes(
             re,
-            AsciiInput::new(text, re.program_common_to_both_unit_kinds().flags().unicode),
+            AsciiInput::new(text, re.common_program().flags().unicode),
         )
     }
 }
@@ -124,7 +124,7 @@ impl<'r, Input: InputIndexer> ProgramAndInput<'r, Input> {
         ensures same { result.program.now ≡ re.now }
         ensures input { result.input ≡ input }
     {
-        let program = re.program_common_to_both_unit_kinds();
+        let program = re.common_program();
         let _well_formed = program.insns();
         ProgramAndInput {
             program,
@@ -143,7 +143,7 @@ impl<'r, 't> ProgramAndInput<'r, Utf16Input<'t>> {
     {
         ProgramAndInput::pair_with_units(
             re,
-            Utf16Input::new(text, re.program_common_to_both_unit_kinds().flags().unicode),
+            Utf16Input::new(text, re.common_program().flags().unicode),
         )
     }
 }
@@ -157,7 +157,7 @@ impl<'r, 't> ProgramAndInput<'r, Ucs2Input<'t>> {
     {
         ProgramAndInput::pair_with_units(
             re,
-            Ucs2Input::new(text, re.program_common_to_both_unit_kinds().flags().unicode),
+            Ucs2Input::new(text, re.common_program().flags().unicode),
         )
     }
 }

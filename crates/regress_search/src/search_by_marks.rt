@@ -20,44 +20,44 @@ pub(crate) trait OffsetTest<W: SearchContext> {
 
     /// Tests 32 offsets from `at` on. The test fails at `at + i` if bit `i` is clear; it may fail where
     /// a bit is set.
-    fn marks(&self, planned: &W, at: usize) -> u64
-        requires { at + 31 + reach self.now ≤ units (W.searching planned.now).text }
-        ensures { MarksAllPassing (passes_at self.now (W.searching planned.now)) at result };
+    fn marks(&self, context: &W, at: usize) -> u64
+        requires { at + 31 + reach self.now ≤ units (W.searching context.now).text }
+        ensures { MarksAllPassing (passes_at self.now (W.searching context.now)) at result };
 
     /// Like `marks`, for a block in which `marks` has a set bit: fewer bits may be set.
     #[inline(always)]
-    fn strict_marks(&self, planned: &W, at: usize) -> u64
-        requires { at + 31 + reach self.now ≤ units (W.searching planned.now).text }
-        ensures { MarksAllPassing (passes_at self.now (W.searching planned.now)) at result }
+    fn strict_marks(&self, context: &W, at: usize) -> u64
+        requires { at + 31 + reach self.now ≤ units (W.searching context.now).text }
+        ensures { MarksAllPassing (passes_at self.now (W.searching context.now)) at result }
     {
-        self.marks(planned, at)
+        self.marks(context, at)
     }
 
     /// Checks whether the test fails at all 32 offsets from `at` on. It is called for a block in which
     /// `marks` has a set bit, and decides nothing if `false`.
     #[inline(always)]
-    fn rejects(&self, planned: &W, at: usize) -> bool
-        requires { at + 31 + reach self.now ≤ units (W.searching planned.now).text }
-        ensures { result ≡ true → NonePasses (passes_at self.now (W.searching planned.now)) at (at + 32) }
+    fn rejects(&self, context: &W, at: usize) -> bool
+        requires { at + 31 + reach self.now ≤ units (W.searching context.now).text }
+        ensures { result ≡ true → NonePasses (passes_at self.now (W.searching context.now)) at (at + 32) }
     {
         false
     }
 
     /// Checks whether the test passes at an offset.
-    fn passes(&self, planned: &W, at: usize) -> bool
-        requires { at + reach self.now ≤ units (W.searching planned.now).text }
-        ensures { result ≡ passes_at self.now (W.searching planned.now) at };
+    fn passes(&self, context: &W, at: usize) -> bool
+        requires { at + reach self.now ≤ units (W.searching context.now).text }
+        ensures { result ≡ passes_at self.now (W.searching context.now) at };
 }
 
 /// Tests the 32 code units from an offset on: bit `i` of the result is set if unit `at + i` has, of the
 /// bits in `mask`, exactly those in `bits`.
 #[inline(always)]
-pub(crate) fn units_with_bits<W: SearchContext>(planned: &W, at: usize, mask: u16, bits: u16) -> u64
-    requires { at + 32 ≤ units (W.searching planned.now).text }
-    ensures { let w = W.searching planned.now in
+pub(crate) fn units_with_bits<W: SearchContext>(context: &W, at: usize, mask: u16, bits: u16) -> u64
+    requires { at + 32 ≤ units (W.searching context.now).text }
+    ensures { let w = W.searching context.now in
         MarksUnitsWithBits (text_units_in_encoding w.encoding w.text) at mask bits result }
 {
-    let all = planned.input().code_units();
+    let all = context.input().code_units();
     <<<W::Input as HasUnitType>::Units as CodeUnitEncoding>::Unit as CodeUnit>::units_with_bits(
         all, at, mask, bits,
     )
@@ -67,42 +67,42 @@ pub(crate) fn units_with_bits<W: SearchContext>(planned: &W, at: usize, mask: u1
 /// block is tested at once.
 #[inline(always)]
 pub(crate) fn first_by_marks<W: SearchContext, Test: OffsetTest<W>>(
-    planned: &W,
+    context: &W,
     test: &Test,
     from: usize,
     to: usize,
 ) -> Option<usize>
     requires order { from ≤ to }
-    requires room { from < to → to + Test.reach test.now ≤ units (W.searching planned.now).text + 1 }
-    ensures { IsFirstPassing (Test.passes_at test.now (W.searching planned.now)) from to result }
+    requires room { from < to → to + Test.reach test.now ≤ units (W.searching context.now).text + 1 }
+    ensures { IsFirstPassing (Test.passes_at test.now (W.searching context.now)) from to result }
 {
     let mut at = from;
     'blocks: while to - at >= LANES {
-        if let Some(found) = first_in_block(planned, test, at) {
+        if let Some(found) = first_in_block(context, test, at) {
             return Some(found);
         }
-        at = past_quiet_blocks(planned, test, at + LANES, to);
+        at = past_quiet_blocks(context, test, at + LANES, to);
     }
-    first_one_by_one(planned, test, at, to)
+    first_one_by_one(context, test, at, to)
 }
 
 // Goes past the blocks without marks. It is not inlined, so that the vectors stay in registers: no
 // caller's loop, which makes calls, is around it.
 #[inline(never)]
 fn past_quiet_blocks<W: SearchContext, Test: OffsetTest<W>>(
-    planned: &W,
+    context: &W,
     test: &Test,
     from: usize,
     to: usize,
 ) -> usize
     requires order { from ≤ to }
-    requires room { from < to → to + Test.reach test.now ≤ units (W.searching planned.now).text + 1 }
+    requires room { from < to → to + Test.reach test.now ≤ units (W.searching context.now).text + 1 }
     ensures low { from ≤ result }
     ensures high { result ≤ to }
-    ensures passed { NonePasses (Test.passes_at test.now (W.searching planned.now)) from result }
+    ensures passed { NonePasses (Test.passes_at test.now (W.searching context.now)) from result }
 {
     let mut at = from;
-    'blocks: while to - at >= LANES && is_quiet(planned, test, at) {
+    'blocks: while to - at >= LANES && is_quiet(context, test, at) {
         at += LANES;
     }
     at
@@ -110,31 +110,31 @@ fn past_quiet_blocks<W: SearchContext, Test: OffsetTest<W>>(
 
 // Checks whether a block may be left out: if so, the test fails at all of its offsets.
 #[inline(always)]
-fn is_quiet<W: SearchContext, Test: OffsetTest<W>>(planned: &W, test: &Test, at: usize) -> bool
-    requires { at + 31 + Test.reach test.now ≤ units (W.searching planned.now).text }
-    ensures { result ≡ true → NonePasses (Test.passes_at test.now (W.searching planned.now)) at (at + 32) }
+fn is_quiet<W: SearchContext, Test: OffsetTest<W>>(context: &W, test: &Test, at: usize) -> bool
+    requires { at + 31 + Test.reach test.now ≤ units (W.searching context.now).text }
+    ensures { result ≡ true → NonePasses (Test.passes_at test.now (W.searching context.now)) at (at + 32) }
 {
-    if test.marks(planned, at) == 0 {
+    if test.marks(context, at) == 0 {
         return true;
     }
-    test.rejects(planned, at)
+    test.rejects(context, at)
 }
 
 // Returns the first offset of a block at which the test passes. It is not inlined, because a compiler
 // that sees the vectors in two branches takes them apart.
 #[inline(never)]
 fn first_in_block<W: SearchContext, Test: OffsetTest<W>>(
-    planned: &W,
+    context: &W,
     test: &Test,
     from: usize,
 ) -> Option<usize>
-    requires { from + 31 + Test.reach test.now ≤ units (W.searching planned.now).text }
-    ensures { IsFirstPassing (Test.passes_at test.now (W.searching planned.now)) from (from + 32) result }
+    requires { from + 31 + Test.reach test.now ≤ units (W.searching context.now).text }
+    ensures { IsFirstPassing (Test.passes_at test.now (W.searching context.now)) from (from + 32) result }
 {
-    let mut left = test.strict_marks(planned, from);
+    let mut left = test.strict_marks(context, from);
     'marked: while left != 0 {
         let bit = lowest_bit(left);
-        if test.passes(planned, from + bit) {
+        if test.passes(context, from + bit) {
             return Some(from + bit);
         }
         left = without_bit(left, bit);
@@ -145,18 +145,18 @@ fn first_in_block<W: SearchContext, Test: OffsetTest<W>>(
 // Returns that offset, testing one offset after another.
 #[inline(always)]
 fn first_one_by_one<W: SearchContext, Test: OffsetTest<W>>(
-    planned: &W,
+    context: &W,
     test: &Test,
     from: usize,
     to: usize,
 ) -> Option<usize>
     requires order { from ≤ to }
-    requires room { from < to → to + Test.reach test.now ≤ units (W.searching planned.now).text + 1 }
-    ensures { IsFirstPassing (Test.passes_at test.now (W.searching planned.now)) from to result }
+    requires room { from < to → to + Test.reach test.now ≤ units (W.searching context.now).text + 1 }
+    ensures { IsFirstPassing (Test.passes_at test.now (W.searching context.now)) from to result }
 {
     let mut at = from;
     'places: while at < to {
-        if test.passes(planned, at) {
+        if test.passes(context, at) {
             return Some(at);
         }
         at += 1;

@@ -1,17 +1,17 @@
 //! The search loop over the candidate starts of a text, shared by all executors.
 
-ghost use Rattle.std.specs.Prelude.{◌≡◌, ◌+◌, ◌<◌, ◌≤◌, ◌⊎◌, ℕ, ⊤, Bool, true, false, IfErr, IfOk, IsSome, None, Some, Option, map, option_map, length};
-ghost use Rattle.regex_meaning.specs.{Tree.{Tree}, Text.{Text}, CodeUnitOffsets.{HasRisingPlaceOffsets, IsBoundary, units}, SearchAnswers.{answer_at}};
+ghost use Rattle.std.specs.Prelude.{◌≡◌, ◌+◌, ◌<◌, ◌≤◌, ℕ, ⊤, Bool, true, false, IfErr, IfOk, IsSome, None, Some, Option, map, option_map, length};
+ghost use Rattle.regex_meaning.specs.{Tree.{Tree}, Text.{Text}, CodeUnitOffsets.{HasRisingPlaceOffsets, IsBoundary, IsBoundaryOrPastEnd, units}, SearchAnswers.{answer_at}};
 ghost use Rattle.regex_meaning.specs.{Outcomes.{Groups, group_range}, MatchGroupsByNumberAndName.{group_names_by_id}};
 ghost use Rattle.regex_pattern_front.specs.AstToSpecTree.{tree_of};
 ghost use Rattle.regress_search.specs.MatchesAsSpecAnswers.{answer_from_parts, answer_of, range_as_pair};
-ghost use Rattle.regress_search.specs.AttemptResultsAndStartsToTry.{NextStartSkipsNoMatch, NoMatchAt, end_with_groups, match_end_and_groups_at, first_filtered_start};
-ghost use Rattle.regress_search.specs.AttemptResultsAndStartsToTry.{next_filtered_start};
-ghost use Rattle.regress_search.specs.AttemptResultsAndStartsToTry.{next_search_offset, ticks_of_attempt_at};
+ghost use Rattle.regress_search.specs.AttemptsAndStarts.{NextStartSkipsNoMatch, NoMatchAt, end_with_groups, match_end_and_groups_at, first_filtered_start};
+ghost use Rattle.regress_search.specs.AttemptsAndStarts.{next_filtered_start};
+ghost use Rattle.regress_search.specs.AttemptsAndStarts.{next_search_offset, ticks_of_attempt_at};
 ghost use Rattle.regress_search.specs.OffsetRangeOfPositions.{offset_range_of_positions};
-ghost use Rattle.regress_search.specs.StepBudgetAndContinuationAfterSearch.{SpendsNeedOrReachesLimit, AllocFailureCostsAtLeastOneStep, ResultTellsIfStepLimitReached};
-ghost use Rattle.regress_search.specs.StepBudgetAndContinuationAfterSearch.{step_limit_error_else_memory_error};
-ghost use Rattle.regress_search.specs.AttemptsAndMatchesWithinWork.{OrderedAttemptKeepsWorkEnough};
+ghost use Rattle.regress_search.specs.SearchEffects.{SpendsNeedOrReachesLimit, AllocFailureCostsAStep, TellsIfStepLimitReached};
+ghost use Rattle.regress_search.specs.SearchEffects.{cause_of_error};
+ghost use Rattle.regress_search.specs.MatchesWithinWork.{AttemptKeepsWorkEnough};
 ghost use Rattle.regress_search.specs.CostsOfSearches.{Failures, IfCounted, SpendsExactCost, next_attempt_offset};
 
 use crate::exec::{Match, MatchProducer, SearchError};
@@ -45,23 +45,23 @@ pub trait SingleAttemptExecutor {
 
     ghost has_begun: { Self → Type 0 } = { λ _. ⊤ };
 
-    // the work limit is enough for attempts in ascending order of offsets, each at `ahead` or later
+    // The work limit is enough for attempts in ascending order of offsets, each at `ahead` or later.
     ghost enough: { Self → Bool } = { λ _. true };
 
     ghost ahead: { Self → ℕ } = { λ _. 0 };
 
     ghost out_of_work: { Self → Bool } = { λ _. false };
 
-    // the amount of work that may still be done, where work is counted
+    // The amount of work that may still be done, where work is counted.
     ghost left: { Self → ℕ } = { λ _. 0 };
 
-    // whether work is counted
+    // Whether work is counted.
     ghost counts_work: { Bool } = { false };
 
-    // the failures that are known, on which the costs of attempts depend
+    // The failures that are known, on which the costs of attempts depend.
     ghost failures: { Self → Failures } = { λ _ _ _ _. false };
 
-    // what an attempt costs (`CostsOfSearches`), where work is counted
+    // What an attempt costs (`CostsOfSearches`), where work is counted.
     ghost attempt_costs: { Tree → Text → Failures → (at cost : ℕ) → Option Failures → Type 0 } = { λ _ _ _ _ _ _. ⊤ };
 
     ghost groups: { Self → Groups };
@@ -93,10 +93,10 @@ pub trait SingleAttemptExecutor {
         ensures steps { let ticks = ticks_of_attempt_at (tree self.old) (text self.old) in
             SpendsNeedOrReachesLimit (ticks (Self.Input.Position.offset pos)) (budget self.old) result
             (budget self.new) }
-        ensures begun { AllocFailureCostsAtLeastOneStep (has_begun self.new) (budget self.old) result
+        ensures begun { AllocFailureCostsAStep (has_begun self.new) (budget self.old) result
             (budget self.new) }
-        ensures cause { ResultTellsIfStepLimitReached result (out_of_steps self.new) }
-        ensures work { let at = Self.Input.Position.offset in OrderedAttemptKeepsWorkEnough at (enough self.old)
+        ensures cause { TellsIfStepLimitReached result (out_of_steps self.new) }
+        ensures work { let at = Self.Input.Position.offset in AttemptKeepsWorkEnough at (enough self.old)
             (ahead self.old)
             (at pos) result (enough self.new) (ahead self.new) (out_of_work self.new) }
         ensures left { left self.new ≤ left self.old }
@@ -140,12 +140,12 @@ pub trait SingleAttemptExecutor {
 
     /// Returns the first position to try after one where no match begins. No match begins between
     /// them. Returns `None` if no match begins after it.
-    fn next_start_after_failed_attempt(
+    fn next_start_after_failure(
         &self,
         tried: <Self::Input as InputIndexer>::Position,
     ) -> Option<<Self::Input as InputIndexer>::Position>
         requires at { IsBoundary (text self.now) (Self.Input.Position.offset tried) }
-        requires vain { NoMatchAt (tree self.now) (text self.now) (Self.Input.Position.offset tried) }
+        requires no_match { NoMatchAt (tree self.now) (text self.now) (Self.Input.Position.offset tried) }
         ensures next { let at = Self.Input.Position.offset in
             NextStartSkipsNoMatch (tree self.now) (text self.now) (at tried + 1) (option_map at result) }
         ensures counted { let at = Self.Input.Position.offset in IsSome (budget self.now)
@@ -275,7 +275,7 @@ impl<A: SingleAttemptExecutor> MatchProducer for A {
                 *next_start = next_search_pos(self.input(), start, end);
                 return Ok(Some(found));
             }
-            next = self.next_start_after_failed_attempt(start);
+            next = self.next_start_after_failure(start);
         }
         Ok(None)
     }
@@ -293,12 +293,12 @@ pub fn match_at<A: SingleAttemptExecutor>(
     executor: &mut A,
     at: usize,
 ) -> Result<Option<Match>, SearchError>
-    requires { IsBoundary (A.text executor.old) at ⊎ (units (A.text executor.old) < at) }
+    requires { IsBoundaryOrPastEnd (A.text executor.old) at }
     ensures found { IfOk result (λ m. option_map answer_of m
         ≡ answer_at (A.tree executor.old).root (A.text executor.old) at) }
     ensures steps { SpendsNeedOrReachesLimit (ticks_of_attempt_at (A.tree executor.old) (A.text executor.old) at)
         (A.budget executor.old) result (A.budget executor.new) }
-    ensures cause { IfErr result (λ e. e ≡ step_limit_error_else_memory_error (A.out_of_steps executor.new)) }
+    ensures cause { IfErr result (λ e. e ≡ cause_of_error (A.out_of_steps executor.new)) }
 {
     let Some(start) = executor.initial_position(at) else {
         return Ok(None);

@@ -3,13 +3,13 @@
 ghost use Rattle.std.specs.Prelude.{◌≡◌, ◌<◌, true, false, IfSome};
 ghost use Rattle.regex_meaning.specs.CodeUnitOffsets.{IsBoundary, units};
 ghost use Rattle.regress_input.specs.CharAndByteReadsFromOffset.{is_byte_encoding};
-ghost use Rattle.regress_program.specs.LookbehindFilter.{LookbehindFilterKeysAreLeadBytes, allows_start};
+ghost use Rattle.regress_program.specs.LookbehindFilter.{FilterKeysAreLeadBytes, allows_start};
 ghost use Rattle.regress_program.specs.PrefixesAndPrefilters.{PrefixAllowsOnlyAsciiFirst, IsLiteralForcedByPrefix, IsOnlyUnitAllowedAtPosition, IsLiteralPrefilterOfPrefix};
 ghost use Rattle.regress_program.specs.PrefixesAndPrefilters.{IsPrefilterOfPrefix};
 ghost use Rattle.regress_program.specs.TableKeysOfUnits.{is_16_bit_encoding};
 ghost use Rattle.regress_program.specs.Plans.{unit_table_of_set_number};
 ghost use Rattle.regress_machine.specs.FirstSetTables.{AllowedNextKeys};
-ghost use Rattle.regress_search.specs.StartSearch.{IsFirstAllowedBoundary, IsFirstBoundaryWhere, IsFirstBoundaryWherePrefixFits, IsFirstCandidate, IsFirstByteSearchHit};
+ghost use Rattle.regress_search.specs.StartSearch.{IsFirstAllowedBoundary, IsFirstBoundaryWhere, IsFirstPrefixFit, IsFirstCandidate, IsFirstByteSearchHit};
 ghost use Rattle.regress_search.specs.StartSearch.{AllowsOnlyLeadBytes, SkipsNoBoundary, IsPastFirstAllowedChar, table_of_listed_units, may_start_at};
 
 use crate::class_char_and_table_lookups::{set_allows_next_unit, unit_key_at_offset};
@@ -77,52 +77,52 @@ impl StartSet for FewUnitsFinder {
 
 // Returns the offset past a code unit, or past a character if units are not bytes.
 #[inline(always)]
-fn past_unit<W: SearchContext>(planned: &W, at: usize) -> usize
-    requires inside { at < units (W.searching planned.now).text }
-    requires at { let w = W.searching planned.now in
+fn past_unit<W: SearchContext>(context: &W, at: usize) -> usize
+    requires inside { at < units (W.searching context.now).text }
+    requires at { let w = W.searching context.now in
         is_byte_encoding w.encoding ≡ false → IsBoundary w.text at }
-    ensures { let w = W.searching planned.now in SkipsNoBoundary w.text (is_byte_encoding w.encoding) at result }
+    ensures { let w = W.searching context.now in SkipsNoBoundary w.text (is_byte_encoding w.encoding) at result }
 {
-    let input = planned.input();
+    let input = context.input();
     if <<W::Input as HasUnitType>::Units as CodeUnitEncoding>::ARE_BYTES {
         at + 1
     } else {
-        offset_in_searched_text(planned, input.past(position_in_searched_text(planned, at)))
+        offset_in_searched_text(context, input.past(position_in_searched_text(context, at)))
     }
 }
 
 // Returns the first offset from `from` on that the set allows.
 #[inline(always)]
 fn first_place<W: SearchContext, Set: StartSet>(
-    planned: &W,
+    context: &W,
     set: &Set,
     from: usize,
 ) -> Option<usize>
-    requires at { IsBoundary (W.searching planned.now).text from }
-    requires leads { AllowsOnlyLeadBytes (is_16_bit_encoding (W.searching planned.now).encoding) (Set.table set.now) }
-    ensures { IsFirstAllowedBoundary (W.searching planned.now) (Set.table set.now) from result }
+    requires at { IsBoundary (W.searching context.now).text from }
+    requires leads { AllowsOnlyLeadBytes (is_16_bit_encoding (W.searching context.now).encoding) (Set.table set.now) }
+    ensures { IsFirstAllowedBoundary (W.searching context.now) (Set.table set.now) from result }
 {
-    let end = text_end(planned);
+    let end = text_end(context);
     let mut at = from;
     'units: while at < end {
-        if set.has_key(unit_key_at_offset(planned, at)) {
+        if set.has_key(unit_key_at_offset(context, at)) {
             return Some(at);
         }
-        at = past_unit(planned, at);
+        at = past_unit(context, at);
     }
     if set.has_end() { Some(at) } else { None }
 }
 
 // Returns the first offset from `from` on that the set with this number allows.
 #[inline(always)]
-fn next_among<W: SearchContext>(planned: &W, number: u32, from: usize) -> Option<usize>
-    requires { IsBoundary (W.searching planned.now).text from }
-    ensures { let w = W.searching planned.now in IsFirstAllowedBoundary w (unit_table_of_set_number w.plan number)
+fn next_among<W: SearchContext>(context: &W, number: u32, from: usize) -> Option<usize>
+    requires { IsBoundary (W.searching context.now).text from }
+    ensures { let w = W.searching context.now in IsFirstAllowedBoundary w (unit_table_of_set_number w.plan number)
         from result }
 {
-    planned.lemma_plan_fits_program();
-    match planned.first_set_with_number(number) {
-        Some(set) => first_place(planned, set, from),
+    context.lemma_plan_fits_program();
+    match context.first_set_with_number(number) {
+        Some(set) => first_place(context, set, from),
         None => Some(from),
     }
 }
@@ -130,16 +130,16 @@ fn next_among<W: SearchContext>(planned: &W, number: u32, from: usize) -> Option
 // Returns the first offset from `from` on where the searcher finds something in bytes.
 #[inline(always)]
 fn find<W: SearchContext, Search: ByteSearcher>(
-    planned: &W,
+    context: &W,
     search: &Search,
     from: usize,
 ) -> Option<usize>
-    requires { IsBoundary (W.searching planned.now).text from }
-    ensures { IsFirstByteSearchHit (W.searching planned.now) (Search.stands_at search.now) from result }
+    requires { IsBoundary (W.searching context.now).text from }
+    ensures { IsFirstByteSearchHit (W.searching context.now) (Search.stands_at search.now) from result }
 {
-    let pos = position_in_searched_text(planned, from);
-    match planned.input().find_bytes(pos, search) {
-        Some(pos) => Some(offset_in_searched_text(planned, pos)),
+    let pos = position_in_searched_text(context, from);
+    match context.input().find_bytes(pos, search) {
+        Some(pos) => Some(offset_in_searched_text(context, pos)),
         None => None,
     }
 }
@@ -147,37 +147,37 @@ fn find<W: SearchContext, Search: ByteSearcher>(
 /// Returns the first offset from `from` on of one of a few code units.
 #[inline(never)]
 pub(crate) fn next_of_few_units<W: SearchContext>(
-    planned: &W,
+    context: &W,
     few: FewUnitsFinder,
     from: usize,
 ) -> Option<usize>
-    requires at { IsBoundary (W.searching planned.now).text from }
-    requires leads { let wide = is_16_bit_encoding (W.searching planned.now).encoding in
+    requires at { IsBoundary (W.searching context.now).text from }
+    requires leads { let wide = is_16_bit_encoding (W.searching context.now).encoding in
         AllowsOnlyLeadBytes wide (table_of_listed_units few.units few.len) }
-    ensures { IsFirstAllowedBoundary (W.searching planned.now) (table_of_listed_units few.units few.len) from result }
+    ensures { IsFirstAllowedBoundary (W.searching context.now) (table_of_listed_units few.units few.len) from result }
 {
     if <<W::Input as HasUnitType>::Units as CodeUnitEncoding>::ARE_BYTES {
-        find(planned, &few, from)
+        find(context, &few, from)
     } else {
-        next_of_few_wide_units(planned, few, from)
+        next_of_few_wide_units(context, few, from)
     }
 }
 
 // Returns that offset in 16-bit units, by vectors if bits tell the units.
 #[inline(always)]
 fn next_of_few_wide_units<W: SearchContext>(
-    planned: &W,
+    context: &W,
     few: FewUnitsFinder,
     from: usize,
 ) -> Option<usize>
-    requires wide { is_16_bit_encoding (W.searching planned.now).encoding ≡ true }
-    requires at { IsBoundary (W.searching planned.now).text from }
-    ensures { IsFirstAllowedBoundary (W.searching planned.now) (table_of_listed_units few.units few.len) from result }
+    requires wide { is_16_bit_encoding (W.searching context.now).encoding ≡ true }
+    requires at { IsBoundary (W.searching context.now).text from }
+    ensures { IsFirstAllowedBoundary (W.searching context.now) (table_of_listed_units few.units few.len) from result }
 {
     if are_told_by_bits(few) {
-        next_wide(planned, few, from)
+        next_wide(context, few, from)
     } else {
-        first_place(planned, &few, from)
+        first_place(context, &few, from)
     }
 }
 
@@ -187,115 +187,115 @@ fn next_of_few_wide_units<W: SearchContext>(
 // unit, or else by the masks of its units.
 #[inline(never)]
 fn next_prefix_match<W: SearchContext>(
-    planned: &W,
+    context: &W,
     prefix: &Prefix,
     rare: Option<RequiredUnitAndOffset>,
     from: usize,
 ) -> Option<usize>
-    requires at { IsBoundary (W.searching planned.now).text from }
-    requires bytes { is_16_bit_encoding (W.searching planned.now).encoding ≡ false }
+    requires at { IsBoundary (W.searching context.now).text from }
+    requires bytes { is_16_bit_encoding (W.searching context.now).encoding ≡ false }
     requires prefix { (0 < prefix.now.len) × PrefixAllowsOnlyAsciiFirst prefix.now }
     requires rare { IfSome rare (λ r. IsOnlyUnitAllowedAtPosition prefix.now r) }
-    ensures { IsFirstBoundaryWherePrefixFits (W.searching planned.now) prefix.now from result }
+    ensures { IsFirstPrefixFit (W.searching context.now) prefix.now from result }
 {
     let fitting = PrefixAndItsRequiredUnit { prefix, rare };
-    find(planned, &fitting, from)
+    find(context, &fitting, from)
 }
 
 // Returns that offset by the required literal.
 #[inline(never)]
 fn next_literal<W: SearchContext>(
-    planned: &W,
+    context: &W,
     prefix: &Prefix,
     literal: &Literal,
     from: usize,
 ) -> Option<usize>
-    requires at { IsBoundary (W.searching planned.now).text from }
-    requires bytes { is_16_bit_encoding (W.searching planned.now).encoding ≡ false }
+    requires at { IsBoundary (W.searching context.now).text from }
+    requires bytes { is_16_bit_encoding (W.searching context.now).encoding ≡ false }
     requires prefix { (0 < prefix.now.len) × PrefixAllowsOnlyAsciiFirst prefix.now }
     requires literal { IsLiteralForcedByPrefix prefix.now literal.now }
-    ensures { IsFirstBoundaryWherePrefixFits (W.searching planned.now) prefix.now from result }
+    ensures { IsFirstPrefixFit (W.searching context.now) prefix.now from result }
 {
     let in_row = PrefixAndLiteralFinder {
-        kept: planned.cached_literal_finder(),
+        kept: context.cached_literal_finder(),
         prefix,
         literal,
     };
-    find(planned, &in_row, from)
+    find(context, &in_row, from)
 }
 
 // Returns that offset by known units: in a long text by the literal.
 #[inline(always)]
 fn next_known<W: SearchContext>(
-    planned: &W,
+    context: &W,
     prefix: &Prefix,
     known: &LiteralPrefilter,
     from: usize,
 ) -> Option<usize>
-    requires at { IsBoundary (W.searching planned.now).text from }
-    requires bytes { is_16_bit_encoding (W.searching planned.now).encoding ≡ false }
+    requires at { IsBoundary (W.searching context.now).text from }
+    requires bytes { is_16_bit_encoding (W.searching context.now).encoding ≡ false }
     requires some { 0 < prefix.now.len }
     requires ascii { PrefixAllowsOnlyAsciiFirst prefix.now }
     requires known { IsLiteralPrefilterOfPrefix prefix.now known.now }
-    ensures { IsFirstBoundaryWherePrefixFits (W.searching planned.now) prefix.now from result }
+    ensures { IsFirstPrefixFit (W.searching context.now) prefix.now from result }
 {
     if known.literal.len < 3 && known.literal.len < prefix.len {
         if let Some(probes) = &known.probes {
-            return next_by_bit_probes(planned, PrefixAndBitProbes { prefix, probes }, from);
+            return next_by_bit_probes(context, PrefixAndBitProbes { prefix, probes }, from);
         }
     }
-    if text_end(planned).saturating_sub(from) > LONG {
-        return next_literal(planned, prefix, &known.literal, from);
+    if text_end(context).saturating_sub(from) > LONG {
+        return next_literal(context, prefix, &known.literal, from);
     }
-    next_in_short_text(planned, prefix, known, from)
+    next_in_short_text(context, prefix, known, from)
 }
 
 // Returns that offset in a short text: by a rare unit, otherwise by bit probes if there are any.
 #[inline(always)]
 fn next_in_short_text<W: SearchContext>(
-    planned: &W,
+    context: &W,
     prefix: &Prefix,
     known: &LiteralPrefilter,
     from: usize,
 ) -> Option<usize>
-    requires at { IsBoundary (W.searching planned.now).text from }
-    requires bytes { is_16_bit_encoding (W.searching planned.now).encoding ≡ false }
+    requires at { IsBoundary (W.searching context.now).text from }
+    requires bytes { is_16_bit_encoding (W.searching context.now).encoding ≡ false }
     requires some { 0 < prefix.now.len }
     requires ascii { PrefixAllowsOnlyAsciiFirst prefix.now }
     requires known { IsLiteralPrefilterOfPrefix prefix.now known.now }
-    ensures { IsFirstBoundaryWherePrefixFits (W.searching planned.now) prefix.now from result }
+    ensures { IsFirstPrefixFit (W.searching context.now) prefix.now from result }
 {
     if known.rare.is_none() {
         if let Some(probes) = &known.probes {
-            return next_by_bit_probes(planned, PrefixAndBitProbes { prefix, probes }, from);
+            return next_by_bit_probes(context, PrefixAndBitProbes { prefix, probes }, from);
         }
     }
-    next_prefix_match(planned, prefix, known.rare, from)
+    next_prefix_match(context, prefix, known.rare, from)
 }
 
 // Returns that offset by the prefilter.
 #[inline(always)]
 fn first_filtered<W: SearchContext>(
-    planned: &W,
+    context: &W,
     prefix: &Prefix,
     prefilter: &RequiredPrefixPrefilter,
     from: usize,
 ) -> Option<usize>
-    requires at { IsBoundary (W.searching planned.now).text from }
+    requires at { IsBoundary (W.searching context.now).text from }
     requires some { 0 < prefix.now.len }
     requires ascii { PrefixAllowsOnlyAsciiFirst prefix.now }
-    requires filter { IsPrefilterOfPrefix (is_16_bit_encoding (W.searching planned.now).encoding) prefix.now
+    requires filter { IsPrefilterOfPrefix (is_16_bit_encoding (W.searching context.now).encoding) prefix.now
         prefilter.now }
-    ensures { IsFirstBoundaryWherePrefixFits (W.searching planned.now) prefix.now from result }
+    ensures { IsFirstPrefixFit (W.searching context.now) prefix.now from result }
 {
     match prefilter {
         RequiredPrefixPrefilter::Probes(probes) => next_by_bit_probes(
-            planned,
+            context,
             PrefixAndBitProbes { prefix, probes },
             from,
         ),
-        RequiredPrefixPrefilter::ByLiteral(known) => next_known(planned, prefix, known, from),
-        RequiredPrefixPrefilter::Absent => next_prefix_match(planned, prefix, None, from),
+        RequiredPrefixPrefilter::ByLiteral(known) => next_known(context, prefix, known, from),
+        RequiredPrefixPrefilter::Absent => next_prefix_match(context, prefix, None, from),
     }
 }
 
@@ -304,45 +304,45 @@ fn first_filtered<W: SearchContext>(
 // Returns the offset past the first character from `from` on that begins with one of a few code
 // units.
 #[inline(always)]
-fn next_past<W: SearchContext>(planned: &W, few: FewUnitsFinder, from: usize) -> Option<usize>
-    requires at { IsBoundary (W.searching planned.now).text from }
-    requires leads { let wide = is_16_bit_encoding (W.searching planned.now).encoding in
+fn next_past<W: SearchContext>(context: &W, few: FewUnitsFinder, from: usize) -> Option<usize>
+    requires at { IsBoundary (W.searching context.now).text from }
+    requires leads { let wide = is_16_bit_encoding (W.searching context.now).encoding in
         AllowsOnlyLeadBytes wide (table_of_listed_units few.units few.len) }
-    ensures { IsPastFirstAllowedChar (W.searching planned.now) (table_of_listed_units few.units few.len) from result }
+    ensures { IsPastFirstAllowedChar (W.searching context.now) (table_of_listed_units few.units few.len) from result }
 {
-    let hit = next_of_few_units(planned, few, from)?;
+    let hit = next_of_few_units(context, few, from)?;
     Some(offset_in_searched_text(
-        planned,
-        planned
+        context,
+        context
             .input()
-            .past(position_in_searched_text(planned, hit)),
+            .past(position_in_searched_text(context, hit)),
     ))
 }
 
 // Returns the first offset from `from` on where the character before lets a match begin.
 #[inline(never)]
 fn next_by_lookbehind<W: SearchContext>(
-    planned: &W,
+    context: &W,
     before: PrecedingCharFilter,
     from: usize,
 ) -> Option<usize>
-    requires at { IsBoundary (W.searching planned.now).text from }
-    requires leads { LookbehindFilterKeysAreLeadBytes (is_16_bit_encoding (W.searching planned.now).encoding) before }
-    ensures { let w = W.searching planned.now in
+    requires at { IsBoundary (W.searching context.now).text from }
+    requires leads { FilterKeysAreLeadBytes (is_16_bit_encoding (W.searching context.now).encoding) before }
+    ensures { let w = W.searching context.now in
         IsFirstBoundaryWhere w (may_start_at w (CandidateStarts.Behind before)) from result }
 {
     let PrecedingCharFilter { keys, len, edge } = before;
     let few = FewUnitsFinder { units: keys, len };
-    match planned
+    match context
         .input()
-        .next_left_pos(position_in_searched_text(planned, from))
+        .next_left_pos(position_in_searched_text(context, from))
     {
-        Some(start) => next_past(planned, few, offset_in_searched_text(planned, start)),
+        Some(start) => next_past(context, few, offset_in_searched_text(context, start)),
         None => {
             if edge {
                 Some(from)
             } else {
-                next_past(planned, few, from)
+                next_past(context, few, from)
             }
         }
     }
@@ -352,14 +352,14 @@ fn next_by_lookbehind<W: SearchContext>(
 
 /// Checks whether an offset is a candidate start, by the plan.
 #[inline(always)]
-pub fn is_candidate<W: SearchContext>(planned: &W, at: usize) -> bool
-    requires { IsBoundary (W.searching planned.now).text at }
-    ensures { let w = W.searching planned.now in result ≡ may_start_at w w.plan.start at }
+pub fn is_candidate<W: SearchContext>(context: &W, at: usize) -> bool
+    requires { IsBoundary (W.searching context.now).text at }
+    ensures { let w = W.searching context.now in result ≡ may_start_at w w.plan.start at }
 {
-    match planned.candidate_start_filter_of_plan() {
+    match context.start_filter_of_plan() {
         CandidateStarts::Anywhere => true,
-        CandidateStarts::InSet { set } => match planned.first_set_with_number(*set) {
-            Some(set) => set_allows_next_unit(planned, set, at),
+        CandidateStarts::InSet { set } => match context.first_set_with_number(*set) {
+            Some(set) => set_allows_next_unit(context, set, at),
             None => true,
         },
         CandidateStarts::FewUnits { units, len } => {
@@ -367,28 +367,28 @@ pub fn is_candidate<W: SearchContext>(planned: &W, at: usize) -> bool
                 units: *units,
                 len: *len,
             };
-            at < text_end(planned) && few.has(unit_key_at_offset(planned, at))
+            at < text_end(context) && few.has(unit_key_at_offset(context, at))
         }
-        CandidateStarts::Behind(before) => is_behind(planned, *before, at),
-        CandidateStarts::Prefix { prefix, .. } => prefix_fits(planned, prefix, at),
+        CandidateStarts::Behind(before) => is_behind(context, *before, at),
+        CandidateStarts::Prefix { prefix, .. } => prefix_fits(context, prefix, at),
     }
 }
 
 // Checks whether the character before an offset lets a match begin there.
 #[inline(never)]
-fn is_behind<W: SearchContext>(planned: &W, before: PrecedingCharFilter, at: usize) -> bool
-    requires { IsBoundary (W.searching planned.now).text at }
-    ensures { let w = W.searching planned.now in result ≡ allows_start w.encoding before w.text at }
+fn is_behind<W: SearchContext>(context: &W, before: PrecedingCharFilter, at: usize) -> bool
+    requires { IsBoundary (W.searching context.now).text at }
+    ensures { let w = W.searching context.now in result ≡ allows_start w.encoding before w.text at }
 {
     let PrecedingCharFilter { keys, len, edge } = before;
     let few = FewUnitsFinder { units: keys, len };
-    match planned
+    match context
         .input()
-        .next_left_pos(position_in_searched_text(planned, at))
+        .next_left_pos(position_in_searched_text(context, at))
     {
         Some(start) => few.has(unit_key_at_offset(
-            planned,
-            offset_in_searched_text(planned, start),
+            context,
+            offset_in_searched_text(context, start),
         )),
         None => edge,
     }
@@ -396,24 +396,24 @@ fn is_behind<W: SearchContext>(planned: &W, before: PrecedingCharFilter, at: usi
 
 /// Returns the first candidate start from `from` on, by the plan.
 #[inline(always)]
-pub fn first_candidate<W: SearchContext>(planned: &W, from: usize) -> Option<usize>
-    requires { IsBoundary (W.searching planned.now).text from }
-    ensures { IsFirstCandidate (W.searching planned.now) from result }
+pub fn first_candidate<W: SearchContext>(context: &W, from: usize) -> Option<usize>
+    requires { IsBoundary (W.searching context.now).text from }
+    ensures { IsFirstCandidate (W.searching context.now) from result }
 {
-    planned.lemma_plan_fits_program();
-    match planned.candidate_start_filter_of_plan() {
+    context.lemma_plan_fits_program();
+    match context.start_filter_of_plan() {
         CandidateStarts::Anywhere => Some(from),
-        CandidateStarts::InSet { set } => next_among(planned, *set, from),
+        CandidateStarts::InSet { set } => next_among(context, *set, from),
         CandidateStarts::FewUnits { units, len } => {
             let few = FewUnitsFinder {
                 units: *units,
                 len: *len,
             };
-            next_of_few_units(planned, few, from)
+            next_of_few_units(context, few, from)
         }
-        CandidateStarts::Behind(before) => next_by_lookbehind(planned, *before, from),
+        CandidateStarts::Behind(before) => next_by_lookbehind(context, *before, from),
         CandidateStarts::Prefix { prefix, prefilter } => first_filtered(
-            planned, prefix, prefilter, from,
+            context, prefix, prefilter, from,
         ),
     }
 }

@@ -4,10 +4,10 @@
 ghost use Rattle.std.specs.Prelude.{◌≡◌, ◌≤◌, ◌<◌, ◌+◌, ◌-◌, ◌^◌};
 ghost use Rattle.std.proofs.Props.{props};
 ghost use Rattle.regex_meaning.specs.CodeUnitOffsets.{IsBoundary, units};
-ghost use Rattle.regress_program.specs.PrefixesAndPrefilters.{ProbePassesAllUnitsPrefixAllows, ProbesPassAllUnitsPrefixAllows, PrefixAllowsOnlyAsciiFirst};
+ghost use Rattle.regress_program.specs.PrefixesAndPrefilters.{ProbePassesPrefix, ProbesPassPrefix, PrefixAllowsOnlyAsciiFirst};
 ghost use Rattle.regress_program.specs.declared.required_prefix_types.Prefix as prefix;
 ghost use Rattle.regress_search.specs.MarkedOffsets.{MarksAllPassing};
-ghost use Rattle.regress_search.specs.StartSearch.{prefix_fits_at, IsFirstBoundaryWherePrefixFits};
+ghost use Rattle.regress_search.specs.StartSearch.{prefix_fits_at, IsFirstPrefixFit};
 
 use crate::class_char_and_table_lookups::unit_key_at_offset;
 use crate::search_by_marks::{OffsetTest, first_by_marks, units_with_bits};
@@ -21,18 +21,18 @@ pub(crate) struct PrefixAndBitProbes<'p> {
     pub(crate) prefix: &'p Prefix,
     pub(crate) probes: &'p [MaskedUnitProbe; 4],
     ghost some: { 0 < prefix.now.len },
-    ghost are_probes: { ProbesPassAllUnitsPrefixAllows prefix.now probes.now } by { Prim.hlevel props },
+    ghost are_probes: { ProbesPassPrefix prefix.now probes.now } by { Prim.hlevel props },
 }
 
 // Checks whether each unit of the prefix may occur at an offset.
 #[inline(always)]
-fn fits_here<W: SearchContext>(planned: &W, prefix: &Prefix, at: usize) -> bool
-    requires { at + prefix.now.len ≤ units (W.searching planned.now).text }
-    ensures { result ≡ prefix_fits_at (W.searching planned.now) prefix.now at }
+fn fits_here<W: SearchContext>(context: &W, prefix: &Prefix, at: usize) -> bool
+    requires { at + prefix.now.len ≤ units (W.searching context.now).text }
+    ensures { result ≡ prefix_fits_at (W.searching context.now) prefix.now at }
 {
     let mut ahead = 0;
     'units: while ahead < prefix.len {
-        let key = unit_key_at_offset(planned, at + ahead);
+        let key = unit_key_at_offset(context, at + ahead);
         if !prefix.is_key_allowed(key, ahead) {
             return false;
         }
@@ -43,22 +43,22 @@ fn fits_here<W: SearchContext>(planned: &W, prefix: &Prefix, at: usize) -> bool
 
 /// Checks whether the prefix may occur at an offset.
 #[inline(never)]
-pub(crate) fn prefix_fits<W: SearchContext>(planned: &W, prefix: &Prefix, at: usize) -> bool
-    requires { IsBoundary (W.searching planned.now).text at }
-    ensures { result ≡ prefix_fits_at (W.searching planned.now) prefix.now at }
+pub(crate) fn prefix_fits<W: SearchContext>(context: &W, prefix: &Prefix, at: usize) -> bool
+    requires { IsBoundary (W.searching context.now).text at }
+    ensures { result ≡ prefix_fits_at (W.searching context.now) prefix.now at }
 {
-    text_end(planned) - at >= prefix.len && fits_here(planned, prefix, at)
+    text_end(context) - at >= prefix.len && fits_here(context, prefix, at)
 }
 
 // Marks the 32 offsets from `at` on where a probe passes.
 #[inline(always)]
-fn marks_of_probe<W: SearchContext>(planned: &W, at: usize, probe: MaskedUnitProbe) -> u64
-    requires { at + probe.ahead + 32 ≤ units (W.searching planned.now).text }
-    ensures { (f : prefix.Prefix) → ProbePassesAllUnitsPrefixAllows f probe
-        → MarksAllPassing (prefix_fits_at (W.searching planned.now) f) at result }
+fn marks_of_probe<W: SearchContext>(context: &W, at: usize, probe: MaskedUnitProbe) -> u64
+    requires { at + probe.ahead + 32 ≤ units (W.searching context.now).text }
+    ensures { (f : prefix.Prefix) → ProbePassesPrefix f probe
+        → MarksAllPassing (prefix_fits_at (W.searching context.now) f) at result }
 {
     units_with_bits(
-        planned,
+        context,
         at + probe.ahead,
         u16::from(probe.mask),
         u16::from(probe.bits),
@@ -72,22 +72,22 @@ impl<W: SearchContext> OffsetTest<W> for PrefixAndBitProbes<'_> {
 
     // Tests the rarest two probes.
     #[inline(always)]
-    fn marks(&self, planned: &W, at: usize) -> u64 {
+    fn marks(&self, context: &W, at: usize) -> u64 {
         let [a, b, _, _] = *self.probes;
-        marks_of_probe(planned, at, a) & marks_of_probe(planned, at, b)
+        marks_of_probe(context, at, a) & marks_of_probe(context, at, b)
     }
 
     // Tests all probes.
     #[inline(always)]
-    fn strict_marks(&self, planned: &W, at: usize) -> u64 {
+    fn strict_marks(&self, context: &W, at: usize) -> u64 {
         let [_, _, c, d] = *self.probes;
-        let seldom = self.marks(planned, at);
-        seldom & marks_of_probe(planned, at, c) & marks_of_probe(planned, at, d)
+        let seldom = self.marks(context, at);
+        seldom & marks_of_probe(context, at, c) & marks_of_probe(context, at, d)
     }
 
     #[inline(always)]
-    fn passes(&self, planned: &W, at: usize) -> bool {
-        fits_here(planned, self.prefix, at)
+    fn passes(&self, context: &W, at: usize) -> bool {
+        fits_here(context, self.prefix, at)
     }
 }
 
@@ -103,28 +103,28 @@ impl<W: SearchContext> OffsetTest<W> for RarestProbeFirst<'_> {
     ghost reach = { λ first. first.probed.prefix.now.len };
 
     #[inline(always)]
-    fn marks(&self, planned: &W, at: usize) -> u64 {
+    fn marks(&self, context: &W, at: usize) -> u64 {
         let [a, _, _, _] = *self.probed.probes;
-        marks_of_probe(planned, at, a)
+        marks_of_probe(context, at, a)
     }
 
     #[inline(always)]
-    fn strict_marks(&self, planned: &W, at: usize) -> u64 {
-        self.probed.strict_marks(planned, at)
+    fn strict_marks(&self, context: &W, at: usize) -> u64 {
+        self.probed.strict_marks(context, at)
     }
 
     // The marks of the rarest probe are not asked for, so that no vector is kept from one block of
     // instructions to the next.
     #[inline(always)]
-    fn rejects(&self, planned: &W, at: usize) -> bool {
+    fn rejects(&self, context: &W, at: usize) -> bool {
         let [_, b, c, d] = *self.probed.probes;
-        let second = marks_of_probe(planned, at, b);
-        second & marks_of_probe(planned, at, c) & marks_of_probe(planned, at, d) == 0
+        let second = marks_of_probe(context, at, b);
+        second & marks_of_probe(context, at, c) & marks_of_probe(context, at, d) == 0
     }
 
     #[inline(always)]
-    fn passes(&self, planned: &W, at: usize) -> bool {
-        fits_here(planned, self.probed.prefix, at)
+    fn passes(&self, context: &W, at: usize) -> bool {
+        fits_here(context, self.probed.prefix, at)
     }
 }
 
@@ -151,18 +151,18 @@ fn places_left(units: usize, at: usize, len: usize) -> usize
 /// Returns the first offset from `from` on where the prefix may occur, by bit probes.
 #[inline(never)]
 pub(crate) fn next_by_bit_probes<W: SearchContext>(
-    planned: &W,
+    context: &W,
     probed: PrefixAndBitProbes<'_>,
     from: usize,
 ) -> Option<usize>
-    requires at { IsBoundary (W.searching planned.now).text from }
+    requires at { IsBoundary (W.searching context.now).text from }
     requires ascii { PrefixAllowsOnlyAsciiFirst probed.prefix.now }
-    ensures { IsFirstBoundaryWherePrefixFits (W.searching planned.now) probed.entry.prefix.now from result }
+    ensures { IsFirstPrefixFit (W.searching context.now) probed.entry.prefix.now from result }
 {
-    let to = from + places_left(text_end(planned), from, probed.prefix.len);
+    let to = from + places_left(text_end(context), from, probed.prefix.len);
     if is_of_rare_letter(probed.probes[0]) {
-        first_by_marks(planned, &RarestProbeFirst { probed }, from, to)
+        first_by_marks(context, &RarestProbeFirst { probed }, from, to)
     } else {
-        first_by_marks(planned, &probed, from, to)
+        first_by_marks(context, &probed, from, to)
     }
 }

@@ -21,19 +21,19 @@ pub(crate) trait KeyTest {
 /// Counts the consecutive code units from an offset on that pass, at most `most`.
 #[inline(always)]
 pub(crate) fn count_passing<W: SearchContext, Test: KeyTest>(
-    planned: &W,
+    context: &W,
     test: &Test,
     from: usize,
     most: usize,
 ) -> usize
-    requires { from + most ≤ units (W.searching planned.now).text }
-    ensures run { IsRunOfUnits (W.searching planned.now) (Test.key_passes test.now) from most result }
+    requires { from + most ≤ units (W.searching context.now).text }
+    ensures run { IsRunOfUnits (W.searching context.now) (Test.key_passes test.now) from most result }
     ensures stop { result < most
-        → IsKeyTestAt (W.searching planned.now) (Test.key_passes test.now) (from + result) false }
+        → IsKeyTestAt (W.searching context.now) (Test.key_passes test.now) (from + result) false }
 {
-    let mut count = count_passing_ascii(planned, test, from, most);
+    let mut count = count_passing_ascii(context, test, from, most);
     'units: while count < most {
-        if !test.passes_key(unit_key_at_offset(planned, from + count)) {
+        if !test.passes_key(unit_key_at_offset(context, from + count)) {
             return count;
         }
         count += 1;
@@ -45,17 +45,17 @@ pub(crate) fn count_passing<W: SearchContext, Test: KeyTest>(
 // their own keys.
 #[inline(always)]
 fn count_passing_ascii<W: SearchContext, Test: KeyTest>(
-    planned: &W,
+    context: &W,
     test: &Test,
     from: usize,
     most: usize,
 ) -> usize
-    requires { from + most ≤ units (W.searching planned.now).text }
-    ensures { IsRunOfUnits (W.searching planned.now) (Test.key_passes test.now) from most result }
+    requires { from + most ≤ units (W.searching context.now).text }
+    ensures { IsRunOfUnits (W.searching context.now) (Test.key_passes test.now) from most result }
 {
     let mut count = 0;
-    'units: while count < most && is_own_key::<W>(unit_at_offset(planned, from + count)) {
-        if !test.passes_key(unit_key_at_offset(planned, from + count)) {
+    'units: while count < most && is_own_key::<W>(unit_at_offset(context, from + count)) {
+        if !test.passes_key(unit_key_at_offset(context, from + count)) {
             return count;
         }
         count += 1;

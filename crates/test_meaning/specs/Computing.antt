@@ -38,22 +38,22 @@ unfoldable pub first : Node → Text → ℕ → List Found
 unfolding answers_from match_list first_match_among matches_from outcomes bounded_repeat fold_code_point expand_code_point chars
 first root text start = map as_found (take 1 (answers_from root text start))
 
--- the match at an offset
+-- The match at an offset.
 unfoldable pub at_offset : Node → Text → ℕ → Option Found
 unfolding outcomes bounded_repeat fold_code_point expand_code_point chars
 at_offset root text at = option_map as_found (answer_at root text at)
 
--- where the list goes on behind the first match from an offset
+-- Where the list goes on behind the first match from an offset.
 unfoldable pub goes_on_at : Node → Text → ℕ → Option ℕ
 unfolding first_match_among outcomes bounded_repeat fold_code_point expand_code_point chars
 goes_on_at root text start = next_start root text start
 
--- the ranges of a name in all matches from the start
+-- The ranges of a name in all matches from the start.
 unfoldable pub named : Node → Text → (name : List ℕ) → List (Option (ℕ × ℕ))
 unfolding answers_from match_list first_match_among matches_from outcomes bounded_repeat fold_code_point expand_code_point chars
 named root text name = map (λ m. named_group m name) (answers_from root text 0)
 
--- the text with at most `count` matches replaced
+-- The text with at most `count` matches replaced.
 unfoldable pub replaced_by : (count : ℕ) → Node → (text replacement : List ℕ) → List ℕ
 unfolding answers_from match_list first_match_among matches_from outcomes bounded_repeat fold_code_point expand_code_point chars replaced expansion
 replaced_by count root text replacement =
@@ -74,7 +74,7 @@ abbrev has_outcome : List Outcome → Bool
 has_outcome [] = false
 has_outcome (o ∷ os) = true
 
--- wherever the tree has an outcome, its predicate holds
+-- Wherever the tree has an outcome, its predicate holds.
 unfoldable pub sound_on : Node → Text → Bool
 unfolding outcomes bounded_repeat fold_code_point expand_code_point chars start_predicate abstract_start_predicate bytes_that_pass may_start encode
 sound_on root text =

@@ -25,7 +25,7 @@ tree_of n = record { root = cat (cat n end_of_cat) (cat goal end_of_cat); flags 
 abbrev no_groups : PatternContext
 no_groups = record { flags = no_flags; groups = [] }
 
--- where case is not ignored, a character is its only case variant
+-- Where case is not ignored, a character is its only case variant.
 spelled_alone : (c : ℕ) → AreCaseVariants false false c (c ∷ [])
 spelled_alone c = record { increasing = tt; same = λ d. same-truth _ _ (λ e. eq-eqb c d (sym (alone d e))) (λ e. or_left (nat_eq d c) false (eq-eqb d c (sym (eqb-true c d e)))) }
   where

@@ -11,19 +11,19 @@ offsets : map (offset (utf8_text (195 ∷ 169 ∷ 226 ∷ 130 ∷ 172 ∷ 240 �
 unfolding chars
 offsets = refl
 
--- only the offsets at which a character begins, and the end, are those of places
+-- Only the offsets at which a character begins, and the end, are those of places.
 places : map (place_at (utf8_text (195 ∷ 169 ∷ 97 ∷ []) false)) (0 ∷ 1 ∷ 2 ∷ 3 ∷ 4 ∷ []) ≡ (Some 0 ∷ None ∷ Some 1 ∷ Some 2 ∷ None ∷ [])
 unfolding chars
 places = refl
 
--- a pair of surrogates is one character of UTF-16 and two of UCS-2
+-- A pair of surrogates is one character of UTF-16 and two of UCS-2.
 pairs : map (place_at (utf16_text (0xD83D ∷ 0xDE00 ∷ 97 ∷ []) false)) (0 ∷ 1 ∷ 2 ∷ 3 ∷ 4 ∷ []) ≡ (Some 0 ∷ None ∷ Some 1 ∷ Some 2 ∷ None ∷ [])
 pairs = refl
 
 no_pairs : map (place_at (ucs2_text (0xD83D ∷ 0xDE00 ∷ 97 ∷ []) false)) (0 ∷ 1 ∷ 2 ∷ 3 ∷ 4 ∷ []) ≡ (Some 0 ∷ Some 1 ∷ Some 2 ∷ Some 3 ∷ None ∷ [])
 no_pairs = refl
 
--- the length in units
+-- The length in units.
 lengths : (units (utf8_text (195 ∷ 169 ∷ []) false) ≡ 2) × (units (ascii_text (97 ∷ []) false) ≡ 1)
     × (units (utf16_text (0xD83D ∷ 0xDE00 ∷ []) false) ≡ 2) × (units (ucs2_text (0xD83D ∷ 0xDE00 ∷ []) false) ≡ 2) × (units (utf8_text [] false) ≡ 0)
 unfolding chars
@@ -45,12 +45,12 @@ at_the_end : at_offset (cat (cat (loop_1_char_body (times 0 None false) (char 97
 unfolding at_offset
 at_the_end = refl
 
--- the same from the second character
+-- The same from the second character.
 second_character : matches (cat match_any (cat goal end_of_cat)) (utf8_text (195 ∷ 169 ∷ 226 ∷ 130 ∷ 172 ∷ []) false) 2 ≡ (found 2 5 [] ∷ [])
 unfolding matches
 second_character = refl
 
--- the same from the end
+-- The same from the end.
 from_the_end : matches (cat match_any (cat goal end_of_cat)) (utf8_text (195 ∷ 169 ∷ 226 ∷ 130 ∷ 172 ∷ []) false) 5 ≡ []
 unfolding matches
 from_the_end = refl
@@ -80,7 +80,7 @@ goes_on : map (goes_on_at (cat (cat (loop_1_char_body (times 0 None true) (char 
 unfolding goes_on_at
 goes_on = refl
 
--- the empty pattern on `é`: behind 0..0 it goes on past the character
+-- The empty pattern on `é`: behind 0..0 it goes on past the character.
 goes_past_a_character : map (goes_on_at (cat end_of_cat (cat goal end_of_cat)) (utf8_text (195 ∷ 169 ∷ []) false)) (0 ∷ 2 ∷ []) ≡ (Some 2 ∷ None ∷ [])
 unfolding goes_on_at
 goes_past_a_character = refl

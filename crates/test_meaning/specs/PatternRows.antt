@@ -214,7 +214,7 @@ names_behind : matches names_behind-tree (utf8_text (120 ∷ 121 ∷ 122 ∷ [])
 unfolding matches
 names_behind = refl
 
--- a one-character loop over what no text of characters has, then `a`
+-- A one-character loop over what no text of characters has, then `a`.
 abbrev surrogate_not_at_all-tree : Node
 surrogate_not_at_all-tree = (cat (loop_1_char_body (times 0 None true) (char 55296)) (cat (char 97) (cat goal end_of_cat)))
 
@@ -222,7 +222,7 @@ surrogate_not_at_all : matches surrogate_not_at_all-tree (utf8_text (97 ∷ []) 
 unfolding matches
 surrogate_not_at_all = refl
 
--- a string set behind: `ab` in reading order
+-- A string set behind: `ab` in reading order.
 abbrev strings_behind-tree : Node
 strings_behind-tree = (cat (lookaround (look false true 0 0) (string_set ((97 ∷ 98 ∷ []) ∷ []) false)) (cat goal end_of_cat))
 
@@ -230,7 +230,7 @@ strings_behind : matches strings_behind-tree (utf8_text (97 ∷ 98 ∷ []) false
 unfolding matches
 strings_behind = refl
 
--- a sequence of 17 bytes behind
+-- A sequence of 17 bytes behind.
 abbrev long_sequence_behind-tree : Node
 long_sequence_behind-tree = (cat (lookaround (look false true 0 0) (byte_sequence (97 ∷ 98 ∷ 99 ∷ 100 ∷ 101 ∷ 102 ∷ 103 ∷ 104 ∷ 105 ∷ 106 ∷ 107 ∷ 108 ∷ 109 ∷ 110 ∷ 111 ∷ 112 ∷ 113 ∷ []))) (cat goal end_of_cat))
 
@@ -254,7 +254,7 @@ before_digits : matches before_digits-tree (utf8_text (97 ∷ 49 ∷ 98 ∷ 50 �
 unfolding matches
 before_digits = refl
 
--- two arms, each a group named `n`
+-- Two arms, each a group named `n`.
 abbrev two_groups_of_one_name-tree : Node
 two_groups_of_one_name-tree = (cat (alt (capture_group 0 (110 ∷ []) (char 97)) (capture_group 1 (110 ∷ []) (char 98))) (cat goal end_of_cat))
 

@@ -9,7 +9,7 @@ use Rattle.ucd_script.specs.declared.Script.TheVariants.{Greek, Coptic}
 use Rattle.ucd_sets.specs.declared.property.BinaryProperty.TheVariants.{WhiteSpace, HexDigit}
 use Rattle.regex_meaning.specs.UnicodeProperties.{in_database, changes_when_nfkc_casefolded, binary_property_names, property_named, property_with_value}
 
--- a category by its name and by its aliases, a group of them, and a binary property
+-- A category by its name and by its aliases, a group of them, and a binary property.
 upper_case : property_named (codes "Lu") ≡ Some (in_database (set.Category UppercaseLetter))
 unfolding category_names
 upper_case = refl
@@ -38,7 +38,7 @@ casefolded : property_named (codes "CWKCF") ≡ Some changes_when_nfkc_casefolde
 unfolding category_names
 casefolded = refl
 
--- a property and a value of it
+-- A property and a value of it.
 letter : property_with_value (codes "gc") (codes "L") ≡ Some (in_database (set.CategoryGroup Letter))
 unfolding category_names
 letter = refl

@@ -84,12 +84,12 @@ whole : replaced_by 100 (cat (cat (bracket (in_brackets false ((48, 57) ∷ []))
 unfolding replaced_by
 whole = refl
 
--- two groups of one name, in two arms
+-- Two groups of one name, in two arms.
 either : replaced_by 100 (cat (alt (capture_group 0 (codes "n") (char 97)) (capture_group 1 (codes "n") (char 98))) (cat goal end_of_cat)) (codes "ab") (codes "[${n}]") ≡ codes "[a][b]"
 unfolding replaced_by
 either = refl
 
--- and one behind the other: the first one counts
+-- And one behind the other: the first one counts.
 first_of_both : named (cat (capture_group 0 (codes "n") (char 97)) (cat (capture_group 1 (codes "n") (char 98)) (cat goal end_of_cat))) (utf8_text (codes "ab") false) (codes "n") ≡ (Some (0, 1) ∷ [])
 unfolding named
 first_of_both = refl

@@ -66,7 +66,7 @@ of_the_empty_name = refl
 of_no_group : named_group two (codes "m") ≡ None
 of_no_group = refl
 
--- both groups of the name matched: the first one counts
+-- Both groups of the name matched: the first one counts.
 abbrev both : Answer
 both = record { range = (0, 2); captures = Some (0, 1) ∷ Some (1, 2) ∷ []; names = codes "n" ∷ codes "n" ∷ [] }
 
@@ -82,14 +82,14 @@ truncated = refl
 cut_off : named_groups (record two { captures = [] }) ≡ (codes "n", None) ∷ []
 cut_off = refl
 
--- a match of a group that is there and of one that is not, and what is asked of it
+-- A match of a group that is there and of one that is not, and what is asked of it.
 abbrev one_of_two : Answer
 one_of_two = record { range = (0, 1); captures = Some (0, 1) ∷ None ∷ []; names = codes "n" ∷ [] ∷ [] }
 
 groups : map (group one_of_two) (0 ∷ 1 ∷ 2 ∷ 3 ∷ []) ≡ (Some (0, 1) ∷ Some (0, 1) ∷ None ∷ None ∷ [])
 groups = refl
 
--- the same without its captures
+-- The same without its captures.
 groups_cut_off : map (group (record one_of_two { captures = [] })) (0 ∷ 1 ∷ []) ≡ (Some (0, 1) ∷ None ∷ [])
 groups_cut_off = refl
 
@@ -131,7 +131,7 @@ words : replaced (codes "hello world") 0
 unfolding expansion replaced
 words = refl
 
--- among the ASCII characters and the two beyond, each expands to those with its fold
+-- Among the ASCII characters and the two beyond, each expands to those with its fold.
 abbrev candidates : List ℕ
 candidates = numbers_from 0 128 ++ (0x017F ∷ 0x212A ∷ 0xE9 ∷ [])
 

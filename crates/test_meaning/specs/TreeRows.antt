@@ -38,7 +38,7 @@ two_empty_iterations : matches two_empty_iterations-tree (utf8_text (98 ∷ []) 
 unfolding matches
 two_empty_iterations = refl
 
--- a sequence of six characters of three bytes
+-- A sequence of six characters of three bytes.
 abbrev six_signs-tree : Node
 six_signs-tree = (cat (byte_sequence (226 ∷ 130 ∷ 172 ∷ 226 ∷ 130 ∷ 172 ∷ 226 ∷ 130 ∷ 172 ∷ 226 ∷ 130 ∷ 172 ∷ 226 ∷ 130 ∷ 172 ∷ 226 ∷ 130 ∷ 172 ∷ [])) (cat goal end_of_cat))
 
@@ -46,7 +46,7 @@ six_signs : matches six_signs-tree (utf8_text (226 ∷ 130 ∷ 172 ∷ 226 ∷ 1
 unfolding matches
 six_signs = refl
 
--- an empty set accepts nothing
+-- An empty set accepts nothing.
 abbrev empty_set-tree : Node
 empty_set-tree = (cat (char_set []) (cat goal end_of_cat))
 
@@ -54,7 +54,7 @@ empty_set : matches empty_set-tree (utf8_text (97 ∷ []) false) 0 ≡ []
 unfolding matches
 empty_set = refl
 
--- a loop over an empty set leaves at once
+-- A loop over an empty set leaves at once.
 abbrev empty_set_not_at_all-tree : Node
 empty_set_not_at_all-tree = (cat (loop_1_char_body (times 0 None true) (byte_set [])) (cat (char 97) (cat goal end_of_cat)))
 
@@ -62,7 +62,7 @@ empty_set_not_at_all : matches empty_set_not_at_all-tree (utf8_text (97 ∷ []) 
 unfolding matches
 empty_set_not_at_all = refl
 
--- the strings `a` and `ab`, then `c`
+-- The strings `a` and `ab`, then `c`.
 abbrev strings_in_order-tree : Node
 strings_in_order-tree = (cat (string_set ((97 ∷ []) ∷ (97 ∷ 98 ∷ []) ∷ []) false) (cat (char 99) (cat goal end_of_cat)))
 
@@ -142,7 +142,7 @@ from_second_unit : matches from_second_unit-tree (ucs2_text (55357 ∷ 56832 ∷
 unfolding matches
 from_second_unit = refl
 
--- a lone surrogate is a character of UTF-16
+-- A lone surrogate is a character of UTF-16.
 abbrev surrogate_utf16-tree : Node
 surrogate_utf16-tree = (cat (char 55296) (cat goal end_of_cat))
 
@@ -150,7 +150,7 @@ surrogate_utf16 : matches surrogate_utf16-tree (utf16_text (55296 ∷ []) false)
 unfolding matches
 surrogate_utf16 = refl
 
--- the bytes of `é`
+-- The bytes of `é`.
 abbrev sequence_in_the_middle-tree : Node
 sequence_in_the_middle-tree = (cat (byte_sequence (195 ∷ 169 ∷ [])) (cat goal end_of_cat))
 
@@ -198,7 +198,7 @@ not_a : matches not_a-tree (utf8_text (97 ∷ 195 ∷ 169 ∷ []) false) 0 ≡ (
 unfolding matches
 not_a = refl
 
--- a lookahead that names an empty range past the last group
+-- A lookahead that names an empty range past the last group.
 abbrev empty_range_of_groups-tree : Node
 empty_range_of_groups-tree = (cat (lookaround (look false false 5 5) (char 97)) (cat goal end_of_cat))
 
@@ -214,7 +214,7 @@ nested_empty_loops : matches nested_empty_loops-tree (utf8_text (98 ∷ []) fals
 unfolding matches
 nested_empty_loops = refl
 
--- empty iterations count up to the minimum
+-- Empty iterations count up to the minimum.
 abbrev thousand_empty_iterations-tree : Node
 thousand_empty_iterations-tree = (cat (loop (times 1000 (Some 1000) true) 0 0 empty) (cat goal end_of_cat))
 
@@ -222,7 +222,7 @@ thousand_empty_iterations : matches thousand_empty_iterations-tree (utf8_text []
 unfolding matches
 thousand_empty_iterations = refl
 
--- the largest minimum over one character
+-- The largest minimum over one character.
 abbrev too_many_iterations-tree : Node
 too_many_iterations-tree = (cat (loop (times 18446744073709551615 None true) 0 0 (char 97)) (cat goal end_of_cat))
 
@@ -230,7 +230,7 @@ too_many_iterations : matches too_many_iterations-tree (utf8_text (97 ∷ []) fa
 unfolding matches
 too_many_iterations = refl
 
--- no character is U+110000
+-- No character is U+110000.
 abbrev no_such_character-tree : Node
 no_such_character-tree = (cat (char 1114112) (cat goal end_of_cat))
 

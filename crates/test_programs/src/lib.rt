@@ -2,7 +2,7 @@
 #![tactic(auto)]
 
 #[cfg(test)]
-mod choices;
+mod alternation_dispatch;
 #[cfg(test)]
 mod classes;
 #[cfg(test)]
@@ -10,9 +10,13 @@ mod deep;
 #[cfg(test)]
 mod listing;
 #[cfg(test)]
+mod lookahead_and_exit_tables;
+#[cfg(test)]
 mod memo_analyses;
 #[cfg(test)]
-mod memos;
+mod memo_tables;
+#[cfg(test)]
+mod must_iterate_tables;
 #[cfg(test)]
 mod parts;
 #[cfg(test)]
@@ -20,10 +24,6 @@ mod plans;
 #[cfg(test)]
 mod predicates;
 #[cfg(test)]
-mod rounds;
-#[cfg(test)]
 mod rows;
 #[cfg(test)]
 mod table;
-#[cfg(test)]
-mod verdicts;

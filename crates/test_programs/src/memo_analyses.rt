@@ -1,6 +1,6 @@
 //! Which instructions of programs record, with how many codes, and what a place pays for all of them; and codes of threads.
 
-ghost use Rattle.regress_memo.specs.CheckedAnalysis.{AreInsnCodesCountedAndDisjoint};
+ghost use Rattle.regress_memo.specs.CheckedAnalysis.{HasDisjointCodes};
 
 use regex_pattern_front::ir::Regex;
 use regress_memo::analysis_result::MemoAnalysis;
@@ -17,7 +17,7 @@ pub(crate) fn write_memo_analysis(
     let Ok(program) = emit(alloc, tree) else {
         return text.push_str("no program");
     };
-    let loops = program.program_common_to_both_unit_kinds().loops() as usize;
+    let loops = program.common_program().loops() as usize;
     match MemoAnalysis::new(alloc, program.insns(), loops)? {
         Some(memo_analysis) => write_records(text, &memo_analysis),
         None => text.push_str("none"),
@@ -46,7 +46,7 @@ pub(crate) fn write_codes(
     let Ok(program) = emit(alloc, tree) else {
         return text.push_str("no program");
     };
-    let loops = program.program_common_to_both_unit_kinds().loops() as usize;
+    let loops = program.common_program().loops() as usize;
     match MemoAnalysis::new(alloc, program.insns(), loops)? {
         Some(memo_analysis) => write_each(alloc, text, &memo_analysis, loops),
         None => text.push_str("none"),
@@ -60,7 +60,7 @@ fn write_each(
     memo_analysis: &MemoAnalysis,
     loops: usize,
 ) -> Result<(), AllocError>
-    requires { AreInsnCodesCountedAndDisjoint memo_analysis.now }
+    requires { HasDisjointCodes memo_analysis.now }
 {
     for ip in 0..memo_analysis.lines.len() {
         let line = memo_analysis.insn_analysis_at(ip);
@@ -88,7 +88,7 @@ fn write_codes_at(
     loops: usize,
     ip: usize,
 ) -> Result<(), AllocError>
-    requires { AreInsnCodesCountedAndDisjoint memo_analysis.now }
+    requires { HasDisjointCodes memo_analysis.now }
 {
     for number in 0..10usize {
         let round = LoopCountAndIterationStart {

@@ -24,7 +24,7 @@ pub(crate) fn write_parts(
 }
 
 fn write_compiled(text: &mut String, program: &CompiledRegex) -> Result<(), AllocError> {
-    write_one(text, program.program_common_to_both_unit_kinds())?;
+    write_one(text, program.common_program())?;
     text.push(' ')?;
     write_words(text, program.start_pred())
 }
@@ -37,8 +37,8 @@ pub(crate) fn write_unit_parts(
 ) -> Result<(), AllocError> {
     match emit_units(alloc, tree) {
         Ok(program) => {
-            write_one(text, program.program_common_to_both_unit_kinds())?;
-            write_one(text, program.clone()?.program_common_to_both_unit_kinds())
+            write_one(text, program.common_program())?;
+            write_one(text, program.clone()?.common_program())
         }
         Err(_) => Ok(()),
     }
@@ -73,11 +73,7 @@ pub(crate) fn write_shown_names(
     tree: &Regex,
 ) -> Result<(), AllocError> {
     match emit(alloc, tree) {
-        Ok(program) => write!(
-            text,
-            "{:?}",
-            program.program_common_to_both_unit_kinds().shared_names()
-        ),
+        Ok(program) => write!(text, "{:?}", program.common_program().shared_names()),
         Err(_) => Ok(()),
     }
 }

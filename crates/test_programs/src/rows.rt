@@ -1,16 +1,16 @@
 //! What is answered for trees, row by row.
 
-use crate::choices::{write_choices, write_unit_choices};
+use crate::alternation_dispatch::{write_arms_by_key, write_unit_arms_by_key};
 use crate::classes::{write_classes, write_unit_classes};
 use crate::listing::{write_program, write_units};
+use crate::lookahead_and_exit_tables::{write_lookaheads, write_unit_lookaheads};
 use crate::memo_analyses::{write_codes, write_memo_analysis};
-use crate::memos::write_memo;
+use crate::memo_tables::write_memo;
+use crate::must_iterate_tables::{write_must_iterate, write_unit_must_iterate};
 use crate::parts::{write_parts, write_shown_names, write_unit_parts};
 use crate::plans::{write_plan, write_unit_plan};
 use crate::predicates::write_predicate;
-use crate::rounds::{write_rounds, write_unit_rounds};
 use crate::table::ROWS;
-use crate::verdicts::{write_unit_verdicts, write_verdicts};
 use regex_parser::parse::try_parse;
 use regex_pattern_front::flags::Flags;
 use regex_pattern_front::ir::Regex;
@@ -40,12 +40,12 @@ fn write_answer(
         "names" => write_shown_names(alloc, text, tree),
         "plan" => write_plan(alloc, text, tree),
         "unit_plan" => write_unit_plan(alloc, text, tree),
-        "choices" => write_choices(alloc, text, tree),
-        "unit_choices" => write_unit_choices(alloc, text, tree),
-        "verdicts" => write_verdicts(alloc, text, tree),
-        "unit_verdicts" => write_unit_verdicts(alloc, text, tree),
-        "rounds" => write_rounds(alloc, text, tree),
-        "unit_rounds" => write_unit_rounds(alloc, text, tree),
+        "arms" => write_arms_by_key(alloc, text, tree),
+        "unit_arms" => write_unit_arms_by_key(alloc, text, tree),
+        "lookaheads" => write_lookaheads(alloc, text, tree),
+        "unit_lookaheads" => write_unit_lookaheads(alloc, text, tree),
+        "must_iterate" => write_must_iterate(alloc, text, tree),
+        "unit_must_iterate" => write_unit_must_iterate(alloc, text, tree),
         "classes" => write_classes(alloc, text, tree),
         "unit_classes" => write_unit_classes(alloc, text, tree),
         "memo_analysis" => write_memo_analysis(alloc, text, tree),

@@ -12,11 +12,11 @@
 // - `plan`: where a search tries to match (anywhere, at one of a few keys, at the keys of a table, behind keys, at a
 //   required prefix with its prefilters); for each loop over one character, the first key of each run of keys that
 //   may follow.
-// - `choices`: the instruction of each alternation and, for the first key of each run and the end of the text, the
+// - `arms`: the instruction of each alternation and, for the first key of each run and the end of the text, the
 //   instructions of the arms that may match there.
-// - `verdicts`: the same for lookaheads, with whether a thread continues: `yes`, `no`, or `ask` if the contents
+// - `lookaheads`: the same for lookaheads, with whether a thread continues: `yes`, `no`, or `ask` if the contents
 //   decide.
-// - `rounds`: the instruction at the end of a loop's body, and the runs of keys over which the loop iterates at once.
+// - `must_iterate`: the instruction at the end of a loop's body, and the runs of keys over which the loop iterates at once.
 // - `classes`: for the first key of each run, the number of units of a character (0 if none is accepted, 5 if the
 //   character decides); the bytes at which a scan stops.
 // - `memo_analysis`: each memoized instruction with its number of codes, and the work that an offset pays for all of
@@ -204,46 +204,46 @@ unit_plan /\\w+@/ → among 48 58 65 91 95 96 97 123, apart 64 65, leap 1 [64, 0
 unit_plan /\\w+(?!,)/ → among 48 58 65 91 95 96 97 123, run anything
 unit_plan /[^]+@|z{2}/ → among 0, run 64 65, run anything, leap 2 [122, 64, 0] over 0
 unit_plan /a*?b/ → few 2 [97, 98, 0], lazy 98 99
-choices cat:2 alt a alt b c goal → at 0 0: 97:1 98:4 99:6 100:
-choices cat:2 alt a cat:2 a b goal → at 0 0: 97:1,3 98:
-choices cat:2 alt alt a b c goal → at 0 0: 97:1 99:6 100:; at 1 0: 97:2 98:4 99:
-choices cat:3 alt a b alt c a goal → at 0 0: 97:1 98:3 99:; at 4 0: 97:7 98: 99:5 100:
-choices cat:3 alt a empty b goal → at 0 0: 97:1 98:3 99:
-choices cat:2 alt a empty goal → at 0 0:3 97:1,3 98:3
-choices cat:2 alt any any goal → none
-unit_choices cat:2 alt a alt b c goal → at 0 0: 97:1 98:4 99:6 100:
-verdicts cat:2 ahead:0,0 a goal → at 0 0:no 97:yes 98:no
-verdicts /(?!a)/ → at 0 0:yes 97:no 98:yes
-verdicts cat:2 ahead:0,0 alt a b goal → at 0 0:no 97:yes 99:no
-verdicts cat:2 ahead:0,0 alt a alt b c goal → at 0 0:no 97:yes 100:no
-verdicts cat:2 ahead:0,0 alt cat:2 a b a goal → at 0 0:no 97:ask 98:no
-verdicts cat:2 ahead:0,0 alt a cat:2 a b goal → at 0 0:no 97:yes 98:no
-verdicts cat:2 ahead:0,0 alt cat:2 b a a goal → at 0 0:no 97:yes 98:ask 99:no
-verdicts /(?=(a))/ → at 0 0:no 97:ask 98:no
-verdicts /(?=ab)/ → at 0 0:no 97:ask 98:no
-verdicts /(?=a|$)/ → at 0 0:no 97:yes 98:no end:ask
-rounds /(?:a|b)+?c/ → at 5 97 99
-rounds /(?:a|b)*a/ → at 5 98 99
-rounds /(?:a|b)*/ → none
-rounds /(?:ab|c)*d/ → at 6 99 100
-rounds /(?:a|[^\\x00-\\x7F]|b)*c/ → at 8 97 99
-rounds /x(?:[^x\\\\]|\\\\.)*x/ → at 7 0 92 93 120 121 128
-unit_rounds /x(?:[^x\\\\]|\\\\.)*x/ → at 7 0 92 93 120 121 236 238
-rounds /(?:(a)|b)*c/ → none
-verdicts /(?=(?!a)b)/ → at 0 0:no 98:ask 99:no; at 1 0:yes 97:no 98:yes
-verdicts /(?=[^])/ → at 0 0:yes 128:no 194:yes 245:no
-verdicts /(?=[а-п])/ → at 0 0:no 208:ask 209:no
-verdicts /(?=[\\u0400-\\u043f])/ → at 0 0:no 208:yes 209:no
-verdicts /(?<=a)/ → none
-verdicts /(?=)/ → at 0 0:yes
-verdicts /(?=a*)/ → at 0 0:yes
-verdicts /(?!a*b?)/ → at 0 0:no
-verdicts /(?=ab*c*?)/ → at 0 0:no 97:yes 98:no
-verdicts /(?=a+)/ → at 0 0:no 97:ask 98:no
-verdicts /(?=a*b)/ → at 0 0:no 97:ask 99:no
-verdicts /(?=(a*))/ → none
-unit_verdicts /(?=é)/ → at 0 0:no 128:ask 129:no
-unit_verdicts /(?![^])/ → at 0 0:no 236:ask 238:no end:yes
+arms cat:2 alt a alt b c goal → at 0 0: 97:1 98:4 99:6 100:
+arms cat:2 alt a cat:2 a b goal → at 0 0: 97:1,3 98:
+arms cat:2 alt alt a b c goal → at 0 0: 97:1 99:6 100:; at 1 0: 97:2 98:4 99:
+arms cat:3 alt a b alt c a goal → at 0 0: 97:1 98:3 99:; at 4 0: 97:7 98: 99:5 100:
+arms cat:3 alt a empty b goal → at 0 0: 97:1 98:3 99:
+arms cat:2 alt a empty goal → at 0 0:3 97:1,3 98:3
+arms cat:2 alt any any goal → none
+unit_arms cat:2 alt a alt b c goal → at 0 0: 97:1 98:4 99:6 100:
+lookaheads cat:2 ahead:0,0 a goal → at 0 0:no 97:yes 98:no
+lookaheads /(?!a)/ → at 0 0:yes 97:no 98:yes
+lookaheads cat:2 ahead:0,0 alt a b goal → at 0 0:no 97:yes 99:no
+lookaheads cat:2 ahead:0,0 alt a alt b c goal → at 0 0:no 97:yes 100:no
+lookaheads cat:2 ahead:0,0 alt cat:2 a b a goal → at 0 0:no 97:ask 98:no
+lookaheads cat:2 ahead:0,0 alt a cat:2 a b goal → at 0 0:no 97:yes 98:no
+lookaheads cat:2 ahead:0,0 alt cat:2 b a a goal → at 0 0:no 97:yes 98:ask 99:no
+lookaheads /(?=(a))/ → at 0 0:no 97:ask 98:no
+lookaheads /(?=ab)/ → at 0 0:no 97:ask 98:no
+lookaheads /(?=a|$)/ → at 0 0:no 97:yes 98:no end:ask
+must_iterate /(?:a|b)+?c/ → at 5 97 99
+must_iterate /(?:a|b)*a/ → at 5 98 99
+must_iterate /(?:a|b)*/ → none
+must_iterate /(?:ab|c)*d/ → at 6 99 100
+must_iterate /(?:a|[^\\x00-\\x7F]|b)*c/ → at 8 97 99
+must_iterate /x(?:[^x\\\\]|\\\\.)*x/ → at 7 0 92 93 120 121 128
+unit_must_iterate /x(?:[^x\\\\]|\\\\.)*x/ → at 7 0 92 93 120 121 236 238
+must_iterate /(?:(a)|b)*c/ → none
+lookaheads /(?=(?!a)b)/ → at 0 0:no 98:ask 99:no; at 1 0:yes 97:no 98:yes
+lookaheads /(?=[^])/ → at 0 0:yes 128:no 194:yes 245:no
+lookaheads /(?=[а-п])/ → at 0 0:no 208:ask 209:no
+lookaheads /(?=[\\u0400-\\u043f])/ → at 0 0:no 208:yes 209:no
+lookaheads /(?<=a)/ → none
+lookaheads /(?=)/ → at 0 0:yes
+lookaheads /(?=a*)/ → at 0 0:yes
+lookaheads /(?!a*b?)/ → at 0 0:no
+lookaheads /(?=ab*c*?)/ → at 0 0:no 97:yes 98:no
+lookaheads /(?=a+)/ → at 0 0:no 97:ask 98:no
+lookaheads /(?=a*b)/ → at 0 0:no 97:ask 99:no
+lookaheads /(?=(a*))/ → none
+unit_lookaheads /(?=é)/ → at 0 0:no 128:ask 129:no
+unit_lookaheads /(?![^])/ → at 0 0:no 236:ask 238:no end:yes
 classes /a*/ → single 97:1 98:0
 classes /.*/ → wide 0:1 10:0 11:1 13:0 14:1 128:0 194:2 224:3 226:5 227:3 240:4 245:0 stops [10, 13, 226]
 classes /[^\"]*/ → wide 0:1 34:0 35:1 128:0 194:2 224:3 240:4 245:0 stops [34]

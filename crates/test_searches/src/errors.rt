@@ -51,7 +51,7 @@ fn errors_of_the_face_have_texts(rt: HostRuntime) -> Result<(), Fail> {
     let closure = ReplaceError::Closure(Error::Memory);
     write!(found, "; {search}; {closure}")?;
     let wanted =
-        "unclosed group at 0; out of memory; the steps are used up; out of memory; out of memory; out of memory";
+        "unclosed group at 0; out of memory; the step limit is reached; out of memory; out of memory; out of memory";
     assert!(rt; found.as_str() == wanted, "{found}");
     Ok(())
 }

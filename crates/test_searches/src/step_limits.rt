@@ -1,6 +1,6 @@
 //! Searches with a step limit.
 
-ghost use Rattle.regress_match.specs.ProgramTreesAndAnswers.{IsBoundaryOrPastEnd};
+ghost use Rattle.regex_meaning.specs.CodeUnitOffsets.{IsBoundaryOrPastEnd};
 
 use crate::lines::{write_limited, write_one};
 use crate::rows::{Row, compare};

@@ -23,9 +23,9 @@ struct Known<'a> {
 #[derive(Drop)]
 struct Worked {
     list: Vec<Match>,
-    // how much work is left
+    // How much work is left.
     left: u64,
-    // whether more would have had to be done
+    // Whether more would have had to be done.
     is_out: bool,
 }
 

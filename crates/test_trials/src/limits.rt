@@ -1,7 +1,7 @@
 //! Searches whose steps are limited, by the steps that they say are left.
 
+ghost use Rattle.regex_meaning.specs.CodeUnitOffsets.{IsBoundaryOrPastEnd};
 ghost use Rattle.std.specs.Prelude.{◌<◌, ◌⊎◌, IsCharBoundary, length};
-ghost use Rattle.regress_match.specs.ProgramTreesAndAnswers.{IsBoundaryOrPastEnd};
 
 use crate::checks::Case;
 use crate::fault::ParseFault;

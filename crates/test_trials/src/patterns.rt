@@ -27,12 +27,12 @@ const LOOKAROUNDS: [&str; 4] = ["(?=", "(?!", "(?<=", "(?<!"];
 #[derive(Drop)]
 struct Draft {
     text: String,
-    // how many groups were opened that capture
+    // How many groups were opened that capture.
     groups: u32,
-    // how many parentheses are open, and for each, the last in the lowest bit, whether it is one of a group
+    // How many parentheses are open, and for each, the last in the lowest bit, whether it is one of a group.
     open: u32,
     kinds: u32,
-    // whether a quantifier may stand next
+    // Whether a quantifier may stand next.
     counts: bool,
 }
 

@@ -1,7 +1,7 @@
 -- The pattern that is made of several.
 use Rattle.std.specs.Prelude.{ℕ, List, [], ◌∷◌, ◌++◌, codes}
 
--- a pattern as an alternative, and the `|` behind it
+-- A pattern as an alternative, and the `|` behind it.
 abbrev pub alternative : (pattern : List ℕ) → List ℕ
 alternative pattern = codes "(?:" ++ (pattern ++ codes ")|")
 

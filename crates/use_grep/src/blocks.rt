@@ -38,8 +38,8 @@ pub struct Blocks<R: Read + Drop> {
     longest: u64,
     end_of_line: u8,
     buffer: Vec<u8>,
-    // where the lines end that were returned, how many bytes they take with their last line break, and how many were
-    // read
+    // Where the lines end that were returned, how many bytes they take with their last line break, and how many were
+    // read.
     end: usize,
     taken: usize,
     filled: usize,

@@ -29,7 +29,7 @@ pub struct Row<'t> {
 pub struct Screen<'s, 'a> {
     alloc: Global,
     options: &'s Options<'a>,
-    // whether names of files are printed
+    // Whether names of files are printed.
     has_names: bool,
     out: BufWriter<Printer<'s, HostRuntime>>,
 }

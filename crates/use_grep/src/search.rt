@@ -41,7 +41,7 @@ pub struct Search<'s, 'a> {
     options: &'s Options<'a>,
     screen: Screen<'s, 'a>,
     tally: Tally,
-    // whether a line was printed, which `--` separates from the next group
+    // Whether a line was printed, which `--` separates from the next group.
     has_printed: bool,
 }
 
@@ -50,21 +50,21 @@ pub struct Search<'s, 'a> {
 struct Progress<'n> {
     name: &'n str,
     blocks: u64,
-    // how many lines were searched, and how many bytes they have, with what ends them
+    // How many lines were searched, and how many bytes they have, with what ends them.
     lines: u64,
     bytes: u64,
-    // how many lines were selected, and the number of the last one, or 0
+    // How many lines were selected, and the number of the last one, or 0.
     selected: u64,
     latest: u64,
-    // the number of the last line that was printed, or 0
+    // The number of the last line that was printed, or 0.
     printed: u64,
-    // the lines just before the next one that may be printed before it
+    // The lines just before the next one that may be printed before it.
     kept: VecDeque<Kept>,
-    // whether no more of it is searched
+    // Whether no more of it is searched.
     is_over: bool,
-    // whether it has a NUL byte
+    // Whether it has a NUL byte.
     is_binary: bool,
-    // whether a line that is not text was selected or near a selected one, and is not printed
+    // Whether a line that is not text was selected or near a selected one, and is not printed.
     is_hidden: bool,
 }
 

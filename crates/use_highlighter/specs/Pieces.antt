@@ -9,24 +9,24 @@ use Rattle.use_highlighter.specs.declared.pieces.Piece.{Piece}
 abbrev pub range_of : Piece → ℕ × ℕ
 range_of p = (p.start, p.end)
 
--- the bytes of a piece
+-- The bytes of a piece.
 abbrev pub part_of : (text : List ℕ) → Piece → List ℕ
 part_of text p = slice_range text p.start p.end
 
--- its range is one of whole characters
+-- Its range is one of whole characters.
 abbrev pub IsSliceOf : (text : List ℕ) → Piece → Type 0
 IsSliceOf text p = IsCharBoundaryRange text (range_of p)
 
--- they stand in a row: each begins where the one before ended
+-- They stand in a row: each begins where the one before ended.
 abbrev pub StandInRow : (from : ℕ) → List Piece → (to : ℕ) → Type 0
 StandInRow from [] to = from ≡ to
 StandInRow from (p ∷ ps) to = (p.start ≡ from) × (p.start ≤ p.end) × StandInRow p.end ps to
 
--- the ranges of the tokens, each with which token it is
+-- The ranges of the tokens, each with which token it is.
 abbrev pub marked : List Piece → List ((ℕ × ℕ) × Option ℕ)
 marked pieces = map (λ p. (range_of p, p.token)) (filter (λ p. is_some p.token) pieces)
 
--- the same of matches
+-- The same of matches.
 abbrev pub marks_of : (names : List (List ℕ)) → List Answer → List ((ℕ × ℕ) × Option ℕ)
 marks_of names matches = map (λ m. (m.range, Some (token_of names m))) matches
 

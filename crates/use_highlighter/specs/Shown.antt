@@ -6,7 +6,7 @@ use Rattle.use_highlighter.specs.declared.pieces.Piece.{Piece}
 use Rattle.use_highlighter.specs.declared.show.Style.{Style}
 use Rattle.use_highlighter.specs.declared.show.Style.TheVariants.{Ansi, Html}
 
--- a character in HTML
+-- A character in HTML.
 abbrev pub escaped_char : ℕ → List ℕ
 escaped_char c =
     if eqb c 38 then codes "&amp;"
@@ -40,7 +40,7 @@ abbrev pub end_of : Style → List ℕ
 end_of Ansi = 27 ∷ codes "[m"
 end_of Html = codes "</span>"
 
--- a part of a text, which is a token or none; nothing of an empty one
+-- A part of a text, which is a token or none; nothing of an empty one.
 abbrev pub shown_part : Style → (names : List (List ℕ)) → Option ℕ → (part : List ℕ) → List ℕ
 shown_part style names token [] = []
 shown_part style names None part = text_shown style part

@@ -9,8 +9,8 @@ ghost use Rattle.regex_meaning.specs.FlagLettersAndEscaping.{flags_from_letters}
 ghost use Rattle.regex_meaning.specs.{Laws.{AreAscendingDisjointAnswersFrom, Each}, Text.{Text, last_place, utf8_text}, Tree.{Flags, Tree, group_ids}};
 ghost use Rattle.regex_meaning.specs.{Grammar.{Parses}, GroupNameScan.{scanned_names_per_capturing_group}, GrammarLaws.{literal_tree}};
 ghost use Rattle.regress_search.specs.{MatchesAsSpecAnswers.{answer_of}, RemainingAnswers.{NextYields, RemainingView}};
-ghost use Rattle.regress_search.specs.AttemptsAndMatchesWithinWork.{RemainingAnswersAndWork};
-ghost use Rattle.regress_search.specs.CostsOfCalls.{WorkMatchesView, remaining};
+ghost use Rattle.regress_search.specs.MatchesWithinWork.{RemainingAnswersAndWork};
+ghost use Rattle.regress_search.specs.CostsOfCalls.{WorkMatchesView, without_costs};
 ghost use Rattle.regress_search.specs.declared.{exec.Match.{Match as TheMatch}, exec.SearchError.{SearchError as TheError}};
 ghost use Rattle.regress_search.specs.declared.exec.work_matches.WorkError.TheVariants.{WorkLimit};
 ghost use Rattle.regress_match.specs.ProgramTreesAndAnswers.{IsCompiledWith, bytes_as_utf8_text, ascii_answers, tree_for_byte_units, tree_for_16_bit_units, utf8_answers};
@@ -163,7 +163,7 @@ pub fn work_limit_means_too_small_a_budget()
 pub fn calls_cost_at_most_the_bound<P: WorkLimitedProducer>()
     ensures { (tree : Tree) (text : Text) (start per_unit : ℕ) (it behind : WorkMatchesView P)
         (rs : List WorkMatchesNextResultType) → let bound = enough_work_for_text per_unit text in
-        YieldsMatchesIfWorkSuffices tree text start per_unit bound (remaining it)
+        YieldsMatchesIfWorkSuffices tree text start per_unit bound (without_costs it)
         → NextCallsYieldAtCost P.attempt_costs P.tree P.text P.failures it rs behind → Each IsNoAllocationFailure rs
         → (cost : ℕ) × CallsCost P.attempt_costs P.tree P.text P.failures it rs cost behind × (cost ≤ bound) }
 {

@@ -10,7 +10,7 @@ use Rattle.use_regexp.specs.Units.{character_start}
 use Rattle.use_regexp.specs.declared.pattern.Pattern.{Pattern}
 
 module _ (p : Pattern) where
-  -- the index at which a search begins: `lastIndex` with `g` or `y`, otherwise 0
+  -- The index at which a search begins: `lastIndex` with `g` or `y`, otherwise 0.
   abbrev pub search_index : (last : ℕ) → ℕ
   search_index last = if keeps_index p.flags then last else 0
 
@@ -19,26 +19,26 @@ module _ (p : Pattern) where
   last_behind last m = if keeps_index p.flags then option_map_or (λ (a : Answer). a.range.1) m 0 else last
 
 module _ (p : Pattern) (text : List ℕ) where
-  -- the start of the character at an index
+  -- The start of the character at an index.
   abbrev pub start_of : (index : ℕ) → ℕ
   start_of index = character_start p.flags.unicode text index
 
-  -- the list of matches from an index on, in UTF-16 with `u`, and in UCS-2 without it
+  -- The list of matches from an index on, in UTF-16 with `u`, and in UCS-2 without it.
   abbrev pub matches_from : (index : ℕ) → List Answer
   matches_from index =
       if p.flags.unicode then utf16_answers p.re text (start_of index) else ucs2_answers p.re text (start_of index)
 
-  -- the first match from an index on
+  -- The first match from an index on.
   unfoldable pub first_match : (index : ℕ) → Option Answer
   first_match index = slice_get (matches_from index) 0
 
-  -- the match that begins at an index, if there is one
+  -- The match that begins at an index, if there is one.
   unfoldable pub match_here : (index : ℕ) → Option Answer
   match_here index =
       if p.flags.unicode then utf16_answer_beginning_at p.re text (start_of index)
       else ucs2_answer_beginning_at p.re text (start_of index)
 
-  -- the match of a search: with `y` the one that begins at its index, otherwise the first one from there on
+  -- The match of a search: with `y` the one that begins at its index, otherwise the first one from there on.
   abbrev pub found : (last : ℕ) → Option Answer
   found last = if p.flags.sticky then match_here (search_index p last) else first_match (search_index p last)
 

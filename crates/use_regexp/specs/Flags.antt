@@ -6,7 +6,7 @@ use Rattle.regex_meaning.specs.Tree as tree
 use Rattle.use_regexp.specs.Letters.{are_flags}
 use Rattle.use_regexp.specs.declared.flags.Flags.{Flags}
 
--- the flags with these letters
+-- The flags with these letters.
 abbrev pub flags_in : List ℕ → Flags
 flags_in letters = record {
   has_indices = contains letters 100;
@@ -18,18 +18,18 @@ flags_in letters = record {
   sticky = contains letters 121;
 }
 
--- the flags with these letters, if they are letters of flags
+-- The flags with these letters, if they are letters of flags.
 abbrev pub flags_of : List ℕ → Option Flags
 flags_of letters = if are_flags letters then Some (flags_in letters) else None
 
--- the letters of the flags that are set, in the order of the standard (22.2.6.4 of the 13th edition)
+-- The letters of the flags that are set, in the order of the standard (22.2.6.4 of the 13th edition).
 abbrev pub letters_of : Flags → List ℕ
 letters_of f =
     letter_if_flag_set f.has_indices 100 ++ letter_if_flag_set f.global 103 ++ letter_if_flag_set f.ignore_case 105
     ++ letter_if_flag_set f.multiline 109 ++ letter_if_flag_set f.dot_all 115
     ++ letter_if_flag_set f.unicode 117 ++ letter_if_flag_set f.sticky 121
 
--- the flags of the tree of the pattern
+-- The flags of the tree of the pattern.
 abbrev pub tree_flags : Flags → tree.Flags
 tree_flags f = record {
   icase = f.ignore_case;
@@ -40,6 +40,6 @@ tree_flags f = record {
   unicode_sets = false;
 }
 
--- a search begins at `lastIndex` and sets it
+-- A search begins at `lastIndex` and sets it.
 abbrev pub keeps_index : Flags → Bool
 keeps_index f = f.global || f.sticky

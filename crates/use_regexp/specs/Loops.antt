@@ -9,16 +9,16 @@ use Rattle.use_regexp.specs.declared.pattern.Pattern.{Pattern}
 use Rattle.use_regexp.specs.declared.regexp.RegExp.{RegExp}
 
 module _ (p : Pattern) (text : List ℕ) where
-  -- the index at which the loop continues after a match: its end, or one character further if it is empty
+  -- The index at which the loop continues after a match: its end, or one character further if it is empty.
   abbrev pub next_last : Answer → ℕ
   next_last m = if m.range.0 == m.range.1 then advanced p.flags.unicode text m.range.1 else m.range.1
 
-  -- successive searches from an index on find these matches, and then none
+  -- Successive searches from an index on find these matches, and then none.
   abbrev pub AreFoundInTurn : (last : ℕ) → List Answer → Type 0
   AreFoundInTurn last [] = found p text last ≡ None
   AreFoundInTurn last (m ∷ ms) = (found p text last ≡ Some m) × AreFoundInTurn (next_last m) ms
 
-  -- with `g` all matches from an index on, otherwise the match of a search
+  -- With `g` all matches from an index on, otherwise the match of a search.
   abbrev pub AreTaken : (first last : ℕ) → List Answer → Type 0
   AreTaken first last ms =
       MatchBool p.flags.global (AreFoundInTurn first ms) (ms ≡ option_to_list (found p text last))
@@ -27,6 +27,6 @@ module _ (p : Pattern) (text : List ℕ) where
   abbrev pub last_taken : (last : ℕ) → ℕ
   last_taken last = if p.flags.global then 0 else last_behind p last (found p text last)
 
--- an object with this `lastIndex` afterwards
+-- An object with this `lastIndex` afterwards.
 abbrev pub LeavesTaken : (before after : RegExp) → (text : List ℕ) → Type 0
 LeavesTaken before after text = after.last_index ≡ last_taken before.pattern text before.last_index

@@ -11,7 +11,7 @@ use Rattle.use_regexp.specs.declared.flags.Flags as flags
 use Rattle.use_regexp.specs.declared.error.RegExpError.{RegExpError}
 use Rattle.use_regexp.specs.declared.error.RegExpError.TheVariants.{Flags, Pattern, Memory}
 
--- the error for an error of the engine
+-- The error for an error of the engine.
 abbrev pub of_pattern : Error → RegExpError
 of_pattern error.Memory = Memory
 of_pattern e = Pattern e
@@ -22,7 +22,7 @@ pub record IsRefused (source letters : List ℕ) (e : Error) : Type 0 where
   pub are : flags_of letters ≡ Some flags
   pub refused : IsPatternRefusedWithSyntax ecmascript (tree_flags flags) (characters_of flags.unicode source) e
 
--- when each error is possible for a source and letters of flags
+-- When each error is possible for a source and letters of flags.
 abbrev pub CanRefuse : (source letters : List ℕ) → RegExpError → Type 0
 CanRefuse source letters Flags = are_flags letters ≡ false
 CanRefuse source letters (Pattern error.Memory) = ⊥

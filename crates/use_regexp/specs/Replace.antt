@@ -4,8 +4,8 @@ use Rattle.std.specs.Borrow.{Bor}
 use Rattle.regex_meaning.specs.MatchGroupsByNumberAndName.{Answer}
 use Rattle.regex_meaning.specs.Replace.{replaced}
 use Rattle.regress_search.specs.declared.exec.Match.{Match}
-use Rattle.regress_match.specs.ClosureReplacementForAnyResultType as answered
-use Rattle.regress_match.specs.ReplacementClosuresReturningStrings.{ClosureCanBeCalled}
+use Rattle.regress_match.specs.ClosureReplacement as answered
+use Rattle.regress_match.specs.StringClosures.{ClosureCanBeCalled}
 use Rattle.regress_match.specs.CompileErrors.{IsOutOfMemory}
 use Rattle.regress_match.specs.ExpansionsAndMatchRanges.{MatchRangesLieWithinUnits}
 use Rattle.regress_match.specs.declared.api.compile_and_replace_errors.ReplaceError.{ReplaceError}
@@ -14,40 +14,40 @@ use Rattle.use_regexp.specs.Loops.{AreTaken}
 use Rattle.use_regexp.specs.Template.{substitution}
 use Rattle.use_regexp.specs.declared.pattern.Pattern.{Pattern}
 
--- each match is a range of the text, and begins after the offset and after the end of the previous match, or there
+-- Each match is a range of the text, and begins after the offset and after the end of the previous match, or there.
 abbrev pub StandInUnits : (text : List ℕ) → (from : ℕ) → List Answer → Type 0
 StandInUnits text from [] = from ≤ length text
 StandInUnits text from (m ∷ ms) = (from ≤ m.range.0) × MatchRangesLieWithinUnits text m × StandInUnits text m.range.1 ms
 
--- these matches, each with the expansion of the template for it
+-- These matches, each with the expansion of the template for it.
 abbrev pub substituted : (text template : List ℕ) → List Answer → List (Answer × List ℕ)
 substituted text template ms = map (λ m. (m, substitution text m template)) ms
 
--- the text with the expansions of the template in place of the matches
+-- The text with the expansions of the template in place of the matches.
 abbrev pub IsReplaced : Pattern → (last : ℕ) → (text template made : List ℕ) → Type 0
 IsReplaced p last text template made =
     (ms : List Answer) × AreTaken p text 0 last ms × (made ≡ replaced text 0 (substituted text template ms))
 
--- a closure may be called for each of the matches
+-- A closure may be called for each of the matches.
 abbrev pub CanBeTaken : (takes : Bor Match → Type 0) → Pattern → (text : List ℕ) → (last : ℕ) → Type 0
 CanBeTaken takes p text last = (ms : List Answer) → AreTaken p text 0 last ms → ClosureCanBeCalled takes ms
 
--- the units of the result of a closure
+-- The units of the result of a closure.
 abbrev pub units_of : {Z : Type 0} → Vec ℕ Z → List ℕ
 units_of v = v.items
 
 -- `says`: the closure may return this result for this match.
 module _ {Z E : Type 0} (says : Bor Match → Result (Vec ℕ Z) E → Type 0) where
-  -- the text with its results in place of these matches
+  -- The text with its results in place of these matches.
   abbrev pub IsReplacedBy : (text : List ℕ) → List Answer → (made : List ℕ) → Type 0
   IsReplacedBy text ms made = answered.IsReplacedBy says units_of text ms made
 
-  -- when each error is possible for these matches
+  -- When each error is possible for these matches.
   abbrev pub CanRefuseAt : List Answer → ReplaceError E → Type 0
   CanRefuseAt ms e = answered.CanRefuseWith says units_of ms e
 
   module _ (p : Pattern) (text : List ℕ) (last : ℕ) where
-    -- for the matches that are replaced
+    -- For the matches that are replaced.
     abbrev pub IsReplacedWith : (made : List ℕ) → Type 0
     IsReplacedWith made = (ms : List Answer) × AreTaken p text 0 last ms × IsReplacedBy text ms made
 

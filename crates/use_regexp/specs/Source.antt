@@ -3,7 +3,7 @@ use Rattle.std.specs.Prelude.{ℕ, Bool, true, false, not, ◌&&◌, ◌||◌, L
 use Rattle.use_regexp.specs.Flags.{letters_of}
 use Rattle.use_regexp.specs.declared.flags.Flags.{Flags}
 
--- the part of an escape after its backslash: the name of a line terminator, or the unit itself
+-- The part of an escape after its backslash: the name of a line terminator, or the unit itself.
 abbrev pub behind_backslash : ℕ → List ℕ
 behind_backslash c =
     if c == 0x0A then codes "n" else if c == 0x0D then codes "r"
@@ -12,15 +12,15 @@ behind_backslash c =
 abbrev pub is_terminator : ℕ → Bool
 is_terminator c = c == 0x0A || c == 0x0D || c == 0x2028 || c == 0x2029
 
--- a unit needs a backslash: a line terminator, or a slash outside of a class
+-- A unit needs a backslash: a line terminator, or a slash outside of a class.
 abbrev pub wants_backslash : (in_class : Bool) → ℕ → Bool
 wants_backslash in_class c = is_terminator c || (c == 47 && not in_class)
 
--- whether a class is open after a unit that does not follow a backslash
+-- Whether a class is open after a unit that does not follow a backslash.
 abbrev pub class_behind : (in_class : Bool) → ℕ → Bool
 class_behind in_class c = if c == 91 then true else if c == 93 then false else in_class
 
--- the escaped units, after a backslash or not, in a class or not
+-- The escaped units, after a backslash or not, in a class or not.
 abbrev pub escaped_from : (escaped in_class : Bool) → List ℕ → List ℕ
 escaped_from escaped in_class [] = []
 escaped_from true in_class (c ∷ cs) = behind_backslash c ++ escaped_from false in_class cs
@@ -28,11 +28,11 @@ escaped_from false in_class (c ∷ cs) =
     (if wants_backslash in_class c then 92 ∷ behind_backslash c else c ∷ [])
     ++ escaped_from (c == 92) (class_behind in_class c) cs
 
--- the escaped source
+-- The escaped source.
 abbrev pub escaped_source : List ℕ → List ℕ
 escaped_source [] = codes "(?:)"
 escaped_source (c ∷ cs) = escaped_from false false (c ∷ cs)
 
--- the literal `/source/flags` (21.2.5.15)
+-- The literal `/source/flags` (21.2.5.15).
 abbrev pub literal_of : (source : List ℕ) → Flags → List ℕ
 literal_of source flags = 47 ∷ [] ++ escaped_source source ++ 47 ∷ [] ++ letters_of flags

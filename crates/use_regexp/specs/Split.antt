@@ -11,20 +11,20 @@ use Rattle.use_regexp.specs.Exec.{first_match, match_here}
 use Rattle.use_regexp.specs.Units.{advanced}
 use Rattle.use_regexp.specs.declared.pattern.Pattern.{Pattern}
 
--- the match ends at this index
+-- The match ends at this index.
 abbrev pub ends_at : (index : ℕ) → Option Answer → Bool
 ends_at index m = option_map_or (λ (a : Answer). a.range.1 == index) m false
 
--- the match, if it begins before the end of the text
+-- The match, if it begins before the end of the text.
 abbrev pub before_end : (text : List ℕ) → Option Answer → Option Answer
 before_end text m = option_and_then (λ (a : Answer). if nat_lt a.range.0 (length text) then Some a else None) m
 
 module _ (p : Pattern) (text : List ℕ) where
-  -- with `u` the index is not within a surrogate pair
+  -- With `u` the index is not within a surrogate pair.
   abbrev pub CutsNone : (index : ℕ) → Type 0
   CutsNone index = IsTrue p.flags.unicode → is_within_pair text index ≡ false
 
-  -- the first match from an index on; if it ends there, the first one from the next index on
+  -- The first match from an index on; if it ends there, the first one from the next index on.
   abbrev pub chosen : (from : ℕ) → (first : Option Answer) → Option Answer
   chosen from first = if ends_at from first then first_match p text (advanced p.flags.unicode text from) else first
 
@@ -41,24 +41,24 @@ module _ (p : Pattern) (text : List ℕ) where
   AreSeparators from wanted (m ∷ ms) =
       (separator from ≡ Some m) × AreSeparators m.range.1 (wanted - (length m.captures + 1)) ms
 
-  -- the piece before each separator, the groups of the separator, and the rest of the text
+  -- The piece before each separator, the groups of the separator, and the rest of the text.
   abbrev pub pieces : (from : ℕ) → List Answer → Groups
   pieces from [] = Some (from, length text) ∷ []
   pieces from (m ∷ ms) = Some (from, m.range.0) ∷ (m.captures ++ pieces m.range.1 ms)
 
-  -- the pieces of an empty text: none if the pattern matches it
+  -- The pieces of an empty text: none if the pattern matches it.
   abbrev pub pieces_of_none : Groups
   pieces_of_none = if is_some (match_here p text 0) then [] else Some (0, 0) ∷ []
 
-  -- the pieces of a text that is not empty, at most as many as the limit allows
+  -- The pieces of a text that is not empty, at most as many as the limit allows.
   abbrev pub ArePieces : (limit : ℕ) → Groups → Type 0
   ArePieces limit made = (ms : List Answer) × AreSeparators 0 limit ms × (made ≡ take limit (pieces 0 ms))
 
-  -- the pieces of a text, at most as many as the limit allows
+  -- The pieces of a text, at most as many as the limit allows.
   abbrev pub IsSplit : (limit : ℕ) → Groups → Type 0
   IsSplit limit made = MatchBool (length text == 0) (made ≡ take limit pieces_of_none) (ArePieces limit made)
 
-  -- a separator is a range of the text after the start of the piece, and does not end within a surrogate pair
+  -- A separator is a range of the text after the start of the piece, and does not end within a surrogate pair.
   pub record IsSeparator (from : ℕ) (m : Answer) : Type 0 where
     pub fits : MatchRangesLieWithinUnits text m
     pub behind : CutsNone from → from ≤ m.range.0

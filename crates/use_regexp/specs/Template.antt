@@ -7,7 +7,7 @@ use Rattle.std.specs.Char.{is_ascii_digit}
 use Rattle.regex_meaning.specs.MatchGroupsByNumberAndName.{Answer, group, named_group, named_groups}
 use Rattle.regex_meaning.specs.Replace.{text_of}
 
--- the expansion of the first units of a template, and the rest of it
+-- The expansion of the first units of a template, and the rest of it.
 pub record Said : Type 0 where
   pub units : List ℕ
   pub rest : List ℕ
@@ -15,41 +15,41 @@ pub record Said : Type 0 where
 abbrev pub say : (units rest : List ℕ) → Said
 say units rest = record { units = units; rest = rest }
 
--- the expansion is appended to the output, and this is the rest
+-- The expansion is appended to the output, and this is the rest.
 abbrev pub IsWritten : (before after rest : List ℕ) → Said → Type 0
 IsWritten before after rest s = (after ≡ before ++ s.units) × (rest ≡ s.rest)
 
 abbrev pub is_ascii : ℕ → Bool
 is_ascii c = nat_lt c 128
 
--- the unit that ends a name
+-- The unit that ends a name.
 abbrev pub is_greater : ℕ → Bool
 is_greater c = c == 62
 
--- the number of a digit and the digit after it; 0 if no digit follows
+-- The number of a digit and the digit after it; 0 if no digit follows.
 abbrev pub two_digits : (first : ℕ) → List ℕ → ℕ
 two_digits first [] = 0
 two_digits first (c ∷ cs) = if is_ascii_digit c then first * 10 + (c - 48) else 0
 
 module _ (m : Answer) where
-  -- the pattern has a group with this number
+  -- The pattern has a group with this number.
   abbrev pub is_group : (number : ℕ) → Bool
   is_group number = nat_lt 0 number && nat_le number (length m.captures)
 
-  -- the pattern has groups with names
+  -- The pattern has groups with names.
   abbrev pub has_names : Bool
   has_names = not (length (named_groups m) == 0)
 
-  -- the index at which a name after `$<` ends, if any group has a name
+  -- The index at which a name after `$<` ends, if any group has a name.
   abbrev pub name_end : List ℕ → Option ℕ
   name_end rest = if has_names then position is_greater rest else None
 
 module _ (text : List ℕ) (m : Answer) where
-  -- the text of the group with a name, which is ASCII; empty if there is no such group or it did not match
+  -- The text of the group with a name, which is ASCII; empty if there is no such group or it did not match.
   abbrev pub named_text : (name : List ℕ) → List ℕ
   named_text name = if list_all is_ascii name then text_of text m (named_group m name) else []
 
-  -- after `$` and a digit: the group with a number of two digits, or of one; otherwise `$` itself
+  -- After `$` and a digit: the group with a number of two digits, or of one; otherwise `$` itself.
   abbrev pub numbered : (digit : ℕ) → List ℕ → Said
   numbered digit rest =
       let one = digit - 48 in
@@ -58,7 +58,7 @@ module _ (text : List ℕ) (m : Answer) where
       else if is_group m one then say (text_of text m (group m one)) rest
       else say (36 ∷ digit ∷ []) rest
 
-  -- after `$<`: the group with the name before `>`; otherwise `$<` itself
+  -- After `$<`: the group with the name before `>`; otherwise `$<` itself.
   abbrev pub named : List ℕ → Said
   named rest =
       option_map_or (λ (end : ℕ). say (named_text (take end rest)) (drop (suc end) rest))
@@ -73,22 +73,22 @@ module _ (text : List ℕ) (m : Answer) where
       else if sign == 36 then 36 ∷ []
       else 36 ∷ sign ∷ []
 
-  -- after `$`
+  -- After `$`.
   abbrev pub behind_dollar : List ℕ → Said
   behind_dollar [] = say (36 ∷ []) []
   behind_dollar (c ∷ rest) =
       if is_ascii_digit c then numbered c rest else if c == 60 then named rest else say (plain c) rest
 
-  -- the expansion of the first units
+  -- The expansion of the first units.
   abbrev pub said : (first : ℕ) → List ℕ → Said
   said c rest = if c == 36 then behind_dollar rest else say (c ∷ []) rest
 
-  -- the expansion of a template with at most this many units
+  -- The expansion of a template with at most this many units.
   abbrev pub said_in : (count : ℕ) → List ℕ → List ℕ
   said_in zero template = []
   said_in (suc count) [] = []
   said_in (suc count) (c ∷ rest) = (said c rest).units ++ said_in count (said c rest).rest
 
-  -- the expansion of a template
+  -- The expansion of a template.
   unfoldable pub substitution : (template : List ℕ) → List ℕ
   substitution template = said_in (length template) template

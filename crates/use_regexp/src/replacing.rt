@@ -4,7 +4,7 @@ ghost use Rattle.std.specs.Prelude.{◌≡◌, ◌++◌, ◌≤◌, IfErr, IfOk,
 ghost use Rattle.std.specs.Result.{IsOkAnd};
 ghost use Rattle.regex_meaning.specs.Replace.{replaced};
 ghost use Rattle.regress_search.specs.MatchesAsSpecAnswers.{answer_of};
-ghost use Rattle.regress_match.specs.{ClosureReplacementForAnyResultType.{IsClosureErrorOrOutOfMemory}, ReplacementClosuresReturningStrings.{ClosureCanBeCalled}};
+ghost use Rattle.regress_match.specs.{ClosureReplacement.{IsClosureErrorOrOutOfMemory}, StringClosures.{ClosureCanBeCalled}};
 ghost use Rattle.regress_match.specs.{CompileErrors.{IsOutOfMemory}, ExpansionsAndMatchRanges.{MatchRangesLieWithinUnits}};
 ghost use Rattle.use_regexp.specs.Loops.{LeavesTaken};
 ghost use Rattle.use_regexp.specs.Replace.{CanBeTaken, CanRefuseAt, CanRefuseWith, IsReplaced, IsReplacedBy, IsReplacedWith, StandInUnits, substituted};
@@ -131,8 +131,8 @@ fn write_answers<E, F>(
 ) -> Result<Vec<u16>, ReplaceError<E>>
 where
     F: Fn(&Match) -> Result<Vec<u16>, E>,
-    requires stand { StandInUnits text.now 0 (map answer_of matches.now) }
-    requires can { ClosureCanBeCalled (F.pre with) (map answer_of matches.now) }
+    requires in_text { StandInUnits text.now 0 (map answer_of matches.now) }
+    requires executable { ClosureCanBeCalled (F.pre with) (map answer_of matches.now) }
     ensures made { IfOk result (λ v. IsReplacedBy (F.post with) text.now (map answer_of matches.now) v.items) }
     ensures refused { IfErr result (CanRefuseAt (F.post with) (map answer_of matches.now)) }
 {

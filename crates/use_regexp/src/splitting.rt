@@ -97,7 +97,7 @@ impl Pattern {
         requires { from ≤ length text.now }
         ensures ends { IfOk result (λ m. IfNone m
             ((separator self.now text.now from ≡ None) ⊎ (limit ≤ length pieces.now))) }
-        ensures goes { IfOk result (λ m. IfSome m (λ f. separator self.now text.now from ≡ Some (answer_of f))) }
+        ensures continues { IfOk result (λ m. IfSome m (λ f. separator self.now text.now from ≡ Some (answer_of f))) }
         ensures stands { IfOk result (λ m. IfSome m (λ f. IsSeparator self.now text.now from (answer_of f))) }
         ensures refused { IfErr result IsOutOfMemory }
     {

@@ -13,32 +13,32 @@ use Rattle.use_renamer.specs.declared.plan.Refusal.{Refusal}
 use Rattle.use_renamer.specs.declared.plan.Refusal.TheVariants.{Memory}
 use Rattle.use_renamer.specs.declared.plan.Rename.{Rename}
 
--- a valid file name: of 1 to 255 bytes, neither `.` nor `..`, without a slash and without a NUL
+-- A valid file name: of 1 to 255 bytes, neither `.` nor `..`, without a slash and without a NUL.
 abbrev pub is_file_name : (name : List ℕ) → Bool
 is_file_name name = not (bytes_eq name []) && not (bytes_eq name (codes ".")) && not (bytes_eq name (codes ".."))
     && nat_le (length name) 255 && not (list_any (λ b. nat_eq b 47 || nat_eq b 0) name)
 
--- a name with the template's expansion in place of each match
+-- A name with the template's expansion in place of each match.
 abbrev pub new_name : Regex → (template name : List ℕ) → List ℕ
 new_name re template name = replaced name 0 (matches_with_expansions name template (utf8_answers re name 0))
 
--- the pairs of names that differ
+-- The pairs of names that differ.
 abbrev pub changing : List (List ℕ × List ℕ) → List (List ℕ × List ℕ)
 changing moves = filter (λ m. not (bytes_eq m.0 m.1)) moves
 
--- the names that change, each with the new one, in the order of the names
+-- The names that change, each with the new one, in the order of the names.
 abbrev pub changes : Regex → (template : List ℕ) → (names : List (List ℕ)) → List (List ℕ × List ℕ)
 changes re template names = changing (map (λ name. (name, new_name re template name)) names)
 
--- all of these differ
+-- All of these differ.
 abbrev pub AllDiffer : List (List ℕ) → Type 0
 AllDiffer names = AllPairs (λ a b. a ≢ b) names
 
--- the list contains the name
+-- The list contains the name.
 abbrev pub is_among : {X : Type 0} → (name_of : X → List ℕ) → (name : List ℕ) → List X → Bool
 is_among name_of name xs = list_any (λ x. bytes_eq name (name_of x)) xs
 
--- the test whether two items with names have different names
+-- The test whether two items with names have different names.
 abbrev pub all_differ : {X : Type 0} → (name_of : X → List ℕ) → List X → Bool
 all_differ name_of [] = true
 all_differ name_of (x ∷ xs) = is_none (find (λ y. bytes_eq (name_of x) (name_of y)) xs) && all_differ name_of xs
@@ -50,30 +50,30 @@ pub record AreSafe (folder : List (List ℕ)) (moves : List (List ℕ × List �
   pub distinct : AllDiffer (map (λ m. m.1) moves)
   pub free : All (λ m. ¬ Contains folder m.1) moves
 
--- why renamings are refused: an allocation failed, or they are not safe
+-- Why renamings are refused: an allocation failed, or they are not safe.
 abbrev pub CanRefuse : (folder : List (List ℕ)) → (moves : List (List ℕ × List ℕ)) → Refusal → Type 0
 CanRefuse folder moves e = (e ≡ Memory) ⊎ ¬ AreSafe folder moves
 
--- names as bytes
+-- Names as bytes.
 abbrev pub texts : {A : Type 0} → List (String A) → List (List ℕ)
 texts names = map string_bytes names
 
--- a renaming as the pair of the old and the new name
+-- A renaming as the pair of the old and the new name.
 abbrev pub move_of : Rename → List ℕ × List ℕ
 move_of r = (string_bytes r.from, string_bytes r.to)
 
 abbrev pub moves_of : List Rename → List (List ℕ × List ℕ)
 moves_of renames = map move_of renames
 
--- a group's name and the text that it matched; empty for a group that did not match
+-- A group's name and the text that it matched; empty for a group that did not match.
 abbrev pub described : (text : List ℕ) → List ℕ × Option (ℕ × ℕ) → List ℕ
 described text (name, None) = []
 described text (name, Some range) = codes " " ++ (name ++ (codes "=" ++ slice_range text range.0 range.1))
 
--- the named groups of a match
+-- The named groups of a match.
 abbrev pub groups_shown : (text : List ℕ) → Answer → List ℕ
 groups_shown text m = flat_map (described text) (named_groups m)
 
--- the named groups of the first match, if there is one
+-- The named groups of the first match, if there is one.
 abbrev pub parts_of : Regex → (name : List ℕ) → List ℕ
 parts_of re name = option_map_or (groups_shown name) (slice_get (utf8_answers re name 0) 0) []

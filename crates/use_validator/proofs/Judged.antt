@@ -15,7 +15,7 @@ use Rattle.regress_search.specs.RemainingAnswers.{NextYields, RemainingView}
 use Rattle.regress_search.specs.declared.exec.Match.{Match}
 use Rattle.regress_search.specs.declared.exec.SearchError.{SearchError}
 use Rattle.regress_search.specs.declared.exec.SearchError.TheVariants.{StepLimit}
-use Rattle.regress_match.specs.ProgramTreesAndAnswers.{bytes_as_utf8_text, tree_for_byte_units, utf8_answers_within_steps, steps_suffice_for_whole_utf8_search}
+use Rattle.regress_match.specs.ProgramTreesAndAnswers.{bytes_as_utf8_text, tree_for_byte_units, utf8_answers_within_steps, utf8_steps_suffice}
 use Rattle.regress_match.specs.declared.api.regex.Regex.{Regex}
 use Rattle.use_validator.specs.Judge.{by_matches, verdict_of, within}
 use Rattle.use_validator.specs.declared.judge.Verdict.{Verdict}
@@ -82,7 +82,7 @@ is-past found ended NoMatch h e on = let never : true ≡ false = sym h.1 ∙ on
 is-past found ended OutOfSteps h e on = refl
 
 module _ (re : Regex) (bytes : List ℕ) (steps : ℕ) where
-  told-of : IsTold (utf8_answers_within_steps steps re bytes 0) (steps_suffice_for_whole_utf8_search steps re bytes 0) (verdict_of re bytes steps)
+  told-of : IsTold (utf8_answers_within_steps steps re bytes 0) (utf8_steps_suffice steps re bytes 0) (verdict_of re bytes steps)
   told-of = told (tree_for_byte_units re) (bytes_as_utf8_text re bytes) (utf8_text-IsText bytes (tree_for_byte_units re).flags.unicode) steps
 
   -- a match came
@@ -90,11 +90,11 @@ module _ (re : Regex) (bytes : List ℕ) (steps : ℕ) where
   verdict-match found m ms same e = is-match _ _ m ms _ told-of (sym same ∙ e)
 
   -- none came, and no limit stands behind it
-  pub verdict-none : (found : List Answer) (limited : Bool) → found ≡ utf8_answers_within_steps steps re bytes 0 → limited ≡ not (steps_suffice_for_whole_utf8_search steps re bytes 0)
+  pub verdict-none : (found : List Answer) (limited : Bool) → found ≡ utf8_answers_within_steps steps re bytes 0 → limited ≡ not (utf8_steps_suffice steps re bytes 0)
       → found ≡ [] → limited ≡ false → NoMatch ≡ verdict_of re bytes steps
   verdict-none found limited same limit e on = is-none _ _ _ told-of (sym same ∙ e) (not-false _ (sym limit ∙ on))
 
   -- none came, and a limit does
-  pub verdict-past : (found : List Answer) (limited : Bool) → found ≡ utf8_answers_within_steps steps re bytes 0 → limited ≡ not (steps_suffice_for_whole_utf8_search steps re bytes 0)
+  pub verdict-past : (found : List Answer) (limited : Bool) → found ≡ utf8_answers_within_steps steps re bytes 0 → limited ≡ not (utf8_steps_suffice steps re bytes 0)
       → found ≡ [] → limited ≡ true → OutOfSteps ≡ verdict_of re bytes steps
   verdict-past found limited same limit e on = is-past _ _ _ told-of (sym same ∙ e) (not-true _ (sym limit ∙ on))

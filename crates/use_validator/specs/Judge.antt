@@ -7,16 +7,16 @@ use Rattle.regress_match.specs.declared.api.regex.Regex.{Regex}
 use Rattle.use_validator.specs.declared.judge.Verdict.{Verdict}
 use Rattle.use_validator.specs.declared.judge.Verdict.TheVariants.{Matches, NoMatch, OutOfSteps}
 
--- the steps that the first match needs, or that there is none
+-- The steps that the first match needs, or that there is none.
 abbrev pub steps_needed : Regex → (text : List ℕ) → ℕ
 steps_needed re text = need_from (tree_for_byte_units re) (bytes_as_utf8_text re text) 0
 
--- whether there are matches
+-- Whether there are matches.
 abbrev pub by_matches : List Answer → Verdict
 by_matches [] = NoMatch
 by_matches (m ∷ ms) = Matches
 
--- the same, where the steps are enough to tell
+-- The same, where the steps are enough to tell.
 abbrev pub within : (enough : Bool) → List Answer → Verdict
 within true ms = by_matches ms
 within false ms = OutOfSteps

@@ -10,7 +10,7 @@ escaped byte = if byte == 126 then 126 ∷ 48 ∷ [] else if byte == 47 then 126
 unfoldable pub escape : (name : List ℕ) → List ℕ
 escape name = flat_map escaped name
 
--- the pointer to what has this name in what a pointer leads to
+-- The pointer to what has this name in what a pointer leads to.
 abbrev pub longer : (pointer name : List ℕ) → List ℕ
 longer pointer name = pointer ++ 47 ∷ escape name
 

@@ -26,12 +26,12 @@ abbrev pub member_count : Members → ℕ
 member_count no_members = 0
 member_count (member k d ms) = suc (member_count ms)
 
--- how many code points, items or members there are, where the value is of the type that has them
+-- How many code points, items or members there are, where the value is of the type that has them.
 abbrev pub size_of : Measure → Data → Option ℕ
 size_of Measure.Characters d = option_map (λ text. length (chars text)) (as_str d)
 size_of Measure.Items d = option_map item_count (as_array d)
 size_of Measure.Members d = option_map member_count (as_object d)
 
--- whether an object has a member; of other values this is given
+-- Whether an object has a member; of other values this is given.
 abbrev pub has_member : (name : List ℕ) → (other : Bool) → Data → Bool
 has_member name other d = if is_some (as_object d) then is_some (get name d) else other

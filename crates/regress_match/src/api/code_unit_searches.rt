@@ -1,12 +1,13 @@
 //! Searches in texts of 16-bit code units.
 
+ghost use Rattle.regex_meaning.specs.CodeUnitOffsets.{is_past};
 ghost use Rattle.std.specs.Prelude.{◌≡◌, ◌<◌, ◌⊎◌, IfErr, IfOk, IsTrue, false, length, nat_le, not};
 ghost use Rattle.regex_meaning.specs.Text.{is_unit_boundary as is_boundary_of};
 ghost use Rattle.regress_match.specs.{ProgramTreesAndAnswers.{units_as_ucs2_text, units_as_utf16_text, tree_for_16_bit_units}, CompileErrors.{IsOutOfMemory}};
 ghost use Rattle.regress_match.specs.SearchResults.{YieldsMatches};
 
 use crate::api::{Regex, SearchError};
-use crate::executor_aliases_per_encoding::{DefaultUcs2Executor, DefaultUtf16Executor};
+use crate::executor_aliases::{DefaultUcs2Executor, DefaultUtf16Executor};
 use regress_search::exec::Matches;
 
 impl Regex {
@@ -28,7 +29,7 @@ impl Regex {
         requires { IsTrue (is_boundary_of text.now start) ⊎ (length text.now < start) }
         ensures answers { IfOk result (YieldsMatches (tree_for_16_bit_units self.now)
             (units_as_utf16_text self.now text.now) start) }
-        ensures ended { IfOk result (λ it. it.ended ≡ not (nat_le start (length text.now))) }
+        ensures ended { IfOk result (λ it. it.ended ≡ is_past start (length text.now)) }
         ensures refused { IfErr result IsOutOfMemory }
     {
         Ok(Matches::new(self.utf16_search(text)?, start))
@@ -49,7 +50,7 @@ impl Regex {
     ) -> Result<Matches<DefaultUcs2Executor<'r, 't>>, SearchError>
         ensures answers { IfOk result (YieldsMatches (tree_for_16_bit_units self.now)
             (units_as_ucs2_text self.now text.now) start) }
-        ensures ended { IfOk result (λ it. it.ended ≡ not (nat_le start (length text.now))) }
+        ensures ended { IfOk result (λ it. it.ended ≡ is_past start (length text.now)) }
         ensures refused { IfErr result IsOutOfMemory }
     {
         Ok(Matches::new(self.ucs2_search(text)?, start))

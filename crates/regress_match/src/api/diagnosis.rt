@@ -22,7 +22,8 @@ pub(super) fn code_points(alloc: Global, text: &str) -> Result<Vec<u32>, AllocEr
 impl Regex {
     /// Returns what is wrong with a pattern that `with_flags` refuses as `Parse(Syntax)` or for too
     /// many groups, and where, without compiling it. Returns `None` if it is a valid pattern. The
-    /// error `Parse(Syntax)` of `with_flags` contains the same diagnosis (`Error::diagnosis`).
+    /// error `Parse(Syntax)` of `with_flags` contains a diagnosis, too (`Error::diagnosis`); as tested,
+    /// it is the same.
     ///
     /// The diagnosis is displayed like `unclosed group at 3`, and `below_text` displays it in a
     /// line below the pattern. The position is in code points; `offset_in` converts it to bytes.
@@ -37,7 +38,7 @@ impl Regex {
         flags: Flags,
     ) -> Result<Option<Diagnosis>, AllocError>
         ensures place { IfOk result (λ told. IfSome told (λ d. d.at ≤ length (chars pattern.now))) }
-        ensures tells { IfOk result (λ told.
+        ensures by_grammar { IfOk result (λ told.
             IfSome told (λ d. IsTextRefused (spec_flags_of flags) (chars pattern.now))
             × (told ≡ None → (tree : Tree) × Parses (spec_flags_of flags) (chars pattern.now) tree)) }
     {
@@ -57,7 +58,7 @@ impl Regex {
         syntax: Syntax,
     ) -> Result<Option<Diagnosis>, AllocError>
         ensures place { IfOk result (λ told. IfSome told (λ d. d.at ≤ length (chars pattern.now))) }
-        ensures tells { let s = spec_syntax_of syntax in let flags = spec_flags_of flags in IfOk result (λ told.
+        ensures by_grammar { let s = spec_syntax_of syntax in let flags = spec_flags_of flags in IfOk result (λ told.
             IfSome told (λ d. IsTextRefusedIn s flags (chars pattern.now))
             × (told ≡ None → (tree : Tree) × ParsesBy s flags (chars pattern.now) tree)) }
     {

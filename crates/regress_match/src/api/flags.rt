@@ -35,7 +35,7 @@ impl Flags {
     /// Returns the flags whose letters (`m`, `i`, `s`, `u` and `v`) are among the code points of an
     /// iterator, which must be finite. Other code points are ignored, and `no_opt` is never set.
     pub fn new<I: Iterator<Item = u32>>(letters: I) -> Self
-        requires can { I.can_next letters }
+        requires executable { I.can_next letters }
         requires finite { IsFinite (I.remaining letters) }
         ensures { WholeRun I.next_gives letters (λ run. spec_flags_of result ≡ flags_from_letters run.items) }
     {

@@ -22,9 +22,7 @@ impl Regex {
         ensures count { result ≡ length (group_ids (tree_for_16_bit_units self.now).root) }
         ensures few { result < 2 ^ 32 }
     {
-        self.unit_program()
-            .program_common_to_both_unit_kinds()
-            .groups() as usize
+        self.unit_program().common_program().groups() as usize
     }
 
     /// Returns the names of the groups in order. A group without a name has the empty string. The

@@ -1,7 +1,7 @@
 //! Laws of searches that callers may cite. They are functions that do nothing.
 
 ghost use Rattle.regex_meaning.specs.EcmaGrammarWithAnnexB.{ecmascript};
-ghost use Rattle.regress_match.specs.{Laws.{MatchesStandInText, SearchesFollowThePattern, SearchesFollowThePatternWithSyntax}, SearchResults.{SearchesAnswerInTurn}};
+ghost use Rattle.regress_match.specs.{Laws.{MatchesStandInText, SearchesFollowThePattern, SearchesFollowGrammar}, SearchResults.{SearchesAnswerInTurn}};
 ghost use Rattle.regress_match.specs.WorkBounds.{SearchesAnswerInWork, SearchesCostInWork, WorkPerUnitLimitSuffices};
 
 use regress_search::exec::WorkLimitedProducer;
@@ -35,7 +35,7 @@ pub fn searches_follow_the_pattern()
 
 /// States the same of a pattern of `Syntax::EcmaScript2018`.
 pub fn searches_follow_the_ecmascript_pattern()
-    ensures { SearchesFollowThePatternWithSyntax ecmascript }
+    ensures { SearchesFollowGrammar ecmascript }
 {}
 
 /// States that the matches of a search lie in the text, in order, and do not overlap.

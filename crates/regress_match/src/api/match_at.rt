@@ -8,7 +8,7 @@ ghost use Rattle.regress_match.specs.CompileErrors.{IsOutOfMemory};
 ghost use Rattle.regress_match.specs.ExpansionsAndMatchRanges.{MatchFitsText, MatchRangesLieWithinUnits};
 
 use crate::api::{Match, Regex, SearchError};
-use crate::executor_aliases_per_encoding::DefaultAsciiExecutor;
+use crate::executor_aliases::DefaultAsciiExecutor;
 use regress_search::exec::ProducerFromProgramAndText;
 use regress_search::search_loop::match_at;
 

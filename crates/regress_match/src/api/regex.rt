@@ -1,5 +1,6 @@
 //! Compiled patterns, and their searches.
 
+ghost use Rattle.regex_meaning.specs.CodeUnitOffsets.{is_past};
 ghost use Rattle.std.specs.Prelude.{◌≡◌, ◌<◌, ◌⊎◌, IfErr, IfOk, IfSome, IsAscii, IsCharBoundary, chars, false, length, nat_le, not, option_map, slice_get, []};
 ghost use Rattle.regex_meaning.specs.FlagLettersAndEscaping.{flags_from_letters};
 ghost use Rattle.regex_parser.specs.SyntaxDialects.{spec_syntax_of};
@@ -11,7 +12,7 @@ ghost use Rattle.regress_match.specs.SearchResults.{YieldsMatches};
 
 use crate::api::diagnosis::code_points;
 use crate::api::{Error, Flags, Syntax};
-use crate::executor_aliases_per_encoding::{
+use crate::executor_aliases::{
     DefaultAsciiExecutor, DefaultExecutor, LimitedExecutor, search_with_executor_from,
 };
 use regex_parser::parse::try_parse_in;
@@ -34,17 +35,17 @@ pub type LimitedMatches<'r, 't> = exec::Matches<LimitedExecutor<'r, 't>>;
 /// A compiled pattern.
 #[derive(Drop)]
 pub struct Regex {
-    // the program for texts of bytes
-    cr: CompiledRegex,
-    // the program for texts of 16-bit code units
-    units: CompiledRegexFor16BitUnits,
+    // The program for texts of bytes.
+    byte_program: CompiledRegex,
+    // The program for texts of 16-bit code units.
+    unit_program: CompiledRegexFor16BitUnits,
 }
 
 impl Regex {
     ghost use Rattle.regress_match.specs.PublicFlagsAsSpecFlags.{spec_flags_of};
     ghost use Rattle.regress_match.specs.ProgramTreesAndAnswers.{IsCompiledWith, IsCompiledWithSyntax, bytes_as_ascii_text, bytes_as_utf8_text, ascii_answers};
     ghost use Rattle.regress_match.specs.ProgramTreesAndAnswers.{tree_for_byte_units};
-    ghost use Rattle.regress_match.specs.ProgramTreesAndAnswers.{steps_suffice_for_whole_utf8_search};
+    ghost use Rattle.regress_match.specs.ProgramTreesAndAnswers.{utf8_steps_suffice};
     ghost use Rattle.regress_match.specs.ProgramTreesAndAnswers.{tree_for_16_bit_units, utf8_answers, utf8_answers_within_steps};
 
     /// Compiles a pattern with the default flags (`crates/use_dates` compiles `\d{4}-\d\d-\d\d`).
@@ -81,8 +82,7 @@ impl Regex {
     ///
     /// - `Parse` if the text is not a valid pattern; `Error::diagnosis` returns what is wrong with
     ///   it, and where.
-    /// - `Emit` if it opens more than 65,535 groups, whatever else is wrong with it, or its tree has
-    ///   too many loops or instructions.
+    /// - `Emit` if it opens more than 65,535 groups, or its tree has too many loops or instructions.
     /// - `Memory` if an allocation fails in any of these stages.
     pub fn with_flags(alloc: Global, pattern: &str, flags: Flags) -> Result<Regex, Error>
         ensures compiled { IfOk result (IsCompiledWith (spec_flags_of flags) (chars pattern.now)) }
@@ -144,17 +144,26 @@ impl Regex {
             pattern.now) }
     {
         let parsed = try_parse_in(alloc, pattern, flags.for_front(), syntax)?;
-        let (cr, units) = emit_both(alloc, parsed)?;
-        Ok(Regex { cr, units })
+        let (byte_program, unit_program) = emit_both(alloc, parsed)?;
+        Ok(Regex {
+            byte_program,
+            unit_program,
+        })
     }
 
-    /// Returns the pattern that searches texts of bytes with `cr` and texts of 16-bit code units
-    /// with `units`. Does not allocate.
-    pub fn from_programs(cr: CompiledRegex, units: CompiledRegexFor16BitUnits) -> Regex
-        ensures bytes { tree_for_byte_units result ≡ tree_of cr }
-        ensures units { tree_for_16_bit_units result ≡ tree_of units }
+    /// Returns the pattern that searches texts of bytes with `byte_program` and texts of 16-bit code units
+    /// with `unit_program`. Does not allocate.
+    pub fn from_programs(
+        byte_program: CompiledRegex,
+        unit_program: CompiledRegexFor16BitUnits,
+    ) -> Regex
+        ensures bytes { tree_for_byte_units result ≡ tree_of byte_program }
+        ensures units { tree_for_16_bit_units result ≡ tree_of unit_program }
     {
-        Regex { cr, units }
+        Regex {
+            byte_program,
+            unit_program,
+        }
     }
 
     /// Returns an equal pattern.
@@ -166,28 +175,28 @@ impl Regex {
         ensures { IfOk result (λ re. re ≡ self.now) }
     {
         Ok(Regex {
-            cr: self.cr.clone()?,
-            units: self.units.clone()?,
+            byte_program: self.byte_program.clone()?,
+            unit_program: self.unit_program.clone()?,
         })
     }
 
     // Returns the allocator that its programs were made with.
     pub(super) fn allocator(&self) -> Global {
-        self.cr.allocator()
+        self.byte_program.allocator()
     }
 
     // Returns the program that searches texts of bytes.
     pub(crate) fn byte_program(&self) -> &CompiledRegex
-        ensures { result.now ≡ self.now.cr }
+        ensures { result.now ≡ self.now.byte_program }
     {
-        &self.cr
+        &self.byte_program
     }
 
     // Returns the program that searches texts of 16-bit code units.
     pub(super) fn unit_program(&self) -> &CompiledRegexFor16BitUnits
-        ensures { result.now ≡ self.now.units }
+        ensures { result.now ≡ self.now.unit_program }
     {
-        &self.units
+        &self.unit_program
     }
 
     /// Returns the first match in `text`, or `None` exactly if there is none.
@@ -230,8 +239,8 @@ impl Regex {
     pub fn find_iter<'r, 't>(&'r self, text: &'t str) -> Result<Matches<'r, 't>, SearchError>
         ensures answers { IfOk result (YieldsMatches (tree_for_byte_units self.now)
             (bytes_as_utf8_text self.now text.now) 0) }
-        ensures stand { IfOk result (λ it. MatchesFitTextInOrderFrom text.now 0 it.answers) }
-        ensures live { IfOk result (λ it. it.ended ≡ false) }
+        ensures in_text { IfOk result (λ it. MatchesFitTextInOrderFrom text.now 0 it.answers) }
+        ensures not_ended { IfOk result (λ it. it.ended ≡ false) }
         ensures refused { IfErr result IsOutOfMemory }
     {
         self.find_from(text, 0)
@@ -246,8 +255,8 @@ impl Regex {
         requires { IsAscii text.now }
         ensures answers { IfOk result (YieldsMatches (tree_for_byte_units self.now)
             (bytes_as_ascii_text self.now text.now) 0) }
-        ensures stand { IfOk result (λ it. MatchesFitTextInOrderFrom text.now 0 it.answers) }
-        ensures live { IfOk result (λ it. it.ended ≡ false) }
+        ensures in_text { IfOk result (λ it. MatchesFitTextInOrderFrom text.now 0 it.answers) }
+        ensures not_ended { IfOk result (λ it. it.ended ≡ false) }
         ensures refused { IfErr result IsOutOfMemory }
     {
         self.find_from_ascii(text, 0)
@@ -271,11 +280,11 @@ impl Regex {
         requires { IsCharBoundary text.now start ⊎ (length text.now < start) }
         ensures answers { IfOk result (YieldsMatches (tree_for_byte_units self.now)
             (bytes_as_utf8_text self.now text.now) start) }
-        ensures stand { IfOk result (λ it. MatchesFitTextInOrderFrom text.now start it.answers) }
-        ensures ended { IfOk result (λ it. it.ended ≡ not (nat_le start (length text.now))) }
+        ensures in_text { IfOk result (λ it. MatchesFitTextInOrderFrom text.now start it.answers) }
+        ensures ended { IfOk result (λ it. it.ended ≡ is_past start (length text.now)) }
         ensures refused { IfErr result IsOutOfMemory }
     {
-        search_with_executor_from::<DefaultExecutor<'r, 't>>(&self.cr, text, start)
+        search_with_executor_from::<DefaultExecutor<'r, 't>>(&self.byte_program, text, start)
     }
 
     /// Like `find_from`, with at most `steps` steps for all items together.
@@ -300,13 +309,13 @@ impl Regex {
         requires { IsCharBoundary text.now start ⊎ (length text.now < start) }
         ensures answers { IfOk result (λ it. it.answers
             ≡ utf8_answers_within_steps steps self.now text.now start) }
-        ensures stand { IfOk result (λ it. MatchesFitTextInOrderFrom text.now start it.answers) }
+        ensures in_text { IfOk result (λ it. MatchesFitTextInOrderFrom text.now start it.answers) }
         ensures limited { IfOk result (λ it. it.limited
-            ≡ not (steps_suffice_for_whole_utf8_search steps self.now text.now start)) }
-        ensures ended { IfOk result (λ it. it.ended ≡ not (nat_le start (length text.now))) }
+            ≡ not (utf8_steps_suffice steps self.now text.now start)) }
+        ensures ended { IfOk result (λ it. it.ended ≡ is_past start (length text.now)) }
         ensures refused { IfErr result IsOutOfMemory }
     {
-        let executor = LimitedExecutor::new(&self.cr, text, steps)?;
+        let executor = LimitedExecutor::new(&self.byte_program, text, steps)?;
         let matches = exec::Matches::new(executor, start);
         Ok(matches)
     }
@@ -325,11 +334,11 @@ impl Regex {
         requires { IsAscii text.now }
         ensures answers { IfOk result (YieldsMatches (tree_for_byte_units self.now)
             (bytes_as_ascii_text self.now text.now) start) }
-        ensures stand { IfOk result (λ it. MatchesFitTextInOrderFrom text.now start it.answers) }
-        ensures ended { IfOk result (λ it. it.ended ≡ not (nat_le start (length text.now))) }
+        ensures in_text { IfOk result (λ it. MatchesFitTextInOrderFrom text.now start it.answers) }
+        ensures ended { IfOk result (λ it. it.ended ≡ is_past start (length text.now)) }
         ensures refused { IfErr result IsOutOfMemory }
     {
-        search_with_executor_from::<DefaultAsciiExecutor<'r, 't>>(&self.cr, text, start)
+        search_with_executor_from::<DefaultAsciiExecutor<'r, 't>>(&self.byte_program, text, start)
     }
 }
 

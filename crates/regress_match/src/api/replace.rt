@@ -66,7 +66,7 @@ pub fn whole_matches_give_back()
 {}
 
 // Appends the text before a match, and returns the offset after the match.
-fn append_unmatched_text_up_to_match(
+fn append_text_before_match(
     made: &mut String,
     text: &str,
     from: usize,
@@ -109,7 +109,7 @@ fn expand_first<P: MatchProducer + Drop>(
         return Ok(append_rest(made, text, 0)?);
     };
     let found = item?;
-    let from = append_unmatched_text_up_to_match(&mut made, text, 0, &found)?;
+    let from = append_text_before_match(&mut made, text, 0, &found)?;
     expand(&mut made, &found, text, replacement)?;
     Ok(append_rest(made, text, from)?)
 }
@@ -130,7 +130,7 @@ fn expand_each<P: MatchProducer + Drop>(
     let mut from = 0;
     for item in matches {
         let found = item?;
-        from = append_unmatched_text_up_to_match(&mut made, text, from, &found)?;
+        from = append_text_before_match(&mut made, text, from, &found)?;
         expand(&mut made, &found, text, replacement)?;
     }
     Ok(append_rest(made, text, from)?)

@@ -2,13 +2,13 @@
 //! matches.
 
 ghost use Rattle.std.specs.Prelude.{◌≡◌, ◌<◌, IfErr, IfOk, None, Some, option_map, unwrap_or};
-ghost use Rattle.regex_meaning.specs.CodeUnitOffsets.{units};
-ghost use Rattle.regress_match.specs.ProgramTreesAndAnswers.{IsBoundaryOrPastEnd, units_as_ucs2_text, units_as_utf16_text, bytes_as_utf8_text, tree_for_byte_units};
+ghost use Rattle.regex_meaning.specs.CodeUnitOffsets.{units, IsBoundaryOrPastEnd};
+ghost use Rattle.regress_match.specs.ProgramTreesAndAnswers.{units_as_ucs2_text, units_as_utf16_text, bytes_as_utf8_text, tree_for_byte_units};
 ghost use Rattle.regress_match.specs.ProgramTreesAndAnswers.{tree_for_16_bit_units};
 ghost use Rattle.regress_match.specs.{CompileErrors.{IsOutOfMemory}, Resuming.{ResumesFrom}};
 
 use crate::api::{Match, Regex, SearchError};
-use crate::executor_aliases_per_encoding::{
+use crate::executor_aliases::{
     DefaultExecutor, DefaultUcs2Executor, DefaultUtf16Executor, LimitedExecutor,
 };
 use regress_input::indexing::InputIndexer;
@@ -126,7 +126,7 @@ pub fn next_from<E: SingleAttemptExecutor>(
     start: usize,
 ) -> Result<Option<Step>, SearchError>
     requires { IsBoundaryOrPastEnd (E.text search.old) start }
-    ensures goes { ResumesFrom (E.tree search.old) (E.text search.old) (E.budget search.old) start result
+    ensures continues { ResumesFrom (E.tree search.old) (E.text search.old) (E.budget search.old) start result
         (E.budget search.new) }
     ensures same_tree { E.tree search.new ≡ E.tree search.old }
     ensures same_text { E.text search.new ≡ E.text search.old }

@@ -1,5 +1,6 @@
 //! Searches within a work budget, for patterns with a known work bound.
 
+ghost use Rattle.regex_meaning.specs.CodeUnitOffsets.{is_past};
 ghost use Rattle.std.specs.Prelude.{◌≡◌, ◌<◌, ◌⊎◌, IfErr, IfOk, IfSome, IsAscii, IsCharBoundary, IsTrue, length, nat_le, not};
 ghost use Rattle.regex_meaning.specs.Text.{is_unit_boundary as is_boundary_of};
 ghost use Rattle.regress_match.specs.ProgramTreesAndAnswers.{bytes_as_ascii_text, units_as_ucs2_text, bytes_as_utf8_text, units_as_utf16_text, tree_for_byte_units};
@@ -7,7 +8,7 @@ ghost use Rattle.regress_match.specs.ProgramTreesAndAnswers.{tree_for_16_bit_uni
 ghost use Rattle.regress_match.specs.CompileErrors.{IsOutOfMemory};
 ghost use Rattle.regress_match.specs.ExpansionsAndMatchRanges.{MatchesFitTextInOrderFrom};
 ghost use Rattle.regress_bounded.specs.CostsOfAttempts.{IteratorBeginsSearches};
-ghost use Rattle.regress_search.specs.CostsOfCalls.{remaining};
+ghost use Rattle.regress_search.specs.CostsOfCalls.{without_costs};
 ghost use Rattle.regress_match.specs.WorkBounds.{IsHigherOfProgramWorkBounds, YieldsMatchesIfWorkSuffices, higher};
 
 use crate::api::{Regex, SearchError};
@@ -136,12 +137,12 @@ impl<'r> BoundedRegex<'r> {
         requires { IsCharBoundary text.now start ⊎ (length text.now < start) }
         ensures yields { IfOk result (λ it. YieldsMatchesIfWorkSuffices (tree_for_byte_units self.now.re)
             (bytes_as_utf8_text self.now.re text.now)
-            start self.now.per_unit work (remaining it)) }
+            start self.now.per_unit work (without_costs it)) }
         ensures begins { let e = ⟦<BoundedExecutor<'r, Utf8Input<'t>> as MatchProducer>⟧ in
             IfOk result (IteratorBeginsSearches e (tree_for_byte_units self.now.re)
             (bytes_as_utf8_text self.now.re text.now) start) }
-        ensures stand { IfOk result (λ it. MatchesFitTextInOrderFrom text.now start it.come.answers) }
-        ensures ended { IfOk result (λ it. it.come.ended ≡ not (nat_le start (length text.now))) }
+        ensures in_text { IfOk result (λ it. MatchesFitTextInOrderFrom text.now start it.remaining.answers) }
+        ensures ended { IfOk result (λ it. it.remaining.ended ≡ is_past start (length text.now)) }
         ensures refused { IfErr result IsOutOfMemory }
     {
         let program = self.re.byte_program();
@@ -166,12 +167,12 @@ impl<'r> BoundedRegex<'r> {
         requires { IsAscii text.now }
         ensures yields { IfOk result (λ it. YieldsMatchesIfWorkSuffices (tree_for_byte_units self.now.re)
             (bytes_as_ascii_text self.now.re text.now)
-            start self.now.per_unit work (remaining it)) }
+            start self.now.per_unit work (without_costs it)) }
         ensures begins { let e = ⟦<BoundedExecutor<'r, AsciiInput<'t>> as MatchProducer>⟧ in
             IfOk result (IteratorBeginsSearches e (tree_for_byte_units self.now.re)
             (bytes_as_ascii_text self.now.re text.now) start) }
-        ensures stand { IfOk result (λ it. MatchesFitTextInOrderFrom text.now start it.come.answers) }
-        ensures ended { IfOk result (λ it. it.come.ended ≡ not (nat_le start (length text.now))) }
+        ensures in_text { IfOk result (λ it. MatchesFitTextInOrderFrom text.now start it.remaining.answers) }
+        ensures ended { IfOk result (λ it. it.remaining.ended ≡ is_past start (length text.now)) }
         ensures refused { IfErr result IsOutOfMemory }
     {
         let program = self.re.byte_program();
@@ -197,11 +198,11 @@ impl<'r> BoundedRegex<'r> {
         requires { IsTrue (is_boundary_of text.now start) ⊎ (length text.now < start) }
         ensures yields { IfOk result (λ it. YieldsMatchesIfWorkSuffices (tree_for_16_bit_units self.now.re)
             (units_as_utf16_text self.now.re text.now)
-            start self.now.per_unit work (remaining it)) }
+            start self.now.per_unit work (without_costs it)) }
         ensures begins { let e = ⟦<BoundedExecutor<'r, Utf16Input<'t>> as MatchProducer>⟧ in
             IfOk result (IteratorBeginsSearches e (tree_for_16_bit_units self.now.re)
             (units_as_utf16_text self.now.re text.now) start) }
-        ensures ended { IfOk result (λ it. it.come.ended ≡ not (nat_le start (length text.now))) }
+        ensures ended { IfOk result (λ it. it.remaining.ended ≡ is_past start (length text.now)) }
         ensures refused { IfErr result IsOutOfMemory }
     {
         let program = self.re.unit_program();
@@ -226,11 +227,11 @@ impl<'r> BoundedRegex<'r> {
     ) -> Result<MatchesInWork<'r, Ucs2Input<'t>>, SearchError>
         ensures yields { IfOk result (λ it. YieldsMatchesIfWorkSuffices (tree_for_16_bit_units self.now.re)
             (units_as_ucs2_text self.now.re text.now)
-            start self.now.per_unit work (remaining it)) }
+            start self.now.per_unit work (without_costs it)) }
         ensures begins { let e = ⟦<BoundedExecutor<'r, Ucs2Input<'t>> as MatchProducer>⟧ in
             IfOk result (IteratorBeginsSearches e (tree_for_16_bit_units self.now.re)
             (units_as_ucs2_text self.now.re text.now) start) }
-        ensures ended { IfOk result (λ it. it.come.ended ≡ not (nat_le start (length text.now))) }
+        ensures ended { IfOk result (λ it. it.remaining.ended ≡ is_past start (length text.now)) }
         ensures refused { IfErr result IsOutOfMemory }
     {
         let program = self.re.unit_program();

@@ -3,12 +3,12 @@
 
 ghost use Rattle.std.specs.Prelude.{◌≡◌, ◌<◌, ◌^◌, ◌+◌, ℕ, IfOk, OnOk, IsTrue, IsSome, if◌then◌else◌, reverse};
 ghost use Rattle.regex_meaning.specs.CodeUnitOffsets.{IsBoundary};
-ghost use Rattle.regress_program.specs.InsnsAndStartPredicatesAsSpec.{insn_as_spec_insn};
+ghost use Rattle.regress_program.specs.InsnsAsSpec.{insn_as_spec_insn};
 ghost use Rattle.regress_machine.specs.InsnEffects.{state_after_char_loop_to_offset, IsNotStuck};
 ghost use Rattle.regress_search.specs.OffsetsAfterMatchedInsns.{ByteInsnHasByteText, char_test_of_insn};
 ghost use Rattle.regress_pikevm.specs.{InsnEffects.{effect_of_char_loop, ReachesExits, PushesExit}, States.{state_of, next_threads}};
 
-use super::read_or_assertion_insn_matchers;
+use super::insn_matchers;
 use super::states::{NextStates, State, copy_state};
 use regress_input::cursor::Direction;
 use regress_input::indexing::InputIndexer;
@@ -33,7 +33,7 @@ pub(crate) fn execute_char_loop<Input: InputIndexer, Dir: Direction>(
     dir: Dir,
     state: State<Input::Position>,
 ) -> Result<NextStates<Input::Position>, AllocError>
-    requires can { let s = searched.now in IsNotStuck (effect_of_char_loop Input.Position.offset
+    requires executable { let s = searched.now in IsNotStuck (effect_of_char_loop Input.Position.offset
         s.program.now (Input.text s.input) Dir.FORWARD run body state) }
     requires bytes { ByteInsnHasByteText body (Input.text searched.now.input) Input.Units.ARE_BYTES }
     requires within { state.ip + 2 < 2 ^ 64 }
@@ -79,7 +79,7 @@ fn loop_exits<Input: InputIndexer, Dir: Direction>(
         if count == run.max_iters {
             return Ok((count, states));
         }
-        if !read_or_assertion_insn_matchers::insn_accepts_next_char(searched, body, dir, &mut at) {
+        if !insn_matchers::insn_accepts_next_char(searched, body, dir, &mut at) {
             return Ok((count + 1, states));
         }
         count += 1;

@@ -4,7 +4,7 @@ ghost use Rattle.std.specs.Prelude.{◌≡◌, ◌<◌, ◌≤◌, ◌^◌, ◌+
 ghost use Rattle.regex_meaning.specs.CodeUnitOffsets.{units};
 ghost use Rattle.regex_pattern_front.specs.AstToSpecTree.{sameness_of, tree_of};
 ghost use Rattle.regress_input.specs.CharAndByteReadsFromOffset.{direction_of_forward_flag};
-ghost use Rattle.regress_program.specs.{CompilationOfTreesAsFunction.{compiled}, InsnsAndStartPredicatesAsSpec.{insn_as_spec_insn, loop_fields_as_spec}};
+ghost use Rattle.regress_program.specs.{CompilationOfTreesAsFunction.{compiled}, InsnsAsSpec.{insn_as_spec_insn, loop_fields_as_spec}};
 ghost use Rattle.regress_machine.specs.Machine.{running, waiting, goes, asks, state_with_ip, state_at_next_ip, range_swapped_if_leftwards, iterate_or_leave_at_loop_head};
 ghost use Rattle.regress_machine.specs.Machine.{effect_at_iteration_end, loop_again_effect};
 ghost use Rattle.regress_machine.specs.InsnEffects.{begin_capture_group_effect, end_capture_group_effect, reset_capture_group_effect, body_entered_with_iteration_count};
@@ -13,7 +13,7 @@ ghost use Rattle.regress_pikevm.specs.{InsnEffects.{effect_at, effect_of_insn, e
 ghost use Rattle.regress_search.specs.OffsetsAfterMatchedInsns.{ByteInsnHasByteText};
 
 use super::char_loops::{CharLoopBoundsAndGreed, execute_char_loop};
-use super::read_or_assertion_insn_matchers;
+use super::insn_matchers;
 use super::states::{LoopData, NextStates, State, copy_state};
 use regress_input::cursor::Direction;
 use regress_input::front::{CaptureGroupID, LoopID, Sameness};
@@ -33,7 +33,7 @@ pub fn execute_insn<Input: InputIndexer, Dir: Direction>(
     state: State<Input::Position>,
 ) -> Result<NextStates<Input::Position>, AllocError>
     requires code { map insn_as_spec_insn insns.now ≡ (compiled (tree_of searched.now.program.now)).insns }
-    requires can { let s = searched.now in
+    requires executable { let s = searched.now in
         IsNotStuck (effect_at Input.Position.offset s.program.now (Input.text s.input) Dir.FORWARD state) }
     requires inside { Input.Position.offset state.pos ≤ units (Input.text searched.now.input) }
     ensures { let s = searched.now in IfOk result (λ t. next_threads Input.Position.offset t
@@ -52,7 +52,7 @@ fn perform<Input: InputIndexer, Dir: Direction>(
     mut state: State<Input::Position>,
 ) -> Result<NextStates<Input::Position>, AllocError>
     requires code { map insn_as_spec_insn insns.now ≡ (compiled (tree_of searched.now.program.now)).insns }
-    requires can { let s = searched.now in IsNotStuck (effect_of_insn Input.Position.offset
+    requires executable { let s = searched.now in IsNotStuck (effect_of_insn Input.Position.offset
         s.program.now (Input.text s.input) Dir.FORWARD insn state) }
     requires bytes { ByteInsnHasByteText insn (Input.text searched.now.input) Input.Units.ARE_BYTES }
     requires inside { Input.Position.offset state.pos ≤ units (Input.text searched.now.input) }
@@ -109,7 +109,7 @@ fn execute_test<Input: InputIndexer, Dir: Direction>(
     dir: Dir,
     mut state: State<Input::Position>,
 ) -> NextStates<Input::Position>
-    requires can { let s = searched.now in IsNotStuck (effect_of_insn Input.Position.offset
+    requires executable { let s = searched.now in IsNotStuck (effect_of_insn Input.Position.offset
         s.program.now (Input.text s.input) Dir.FORWARD insn state) }
     requires reader { IsTrue (is_read_or_assertion_insn (insn_as_spec_insn insn)) }
     requires bytes { ByteInsnHasByteText insn (Input.text searched.now.input) Input.Units.ARE_BYTES }
@@ -118,12 +118,7 @@ fn execute_test<Input: InputIndexer, Dir: Direction>(
     ensures { let s = searched.now in next_threads Input.Position.offset result
         ≡ effect_of_insn Input.Position.offset s.program.now (Input.text s.input) Dir.FORWARD insn state }
 {
-    if read_or_assertion_insn_matchers::read_or_assertion_insn_matches(
-        searched,
-        insn,
-        dir,
-        &mut state.pos,
-    ) {
+    if insn_matchers::read_or_assertion_insn_matches(searched, insn, dir, &mut state.pos) {
         state.ip += 1;
         NextStates::Continue(state)
     } else {
@@ -169,7 +164,7 @@ fn fork_lookaround<P: PositionType>(
 // ---- Groups
 
 fn open_group<P: PositionType>(id: CaptureGroupID, mut state: State<P>) -> NextStates<P>
-    requires can { IsNotStuck (begin_capture_group_effect id (state_of P.offset state)) }
+    requires executable { IsNotStuck (begin_capture_group_effect id (state_of P.offset state)) }
     requires within { state.ip + 1 < 2 ^ 64 }
     ensures { next_threads P.offset result ≡ begin_capture_group_effect id (state_of P.offset state) }
 {
@@ -185,7 +180,7 @@ fn close_group<P: PositionType, Dir: Direction>(
     dir: Dir,
     mut state: State<P>,
 ) -> NextStates<P>
-    requires can { IsNotStuck (end_capture_group_effect id (direction_of_forward_flag Dir.FORWARD)
+    requires executable { IsNotStuck (end_capture_group_effect id (direction_of_forward_flag Dir.FORWARD)
         (state_of P.offset state)) }
     requires within { state.ip + 1 < 2 ^ 64 }
     ensures { next_threads P.offset result ≡ end_capture_group_effect id (direction_of_forward_flag Dir.FORWARD)
@@ -208,7 +203,7 @@ fn ordered_span<P: PositionType, Dir: Direction>(_dir: Dir, from: P, to: P) -> (
 }
 
 fn reset_group<P: PositionType>(id: CaptureGroupID, mut state: State<P>) -> NextStates<P>
-    requires can { IsNotStuck (reset_capture_group_effect id (state_of P.offset state)) }
+    requires executable { IsNotStuck (reset_capture_group_effect id (state_of P.offset state)) }
     requires within { state.ip + 1 < 2 ^ 64 }
     ensures { next_threads P.offset result ≡ reset_capture_group_effect id (state_of P.offset state) }
 {
@@ -227,7 +222,7 @@ fn execute_backref<Input: InputIndexer, Dir: Direction>(
     dir: Dir,
     state: State<Input::Position>,
 ) -> NextStates<Input::Position>
-    requires can { IsNotStuck (effect_of_backref Input.Position.offset
+    requires executable { IsNotStuck (effect_of_backref Input.Position.offset
         (Input.text searched.now.input) Dir.FORWARD (sameness_of same) group state) }
     requires within { state.ip + 1 < 2 ^ 64 }
     ensures { let at = Input.Position.offset in
@@ -246,7 +241,7 @@ fn match_range_again<Input: InputIndexer, Dir: Direction>(
     dir: Dir,
     mut state: State<Input::Position>,
 ) -> NextStates<Input::Position>
-    requires can { IsNotStuck (effect_of_range_backref Input.Position.offset
+    requires executable { IsNotStuck (effect_of_range_backref Input.Position.offset
         (Input.text searched.now.input) Dir.FORWARD (sameness_of same) range state) }
     requires within { state.ip + 1 < 2 ^ 64 }
     ensures { let at = Input.Position.offset in
@@ -275,7 +270,7 @@ fn begin_iteration<P: PositionType>(
     k: usize,
     mut state: State<P>,
 ) -> Result<NextStates<P>, AllocError>
-    requires can { IsNotStuck (iterate_or_leave_at_loop_head (loop_fields_as_spec fields) begin k
+    requires executable { IsNotStuck (iterate_or_leave_at_loop_head (loop_fields_as_spec fields) begin k
         (state_of P.offset state)) }
     requires within { begin + 1 < 2 ^ 64 }
     ensures { IfOk result (λ t. next_threads P.offset t
@@ -328,7 +323,7 @@ fn end_body<P: PositionType>(
     begin: usize,
     state: State<P>,
 ) -> Result<NextStates<P>, AllocError>
-    requires can { IsNotStuck (loop_again_effect (Some (insn_as_spec_insn head)) begin (state_of P.offset state)) }
+    requires executable { IsNotStuck (loop_again_effect (Some (insn_as_spec_insn head)) begin (state_of P.offset state)) }
     requires within { begin + 1 < 2 ^ 64 }
     ensures { IfOk result (λ t. next_threads P.offset t
         ≡ loop_again_effect (Some (insn_as_spec_insn head)) begin (state_of P.offset state)) }
@@ -351,7 +346,7 @@ fn end_iteration<P: PositionType>(
     last: LoopData<P>,
     state: State<P>,
 ) -> Result<NextStates<P>, AllocError>
-    requires can { IsNotStuck
+    requires executable { IsNotStuck
         (effect_at_iteration_end (loop_fields_as_spec fields) begin (loop_of P.offset last) (state_of P.offset state)) }
     requires within { begin + 1 < 2 ^ 64 }
     ensures { IfOk result (λ t. next_threads P.offset t

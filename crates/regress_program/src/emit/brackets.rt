@@ -10,7 +10,7 @@ ghost use Rattle.regex_pattern_front.specs.ByteSetMembers.{member_bytes_of_ascii
 ghost use Rattle.regex_pattern_front.specs.Intervals.{interval_of};
 ghost use Rattle.regress_program.specs.EmitterStateAndAppendedCode.{IsEmitted, emitter_state, with_bracket_table_entry};
 
-use crate::emit::emitter::{Emitter, FoldingCharLoopLookbehindMode};
+use crate::emit::emitter::{EmitMode, Emitter};
 use crate::instructions::Insn;
 use regex_pattern_front::bytesearch::AsciiBitmap;
 use regex_pattern_front::codepointset::Interval;
@@ -22,7 +22,7 @@ impl Emitter {
     // the list of brackets.
     pub(crate) fn emit_bracket(
         &mut self,
-        mode: FoldingCharLoopLookbehindMode,
+        mode: EmitMode,
         contents: &BracketContents,
     ) -> Result<(), AllocError>
         ensures { OnOk result (IsEmitted mode (bracket (class_as_spec contents.now)) self.old self.new) }

@@ -6,7 +6,7 @@ ghost use Rattle.regex_meaning.specs.CompilationRelation as layout;
 ghost use Rattle.regress_program.specs.CompilationOfTreesAsFunction.{string_code, strings_size as size_of_strings};
 ghost use Rattle.regress_program.specs.EmitterStateAndAppendedCode.{IsEmitted, emitter_state, with_insn_appended, with_insns_appended, strings_as_code_points};
 
-use crate::emit::emitter::{Emitter, FoldingCharLoopLookbehindMode};
+use crate::emit::emitter::{EmitMode, Emitter};
 use crate::emit::small_set_and_assertion_insns::insn_of_case_variants;
 use crate::instructions::{Insn, MAX_BYTE_SEQ_LENGTH, byte_seq_insn};
 use regex_pattern_front::folding_and_first_bytes::expand_code_point;
@@ -35,16 +35,12 @@ pub(crate) fn insn_count_of_strings(strings: &[Vec<u32>]) -> usize
 
 impl Emitter {
     // Emits literal bytes in chunks, in reverse order inside a lookbehind.
-    pub(crate) fn emit_bytes(
-        &mut self,
-        mode: FoldingCharLoopLookbehindMode,
-        bytes: &[u8],
-    ) -> Result<(), AllocError>
+    pub(crate) fn emit_bytes(&mut self, mode: EmitMode, bytes: &[u8]) -> Result<(), AllocError>
         ensures { OnOk result (IsEmitted mode (byte_sequence bytes.now) self.old self.new) }
     {
         let count = chunk_count(bytes);
         for at in 0..count {
-            self.emit_chunk(bytes, mode.index_of_part_in_emission_order(at, count))?;
+            self.emit_chunk(bytes, mode.index_in_emission_order(at, count))?;
         }
         Ok(())
     }
@@ -62,7 +58,7 @@ impl Emitter {
     // jump after it.
     pub(crate) fn emit_strings(
         &mut self,
-        mode: FoldingCharLoopLookbehindMode,
+        mode: EmitMode,
         icase: bool,
         strings: &[Vec<u32>],
     ) -> Result<(), AllocError>
@@ -87,12 +83,7 @@ impl Emitter {
     }
 
     // Emits the code points of a string, in reverse order inside a lookbehind.
-    fn emit_string(
-        &mut self,
-        mode: FoldingCharLoopLookbehindMode,
-        icase: bool,
-        string: &[u32],
-    ) -> Result<(), AllocError>
+    fn emit_string(&mut self, mode: EmitMode, icase: bool, string: &[u32]) -> Result<(), AllocError>
         ensures { OnOk result (emitter_state self.new
             ≡ with_insns_appended (string_code mode.unicode icase mode.behind string.now) (emitter_state self.old)) }
     {
@@ -100,18 +91,13 @@ impl Emitter {
             self.emit_spellings(
                 mode,
                 icase,
-                string[mode.index_of_part_in_emission_order(at, string.len())],
+                string[mode.index_in_emission_order(at, string.len())],
             )?;
         }
         Ok(())
     }
 
-    fn emit_spellings(
-        &mut self,
-        mode: FoldingCharLoopLookbehindMode,
-        icase: bool,
-        c: u32,
-    ) -> Result<(), AllocError>
+    fn emit_spellings(&mut self, mode: EmitMode, icase: bool, c: u32) -> Result<(), AllocError>
         ensures { OnOk result (emitter_state self.new
             ≡ with_insn_appended (layout.case_variants_insn (expansion c icase mode.unicode))
             (emitter_state self.old)) }

@@ -7,7 +7,7 @@ ghost use Rattle.regex_meaning.specs.CompilationRelation.{EnterLoop, lookaround_
 ghost use Rattle.regex_pattern_front.specs.OptimizedTrees.{reads_one_character as is_one_character};
 ghost use Rattle.regex_pattern_front.specs.AstToSpecTree.{class_as_spec, node_of};
 ghost use Rattle.regress_program.specs.InsnsAsSpecInsns.{loop_fields_as_spec};
-ghost use Rattle.regress_program.specs.{InsnsAndStartPredicatesAsSpec.{insn_as_spec_insn}, CompilationOfTreesAsFunction.{group_reset_insns}};
+ghost use Rattle.regress_program.specs.{InsnsAsSpec.{insn_as_spec_insn}, CompilationOfTreesAsFunction.{group_reset_insns}};
 ghost use Rattle.regress_program.specs.LeafNodesAndOptimizableLoops.{is_leaf};
 ghost use Rattle.regress_program.specs.EmitterStateAndAppendedCode.{HasIndexRoomForNode, emitter_state, with_insn_appended, with_insns_appended, with_insn_at, with_loop};
 ghost use Rattle.regress_program.specs.EmitterStateAndAppendedCode.{empty_state};
@@ -29,16 +29,16 @@ use std::ops::Range;
 /// How nodes are compiled: `unicode` selects Unicode case folding, `narrow` makes a char loop of
 /// each loop over a node that reads one character, and `behind` is true inside a lookbehind.
 #[derive(Clone, Copy)]
-pub(crate) struct FoldingCharLoopLookbehindMode {
+pub(crate) struct EmitMode {
     pub(crate) unicode: bool,
     pub(crate) narrow: bool,
     pub(crate) behind: bool,
 }
 
-impl FoldingCharLoopLookbehindMode {
+impl EmitMode {
     // Returns the index in the code of part `at` of `count` parts. Inside a lookbehind the order is
     // reversed.
-    pub(crate) fn index_of_part_in_emission_order(self, at: usize, count: usize) -> usize
+    pub(crate) fn index_in_emission_order(self, at: usize, count: usize) -> usize
         requires { at < count }
         ensures value { result ≡ (if self.behind then count - 1 - at else at) }
         ensures within { result < count }
@@ -56,20 +56,20 @@ impl FoldingCharLoopLookbehindMode {
 
 /// The fields of a lookaround other than its contents.
 #[derive(Clone, Copy)]
-pub(crate) struct LookaroundFieldsWithoutContents {
+pub(crate) struct LookaroundFields {
     pub(crate) negate: bool,
     pub(crate) backwards: bool,
     pub(crate) start_group: CaptureGroupID,
     pub(crate) end_group: CaptureGroupID,
 }
 
-impl LookaroundFieldsWithoutContents {
+impl LookaroundFields {
     // Builds the fields of a lookaround that encloses these groups.
     pub(crate) fn new(
         negate: bool,
         backwards: bool,
         groups: Range<CaptureGroupID>,
-    ) -> LookaroundFieldsWithoutContents
+    ) -> LookaroundFields
         ensures { result ≡ record {
           negate = negate;
           backwards = backwards;
@@ -77,7 +77,7 @@ impl LookaroundFieldsWithoutContents {
           end_group = groups.end;
         } }
     {
-        LookaroundFieldsWithoutContents {
+        LookaroundFields {
             negate,
             backwards,
             start_group: groups.start,
@@ -88,7 +88,7 @@ impl LookaroundFieldsWithoutContents {
     pub(crate) fn insn(self, continuation: u32) -> Insn
         ensures { insn_as_spec_insn result ≡ lookaround_insn (lookaround_as_spec self) continuation }
     {
-        let LookaroundFieldsWithoutContents {
+        let LookaroundFields {
             negate,
             backwards,
             start_group,
@@ -151,11 +151,7 @@ impl Emitter {
     }
 
     // Emits the code of a leaf, a node without child nodes.
-    pub(crate) fn emit_leaf(
-        &mut self,
-        mode: FoldingCharLoopLookbehindMode,
-        node: &Node,
-    ) -> Result<(), AllocError>
+    pub(crate) fn emit_leaf(&mut self, mode: EmitMode, node: &Node) -> Result<(), AllocError>
         requires leaf { is_leaf (node_of node.now) ≡ true }
         requires sets { IsTrue (every_node_passes set_sizes_and_characters_fit_instructions (node_of node.now)) }
         requires room { HasIndexRoomForNode (emitter_state self.old) (node_of node.now) }

@@ -1,14 +1,14 @@
 //! Checks of group ids: each id occurs once, and loops and lookarounds name the groups inside them.
-#![tactic(auto, unfolding(regex_pattern_front::specs::AstToSpecTree::node_of, crate::specs::GroupIdsInWellFormednessCheck::are_distinct_unseen, crate::specs::GroupIdsInWellFormednessCheck::least_group_id, crate::specs::GroupIdsInWellFormednessCheck::id_end, crate::specs::InnerNodeCountMeasure::inner_node_count))]
+#![tactic(auto, unfolding(regex_pattern_front::specs::AstToSpecTree::node_of, crate::specs::GroupIdCheck::are_distinct_unseen, crate::specs::GroupIdCheck::least_group_id, crate::specs::GroupIdCheck::id_end, crate::specs::InnerNodeCountMeasure::inner_node_count))]
 
 ghost use Rattle.std.specs.Prelude.{◌≡◌, is_some, IfSome, ◌≤◌, ◌<◌, ◌^◌, ◌&&◌, ◌||◌, ◌+◌, ◌-◌, ◌∷◌, [], not, ◌==◌, ℕ, false, length, IsTrue, nat_le};
 ghost use Rattle.regex_meaning.specs.{Tree.{alt, group_ids, every_node_passes}, WellFormedTrees.{names_the_groups_inside}};
 ghost use Rattle.regex_pattern_front.specs.AstToSpecTree.{node_of};
 ghost use Rattle.regress_program.specs.LeafNodesAndOptimizableLoops.{cat_of};
-ghost use Rattle.regress_program.specs.GroupIdsInWellFormednessCheck.{is_group_id_seen, are_distinct_unseen, group_ids_distinct_and_ranges_exact};
-ghost use Rattle.regress_program.specs.GroupIdsInWellFormednessCheck.{node_has_distinct_ids_filling_range, count_and_span_of_group_ids, MarksGroupIdsSeen};
-ghost use Rattle.regress_program.specs.GroupIdsInWellFormednessCheck.{joined as joined_spans};
-ghost use Rattle.regress_program.specs.GroupIdsInWellFormednessCheck.{GroupIdCountAndSpanNumbers as SpanOfIds};
+ghost use Rattle.regress_program.specs.GroupIdCheck.{is_group_id_seen, are_distinct_unseen, has_exact_group_ids};
+ghost use Rattle.regress_program.specs.GroupIdCheck.{node_fills_id_range, count_and_span_of_group_ids, MarksGroupIdsSeen};
+ghost use Rattle.regress_program.specs.GroupIdCheck.{joined as joined_spans};
+ghost use Rattle.regress_program.specs.GroupIdCheck.{GroupIdCountAndSpanNumbers as SpanOfIds};
 ghost use Rattle.regress_program.specs.GroupIdSpans.{group_id_span_as_numbers, JoinsGroupIdSpan};
 
 use regex_pattern_front::ir::Node;
@@ -76,7 +76,7 @@ const FEW: usize = 4;
 /// Returns the span of the ids inside a node. Returns `None` if an id occurs twice, or if a loop or
 /// a lookaround does not name exactly the groups inside it.
 pub(crate) fn group_id_span_if_ids_valid(root: &Node) -> Option<GroupIdCountAndBounds>
-    ensures stand { is_some result ≡ group_ids_distinct_and_ranges_exact (λ k. false) (node_of root.now) }
+    ensures in_text { is_some result ≡ has_exact_group_ids (λ k. false) (node_of root.now) }
     ensures span { IfSome result (λ span. group_id_span_as_numbers span ≡ count_and_span_of_group_ids
         (group_ids (node_of root.now))) }
     ensures high { IfSome result (λ span. span.high ≤ 65536) }
@@ -92,7 +92,7 @@ pub(crate) fn group_id_span_if_ids_valid(root: &Node) -> Option<GroupIdCountAndB
 // not decide. It is a separate function because each call clears a bit for each id.
 #[inline(never)]
 fn span_of_many(root: &Node) -> Option<GroupIdCountAndBounds>
-    ensures stand { is_some result ≡ group_ids_distinct_and_ranges_exact (λ k. false) (node_of root.now) }
+    ensures in_text { is_some result ≡ has_exact_group_ids (λ k. false) (node_of root.now) }
     ensures span { IfSome result (λ span. group_id_span_as_numbers span ≡ count_and_span_of_group_ids
         (group_ids (node_of root.now))) }
     ensures high { IfSome result (λ span. span.high ≤ 65536) }
@@ -105,7 +105,7 @@ fn span_of_many(root: &Node) -> Option<GroupIdCountAndBounds>
 // twice, or if a loop or a lookaround does not name exactly the groups inside it. If the bitmap
 // does not have a bit for each possible id, the ids without a bit count as set.
 fn span_in(bits: &mut [u64], root: &Node) -> Option<GroupIdCountAndBounds>
-    ensures stand { is_some result ≡ group_ids_distinct_and_ranges_exact (is_group_id_seen bits.old)
+    ensures in_text { is_some result ≡ has_exact_group_ids (is_group_id_seen bits.old)
         (node_of root.now) }
     ensures span { IfSome result (λ span. group_id_span_as_numbers span ≡ count_and_span_of_group_ids
         (group_ids (node_of root.now))) }
@@ -157,7 +157,7 @@ impl GroupIdSpanDuringCheck {
     #[cycle(check_ids)]
     #[inline(never)]
     fn check_ids(&mut self, bits: &mut [u64], root: &Node) -> bool
-        ensures found { result ≡ group_ids_distinct_and_ranges_exact (is_group_id_seen bits.old) (node_of root.now) }
+        ensures found { result ≡ has_exact_group_ids (is_group_id_seen bits.old) (node_of root.now) }
         ensures span { IsTrue result
             → JoinsGroupIdSpan (group_ids (node_of root.now)) self.old.inside self.new.inside }
         ensures seen { IsTrue result → MarksGroupIdsSeen (group_ids (node_of root.now)) bits.old bits.new }
@@ -172,7 +172,7 @@ impl GroupIdSpanDuringCheck {
     #[cycle(check_ids)]
     #[inline(always)]
     fn check_ids_along(&mut self, bits: &mut [u64], root: &Node) -> bool
-        ensures found { result ≡ group_ids_distinct_and_ranges_exact (is_group_id_seen bits.old) (node_of root.now) }
+        ensures found { result ≡ has_exact_group_ids (is_group_id_seen bits.old) (node_of root.now) }
         ensures span { IsTrue result
             → JoinsGroupIdSpan (group_ids (node_of root.now)) self.old.inside self.new.inside }
         ensures seen { IsTrue result → MarksGroupIdsSeen (group_ids (node_of root.now)) bits.old bits.new }
@@ -219,7 +219,7 @@ impl GroupIdSpanDuringCheck {
     #[cycle(check_ids)]
     #[inline(always)]
     fn check_arm_ids(&mut self, bits: &mut [u64], arm: &Node) -> bool
-        ensures found { result ≡ group_ids_distinct_and_ranges_exact (is_group_id_seen bits.old) (node_of arm.now) }
+        ensures found { result ≡ has_exact_group_ids (is_group_id_seen bits.old) (node_of arm.now) }
         ensures span { IsTrue result
             → JoinsGroupIdSpan (group_ids (node_of arm.now)) self.old.inside self.new.inside }
         ensures seen { IsTrue result → MarksGroupIdsSeen (group_ids (node_of arm.now)) bits.old bits.new }
@@ -234,7 +234,7 @@ impl GroupIdSpanDuringCheck {
     #[cycle(check_ids)]
     #[inline(always)]
     fn check_part_ids(&mut self, bits: &mut [u64], node: &Node) -> bool
-        ensures found { result ≡ group_ids_distinct_and_ranges_exact (is_group_id_seen bits.old) (node_of node.now) }
+        ensures found { result ≡ has_exact_group_ids (is_group_id_seen bits.old) (node_of node.now) }
         ensures span { IsTrue result
             → JoinsGroupIdSpan (group_ids (node_of node.now)) self.old.inside self.new.inside }
         ensures seen { IsTrue result → MarksGroupIdsSeen (group_ids (node_of node.now)) bits.old bits.new }
@@ -258,7 +258,7 @@ impl GroupIdSpanDuringCheck {
     #[cycle(check_ids)]
     #[inline(always)]
     fn check_list_ids(&mut self, bits: &mut [u64], nodes: &[Node]) -> bool
-        ensures found { result ≡ group_ids_distinct_and_ranges_exact (is_group_id_seen bits.old) (cat_of nodes.now) }
+        ensures found { result ≡ has_exact_group_ids (is_group_id_seen bits.old) (cat_of nodes.now) }
         ensures span { IsTrue result
             → JoinsGroupIdSpan (group_ids (cat_of nodes.now)) self.old.inside self.new.inside }
         ensures seen { IsTrue result → MarksGroupIdsSeen (group_ids (cat_of nodes.now)) bits.old bits.new }
@@ -281,7 +281,7 @@ impl GroupIdSpanDuringCheck {
         end: CaptureGroupID,
         contents: &Node,
     ) -> bool
-        ensures found { result ≡ node_has_distinct_ids_filling_range (is_group_id_seen bits.old) start end
+        ensures found { result ≡ node_fills_id_range (is_group_id_seen bits.old) start end
             (node_of contents.now) }
         ensures span { IsTrue result
             → JoinsGroupIdSpan (group_ids (node_of contents.now)) self.old.inside self.new.inside }

@@ -9,13 +9,11 @@ ghost use Rattle.regress_program.specs.LeafNodesAndOptimizableLoops.{cat_of, is_
 ghost use Rattle.regress_program.specs.EmitterStateAndAppendedCode.{HasIndexRoomForNode, node_with_char_loops_if_enabled, node_to_emit_in_mode, emitter_state, IsEmitted};
 ghost use Rattle.regress_program.specs.EmitterStateAndAppendedCode.{lookaround_as_spec};
 ghost use Rattle.regress_program.specs.PendingEmission.{CanEmitPendingPart, FitsIndexWidths, PendingPartIsEmittedOrBegun, BeginsEmittingNode};
-ghost use Rattle.regress_program.specs.PendingEmission.{BeginsEmittingRemainingAlternatives, BeginsEmittingNodeList, emitter_and_pending_parts};
-ghost use Rattle.regress_program.specs.PendingEmission.{with_remaining_alternatives_emitted, with_lookaround_end};
+ghost use Rattle.regress_program.specs.PendingEmission.{BeginsEmittingAlternatives, BeginsEmittingNodeList, emitter_and_pending_parts};
+ghost use Rattle.regress_program.specs.PendingEmission.{with_alternatives_emitted, with_lookaround_end};
 ghost use Rattle.regress_program.specs.PendingEmission.{with_loop_end};
 
-use crate::emit::emitter::{
-    Emitter, FoldingCharLoopLookbehindMode, LookaroundFieldsWithoutContents, loop_head_insn,
-};
+use crate::emit::emitter::{EmitMode, Emitter, LookaroundFields, loop_head_insn};
 use crate::instructions::{Insn, LoopFields};
 use regex_pattern_front::ir::{Node, Quantifier};
 use regex_pattern_front::types::CaptureGroupID;
@@ -29,28 +27,24 @@ const FEW: usize = 16;
 #[derive(Clone, Copy)]
 pub(crate) enum UnemittedCodePart<'a> {
     // A node.
-    Node(FoldingCharLoopLookbehindMode, &'a Node),
+    Node(EmitMode, &'a Node),
     // The nodes of a list, in order.
-    Row(FoldingCharLoopLookbehindMode, &'a [Node]),
+    Row(EmitMode, &'a [Node]),
     // The alternatives after the one that has just ended, and the index of the branch to them.
-    Others(FoldingCharLoopLookbehindMode, u32, &'a Node),
+    Others(EmitMode, u32, &'a Node),
     // The jump at this index, which ends an alternative, gets the current end of the code as its
     // target.
     Jump(u32),
     GroupEnd(CaptureGroupID),
     // The end of the lookaround whose first instruction is at this index.
-    LookaroundEnd(LookaroundFieldsWithoutContents, u32),
+    LookaroundEnd(LookaroundFields, u32),
     // The end of the loop whose first instruction is at this index.
     LoopEnd(LoopFields, u32),
 }
 
 impl Emitter {
     // Appends the code of a node.
-    pub(crate) fn emit(
-        &mut self,
-        mode: FoldingCharLoopLookbehindMode,
-        node: &Node,
-    ) -> Result<(), AllocError>
+    pub(crate) fn emit(&mut self, mode: EmitMode, node: &Node) -> Result<(), AllocError>
         requires sets { IsTrue (every_node_passes set_sizes_and_characters_fit_instructions (node_of node.now)) }
         requires room { HasIndexRoomForNode (emitter_state self.old) (node_to_emit_in_mode mode node.now) }
         ensures { OnOk result (IsEmitted mode (node_to_emit_in_mode mode node.now) self.old self.new) }
@@ -94,7 +88,7 @@ impl Emitter {
     // Emits the beginning of a node's code, and pushes what remains of it.
     fn begin<'a>(
         &mut self,
-        mode: FoldingCharLoopLookbehindMode,
+        mode: EmitMode,
         node: &'a Node,
         rest: &mut Vec<UnemittedCodePart<'a>>,
     ) -> Result<(), AllocError>
@@ -114,11 +108,7 @@ impl Emitter {
                 end_group,
                 contents,
             } => {
-                let look = LookaroundFieldsWithoutContents::new(
-                    *negate,
-                    *backwards,
-                    *start_group..*end_group,
-                );
+                let look = LookaroundFields::new(*negate, *backwards, *start_group..*end_group);
                 self.begin_lookaround(mode, look, contents, rest)
             }
             Node::Loop {
@@ -143,7 +133,7 @@ impl Emitter {
     // it.
     fn begin_node_list<'a>(
         &mut self,
-        mode: FoldingCharLoopLookbehindMode,
+        mode: EmitMode,
         nodes: &'a [Node],
         rest: &mut Vec<UnemittedCodePart<'a>>,
     ) -> Result<(), AllocError>
@@ -170,7 +160,7 @@ impl Emitter {
     // rewritten once the index of the other alternatives is known.
     fn begin_alternatives<'a>(
         &mut self,
-        mode: FoldingCharLoopLookbehindMode,
+        mode: EmitMode,
         first: &'a Node,
         others: &'a Node,
         rest: &mut Vec<UnemittedCodePart<'a>>,
@@ -195,16 +185,16 @@ impl Emitter {
     // target.
     fn begin_other_arms<'a>(
         &mut self,
-        mode: FoldingCharLoopLookbehindMode,
+        mode: EmitMode,
         branch: u32,
         others: &'a Node,
         rest: &mut Vec<UnemittedCodePart<'a>>,
     ) -> Result<(), AllocError>
         requires branch { branch < length (emitter_state self.old).insns }
         requires sets { IsTrue (every_node_passes set_sizes_and_characters_fit_instructions (node_of others.now)) }
-        requires room { FitsIndexWidths (with_remaining_alternatives_emitted mode.unicode mode.behind branch
+        requires room { FitsIndexWidths (with_alternatives_emitted mode.unicode mode.behind branch
             (node_to_emit_in_mode mode others.now) (emitter_state self.old)) }
-        ensures { OnOk result (BeginsEmittingRemainingAlternatives mode branch
+        ensures { OnOk result (BeginsEmittingAlternatives mode branch
             (node_to_emit_in_mode mode others.now)
             (emitter_and_pending_parts self.old rest.old) (emitter_and_pending_parts self.new rest.new)) }
     {
@@ -219,7 +209,7 @@ impl Emitter {
 
     fn begin_group<'a>(
         &mut self,
-        mode: FoldingCharLoopLookbehindMode,
+        mode: EmitMode,
         id: CaptureGroupID,
         contents: &'a Node,
         rest: &mut Vec<UnemittedCodePart<'a>>,
@@ -241,8 +231,8 @@ impl Emitter {
     // continuation is known.
     fn begin_lookaround<'a>(
         &mut self,
-        mode: FoldingCharLoopLookbehindMode,
-        look: LookaroundFieldsWithoutContents,
+        mode: EmitMode,
+        look: LookaroundFields,
         contents: &'a Node,
         rest: &mut Vec<UnemittedCodePart<'a>>,
     ) -> Result<(), AllocError>
@@ -256,7 +246,7 @@ impl Emitter {
         let head = self.next();
         self.append_insn(look.insn(0))?;
         rest.push(UnemittedCodePart::LookaroundEnd(look, head))?;
-        let inside = FoldingCharLoopLookbehindMode {
+        let inside = EmitMode {
             unicode: mode.unicode,
             narrow: mode.narrow,
             behind: look.backwards,
@@ -265,11 +255,7 @@ impl Emitter {
         Ok(())
     }
 
-    fn end_lookaround(
-        &mut self,
-        look: LookaroundFieldsWithoutContents,
-        head: u32,
-    ) -> Result<(), AllocError>
+    fn end_lookaround(&mut self, look: LookaroundFields, head: u32) -> Result<(), AllocError>
         requires head { head < length (emitter_state self.old).insns }
         requires room { length (emitter_state self.old).insns + 1 < 2 ^ 32 }
         ensures { OnOk result
@@ -284,7 +270,7 @@ impl Emitter {
     // Emits the beginning of a loop. Its first instruction is rewritten once its exit is known.
     fn begin_loop<'a>(
         &mut self,
-        mode: FoldingCharLoopLookbehindMode,
+        mode: EmitMode,
         quant: &Quantifier,
         groups: &Range<CaptureGroupID>,
         loopee: &'a Node,
@@ -326,7 +312,7 @@ impl Emitter {
 
     fn begin_loop_1_char<'a>(
         &mut self,
-        mode: FoldingCharLoopLookbehindMode,
+        mode: EmitMode,
         quant: &Quantifier,
         loopee: &'a Node,
         rest: &mut Vec<UnemittedCodePart<'a>>,

@@ -3,7 +3,7 @@
 ghost use Rattle.std.specs.Prelude.{◌≡◌, ◌≤◌, length};
 ghost use Rattle.regex_meaning.specs.CompilationRelation as layout;
 ghost use Rattle.regex_pattern_front.specs.AstToSpecTree.{anchor_of};
-ghost use Rattle.regress_program.specs.InsnsAndStartPredicatesAsSpec.{insn_as_spec_insn};
+ghost use Rattle.regress_program.specs.InsnsAsSpec.{insn_as_spec_insn};
 
 use crate::instructions::Insn;
 use regex_pattern_front::bytesearch::ByteArraySet;

@@ -6,8 +6,8 @@ ghost use Rattle.std.proofs.Common.{refl};
 ghost use Rattle.regex_meaning.specs.{Tree.{group_ids}, WellFormedTrees.{each_id_stands_once}};
 ghost use Rattle.regex_meaning.specs.MatchGroupsByNumberAndName.{capturing_group_ids_and_names, group_names_by_id as names_of_tree};
 ghost use Rattle.regex_pattern_front.specs.AstToSpecTree.{node_of, group_name_bytes};
-ghost use Rattle.regress_program.specs.StoringGroupNamesById.{IsNameListAfterStoringNames, StoresNameStringsOrPushesNodes, PushesTwoNodes};
-ghost use Rattle.regress_program.specs.StoringGroupNamesById.{PushesNodesSkippingLeadingNameless, is_nameless, tree_has_no_named_groups as is_node_unnamed, node_measure};
+ghost use Rattle.regress_program.specs.StoringGroupNamesById.{IsNameListAfterStoringNames, StoresOrPushesNodes, PushesTwoNodes};
+ghost use Rattle.regress_program.specs.StoringGroupNamesById.{PushesNamedNodes, is_nameless, tree_has_no_named_groups as is_node_unnamed, node_measure};
 ghost use Rattle.regress_program.specs.StoringGroupNamesById.{naming_measure_of_pending_part};
 ghost use Rattle.regress_program.specs.StoringGroupNamesById.{names_in_pending_part};
 ghost use Rattle.regress_program.specs.TryFoldOverTreeNodes.{step_of_test};
@@ -82,7 +82,7 @@ fn store_pending<'a>(
     rest: &mut Vec<NodeOrListWithUnstoredNames<'a>>,
 ) -> Result<(), AllocError>
     ensures long { length names.new ≡ length names.old }
-    ensures with_names_stored_by_id { OnOk result (StoresNameStringsOrPushesNodes (names_in_pending_part next.entry)
+    ensures with_names_stored_by_id { OnOk result (StoresOrPushesNodes (names_in_pending_part next.entry)
         (naming_measure_of_pending_part next.entry)
         names.old names.new rest.old.items rest.new.items) }
 {
@@ -100,7 +100,7 @@ fn store_node_names<'a>(
     rest: &mut Vec<NodeOrListWithUnstoredNames<'a>>,
 ) -> Result<(), AllocError>
     ensures long { length names.new ≡ length names.old }
-    ensures with_names_stored_by_id { OnOk result (StoresNameStringsOrPushesNodes (capturing_group_ids_and_names
+    ensures with_names_stored_by_id { OnOk result (StoresOrPushesNodes (capturing_group_ids_and_names
         (node_of node.now)) (node_measure (node_of node.now))
         names.old names.new rest.old.items rest.new.items) }
 {
@@ -148,7 +148,7 @@ fn store_group_name<'a>(
     ensures long { length names.new ≡ length names.old }
     ensures with_names_stored_by_id { let named = (id, group_name_bytes name.now) ∷ capturing_group_ids_and_names
         (node_of contents.now) in
-        OnOk result (StoresNameStringsOrPushesNodes named (node_measure (node_of contents.now) + 1)
+        OnOk result (StoresOrPushesNodes named (node_measure (node_of contents.now) + 1)
         names.old names.new rest.old.items rest.new.items) }
 {
     let copy = copy_name(alloc, name)?;
@@ -162,7 +162,7 @@ fn defer_node_list<'a>(
     nodes: &'a [Node],
     rest: &mut Vec<NodeOrListWithUnstoredNames<'a>>,
 ) -> Result<(), AllocError>
-    ensures { OnOk result (PushesNodesSkippingLeadingNameless nodes.now rest.old.items rest.new.items) }
+    ensures { OnOk result (PushesNamedNodes nodes.now rest.old.items rest.new.items) }
 {
     let mut left = nodes;
     while let Some((first, others)) = left.split_first() {

@@ -10,7 +10,7 @@ ghost use Rattle.regex_meaning.specs.Tree.{every_node_passes};
 ghost use Rattle.regex_meaning.specs.WellFormedTrees.{number_of_goal_nodes, ends_in_goal, only_goal_node_is_last, IsWellFormed};
 ghost use Rattle.regex_meaning.specs.WellFormedTrees.{is_one_character as is_one_character_node};
 ghost use Rattle.regex_meaning.specs.WellFormedTrees.{is_min_at_most_max as is_quantifier_in_order};
-ghost use Rattle.regress_program.specs.{GroupIdsInWellFormednessCheck.{is_well_formed_node as is_node_sound}, EmitterStateAndAppendedCode.{strings_as_code_points}};
+ghost use Rattle.regress_program.specs.{GroupIdCheck.{is_well_formed_node as is_node_sound}, EmitterStateAndAppendedCode.{strings_as_code_points}};
 ghost use Rattle.regress_program.specs.{TryFoldOverTreeNodes.{step_of_test}, AtMostOneGoalNodeCheck.{visit_goal}};
 
 use crate::emit::group_id_and_range_check::group_id_span_if_ids_valid;

@@ -3,8 +3,8 @@
 ghost use Rattle.std.specs.Prelude.{◌≡◌, IfOk, true, false, map};
 ghost use Rattle.regex_pattern_front.specs.AstToSpecTree.{tree_of};
 ghost use Rattle.regex_meaning.specs.CompilationRelation.{tree_contains_byte_nodes};
-ghost use Rattle.regress_program.specs.InsnsAndStartPredicatesAsSpec.{start_predicate_as_spec, insn_as_spec_insn};
-ghost use Rattle.regress_program.specs.{StartPredicatesAndWhenTheyAllocate.{PredicateBitmapHasOverThreeBytes, is_anchored_tree}, CompilationOfTreesAsFunction.{compiled}};
+ghost use Rattle.regress_program.specs.InsnsAsSpec.{start_predicate_as_spec, insn_as_spec_insn};
+ghost use Rattle.regress_program.specs.{StartPredicates.{HasOverThreeBytes, is_anchored_tree}, CompilationOfTreesAsFunction.{compiled}};
 ghost use Rattle.regress_program.specs.OptimizedTreeUnlessNoOpt.{optimized_tree_unless_no_opt};
 ghost use Rattle.regress_program.specs.ProgramFieldsMatchTree.{IsPlanForUnitWidth};
 
@@ -45,7 +45,7 @@ impl Model for CompiledRegex {
 impl CompiledRegex {
     /// Returns the part that it has in common with programs for 16-bit code units.
     #[inline(always)]
-    pub fn program_common_to_both_unit_kinds(&self) -> &Program
+    pub fn common_program(&self) -> &Program
         ensures { result.now ≡ self.now }
     {
         &self.program
@@ -55,7 +55,7 @@ impl CompiledRegex {
     #[inline(always)]
     pub fn start_pred(&self) -> &StartPredicate
         ensures predicate { start_predicate_as_spec result.now ≡ (compiled (tree_of self.now)).start_pred }
-        ensures short { PredicateBitmapHasOverThreeBytes result.now }
+        ensures short { HasOverThreeBytes result.now }
     {
         &self.start_pred
     }
@@ -136,7 +136,7 @@ impl Model for CompiledRegexFor16BitUnits {
 impl CompiledRegexFor16BitUnits {
     /// Returns the part that it has in common with programs for bytes.
     #[inline(always)]
-    pub fn program_common_to_both_unit_kinds(&self) -> &Program
+    pub fn common_program(&self) -> &Program
         ensures tree { result.now ≡ self.now }
         ensures no_bytes { tree_contains_byte_nodes (tree_of self.now).root ≡ false }
     {

@@ -1,8 +1,8 @@
 //! Start predicates.
 
 ghost use Rattle.std.specs.Prelude.{◌≡◌, IfOk};
-ghost use Rattle.regress_program.specs.InsnsAndStartPredicatesAsSpec.{start_predicate_as_spec};
-ghost use Rattle.regress_program.specs.StartPredicatesAndWhenTheyAllocate.{IsCopyOfPredicate, is_anchored_predicate};
+ghost use Rattle.regress_program.specs.InsnsAsSpec.{start_predicate_as_spec};
+ghost use Rattle.regress_program.specs.StartPredicates.{IsCopyOfPredicate, is_anchored_predicate};
 
 use regex_pattern_front::bytesearch::ByteBitmap;
 use std::alloc::AllocError;

@@ -1,14 +1,14 @@
 //! Computes what the nodes of a tree begin with.
-#![tactic(auto, unfolding(regex_pattern_front::specs::AstToSpecTree::node_of, regex_meaning::specs::StartPredicate::abstract_start_predicate, crate::specs::StartPredicatesAndWhenTheyAllocate::making_node_start_predicate_may_allocate, crate::specs::InnerNodeCountMeasure::inner_node_count))]
+#![tactic(auto, unfolding(regex_pattern_front::specs::AstToSpecTree::node_of, regex_meaning::specs::StartPredicate::abstract_start_predicate, crate::specs::StartPredicates::making_node_start_predicate_may_allocate, crate::specs::InnerNodeCountMeasure::inner_node_count))]
 
 ghost use Rattle.std.specs.Prelude.{◌≡◌, not, true, false, IfOk, OnOk, IsOk};
 ghost use Rattle.regex_meaning.specs.StartPredicate.{abstract_start_predicate, join, byte_sequence_predicate, common_prefix_or_first_bytes, union_of_byte_sets};
 ghost use Rattle.regex_meaning.specs.StartPredicate.{first_byte_as_set, common_prefix};
 ghost use Rattle.regex_pattern_front.specs.AstToSpecTree.{node_of};
-ghost use Rattle.regress_program.specs.JoinedStartPredicatesOfAlternatives.{abstract_start_predicate_as_spec, join_alternative_starts_skipping_empty};
-ghost use Rattle.regress_program.specs.JoinedStartPredicatesOfAlternatives.{join_starts_empty_node_as_anything, join_starts};
+ghost use Rattle.regress_program.specs.JoinedStarts.{abstract_start_as_spec, join_nonempty_starts};
+ghost use Rattle.regress_program.specs.JoinedStarts.{join_starts_of_alternatives, join_starts};
 ghost use Rattle.regress_program.specs.LeafNodesAndOptimizableLoops.{cat_of, is_leaf};
-ghost use Rattle.regress_program.specs.StartPredicatesAndWhenTheyAllocate.{predicate_says_reads_nothing, making_node_start_predicate_may_allocate};
+ghost use Rattle.regress_program.specs.StartPredicates.{predicate_says_reads_nothing, making_node_start_predicate_may_allocate};
 
 use crate::startpredicate::first_bytes_of_chars_and_classes::{
     add_first_byte_of_sequence, bitmap_of_bytes, first_bytes_of_class, first_bytes_of_members,
@@ -32,7 +32,7 @@ pub(crate) enum AbstractStartPredicate<'a> {
 
 // Computes what the node begins with.
 pub(crate) fn abstract_start_of(node: &Node) -> Result<AbstractStartPredicate<'_>, AllocError>
-    ensures beginning { IfOk result (λ b. abstract_start_predicate_as_spec b ≡ abstract_start_predicate
+    ensures beginning { IfOk result (λ b. abstract_start_as_spec b ≡ abstract_start_predicate
         (node_of node.now)) }
     ensures no_memory { making_node_start_predicate_may_allocate (node_of node.now) ≡ false → IsOk result }
 {
@@ -52,8 +52,8 @@ fn join_node<'a>(
     shared: &mut AbstractStartPredicate<'a>,
     node: &'a Node,
 ) -> Result<bool, AllocError>
-    ensures shared { OnOk result (abstract_start_predicate_as_spec shared.new
-        ≡ join_alternative_starts_skipping_empty (abstract_start_predicate_as_spec shared.old)
+    ensures shared { OnOk result (abstract_start_as_spec shared.new
+        ≡ join_nonempty_starts (abstract_start_as_spec shared.old)
         (abstract_start_predicate (node_of node.now))) }
     ensures reads { IfOk result (λ reads. reads ≡ not (predicate_says_reads_nothing
         (abstract_start_predicate (node_of node.now)))) }
@@ -88,8 +88,8 @@ fn join_node_list<'a>(
     shared: &mut AbstractStartPredicate<'a>,
     nodes: &'a [Node],
 ) -> Result<bool, AllocError>
-    ensures shared { OnOk result (abstract_start_predicate_as_spec shared.new
-        ≡ join_alternative_starts_skipping_empty (abstract_start_predicate_as_spec shared.old)
+    ensures shared { OnOk result (abstract_start_as_spec shared.new
+        ≡ join_nonempty_starts (abstract_start_as_spec shared.old)
         (abstract_start_predicate (cat_of nodes.now))) }
     ensures reads { IfOk result (λ reads. reads ≡ not (predicate_says_reads_nothing
         (abstract_start_predicate (cat_of nodes.now)))) }
@@ -110,9 +110,9 @@ fn join_arms<'a>(
     first: &'a Node,
     others: &'a Node,
 ) -> Result<(), AllocError>
-    ensures shared { let begun = join_starts_empty_node_as_anything (abstract_start_predicate_as_spec shared.old)
+    ensures shared { let begun = join_starts_of_alternatives (abstract_start_as_spec shared.old)
         (abstract_start_predicate (node_of first.now)) in
-        OnOk result (abstract_start_predicate_as_spec shared.new ≡ join_starts_empty_node_as_anything begun
+        OnOk result (abstract_start_as_spec shared.new ≡ join_starts_of_alternatives begun
         (abstract_start_predicate (node_of others.now))) }
     ensures no_memory { making_node_start_predicate_may_allocate (node_of first.now) ≡ false
         → making_node_start_predicate_may_allocate (node_of others.now) ≡ false → IsOk result }
@@ -132,8 +132,8 @@ fn join_one_arm<'a>(
     shared: &mut AbstractStartPredicate<'a>,
     arm: &'a Node,
 ) -> Result<(), AllocError>
-    ensures shared { OnOk result (abstract_start_predicate_as_spec shared.new
-        ≡ join_starts_empty_node_as_anything (abstract_start_predicate_as_spec shared.old)
+    ensures shared { OnOk result (abstract_start_as_spec shared.new
+        ≡ join_starts_of_alternatives (abstract_start_as_spec shared.old)
         (abstract_start_predicate (node_of arm.now))) }
     ensures no_memory { making_node_start_predicate_may_allocate (node_of arm.now) ≡ false → IsOk result }
 {
@@ -147,8 +147,8 @@ fn join_one_arm<'a>(
 #[inline(never)]
 fn join_leaf<'a>(shared: &mut AbstractStartPredicate<'a>, node: &'a Node) -> Result<(), AllocError>
     requires { is_leaf (node_of node.now) ≡ true }
-    ensures shared { OnOk result (abstract_start_predicate_as_spec shared.new
-        ≡ join_alternative_starts_skipping_empty (abstract_start_predicate_as_spec shared.old)
+    ensures shared { OnOk result (abstract_start_as_spec shared.new
+        ≡ join_nonempty_starts (abstract_start_as_spec shared.old)
         (abstract_start_predicate (node_of node.now))) }
     ensures no_memory { making_node_start_predicate_may_allocate (node_of node.now) ≡ false → IsOk result }
 {
@@ -159,7 +159,7 @@ fn join_leaf<'a>(shared: &mut AbstractStartPredicate<'a>, node: &'a Node) -> Res
 // Computes what a leaf begins with.
 fn leaf_start(node: &Node) -> Result<AbstractStartPredicate<'_>, AllocError>
     requires { is_leaf (node_of node.now) ≡ true }
-    ensures beginning { IfOk result (λ b. abstract_start_predicate_as_spec b ≡ abstract_start_predicate
+    ensures beginning { IfOk result (λ b. abstract_start_as_spec b ≡ abstract_start_predicate
         (node_of node.now)) }
     ensures no_memory { making_node_start_predicate_may_allocate (node_of node.now) ≡ false → IsOk result }
 {
@@ -194,7 +194,7 @@ fn leaf_start(node: &Node) -> Result<AbstractStartPredicate<'_>, AllocError>
 // Returns what these bytes begin with. An empty sequence, which no well-formed tree has, begins
 // with anything.
 fn sequence_start(bytes: &[u8]) -> AbstractStartPredicate<'_>
-    ensures { abstract_start_predicate_as_spec result ≡ byte_sequence_predicate bytes.now }
+    ensures { abstract_start_as_spec result ≡ byte_sequence_predicate bytes.now }
 {
     if bytes.is_empty() {
         AbstractStartPredicate::Anything
@@ -208,8 +208,8 @@ fn join_starts<'a>(
     shared: AbstractStartPredicate<'a>,
     more: AbstractStartPredicate<'a>,
 ) -> AbstractStartPredicate<'a>
-    ensures { abstract_start_predicate_as_spec result ≡ join_starts (abstract_start_predicate_as_spec shared.entry)
-        (abstract_start_predicate_as_spec more.entry) }
+    ensures { abstract_start_as_spec result ≡ join_starts (abstract_start_as_spec shared.entry)
+        (abstract_start_as_spec more.entry) }
 {
     match shared {
         AbstractStartPredicate::Open => more,
@@ -224,8 +224,8 @@ fn join<'a>(
     left: AbstractStartPredicate<'a>,
     right: AbstractStartPredicate<'a>,
 ) -> AbstractStartPredicate<'a>
-    ensures { abstract_start_predicate_as_spec result ≡ join (abstract_start_predicate_as_spec left.entry)
-        (abstract_start_predicate_as_spec right.entry) }
+    ensures { abstract_start_as_spec result ≡ join (abstract_start_as_spec left.entry)
+        (abstract_start_as_spec right.entry) }
 {
     match (left, right) {
         (AbstractStartPredicate::Sequence(xs), AbstractStartPredicate::Sequence(ys)) =>
@@ -245,7 +245,7 @@ fn join<'a>(
 
 // Returns the common prefix or, if it is empty, the set of both first bytes.
 fn join_sequences<'a>(xs: &'a [u8], ys: &[u8]) -> AbstractStartPredicate<'a>
-    ensures { abstract_start_predicate_as_spec result
+    ensures { abstract_start_as_spec result
         ≡ common_prefix_or_first_bytes (common_prefix xs.now ys.now) (union_of_byte_sets (first_byte_as_set xs.now)
         (first_byte_as_set ys.now)) }
 {

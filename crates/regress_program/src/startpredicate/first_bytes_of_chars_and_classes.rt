@@ -6,7 +6,7 @@ ghost use Rattle.regex_meaning.specs.StartPredicate.{bytes_that_pass, union_of_b
 ghost use Rattle.regex_pattern_front.specs.ByteSetMembers.{member_bytes_of_byte_bitmap};
 ghost use Rattle.regex_pattern_front.specs.Intervals.{interval_of};
 ghost use Rattle.regex_pattern_front.specs.AstToSpecTree.{class_as_spec};
-ghost use Rattle.regress_program.specs.JoinedStartPredicatesOfAlternatives.{set_bytes_from};
+ghost use Rattle.regress_program.specs.JoinedStarts.{set_bytes_from};
 
 use regex_pattern_front::bytesearch::{ByteBitmap, ByteSet};
 use regex_pattern_front::codepointset::Interval;

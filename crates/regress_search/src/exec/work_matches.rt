@@ -1,11 +1,11 @@
 //! Finding matches one after another within a limit of work.
 
-ghost use Rattle.std.specs.Prelude.{◌≡◌, ◌<◌, ◌⊎◌, ℕ, true, Option, Some, None, if◌then◌else◌, option_map, nat_le, not};
+ghost use Rattle.std.specs.Prelude.{◌≡◌, ℕ, true, Option, Some, None, option_map, not};
 ghost use Rattle.std.specs.Iterator.{at_most};
 ghost use Rattle.std.specs.Option.{ForSome};
-ghost use Rattle.regex_meaning.specs.{CodeUnitOffsets.{IsBoundary, units}, StepBudget.{answers_within, finishes_within}};
+ghost use Rattle.regex_meaning.specs.{CodeUnitOffsets.{IsBoundary, IsBoundaryOrPastEnd, is_past, offset_within, units}, StepBudget.{answers_within, finishes_within}};
 ghost use Rattle.regress_search.specs.RemainingAnswers.{remaining_answers_from, items_left};
-ghost use Rattle.regress_search.specs.AttemptsAndMatchesWithinWork.{IsWorkLimitOrMemoryCause, is_work_enough};
+ghost use Rattle.regress_search.specs.MatchesWithinWork.{IsWorkLimitOrMemoryCause, is_work_enough};
 ghost use Rattle.regress_search.specs.CostsOfCalls.{NextYieldsAtCost, WorkMatchesView};
 
 use super::{Match, MatchProducer, advance_matches};
@@ -19,7 +19,7 @@ pub enum WorkError {
     #[error("out of memory")]
     Memory,
     /// The work limit is reached.
-    #[error("the work is used up")]
+    #[error("the work limit is reached")]
     WorkLimit,
 }
 
@@ -44,7 +44,7 @@ pub trait WorkLimitedProducer: MatchProducer {
 /// them, and what the cost of the next call depends on.
 #[derive(Drop)]
 pub struct WorkMatches<P: WorkLimitedProducer> {
-    mp: P,
+    producer: P,
     position: Option<P::Position>,
 }
 
@@ -52,43 +52,43 @@ impl<P: WorkLimitedProducer> Model for WorkMatches<P> {
     ghost Value = { WorkMatchesView P };
 
     ghost view = { λ m. record {
-      come = remaining_answers_from (P.tree m.mp) (P.text m.mp) (P.budget m.mp)
-          (option_map P.Position.offset m.position) (P.out_of_steps m.mp);
-      left = P.left m.mp;
-      enough = is_work_enough (P.enough m.mp) (P.ahead m.mp) (option_map P.Position.offset m.position);
-      producer = m.mp;
+      remaining = remaining_answers_from (P.tree m.producer) (P.text m.producer) (P.budget m.producer)
+          (option_map P.Position.offset m.position) (P.out_of_steps m.producer);
+      left = P.left m.producer;
+      enough = is_work_enough (P.enough m.producer) (P.ahead m.producer) (option_map P.Position.offset m.position);
+      producer = m.producer;
       position = option_map P.Position.offset m.position;
     } };
 
-    ghost invariant = { λ m. ForSome m.position (λ p. IsBoundary (P.text m.mp) (P.Position.offset p)) };
+    ghost invariant = { λ m. ForSome m.position (λ p. IsBoundary (P.text m.producer) (P.Position.offset p)) };
 }
 
 impl<P: WorkLimitedProducer> WorkMatches<P> {
     /// Iterates over the matches from an offset in code units on, which is a boundary or past the
     /// end. Past the end there are none.
-    pub fn new(mp: P, start: usize) -> Self
-        requires { IsBoundary (P.text mp) start ⊎ (units (P.text mp) < start) }
-        ensures answers { result.come.answers ≡ answers_within (P.tree mp) (P.text mp) (P.budget mp) start }
-        ensures limited { result.come.limited ≡ not (finishes_within (P.tree mp) (P.text mp) (P.budget mp) start) }
-        ensures ended { result.come.ended ≡ not (nat_le start (units (P.text mp))) }
-        ensures left { result.left ≡ P.left mp }
-        ensures enough { result.enough ≡ is_work_enough (P.enough mp) (P.ahead mp)
-            (if nat_le start (units (P.text mp)) then Some start else None) }
-        ensures text_end { result.come.text_end ≡ units (P.text mp) }
-        ensures tree { P.tree result.producer ≡ P.tree mp }
-        ensures text { P.text result.producer ≡ P.text mp }
-        ensures failures { P.failures result.producer ≡ P.failures mp }
-        ensures position { result.position ≡ (if nat_le start (units (P.text mp)) then Some start else None) }
+    pub fn new(producer: P, start: usize) -> Self
+        requires { IsBoundaryOrPastEnd (P.text producer) start }
+        ensures answers { result.remaining.answers ≡ answers_within (P.tree producer) (P.text producer) (P.budget producer) start }
+        ensures limited { result.remaining.limited ≡ not (finishes_within (P.tree producer) (P.text producer) (P.budget producer) start) }
+        ensures ended { result.remaining.ended ≡ is_past start (units (P.text producer)) }
+        ensures left { result.left ≡ P.left producer }
+        ensures enough { result.enough ≡ is_work_enough (P.enough producer) (P.ahead producer)
+            (offset_within (P.text producer) start) }
+        ensures text_end { result.remaining.text_end ≡ units (P.text producer) }
+        ensures tree { P.tree result.producer ≡ P.tree producer }
+        ensures text { P.text result.producer ≡ P.text producer }
+        ensures failures { P.failures result.producer ≡ P.failures producer }
+        ensures position { result.position ≡ offset_within (P.text producer) start }
     {
-        let position = mp.initial_position(start);
-        WorkMatches { mp, position }
+        let position = producer.initial_position(start);
+        WorkMatches { producer, position }
     }
 
     /// Returns how much work may still be done.
     pub fn work_left(&self) -> u64
         ensures { result ≡ self.now.left }
     {
-        self.mp.work_left()
+        self.producer.work_left()
     }
 }
 
@@ -97,24 +97,24 @@ impl<P: WorkLimitedProducer + Drop> Iterator for WorkMatches<P> {
 
     ghost next_gives = { NextYieldsAtCost P.attempt_costs P.tree P.text P.failures };
 
-    ghost remaining = { λ s. at_most (items_left s.come) };
+    ghost remaining = { λ s. at_most (items_left s.remaining) };
 
     /// Returns the next match. Once there is no other match, or after an error, it always returns
     /// `None`.
     fn next(&mut self) -> Option<Result<Match, WorkError>> {
-        match advance_matches(&mut self.mp, &mut self.position)? {
+        match advance_matches(&mut self.producer, &mut self.position)? {
             Ok(found) => Some(Ok(found)),
-            Err(_) => Some(Err(cause_in(&self.mp))),
+            Err(_) => Some(Err(cause_in(&self.producer))),
         }
     }
 }
 
 // Returns why the last search failed: the work limit was reached, or otherwise an allocation
 // failed.
-fn cause_in<P: WorkLimitedProducer>(mp: &P) -> WorkError
-    ensures { IsWorkLimitOrMemoryCause result (P.out_of_work mp.now) (P.left mp.now) }
+fn cause_in<P: WorkLimitedProducer>(producer: &P) -> WorkError
+    ensures { IsWorkLimitOrMemoryCause result (P.out_of_work producer.now) (P.left producer.now) }
 {
-    if mp.is_work_exhausted() {
+    if producer.is_work_exhausted() {
         WorkError::WorkLimit
     } else {
         WorkError::Memory

@@ -1,6 +1,6 @@
 //! Executors that are asked themselves.
 
-ghost use Rattle.regress_match.specs.ProgramTreesAndAnswers.{IsBoundaryOrPastEnd};
+ghost use Rattle.regex_meaning.specs.CodeUnitOffsets.{IsBoundaryOrPastEnd};
 
 use crate::fault::ParseFault;
 use crate::hostile::lists::is_first;

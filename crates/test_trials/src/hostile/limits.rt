@@ -1,7 +1,7 @@
 //! Searches that end where their steps do.
 
+ghost use Rattle.regex_meaning.specs.CodeUnitOffsets.{IsBoundaryOrPastEnd};
 ghost use Rattle.std.specs.Prelude.{◌<◌, ◌⊎◌, IsCharBoundary, length};
-ghost use Rattle.regress_match.specs.ProgramTreesAndAnswers.{IsBoundaryOrPastEnd};
 
 use crate::fault::ParseFault;
 use crate::hostile::bytes::is_start;

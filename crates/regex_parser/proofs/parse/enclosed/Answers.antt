@@ -3,7 +3,7 @@ use Rattle.regex_meaning.specs.Tree as tree
 use Rattle.regex_meaning.specs.ReadingStatesAndDigits.{RemainingCodePoints}
 use Rattle.regex_parser.specs.ParserContracts.{group_node_around}
 use Rattle.regex_pattern_front.specs.AstToSpecTree.{node_of, group_name_bytes}
-use Rattle.regex_parser.specs.ParserGroupIdInvariant.{captures_opened_by_group_kind}
+use Rattle.regex_parser.specs.GroupIdInvariant.{captures_opened_by_group_kind}
 use Rattle.regex_parser.specs.declared.group_openings_and_names.GroupKind.{GroupKind}
 use Rattle.regex_parser.specs.declared.group_openings_and_names.GroupKind.TheVariants.{Capture, Named, Look}
 use Rattle.regex_pattern_front.proofs.PartLemmas.{part-group, part-lookaround}

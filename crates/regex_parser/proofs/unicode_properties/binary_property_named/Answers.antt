@@ -1,5 +1,5 @@
 use Rattle.std.proofs.Common.{[], ◌∙◌, sym, refl}
-use Rattle.regex_parser.specs.PropertyContracts.{words_of}
+use Rattle.regex_parser.specs.PropertyReaderContracts.{words_of}
 use Rattle.regex_parser.specs.declared.unicode_properties.TheConstants.{BINARY_NAMES}
 use Rattle.regex_parser.proofs.PropertyNameLemmas.{listed-scalar, binary-none, binary-found}
 use Rattle.regex_parser.proofs.PropertyTableLemmas.{binary-ascii, binary-any, binary-assigned, binary-casefolded, binary-rest}

@@ -1,7 +1,7 @@
 use Rattle.std.proofs.Common.{◌≡◌, ◌≤◌, ◌-◌, length, drop, nat_eq}
 use Rattle.std.specs.List.{list_any, slice_range}
 use lib.Pointwise.{pointwise}
-use Rattle.regex_parser.specs.PropertyContracts.{words_of, words_from}
+use Rattle.regex_parser.specs.PropertyReaderContracts.{words_of, words_from}
 use Rattle.regex_parser.proofs.unicode_properties.is_listed.Given as goal
 
 abbrev pub invariant-loop-end : goal.invariant-loop-end

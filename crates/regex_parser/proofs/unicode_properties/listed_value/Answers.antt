@@ -1,5 +1,5 @@
 use Rattle.std.proofs.Common.{[], ◌∙◌, sym, refl}
-use Rattle.regex_parser.specs.PropertyContracts.{words_of}
+use Rattle.regex_parser.specs.PropertyReaderContracts.{words_of}
 use Rattle.regex_parser.proofs.PropertyNameLemmas.{bytes-scalar, listed-scalar, listed-none, listed-found}
 use Rattle.regex_parser.proofs.unicode_properties.listed_value.Goals as goal
 

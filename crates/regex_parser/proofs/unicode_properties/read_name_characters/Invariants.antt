@@ -1,6 +1,6 @@
 use Rattle.std.proofs.Common.{◌≡◌, ◌≤◌, ◌-◌, true, length, take}
 use Rattle.std.specs.List.{list_all}
-use Rattle.regex_parser.specs.PropertyContracts.{is_name_character}
+use Rattle.regex_parser.specs.PropertyReaderContracts.{is_name_character}
 use Rattle.regex_parser.proofs.unicode_properties.read_name_characters.Given as goal
 
 abbrev pub invariant-loop-count : goal.invariant-loop-count

@@ -6,7 +6,7 @@ use Rattle.regress_backtrack.proofs.classicalbacktrack.next_candidate_behind_lea
 
 pub returns : goal.returns
 returns g c =
-    let w = g.W.SearchContext.searching c.args.planned.now in
+    let w = g.W.SearchContext.searching c.args.context.now in
     let on = subst (IsBoundary w.text) (sym c.offset_in_searched_text.ensures) c.requires.at in
     let first = c.in_ok-past.ensures w.tree w.text on c.requires.leapt in
     let next = option_map g.W.Input.Position.PositionType.offset c.next_candidate_start.result in

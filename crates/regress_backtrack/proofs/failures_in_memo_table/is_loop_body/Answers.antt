@@ -5,7 +5,7 @@ use Rattle.regress_backtrack.proofs.failures_in_memo_table.is_loop_body.Goals as
 
 pub returns-in-Some : goal.returns-in-Some
 returns-in-Some g c = λ h.
-    let w = g.W.SearchContext.searching c.args.planned.now in
+    let w = g.W.SearchContext.searching c.args.context.now in
     no-run-before (program_of w) c.args.ip
     (λ insn is. no-run (program_of w) w.plan (c.args.ip - 1) insn _ (c.lemma_plan_fits_program.ensures.each (c.args.ip - 1) _ insn (sym c.in-Some.ensures) is)
     (ap is_some (sym c.as_char_loop.ensures) ∙ sym c.is_some.ensures ∙ h))

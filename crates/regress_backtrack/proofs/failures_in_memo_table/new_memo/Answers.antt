@@ -12,7 +12,7 @@ use Rattle.regress_backtrack.proofs.failures_in_memo_table.new_memo.Goals as goa
 
 pub returns : goal.returns
 returns g c =
-    let it = c.args.planned.now in
+    let it = c.args.context.now in
     let w = g.W.SearchContext.searching it in
     let t = c.in-Some.memo_analysis in
     let of : IsAnalysisOf (program_of w) t =

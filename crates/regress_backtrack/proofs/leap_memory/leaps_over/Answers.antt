@@ -10,6 +10,6 @@ use Rattle.regress_backtrack.proofs.leap_memory.leaps_over.Goals as goal
 
 pub leap_over-requires-clause-leap : goal.leap_over-requires-clause-leap
 leap_over-requires-clause-leap g c =
-    let w = g.W.SearchContext.searching c.args.planned.now in
+    let w = g.W.SearchContext.searching c.args.context.now in
     let P : Leap → Type 0 = IsLeap (is_16_bit_encoding w.encoding) (program_of w) in
     some-has w.plan.leap P c.in-Some.leap (rw (← c.plan.ensures) c.in-Some.is) c.lemma_plan_fits_program.ensures.leap

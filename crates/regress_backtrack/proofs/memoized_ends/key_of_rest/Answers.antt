@@ -9,5 +9,5 @@ returns g c =
     let forward : c.FORWARD.result ≡ g.Dir.Direction.FORWARD = cc (c.FORWARD.ensures) in
     subst
     (λ d. IfSome c.unbounded_char_loop_rest_key.result
-    (λ k. DecidesLoopRest (g.W.SearchContext.searching c.args.planned.now) (g.M.FailureMemo.terms c.args.memo.now) d c.args.from (memo_key_as_spec k) c.args.memory.now)) forward
+    (λ k. DecidesLoopRest (g.W.SearchContext.searching c.args.context.now) (g.M.FailureMemo.terms c.args.memo.now) d c.args.from (memo_key_as_spec k) c.args.memory.now)) forward
     c.unbounded_char_loop_rest_key.ensures

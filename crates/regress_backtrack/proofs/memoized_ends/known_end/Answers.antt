@@ -1,16 +1,16 @@
 use Rattle.std.proofs.Common.{◌≡◌, true, false}
-use Rattle.regress_backtrack.specs.MemoizedOpExecutionAndBacktracking.{memo_is_on}
+use Rattle.regress_backtrack.specs.MemoizedExecution.{memo_is_on}
 use Rattle.regress_backtrack.proofs.Courses.{knows-on, ends-on}
 use Rattle.regress_backtrack.proofs.KnownEnds.{if-some, was-true}
 use Rattle.regress_backtrack.proofs.memoized_ends.known_end.Goals as goal
 
 pub known_end_of_thread-requires-clause-right : goal.known_end_of_thread-requires-clause-right
 known_end_of_thread-requires-clause-right g c =
-    knows-on g.S.StepCounter g.M.FailureMemo (g.W.SearchContext.searching c.args.planned.now) c.args.course.now.memo (cc (c.memoizes.ensures, c.if-not-memoizes.false)) c.requires.sound
+    knows-on g.S.StepCounter g.M.FailureMemo (g.W.SearchContext.searching c.args.context.now) c.args.progress.now.memo (cc (c.memoizes.ensures, c.if-not-memoizes.false)) c.requires.sound
 
 pub known_end_of_thread-requires-clause-ends : goal.known_end_of_thread-requires-clause-ends
 known_end_of_thread-requires-clause-ends g c =
-    ends-on g.S.StepCounter g.M.FailureMemo (g.W.SearchContext.searching c.args.planned.now) c.args.course.now.memo (cc (c.memoizes.ensures, c.if-not-memoizes.false)) c.requires.sound
+    ends-on g.S.StepCounter g.M.FailureMemo (g.W.SearchContext.searching c.args.context.now) c.args.progress.now.memo (cc (c.memoizes.ensures, c.if-not-memoizes.false)) c.requires.sound
 
 pub returns-clause-on : goal.returns-clause-on
 returns-clause-on g c =

@@ -11,42 +11,42 @@ use Rattle.regress_backtrack.proofs.RunFronts.{run-over, run-near}
 use Rattle.regress_backtrack.proofs.memoized_ends.known_end_of_loop.Goals as goal
 
 pub class_with_number-class-requires : goal.class_with_number-class-requires
-class_with_number-class-requires g c = class-inside (rows-of (g.met.W.SearchContext.is_text c.args.planned.now) c.requires.run.run c.requires.can)
+class_with_number-class-requires g c = class-inside (rows-of (g.met.W.SearchContext.is_text c.args.context.now) c.requires.run.run c.requires.executable)
 
 pub char_loop_bounds_with_number-requires : goal.char_loop_bounds_with_number-requires
-char_loop_bounds_with_number-requires g c = bounds-inside (rows-of (g.met.W.SearchContext.is_text c.args.planned.now) c.requires.run.run c.requires.can)
+char_loop_bounds_with_number-requires g c = bounds-inside (rows-of (g.met.W.SearchContext.is_text c.args.context.now) c.requires.run.run c.requires.executable)
 
 pub advance_over_class_at_most-near-requires-clause-class : goal.advance_over_class_at_most-near-requires-clause-class
 advance_over_class_at_most-near-requires-clause-class g c =
-    readable (run-with (g.met.W.SearchContext.is_text c.args.planned.now) c.requires.run.run c.requires.can c.char_loop_bounds_with_number.ensures c.class_with_number-class.ensures.there) c.class_with_number-class.ensures.class
-    (g.met.W.SearchContext.literals c.args.planned.now)
+    readable (run-with (g.met.W.SearchContext.is_text c.args.context.now) c.requires.run.run c.requires.executable c.char_loop_bounds_with_number.ensures c.class_with_number-class.ensures.there) c.class_with_number-class.ensures.class
+    (g.met.W.SearchContext.literals c.args.context.now)
 
 pub advance_over_class_at_most-near-requires-clause-at : goal.advance_over_class_at_most-near-requires-clause-at
-advance_over_class_at_most-near-requires-clause-at g c = (rows-of (g.met.W.SearchContext.is_text c.args.planned.now) c.requires.run.run c.requires.can).boundary
+advance_over_class_at_most-near-requires-clause-at g c = (rows-of (g.met.W.SearchContext.is_text c.args.context.now) c.requires.run.run c.requires.executable).boundary
 
 pub rest_is_known_to_find_end-requires-clause-run : goal.rest_is_known_to_find_end-requires-clause-run
 rest_is_known_to_find_end-requires-clause-run g c =
-    let here = run-with (g.met.W.SearchContext.is_text c.args.planned.now) c.requires.run.run c.requires.can c.char_loop_bounds_with_number.ensures c.class_with_number-class.ensures.there in
-    run-over here (c.requires.run.most _ c.char_loop_bounds_with_number.ensures) (g.met.W.SearchContext.offsets_fit c.args.planned.now)
+    let here = run-with (g.met.W.SearchContext.is_text c.args.context.now) c.requires.run.run c.requires.executable c.char_loop_bounds_with_number.ensures c.class_with_number-class.ensures.there in
+    run-over here (c.requires.run.most _ c.char_loop_bounds_with_number.ensures) (g.met.W.SearchContext.offsets_fit c.args.context.now)
 
 pub rest_is_known_to_find_end-requires-clause-class : goal.rest_is_known_to_find_end-requires-clause-class
 rest_is_known_to_find_end-requires-clause-class g c =
-    readable (run-with (g.met.W.SearchContext.is_text c.args.planned.now) c.requires.run.run c.requires.can c.char_loop_bounds_with_number.ensures c.class_with_number-class.ensures.there) c.class_with_number-class.ensures.class
-    (g.met.W.SearchContext.literals c.args.planned.now)
+    readable (run-with (g.met.W.SearchContext.is_text c.args.context.now) c.requires.run.run c.requires.executable c.char_loop_bounds_with_number.ensures c.class_with_number-class.ensures.there) c.class_with_number-class.ensures.class
+    (g.met.W.SearchContext.literals c.args.context.now)
 
 pub rest_is_known_to_find_end-requires-clause-at : goal.rest_is_known_to_find_end-requires-clause-at
 rest_is_known_to_find_end-requires-clause-at g c =
-    let here = run-with (g.met.W.SearchContext.is_text c.args.planned.now) c.requires.run.run c.requires.can c.char_loop_bounds_with_number.ensures c.class_with_number-class.ensures.there in
+    let here = run-with (g.met.W.SearchContext.is_text c.args.context.now) c.requires.run.run c.requires.executable c.char_loop_bounds_with_number.ensures c.class_with_number-class.ensures.there in
     let t = tested here in
-    (run-near here (c.requires.run.most _ c.char_loop_bounds_with_number.ensures) (g.met.W.SearchContext.offsets_fit c.args.planned.now) t.0 t.1 c.advance_over_class_at_most-near.ensures c.if-count-least.false).0
+    (run-near here (c.requires.run.most _ c.char_loop_bounds_with_number.ensures) (g.met.W.SearchContext.offsets_fit c.args.context.now) t.0 t.1 c.advance_over_class_at_most-near.ensures c.if-count-least.false).0
 
 pub returns-then-rest_is_known_to_find_end : goal.returns-then-rest_is_known_to_find_end
 returns-then-rest_is_known_to_find_end g c =
-    let it = c.args.planned.now in
+    let it = c.args.context.now in
     let w = g.W.SearchContext.searching it in
     let is = g.met.W.SearchContext.is_text it in
     let d = g.Dir.Direction.FORWARD in
-    let here = run-with is c.requires.run.run c.requires.can c.char_loop_bounds_with_number.ensures c.class_with_number-class.ensures.there in
+    let here = run-with is c.requires.run.run c.requires.executable c.char_loop_bounds_with_number.ensures c.class_with_number-class.ensures.there in
     let t = tested here in
     let most = c.requires.run.most _ c.char_loop_bounds_with_number.ensures in
     let fits = g.met.W.SearchContext.offsets_fit it in

@@ -9,7 +9,7 @@ use Rattle.regress_backtrack.proofs.memoized_ends.known_end_of_thread.Goals as g
 
 pub returns-then-is_known_to_find_end : goal.returns-then-is_known_to_find_end
 returns-then-is_known_to_find_end g c =
-    let w = g.W.SearchContext.searching c.args.planned.now in
+    let w = g.W.SearchContext.searching c.args.context.now in
     let t = g.M.FailureMemo.terms c.args.memo.now in
     let d = g.Dir.Direction.FORWARD in
     let row = running (current_thread_state_of c.args.memory.now c.args.here.ip c.args.here.at) ∷ [] in

@@ -14,10 +14,10 @@ places-init g c = seeking-begin c.requires.at
 
 pub returns-then-is_known_to_find_end : goal.returns-then-is_known_to_find_end
 returns-then-is_known_to_find_end g c = λ found.
-    let w = g.W.SearchContext.searching c.args.planned.now in
+    let w = g.W.SearchContext.searching c.args.context.now in
     let t = g.M.FailureMemo.terms c.args.memo.now in
     let tells = subst (λ o. IfSome o (λ k. DecidesLoopRest w t g.Dir.Direction.FORWARD (record { ip = c.args.from.ip; at = c.places.at }) (memo_key_as_spec k) c.args.memory.now)) c.in-Some.is c.key_of_rest.ensures in
-    seeking-found (g.met.W.SearchContext.is_text c.args.planned.now) c.requires.run c.places.invariant tells
+    seeking-found (g.met.W.SearchContext.is_text c.args.context.now) c.requires.run c.places.invariant tells
     (c.requires.ends.finds (memo_key_as_spec c.in-Some.key) (sym c.is_known_to_find_end.ensures ∙ c.if-is_known_to_find_end.true))
 
 pub read_class_char-requires-clause-at : goal.read_class_char-requires-clause-at
@@ -25,10 +25,10 @@ read_class_char-requires-clause-at g c = c.places.invariant.boundary
 
 pub places-smaller : goal.places-smaller
 places-smaller g c =
-    let test = some-of (test_of (program_of (g.W.SearchContext.searching c.args.planned.now)) (Some (insn_as_spec_insn c.args.class.now.insn))) c.requires.class.tests in
-    (seeking-goes (g.met.W.SearchContext.is_text c.args.planned.now) c.requires.run c.places.invariant test.0 test.1 c.read_class_char.ensures c.in-Some-read_class_char.is).fewer
+    let test = some-of (test_of (program_of (g.W.SearchContext.searching c.args.context.now)) (Some (insn_as_spec_insn c.args.class.now.insn))) c.requires.class.tests in
+    (seeking-goes (g.met.W.SearchContext.is_text c.args.context.now) c.requires.run c.places.invariant test.0 test.1 c.read_class_char.ensures c.in-Some-read_class_char.is).fewer
 
 pub places-preserved : goal.places-preserved
 places-preserved g c =
-    let test = some-of (test_of (program_of (g.W.SearchContext.searching c.args.planned.now)) (Some (insn_as_spec_insn c.args.class.now.insn))) c.requires.class.tests in
-    (seeking-goes (g.met.W.SearchContext.is_text c.args.planned.now) c.requires.run c.places.invariant test.0 test.1 c.read_class_char.ensures c.in-Some-read_class_char.is).seeking
+    let test = some-of (test_of (program_of (g.W.SearchContext.searching c.args.context.now)) (Some (insn_as_spec_insn c.args.class.now.insn))) c.requires.class.tests in
+    (seeking-goes (g.met.W.SearchContext.is_text c.args.context.now) c.requires.run c.places.invariant test.0 test.1 c.read_class_char.ensures c.in-Some-read_class_char.is).seeking

@@ -5,7 +5,7 @@ use Rattle.regress_backtrack.proofs.KnownEnds.{Seeking}
 use Rattle.regress_backtrack.proofs.memoized_ends.rest_is_known_to_find_end.Given as goal
 
 abbrev pub invariant-places : goal.invariant-places
-invariant-places g l = Seeking (g.W.SearchContext.searching l.planned) g.Dir.Direction.FORWARD l.class l.fn.from l.memory l.at
+invariant-places g l = Seeking (g.W.SearchContext.searching l.context) g.Dir.Direction.FORWARD l.class l.fn.from l.memory l.at
 
 abbrev pub decreases-places : goal.decreases-places
-decreases-places g l = left_from (units (g.W.SearchContext.searching l.planned).text) (direction_of_forward_flag g.Dir.Direction.FORWARD) l.at
+decreases-places g l = left_from (units (g.W.SearchContext.searching l.context).text) (direction_of_forward_flag g.Dir.Direction.FORWARD) l.at

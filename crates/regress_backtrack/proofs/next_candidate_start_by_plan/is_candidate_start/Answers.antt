@@ -4,6 +4,6 @@ use Rattle.regress_backtrack.proofs.next_candidate_start_by_plan.is_candidate_st
 
 pub returns : goal.returns
 returns g c out =
-    let w = g.W.SearchContext.searching c.args.planned.now in
+    let w = g.W.SearchContext.searching c.args.context.now in
     let is = c.lemma_plan_fits_program.ensures in
-    prefix-excludes w (g.met.W.SearchContext.has_units c.args.planned.now) is c.requires.can w.plan.start is.prefix refl c.args.at c.requires.at (sym c.is_candidate.ensures ∙ out)
+    prefix-excludes w (g.met.W.SearchContext.has_units c.args.context.now) is c.requires.executable w.plan.start is.prefix refl c.args.at c.requires.at (sym c.is_candidate.ensures ∙ out)

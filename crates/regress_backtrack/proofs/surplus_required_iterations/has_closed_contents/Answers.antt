@@ -8,7 +8,7 @@ use Rattle.regress_backtrack.proofs.surplus_required_iterations.has_closed_conte
 
 pub returns-in-Some : goal.returns-in-Some
 returns-in-Some g c = λ yes insn is.
-    let w = g.W.SearchContext.searching c.args.planned.now in
+    let w = g.W.SearchContext.searching c.args.context.now in
     let s = c.in-Some in
     op-closes (program_of w) w.plan c.args.changes c.args.from c.args.ip s.op.now insn
     (subst (λ contents. AreClosed c.args.changes (program_of w) c.args.from c.args.ip contents) c.contents_of.ensures (c.are_closed.ensures yes))

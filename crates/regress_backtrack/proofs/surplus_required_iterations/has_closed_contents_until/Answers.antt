@@ -10,7 +10,7 @@ loop-inner-init g c = λ k after before. absurd (omega (arith, after, before))
 
 pub loop-inner-preserved : goal.loop-inner-preserved
 loop-inner-preserved g c =
-    let w = g.W.SearchContext.searching c.args.planned.now in
+    let w = g.W.SearchContext.searching c.args.context.now in
     λ k after less. below-more (λ k. c.args.ip + 1 ≤ k → (insn : Insn) → insn_at w k ≡ Some insn → StaysInBody c.args.changes (program_of w) (c.args.past - 1) k insn) c.loop-inner.inner
     (λ k less after. c.loop-inner.invariant k after less) (λ after. c.stays_in_body.ensures c.if-not-stays_in_body.false) k less after
 

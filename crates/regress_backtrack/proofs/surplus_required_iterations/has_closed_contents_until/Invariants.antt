@@ -6,5 +6,5 @@ use Rattle.regress_backtrack.proofs.surplus_required_iterations.has_closed_conte
 
 abbrev pub invariant-loop-inner : goal.invariant-loop-inner
 invariant-loop-inner g l =
-    let w = g.W.SearchContext.searching l.planned in
+    let w = g.W.SearchContext.searching l.context in
     (k : ℕ) → l.ip + 1 ≤ k → k < l.inner → (insn : Insn) → insn_at w k ≡ Some insn → StaysInBody l.changes (program_of w) (l.past - 1) k insn

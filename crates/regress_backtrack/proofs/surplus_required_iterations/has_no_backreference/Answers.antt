@@ -11,12 +11,12 @@ loop-ip-init g c = λ k before. absurd (omega (arith, before))
 
 pub loop-ip-preserved : goal.loop-ip-preserved
 loop-ip-preserved g c =
-    let w = g.W.SearchContext.searching c.args.planned.now in
+    let w = g.W.SearchContext.searching c.args.context.now in
     below-more (λ k. (insn : Insn) → insn_at w k ≡ Some insn → IsNoBackreference insn) c.loop-ip.ip c.loop-ip.invariant (c.may_be_backreference.ensures c.if-may_be_backreference.false)
 
 pub returns : goal.returns
 returns g c = λ yes k insn is.
-    let w = g.W.SearchContext.searching c.args.planned.now in
+    let w = g.W.SearchContext.searching c.args.context.now in
     let inside = slice_get_within (program_of w).insns k insn is in
     let many = c.lemma_plan_fits_program.ensures.as_many in
     c.loop-ip.invariant k (omega (arith, inside, many, c.loop-ip-test.false)) insn is

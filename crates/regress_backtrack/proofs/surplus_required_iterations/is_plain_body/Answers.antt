@@ -10,7 +10,7 @@ loop-ip-init g c = λ k after before. absurd (omega (arith, after, before))
 
 pub loop-ip-preserved : goal.loop-ip-preserved
 loop-ip-preserved g c =
-    let w = g.W.SearchContext.searching c.args.planned.now in
+    let w = g.W.SearchContext.searching c.args.context.now in
     λ k after less. below-more (λ k. c.args.from ≤ k → (insn : Insn) → insn_at w k ≡ Some insn → StaysInBody c.args.changes (program_of w) c.args.end k insn × HasClosedContents c.args.changes (program_of w) c.args.from k insn) c.loop-ip.ip
     (λ k less after. c.loop-ip.invariant k after less)
     (λ after insn is. (c.stays_in_body.ensures c.if-not-stays_in_body.false insn is, c.has_closed_contents.ensures c.if-not-has_closed_contents.false insn is)) k less after

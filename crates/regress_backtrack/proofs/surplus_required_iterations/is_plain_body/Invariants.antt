@@ -6,5 +6,5 @@ use Rattle.regress_backtrack.proofs.surplus_required_iterations.is_plain_body.Gi
 
 abbrev pub invariant-loop-ip : goal.invariant-loop-ip
 invariant-loop-ip g l =
-    let w = g.W.SearchContext.searching l.planned in
+    let w = g.W.SearchContext.searching l.context in
     (k : ℕ) → l.from ≤ k → k < l.ip → (insn : Insn) → insn_at w k ≡ Some insn → StaysInBody l.changes (program_of w) l.end k insn × HasClosedContents l.changes (program_of w) l.from k insn

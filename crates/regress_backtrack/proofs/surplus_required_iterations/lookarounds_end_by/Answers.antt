@@ -10,7 +10,7 @@ loop-ip-init g c = λ k after before. absurd (omega (arith, after, before))
 
 pub loop-ip-preserved : goal.loop-ip-preserved
 loop-ip-preserved g c =
-    let w = g.W.SearchContext.searching c.args.planned.now in
+    let w = g.W.SearchContext.searching c.args.context.now in
     λ k after less. below-more (λ k. c.args.from ≤ k → (insn : Insn) → insn_at w k ≡ Some insn → EndsBy c.args.to insn) c.loop-ip.ip
     (λ k less after. c.loop-ip.invariant k after less) (λ after. c.ends_by.ensures c.if-not-ends_by.false) k less after
 

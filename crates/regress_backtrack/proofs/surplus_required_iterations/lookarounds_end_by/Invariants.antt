@@ -5,4 +5,4 @@ use Rattle.regress_backtrack.specs.RepeatableLoopBodies.{EndsBy}
 use Rattle.regress_backtrack.proofs.surplus_required_iterations.lookarounds_end_by.Given as goal
 
 abbrev pub invariant-loop-ip : goal.invariant-loop-ip
-invariant-loop-ip g l = (k : ℕ) → l.from ≤ k → k < l.ip → (insn : Insn) → insn_at (g.W.SearchContext.searching l.planned) k ≡ Some insn → EndsBy l.to insn
+invariant-loop-ip g l = (k : ℕ) → l.from ≤ k → k < l.ip → (insn : Insn) → insn_at (g.W.SearchContext.searching l.context) k ≡ Some insn → EndsBy l.to insn

@@ -7,7 +7,7 @@ use Rattle.regress_backtrack.proofs.surplus_required_iterations.may_be_backrefer
 
 pub returns-in-Some : goal.returns-in-Some
 returns-in-Some g c = λ yes insn is.
-    let w = g.W.SearchContext.searching c.args.planned.now in
+    let w = g.W.SearchContext.searching c.args.context.now in
     let s = c.in-Some in
     op-is-no-backreference (program_of w) w.plan c.args.ip s.op.now insn (sym c.is_backreference.ensures ∙ yes)
     (c.lemma_plan_fits_program.ensures.each c.args.ip s.op.now insn (sym c.op_at.ensures ∙ ap (option_map (λ (o : Bor Op). o.now)) s.is) is)

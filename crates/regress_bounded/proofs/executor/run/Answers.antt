@@ -26,8 +26,8 @@ returns-in_err-next-in-Some-clause-memo_analysis g c = ap (λ (m : MemoView). m.
 
 pub returns-in_err-next-in-Some-clause-runs : goal.returns-in_err-next-in-Some-clause-runs
 returns-in_err-next-in-Some-clause-runs g c = λ b h.
-    let stops = c.in_err-next-in-Some.ensures.goes b (stands-as c.in-Some.is refl (c.search.invariant.from b h)) in
-    runs-stopped (stands-as c.in-Some.is refl (c.search.invariant.from b h)) c.execute_thread_step.new.course (ap (λ (m : MemoView). m.memo_analysis) c.execute_thread_step.ensures.memo)
+    let stops = c.in_err-next-in-Some.ensures.continues b (stands-as c.in-Some.is refl (c.search.invariant.from b h)) in
+    runs-stopped (stands-as c.in-Some.is refl (c.search.invariant.from b h)) c.execute_thread_step.new.progress (ap (λ (m : MemoView). m.memo_analysis) c.execute_thread_step.ensures.memo)
     c.from_residual.result c.in_err-next-in-Some.field-0.0 c.from_residual.ensures.1 stops
 
 pub returns-in-End-clause-right : goal.returns-in-End-clause-right
@@ -39,17 +39,17 @@ returns-in-End-clause-memo_analysis g c = ap (λ (m : MemoView). m.memo_analysis
 pub returns-in-End-clause-runs : goal.returns-in-End-clause-runs
 returns-in-End-clause-runs g c = λ b h.
     let there = standing-as c.in-Some.is refl c.search.invariant.stands in
-    came-end there c.execute_thread_step.new.stack.items c.execute_thread_step.new.course c.in-End.is c.in_ok-next-in-Some.ensures.goes b (stands-as c.in-Some.is refl (c.search.invariant.from b h))
+    came-end there c.execute_thread_step.new.stack.items c.execute_thread_step.new.progress c.in-End.is c.in_ok-next-in-Some.ensures.continues b (stands-as c.in-Some.is refl (c.search.invariant.from b h))
 
 pub search-smaller-in-On : goal.search-smaller-in-On
 search-smaller-in-On g c =
     let there = standing-as c.in-Some.is refl c.search.invariant.stands in
-    less-on there (λ b h. comes-less h (came-on there c.execute_thread_step.new.stack.items c.execute_thread_step.new.course c.in-On.is c.in_ok-next-in-Some.ensures.goes b h))
+    less-on there (λ b h. comes-less h (came-on there c.execute_thread_step.new.stack.items c.execute_thread_step.new.progress c.in-On.is c.in_ok-next-in-Some.ensures.continues b h))
 
 pub search-preserved-in-On : goal.search-preserved-in-On
 search-preserved-in-On g c =
     let there = standing-as c.in-Some.is refl c.search.invariant.stands in
-    let came = came-on there c.execute_thread_step.new.stack.items c.execute_thread_step.new.course c.in-On.is c.in_ok-next-in-Some.ensures.goes in
+    let came = came-on there c.execute_thread_step.new.stack.items c.execute_thread_step.new.progress c.in-On.is c.in_ok-next-in-Some.ensures.continues in
     record {
       stands = standing-on there (λ b h. (came b h).stands);
       from = λ b h. (came b (stands-as c.in-Some.is refl (c.search.invariant.from b h))).stands;
@@ -59,28 +59,28 @@ search-preserved-in-On g c =
 
 -- ---- One that waits
 
-pub resume_entry_or_record_failure-requires-clause-stands : goal.resume_entry_or_record_failure-requires-clause-stands
-resume_entry_or_record_failure-requires-clause-stands g c = standing-as c.in-None.is c.in-Some-pop.ensures.items c.search.invariant.stands
+pub resume_or_record-requires-clause-stands : goal.resume_or_record-requires-clause-stands
+resume_or_record-requires-clause-stands g c = standing-as c.in-None.is c.in-Some-pop.ensures.items c.search.invariant.stands
 
 pub returns-in_err-next-in-Some-pop-clause-memo_analysis : goal.returns-in_err-next-in-Some-pop-clause-memo_analysis
-returns-in_err-next-in-Some-pop-clause-memo_analysis g c = c.resume_entry_or_record_failure.ensures.memo_analysis ∙ c.search.invariant.memo_analysis
+returns-in_err-next-in-Some-pop-clause-memo_analysis g c = c.resume_or_record.ensures.memo_analysis ∙ c.search.invariant.memo_analysis
 
 pub returns-in_err-next-in-Some-pop-clause-runs : goal.returns-in_err-next-in-Some-pop-clause-runs
 returns-in_err-next-in-Some-pop-clause-runs g c = λ b h.
-    let stops = c.in_err-next-in-Some-pop.ensures.goes b (stands-as c.in-None.is c.in-Some-pop.ensures.items (c.search.invariant.from b h)) in
-    runs-stopped (stands-as c.in-None.is c.in-Some-pop.ensures.items (c.search.invariant.from b h)) c.resume_entry_or_record_failure.new.course c.resume_entry_or_record_failure.ensures.memo_analysis
+    let stops = c.in_err-next-in-Some-pop.ensures.continues b (stands-as c.in-None.is c.in-Some-pop.ensures.items (c.search.invariant.from b h)) in
+    runs-stopped (stands-as c.in-None.is c.in-Some-pop.ensures.items (c.search.invariant.from b h)) c.resume_or_record.new.progress c.resume_or_record.ensures.memo_analysis
     c.from_residual-in_err-next-in-Some-pop.result c.in_err-next-in-Some-pop.field-0.0 c.from_residual-in_err-next-in-Some-pop.ensures.1 stops
 
 pub search-smaller : goal.search-smaller
 search-smaller g c =
-    less-on (standing-as c.in-None.is c.in-Some-pop.ensures.items c.search.invariant.stands) (λ b h. comes-less h (c.in_ok-next-in-Some-pop.ensures.goes b h))
+    less-on (standing-as c.in-None.is c.in-Some-pop.ensures.items c.search.invariant.stands) (λ b h. comes-less h (c.in_ok-next-in-Some-pop.ensures.continues b h))
 
 pub search-preserved : goal.search-preserved
 search-preserved g c = record {
-  stands = standing-on (standing-as c.in-None.is c.in-Some-pop.ensures.items c.search.invariant.stands) (λ b h. (c.in_ok-next-in-Some-pop.ensures.goes b h).stands);
-  from = λ b h. (c.in_ok-next-in-Some-pop.ensures.goes b (stands-as c.in-None.is c.in-Some-pop.ensures.items (c.search.invariant.from b h))).stands;
-  memo_analysis = c.resume_entry_or_record_failure.ensures.memo_analysis ∙ c.search.invariant.memo_analysis;
-  left = omega (arith, c.resume_entry_or_record_failure.ensures.left, c.search.invariant.left);
+  stands = standing-on (standing-as c.in-None.is c.in-Some-pop.ensures.items c.search.invariant.stands) (λ b h. (c.in_ok-next-in-Some-pop.ensures.continues b h).stands);
+  from = λ b h. (c.in_ok-next-in-Some-pop.ensures.continues b (stands-as c.in-None.is c.in-Some-pop.ensures.items (c.search.invariant.from b h))).stands;
+  memo_analysis = c.resume_or_record.ensures.memo_analysis ∙ c.search.invariant.memo_analysis;
+  left = omega (arith, c.resume_or_record.ensures.left, c.search.invariant.left);
 }
 
 -- ---- None

@@ -1,7 +1,7 @@
 use Rattle.std.proofs.Common.{◌≡◌, ◌≤◌, [], Some}
 use Rattle.regex_pattern_front.specs.AstToSpecTree.{tree_of}
 use Rattle.regress_program.specs.CompilationOfTreesAsFunction.{compiled}
-use Rattle.regress_bounded.specs.SearchStateAsMemoSearchEntries.{AttemptStartMemoBudgetAndResult, Stands, IsStanding, front_of}
+use Rattle.regress_bounded.specs.BoundedState.{BoundedAttempt, Stands, IsStanding, front_of}
 use Rattle.regress_bounded.proofs.executor.run.Given as goal
 
 abbrev pub invariant-search : goal.invariant-search
@@ -10,11 +10,11 @@ invariant-search g l =
     let text = g.Input.InputIndexer.text l.searched.input in
     let offset = g.Input.Position.PositionType.offset in
     record {
-      stands : IsStanding offset program text (front_of offset l.next) l.stack.items l.course;
-      from : (b : AttemptStartMemoBudgetAndResult) → Stands offset program text b (front_of offset (Some l.fn.start)) [] l.fn.course → Stands offset program text b (front_of offset l.next) l.stack.items l.course;
-      memo_analysis : l.course.memo.memo_analysis ≡ l.fn.course.memo.memo_analysis;
-      left : l.course.left ≤ l.fn.course.left;
+      stands : IsStanding offset program text (front_of offset l.next) l.stack.items l.progress;
+      from : (b : BoundedAttempt) → Stands offset program text b (front_of offset (Some l.fn.start)) [] l.fn.progress → Stands offset program text b (front_of offset l.next) l.stack.items l.progress;
+      memo_analysis : l.progress.memo.memo_analysis ≡ l.fn.progress.memo.memo_analysis;
+      left : l.progress.left ≤ l.fn.progress.left;
     }
 
 abbrev pub decreases-search : goal.decreases-search
-decreases-search g l = l.course.left
+decreases-search g l = l.progress.left

@@ -1,8 +1,8 @@
 use Rattle.std.proofs.Common.{◌≡◌, ◌<◌, ◌^◌, ◌+◌, length, ap, sym, ◌∙◌, arith, rules}
 use Rattle.regex_meaning.specs.CompilationRelation.{Loop1CharBody}
-use Rattle.regress_program.specs.InsnsAndStartPredicatesAsSpec.{insn_as_spec_insn}
+use Rattle.regress_program.specs.InsnsAsSpec.{insn_as_spec_insn}
 use Rattle.regress_pikevm.specs.States.{state_of}
-use Rattle.regress_bounded.specs.SearchStateAsMemoSearchEntries.{unbounded_char_loop_min_and_greed}
+use Rattle.regress_bounded.specs.BoundedState.{min_and_greed_of_loop}
 use Rattle.regress_bounded.proofs.Bodies.{body-spelled}
 use Rattle.regress_bounded.proofs.Stopping.{turns-handed, turns-short, some-key}
 use Rattle.regress_bounded.proofs.Turning.{standing-place, known-over, known-goes, has-maximum, RunAt, here-below, here-insn, run-at}
@@ -15,13 +15,13 @@ use Rattle.regress_bounded.proofs.thread_steps_and_backtracking.execute_thread_s
 pub is_known-requires : goal.is_known-requires
 is_known-requires g c = c.key_at-key.ensures.bit (standing-place c.requires.stands)
 
-pub returns-in_err-spend-clause-goes : goal.returns-in_err-spend-clause-goes
-returns-in_err-spend-clause-goes g c = λ b h.
+pub returns-in_err-spend-clause-continues : goal.returns-in_err-spend-clause-continues
+returns-in_err-spend-clause-continues g c = λ b h.
     turns-short h c.args.stack.now.items c.spend.new.self c.from_residual.result c.in_err-spend.field-0.0 c.from_residual.ensures.1
     (λ out. known-over h c.key_at-key.result c.key_at-key.ensures.key (sym c.is_known.ensures ∙ c.if-is_known.true) c.spend.new.self c.in_err-spend.ensures.over.1)
 
-pub returns-then-is_known-clause-goes : goal.returns-then-is_known-clause-goes
-returns-then-is_known-clause-goes g c = λ b h.
+pub returns-then-is_known-clause-continues : goal.returns-then-is_known-clause-continues
+returns-then-is_known-clause-continues g c = λ b h.
     known-goes h c.key_at-key.result c.key_at-key.ensures.key (sym c.is_known.ensures ∙ c.if-is_known.true) c.spend.new.self c.spend.ensures.memo c.in_ok-spend.ensures.spent
 
 -- ---- A run without a maximum
@@ -57,20 +57,20 @@ offset_bounds-insns-state-2 g c = let below : c.args.state.ip + 1 < length c.arg
 pub bounds-insns-state-2 : goal.bounds-insns-state-2
 bounds-insns-state-2 g c = (there g c).below
 
-pub execute_unbounded_char_loop_with_memo-requires-clause-run : goal.execute_unbounded_char_loop_with_memo-requires-clause-run
-execute_unbounded_char_loop_with_memo-requires-clause-run g c = (there g (goal.at.execute_unbounded_char_loop_with_memo-requires-clause-run g c).In-Some).here c.index-insns-state-2.result c.index-insns-state-2.is
+pub unbounded_char_loop_with_memo-requires-clause-run : goal.unbounded_char_loop_with_memo-requires-clause-run
+unbounded_char_loop_with_memo-requires-clause-run g c = (there g (goal.at.unbounded_char_loop_with_memo-requires-clause-run g c).In-Some).here c.index-insns-state-2.result c.index-insns-state-2.is
 
-pub execute_unbounded_char_loop_with_memo-requires-clause-bytes : goal.execute_unbounded_char_loop_with_memo-requires-clause-bytes
-execute_unbounded_char_loop_with_memo-requires-clause-bytes g c =
-    body-spelled c.args.searched.now.program.now c.args.searched.now.bytes c.args.state.ip c.index-insns-state-2.result ((there g (goal.at.execute_unbounded_char_loop_with_memo-requires-clause-bytes g c).In-Some).reads c.index-insns-state-2.result c.index-insns-state-2.is)
+pub unbounded_char_loop_with_memo-requires-clause-bytes : goal.unbounded_char_loop_with_memo-requires-clause-bytes
+unbounded_char_loop_with_memo-requires-clause-bytes g c =
+    body-spelled c.args.searched.now.program.now c.args.searched.now.bytes c.args.state.ip c.index-insns-state-2.result ((there g (goal.at.unbounded_char_loop_with_memo-requires-clause-bytes g c).In-Some).reads c.index-insns-state-2.result c.index-insns-state-2.is)
 
-pub execute_unbounded_char_loop_with_memo-requires-clause-within : goal.execute_unbounded_char_loop_with_memo-requires-clause-within
-execute_unbounded_char_loop_with_memo-requires-clause-within g c = fits g (goal.at.execute_unbounded_char_loop_with_memo-requires-clause-within g c).In-Some
+pub unbounded_char_loop_with_memo-requires-clause-within : goal.unbounded_char_loop_with_memo-requires-clause-within
+unbounded_char_loop_with_memo-requires-clause-within g c = fits g (goal.at.unbounded_char_loop_with_memo-requires-clause-within g c).In-Some
 
-pub returns-in_err-next-clause-goes : goal.returns-in_err-next-clause-goes
-returns-in_err-next-clause-goes g c = λ b h.
-    turns-handed h c.execute_unbounded_char_loop_with_memo.new.stack.items c.execute_unbounded_char_loop_with_memo.new.course c.from_residual-in_err-next.result c.in_err-next.field-0.0
-    c.from_residual-in_err-next.ensures.1 (c.in_err-next.ensures.goes b h)
+pub returns-in_err-next-clause-continues : goal.returns-in_err-next-clause-continues
+returns-in_err-next-clause-continues g c = λ b h.
+    turns-handed h c.unbounded_char_loop_with_memo.new.stack.items c.unbounded_char_loop_with_memo.new.progress c.from_residual-in_err-next.result c.in_err-next.field-0.0
+    c.from_residual-in_err-next.ensures.1 (c.in_err-next.ensures.continues b h)
 
 -- ---- None
 
@@ -78,4 +78,4 @@ pub turn_above-requires-clause-limited : goal.turn_above-requires-clause-limited
 turn_above-requires-clause-limited g c = λ least most greedy run.
     let here = here-insn c.args.searched.now.program.now c.args.insns.now c.requires.code c.requires.stands c.index-insns-state.result c.index-insns-state.is in
     let is : insn_as_spec_insn c.index-insns-state.result ≡ Loop1CharBody least most greedy = some-key (sym here ∙ run) in
-    has-maximum greedy least most (sym c.in_default.is ∙ c.endless.ensures ∙ ap unbounded_char_loop_min_and_greed is)
+    has-maximum greedy least most (sym c.in_default.is ∙ c.endless.ensures ∙ ap min_and_greed_of_loop is)

@@ -2,8 +2,8 @@ use Rattle.std.proofs.Common.{◌∷◌, [], refl, sym, append-nil}
 use Rattle.regress_bounded.proofs.Turning.{leads-can, arm-leads, arm-threads, taken-threads}
 use Rattle.regress_bounded.proofs.thread_steps_and_backtracking.push_threads_of_step.Goals as goal
 
-pub execute_insn-requires-clause-can : goal.execute_insn-requires-clause-can
-execute_insn-requires-clause-can g c = leads-can _ c.requires.leads
+pub execute_insn-requires-clause-executable : goal.execute_insn-requires-clause-executable
+execute_insn-requires-clause-executable g c = leads-can _ c.requires.leads
 
 -- ---- None of these
 

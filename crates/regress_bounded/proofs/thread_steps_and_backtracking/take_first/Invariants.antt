@@ -1,5 +1,5 @@
 use Rattle.std.proofs.Common.{◌++◌, length, map}
-use Rattle.regress_bounded.specs.declared.stack_of_pending_threads_and_records.StackEntry.TheVariants.{Thread}
+use Rattle.regress_bounded.specs.declared.pending_stack.StackEntry.TheVariants.{Thread}
 use Rattle.regress_bounded.proofs.Taken.{IsTaken}
 use Rattle.regress_bounded.proofs.thread_steps_and_backtracking.take_first.Given as goal
 

@@ -15,8 +15,8 @@ offset_bounds-insns-state g c =
 
 -- ---- The search ends
 
-pub returns-then-is_goal-clause-goes : goal.returns-then-is_goal-clause-goes
-returns-then-is_goal-clause-goes g c = λ b h. record {
+pub returns-then-is_goal-clause-continues : goal.returns-then-is_goal-clause-continues
+returns-then-is_goal-clause-continues g c = λ b h. record {
   stack = c.args.stack.now.items;
   from = _;
   stands = h;
@@ -28,8 +28,8 @@ returns-then-is_goal-clause-goes g c = λ b h. record {
 
 -- ---- It goes on
 
-pub work_of_step-work-requires-clause-can : goal.work_of_step-work-requires-clause-can
-work_of_step-work-requires-clause-can g c = standing-can c.requires.stands
+pub work_of_step-work-requires-clause-executable : goal.work_of_step-work-requires-clause-executable
+work_of_step-work-requires-clause-executable g c = standing-can c.requires.stands
 
 pub push_threads_of_step-requires-clause-inside : goal.push_threads_of_step-requires-clause-inside
 push_threads_of_step-requires-clause-inside g c = standing-inside c.requires.stands
@@ -39,21 +39,21 @@ push_threads_of_step-requires-clause-leads g c =
     leads-on c.requires.stands _ (here-insn c.args.searched.now.program.now c.args.insns.now c.requires.code c.requires.stands c.index-insns-state.result c.index-insns-state.is)
     (sym c.if-is_goal.false ∙ c.is_goal.ensures)
 
-pub returns-in_err-spend_and_push_record-clause-goes : goal.returns-in_err-spend_and_push_record-clause-goes
-returns-in_err-spend_and_push_record-clause-goes g c = λ b h.
+pub returns-in_err-spend_and_push_record-clause-continues : goal.returns-in_err-spend_and_push_record-clause-continues
+returns-in_err-spend_and_push_record-clause-continues g c = λ b h.
     let leads = leads-on c.requires.stands _ (here-insn c.args.searched.now.program.now c.args.insns.now c.requires.code c.requires.stands c.index-insns-state.result c.index-insns-state.is)
     (sym c.if-is_goal.false ∙ c.is_goal.ensures) in
-    turns-short h c.spend_and_push_record.new.stack.items c.spend_and_push_record.new.course c.from_residual.result c.in_err-spend_and_push_record.field-0.0 c.from_residual.ensures.1
-    (λ out. turn-over h c.requires.limited c.requires.key leads c.work_of_step-work.result c.work_of_step-work.ensures c.spend_and_push_record.new.course (c.in_err-spend_and_push_record.ensures.over out).0)
+    turns-short h c.spend_and_push_record.new.stack.items c.spend_and_push_record.new.progress c.from_residual.result c.in_err-spend_and_push_record.field-0.0 c.from_residual.ensures.1
+    (λ out. turn-over h c.requires.limited c.requires.key leads c.work_of_step-work.result c.work_of_step-work.ensures c.spend_and_push_record.new.progress (c.in_err-spend_and_push_record.ensures.over out).0)
 
 pub returns-in_err-spend_and_push_record-clause-refused : goal.returns-in_err-spend_and_push_record-clause-refused
 returns-in_err-spend_and_push_record-clause-refused g c =
     handed-on (λ r. IfErr r (λ e. e ≡ Work → c.spend_and_push_record.new.stack.items ≡ c.args.stack.now.items)) c.from_residual.result c.in_err-spend_and_push_record.field-0.0 c.from_residual.ensures.1
     (λ out. (c.in_err-spend_and_push_record.ensures.over out).1)
 
-pub returns-clause-goes : goal.returns-clause-goes
-returns-clause-goes g c = λ b h.
+pub returns-clause-continues : goal.returns-clause-continues
+returns-clause-continues g c = λ b h.
     let leads = leads-on c.requires.stands _ (here-insn c.args.searched.now.program.now c.args.insns.now c.requires.code c.requires.stands c.index-insns-state.result c.index-insns-state.is)
     (sym c.if-is_goal.false ∙ c.is_goal.ensures) in
     turn-goes h c.requires.limited c.requires.key leads c.work_of_step-work.result c.work_of_step-work.ensures c.spend_and_push_record.new.stack.items c.push_threads_of_step.new.stack.items
-    c.in_ok-spend_and_push_record.ensures.pushed c.in_ok-next.next c.in_ok-next.ensures c.spend_and_push_record.new.course c.spend_and_push_record.ensures.memo c.in_ok-spend_and_push_record.ensures.spent
+    c.in_ok-spend_and_push_record.ensures.pushed c.in_ok-next.next c.in_ok-next.ensures c.spend_and_push_record.new.progress c.spend_and_push_record.ensures.memo c.in_ok-spend_and_push_record.ensures.spent

@@ -5,7 +5,7 @@ use Rattle.regress_memo.specs.CheckedAnalysis.{IsRecordableMemoKey}
 use Rattle.regress_memo.specs.MemoContents.{memo_key_as_spec}
 use Rattle.regress_search.proofs.Reach.{some-of}
 use Rattle.regress_search.specs.OffsetsAfterMatchedInsns.{char_test_of_insn}
-use Rattle.regress_bounded.specs.declared.stack_of_pending_threads_and_records.StackEntry.TheVariants.{Thread as AsThread}
+use Rattle.regress_bounded.specs.declared.pending_stack.StackEntry.TheVariants.{Thread as AsThread}
 use Rattle.regress_bounded.proofs.Furthest.{further-by, key-some, place-kept, furthest-none, furthest-known, furthest-all, furthest-more}
 use Rattle.regress_bounded.proofs.unbounded_char_loops.scan_with_memo.Goals as goal
 
@@ -29,11 +29,11 @@ overflow_add-count g c =
     omega (arith, few, inside, fits)
 
 -- the work left does not suffice
-pub returns-then-course-count-clause-paid : goal.returns-then-course-count-clause-paid
-returns-then-course-count-clause-paid g c = c.places.invariant.paid
+pub returns-then-progress-count-clause-paid : goal.returns-then-progress-count-clause-paid
+returns-then-progress-count-clause-paid g c = c.places.invariant.paid
 
-pub returns-then-course-count-clause-scans : goal.returns-then-course-count-clause-scans
-returns-then-course-count-clause-scans g c = λ test place e h. ((c.places.invariant.going test place e h).wait, inr c.if-course-count.true)
+pub returns-then-progress-count-clause-scans : goal.returns-then-progress-count-clause-scans
+returns-then-progress-count-clause-scans g c = λ test place e h. ((c.places.invariant.going test place e h).wait, inr c.if-progress-count.true)
 
 pub unreachable-requires : goal.unreachable-requires
 unreachable-requires g c =
@@ -48,7 +48,7 @@ fails-requires g c =
     let text = g.Input.InputIndexer.text c.args.searched.now.input in
     let is = g.met.Input.InputIndexer.is_text c.args.searched.now.input in
     let offset = g.Input.Position.PositionType.offset in
-    let m = c.args.course.now.memo in
+    let m = c.args.progress.now.memo in
     let inside = boundary_inside text is (offset c.places.at) c.places.invariant.boundary in
     subst (λ found. IfSome found (λ k. IsRecordableMemoKey m.memo_analysis m.places (memo_key_as_spec k))) c.in-Some.is
     (c.key_at.ensures.bit (place-kept c.args.state.now c.requires.run c.requires.right (offset c.places.at) inside))
@@ -56,7 +56,7 @@ fails-requires g c =
 pub returns-then-fails-clause-scans : goal.returns-then-fails-clause-scans
 returns-then-fails-clause-scans g c = λ test place e h.
     furthest-known c.args.state.now c.requires.run c.requires.right test e place c.args.stack.now.items c.places.stack.items c.places.at
-    c.places.count c.key_at.result c.in-Some.key c.in-Some.is c.key_at.ensures.key (c.places.invariant.going test place e h) (sym c.fails.ensures ∙ c.if-fails.true) c.args.course.now.left
+    c.places.count c.key_at.result c.in-Some.key c.in-Some.is c.key_at.ensures.key (c.places.invariant.going test place e h) (sym c.fails.ensures ∙ c.if-fails.true) c.args.progress.now.left
 
 pub insn_accepts_next_char-requires-clause-at : goal.insn_accepts_next_char-requires-clause-at
 insn_accepts_next_char-requires-clause-at g c = c.places.invariant.boundary
@@ -67,7 +67,7 @@ returns-then-not-insn_accepts_next_char-clause-scans g c = λ test place e h.
     furthest-all c.args.state.now c.requires.run c.requires.right test e place c.args.stack.now.items c.places.stack.items c.places.at
     c.places.count c.key_at.result c.in-Some.key c.in-Some.is c.key_at.ensures.key (c.places.invariant.going test place e h) (sym c.fails.ensures ∙ c.if-fails.false)
     c.in_ok-here.here c.in_ok-here.ensures c.insn_accepts_next_char.new.pos c.insn_accepts_next_char.result is c.if-not-insn_accepts_next_char.true (c.insn_accepts_next_char.ensures test e) c.push_entry.new.stack.items
-    c.in_ok-push_entry.ensures c.args.course.now.left
+    c.in_ok-push_entry.ensures c.args.progress.now.left
 
 pub overflow_add-count-in-places : goal.overflow_add-count-in-places
 overflow_add-count-in-places g c =
@@ -98,7 +98,7 @@ places-preserved g c =
     record {
       boundary = on.boundary;
       few = omega (arith, few, more);
-      paid = (let enough = c.if-course-count.false in omega (arith, enough));
+      paid = (let enough = c.if-progress-count.false in omega (arith, enough));
       going = λ test place e h.
           furthest-more c.args.state.now c.requires.run c.requires.right test e place c.args.stack.now.items c.places.stack.items c.places.at
           c.places.count c.key_at.result c.in-Some.key c.in-Some.is c.key_at.ensures.key (c.places.invariant.going test place e h) (sym c.fails.ensures ∙ c.if-fails.false)

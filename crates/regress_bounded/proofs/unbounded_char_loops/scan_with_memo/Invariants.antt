@@ -11,8 +11,8 @@ abbrev pub invariant-places : goal.invariant-places
 invariant-places g l =
     let re = l.searched.program.now in
     let offset = g.Input.Position.PositionType.offset in
-    HasGoneOver offset (compiled (tree_of re)) (g.Input.InputIndexer.text l.searched.input) l.course.memo (state_of offset l.state) (char_test_of_insn re l.run.body) l.run.least l.fn.from
-    l.course.left l.fn.stack.items l.stack.items l.at l.count
+    HasGoneOver offset (compiled (tree_of re)) (g.Input.InputIndexer.text l.searched.input) l.progress.memo (state_of offset l.state) (char_test_of_insn re l.run.body) l.run.least l.fn.from
+    l.progress.left l.fn.stack.items l.stack.items l.at l.count
 
 abbrev pub decreases-places : goal.decreases-places
 decreases-places g l = units (g.Input.InputIndexer.text l.searched.input) - g.Input.Position.PositionType.offset l.at

@@ -1,6 +1,6 @@
 use Rattle.std.proofs.Common.{◌≡◌, ◌^◌, ◌-◌, min, take, sum_by}
-use Rattle.regress_program.specs.InsnsAndStartPredicatesAsSpec.{insn_as_spec_insn}
-use Rattle.regress_bounded.specs.ProgramWorkBoundForAllMatches.{size_of_insn}
+use Rattle.regress_program.specs.InsnsAsSpec.{insn_as_spec_insn}
+use Rattle.regress_bounded.specs.WorkBoundForAllMatches.{size_of_insn}
 use Rattle.regress_bounded.proofs.work_bound.program_size.Given as goal
 
 abbrev pub invariant-loop-insn : goal.invariant-loop-insn

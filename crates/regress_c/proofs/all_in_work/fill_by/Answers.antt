@@ -1,5 +1,5 @@
 use Rattle.std.proofs.Common.{◌+◌, ◌≤◌, ap, length, refl, arith}
-use Rattle.regress_search.specs.CostsOfCalls.{remaining}
+use Rattle.regress_search.specs.CostsOfCalls.{without_costs}
 use Rattle.regress_c.proofs.WritingInWork.{each-ranges, is-short, writes}
 use Rattle.regress_c.proofs.all_in_work.fill_by.Goals as goal
 
@@ -19,4 +19,4 @@ returns c =
     let count = ap (λ n. n + 1) c.group_count-ranges.ensures.count in
     writes c.args.re.now c.args.bytes.now c.args.start c.args.work.now c.in_ok-text.text _ c.in-Some.bounded _ _
     c.in_ok-text.ensures c.in_ok-bounded.ensures.pattern c.in_ok-bounded.ensures.enough c.in-Some.is c.in_ok-matches.ensures.yields count
-    c.work_left.result (remaining c.write_all-reply.new.matches) c.args.spans.now c.write_all-reply.new.spans c.write_all-reply.result (omega arith) c.work_left.ensures c.write_all-reply.ensures
+    c.work_left.result (without_costs c.write_all-reply.new.matches) c.args.spans.now c.write_all-reply.new.spans c.write_all-reply.result (omega arith) c.work_left.ensures c.write_all-reply.ensures

@@ -1,5 +1,5 @@
 use Rattle.std.proofs.Common.{◌≡◌, ◌∙◌, ap, refl, arith}
-use Rattle.regress_search.specs.CostsOfCalls.{remaining}
+use Rattle.regress_search.specs.CostsOfCalls.{without_costs}
 use Rattle.regress_c.specs.Codes.{code_of}
 use Rattle.regress_c.proofs.WritingInWork.{begun, is-failed, is-full, is-over, one_more, ranges-of}
 use Rattle.regress_c.proofs.all_in_work.write_all.Goals as goal
@@ -9,32 +9,32 @@ written-init g c = (begun c.requires.each, omega arith)
 
 pub write_at-requires-clause-all : goal.write_at-requires-clause-all
 write_at-requires-clause-all g c =
-    ranges-of (remaining c.written.matches) (remaining c.next.new.self) c.written.spans c.written.count c.written.at c.in-Some-Ok.found c.written.invariant.0
+    ranges-of (without_costs c.written.matches) (without_costs c.next.new.self) c.written.spans c.written.count c.written.at c.in-Some-Ok.found c.written.invariant.0
     (rw c.in-Some-Ok.field-0-is at c.in-Some-Ok.ensures.steps).0
 
 pub written-preserved-in-Some-Ok : goal.written-preserved-in-Some-Ok
 written-preserved-in-Some-Ok g c = (
-  one_more (remaining c.written.matches) (remaining c.next.new.self) c.written.spans c.write_at.new.spans c.written.count c.written.at c.in-Some-Ok.found c.written.invariant.0
+  one_more (without_costs c.written.matches) (without_costs c.next.new.self) c.written.spans c.write_at.new.spans c.written.count c.written.at c.in-Some-Ok.found c.written.invariant.0
       (rw c.in-Some-Ok.field-0-is at c.in-Some-Ok.ensures.steps).0 c.write_at.ensures,
   omega arith,
 )
 
 pub written-preserved : goal.written-preserved
 written-preserved g c = (
-  one_more (remaining c.written.matches) (remaining c.next.new.self) c.written.spans c.write_at.new.spans c.written.count c.written.at c.in-Some-Ok.found c.written.invariant.0
+  one_more (without_costs c.written.matches) (without_costs c.next.new.self) c.written.spans c.write_at.new.spans c.written.count c.written.at c.in-Some-Ok.found c.written.invariant.0
       (rw c.in-Some-Ok.field-0-is at c.in-Some-Ok.ensures.steps).0 c.write_at.ensures,
   omega arith,
 )
 
 pub returns-in-Some-Err : goal.returns-in-Some-Err
 returns-in-Some-Err g c =
-    is-failed (remaining c.written.matches) c.written.spans c.written.count c.written.at c.written.invariant.0 _ c.in-Some-Err.error (remaining c.next.new.self)
+    is-failed (without_costs c.written.matches) c.written.spans c.written.count c.written.at c.written.invariant.0 _ c.in-Some-Err.error (without_costs c.next.new.self)
     (rw c.in-Some-Err.field-0-is at c.in-Some-Err.ensures.steps).0
     (λ i. record { code = (c.code-code.ensures ∙ ap code_of c.from.ensures) i; count = c.written.count })
 
 pub returns-in-None : goal.returns-in-None
 returns-in-None g c =
-    is-over (remaining c.written.matches) c.written.spans c.written.count c.written.at c.written.invariant.0 _ (remaining c.next.new.self) c.in-None.ensures.steps.0 refl
+    is-over (without_costs c.written.matches) c.written.spans c.written.count c.written.at c.written.invariant.0 _ (without_costs c.next.new.self) c.in-None.ensures.steps.0 refl
 
 pub returns : goal.returns
-returns g c = is-full (remaining c.written.matches) c.written.spans c.written.count c.written.at c.written.invariant.0 _ (omega arith) refl
+returns g c = is-full (without_costs c.written.matches) c.written.spans c.written.count c.written.at c.written.invariant.0 _ (omega arith) refl

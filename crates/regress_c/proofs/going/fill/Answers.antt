@@ -12,7 +12,7 @@ matches-preserved g c =
     let was = c.matches.invariant in
     let step = goes-same (e.tree c.args.search.now) (e.tree c.matches.search) (e.text c.args.search.now) (e.text c.matches.search)
     (e.budget c.matches.search) c.matches.filled.next (Ok (Some c.in-Ok-Some.step)) (e.budget c.next_from.new.search) was.2 was.3
-    (rw c.in-Ok-Some.field-0-is at c.in-Ok-Some.ensures.goes) in (
+    (rw c.in-Ok-Some.field-0-is at c.in-Ok-Some.ensures.continues) in (
       one_more c.matches.spans c.write_step.new.spans c.matches.filled.matches c.matches.filled.next c.matches.at c.args.ranges c.write_step.result
           (e.budget c.matches.search) (e.budget c.next_from.new.search) c.in-Ok-Some.step was.0 step c.requires.ranges c.write_step.ensures.next
           c.write_step.ensures.written,
@@ -29,7 +29,7 @@ returns-in-Ok-None-clause-fills g c =
     let was = c.matches.invariant in
     let over = goes-same (e.tree c.args.search.now) (e.tree c.matches.search) (e.text c.args.search.now) (e.text c.matches.search)
     (e.budget c.matches.search) c.matches.filled.next (Ok None) (e.budget c.next_from.new.search) was.2 was.3
-    (rw c.in-Ok-None.field-0-is at c.in-Ok-None.ensures.goes) in
+    (rw c.in-Ok-None.field-0-is at c.in-Ok-None.ensures.continues) in
     let past : units (e.text c.args.search.now) < c.past_end.result =
     subst (λ t. units t < c.past_end.result) (c.in-Ok-None.ensures.same_text ∙ was.3) c.past_end.ensures.past in
     fills-over c.matches.spans _ c.matches.filled.next c.matches.at (e.budget c.matches.search) (e.budget c.next_from.new.search)
@@ -40,7 +40,7 @@ returns-in-Err-clause-fills g c =
     let e = g.E.SingleAttemptExecutor in
     let was = c.matches.invariant in
     let refused = goes-same (e.tree c.args.search.now) (e.tree c.matches.search) (e.text c.args.search.now) (e.text c.matches.search)
-    (e.budget c.matches.search) c.matches.filled.next (Err c.in-Err.error) (e.budget c.next_from.new.search) was.2 was.3 c.in-Err.ensures.goes in
+    (e.budget c.matches.search) c.matches.filled.next (Err c.in-Err.error) (e.budget c.next_from.new.search) was.2 was.3 c.in-Err.ensures.continues in
     fills-refused c.matches.spans _ c.matches.at (e.budget c.matches.search) (e.budget c.next_from.new.search) c.in-Err.error was.0 refl refused
 
 pub returns-clause-fills : goal.returns-clause-fills

@@ -2,11 +2,11 @@
 
 ghost use Rattle.std.specs.Prelude.{◌≡◌, ◌++◌, IfErr, IfOk, false, string_bytes, take};
 ghost use Rattle.std.specs.Result.{IsOkAnd};
-ghost use Rattle.regress_match.specs.ClosureReplacementForAnyResultType.{IsClosureErrorOrOutOfMemory};
-ghost use Rattle.regress_match.specs.{ReplacementClosuresReturningStrings.{ClosureCanBeCalled, CanRefuseWith, IsReplacedBy}, ProgramTreesAndAnswers.{utf8_answers}};
+ghost use Rattle.regress_match.specs.ClosureReplacement.{IsClosureErrorOrOutOfMemory};
+ghost use Rattle.regress_match.specs.{StringClosures.{ClosureCanBeCalled, CanRefuseWith, IsReplacedBy}, ProgramTreesAndAnswers.{utf8_answers}};
 ghost use Rattle.regress_match.specs.ExpansionsAndMatchRanges.{MatchesFitTextInOrderFrom};
 
-use crate::api::replace::{append_rest, append_unmatched_text_up_to_match};
+use crate::api::replace::{append_rest, append_text_before_match};
 use crate::api::{Match, Regex, ReplaceError};
 use regress_search::exec::{MatchProducer, Matches};
 use std::alloc::Global;
@@ -71,8 +71,8 @@ fn write_first<P: MatchProducer + Drop, E, F: FnOnce(&Match) -> Result<String, E
     text: &str,
     with: F,
 ) -> Result<String, ReplaceError<E>>
-    requires stand { MatchesFitTextInOrderFrom text.now 0 matches.answers }
-    requires can { ClosureCanBeCalled (F.pre with) (take 1 matches.answers) }
+    requires in_text { MatchesFitTextInOrderFrom text.now 0 matches.answers }
+    requires executable { ClosureCanBeCalled (F.pre with) (take 1 matches.answers) }
     ensures made { IfOk result (λ s.
         IsReplacedBy (F.post with) text.now (take 1 matches.answers) (string_bytes s)) }
     ensures refused { matches.limited ≡ false
@@ -83,7 +83,7 @@ fn write_first<P: MatchProducer + Drop, E, F: FnOnce(&Match) -> Result<String, E
         return Ok(append_rest(made, text, 0)?);
     };
     let found = item?;
-    let behind = append_unmatched_text_up_to_match(&mut made, text, 0, &found)?;
+    let behind = append_text_before_match(&mut made, text, 0, &found)?;
     append_closure_result(&mut made, with(&found))?;
     Ok(append_rest(made, text, behind)?)
 }
@@ -95,8 +95,8 @@ fn replace_each_match<P: MatchProducer + Drop, E, F: Fn(&Match) -> Result<String
     text: &str,
     with: F,
 ) -> Result<String, ReplaceError<E>>
-    requires stand { MatchesFitTextInOrderFrom text.now 0 matches.answers }
-    requires can { ClosureCanBeCalled (F.pre with) matches.answers }
+    requires in_text { MatchesFitTextInOrderFrom text.now 0 matches.answers }
+    requires executable { ClosureCanBeCalled (F.pre with) matches.answers }
     ensures made { IfOk result (λ s.
         IsReplacedBy (F.post with) text.now matches.answers (string_bytes s)) }
     ensures refused { matches.limited ≡ false
@@ -106,7 +106,7 @@ fn replace_each_match<P: MatchProducer + Drop, E, F: Fn(&Match) -> Result<String
     let mut from = 0;
     for item in matches {
         let found = item?;
-        from = append_unmatched_text_up_to_match(&mut made, text, from, &found)?;
+        from = append_text_before_match(&mut made, text, from, &found)?;
         append_closure_result(&mut made, with(&found))?;
     }
     Ok(append_rest(made, text, from)?)

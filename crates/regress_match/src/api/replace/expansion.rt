@@ -5,7 +5,7 @@ ghost use Rattle.regex_meaning.specs.MatchGroupsByNumberAndName.{Answer};
 ghost use Rattle.regex_meaning.specs.Replace.{parse_after_dollar, expansion, group_part, parse_digits_of_group_number, parsed_part_from_single_replacement_part, text_of};
 ghost use Rattle.regex_meaning.specs.Replace.{text_of_parts};
 ghost use Rattle.regress_search.specs.MatchesAsSpecAnswers.{answer_of, range_as_pair};
-ghost use Rattle.regress_match.specs.ReplacementPartsAsSpecParts.{parsed_part_and_rest, spec_parts_of_dollar_substitution};
+ghost use Rattle.regress_match.specs.ReplacementPartsAsSpecParts.{parsed_part_and_rest, spec_parts_of_substitution};
 ghost use Rattle.regress_match.specs.ExpansionsAndMatchRanges.{MatchFitsText, IsCharBoundaryRange};
 
 use crate::api::Match;
@@ -112,7 +112,7 @@ fn write_part(
 ) -> Result<(), AllocError>
     requires { MatchFitsText text.now (answer_of found.now) }
     ensures { IfOk result (λ _. string_bytes out.new
-        ≡ string_bytes out.old ++ text_of_parts text.now (answer_of found.now) (spec_parts_of_dollar_substitution
+        ≡ string_bytes out.old ++ text_of_parts text.now (answer_of found.now) (spec_parts_of_substitution
         part.entry)) }
 {
     match part {

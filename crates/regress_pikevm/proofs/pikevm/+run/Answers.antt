@@ -4,7 +4,7 @@ use Rattle.regress_input.specs.CharAndByteReadsFromOffset.{direction_of_forward_
 use Rattle.regress_program.specs.CompilationOfTreesAsFunction.{compiled}
 use Rattle.regress_machine.specs.Machine.{running, first_running_and_others_waiting, after_lookaround}
 use Rattle.regress_pikevm.specs.States.{state_of, next_threads, running_thread, waiting_threads, preferred_last}
-use Rattle.regress_search.specs.AttemptResultsAndStartsToTry.{steps_for_attempt, search_from}
+use Rattle.regress_search.specs.AttemptsAndStarts.{steps_for_attempt, search_from}
 use Rattle.regress_machine.specs.InsnEffects.{end_of_search}
 use Rattle.regress_machine.proofs.Remains.{Remains, steps_of, remains-begin}
 use Rattle.regress_pikevm.proofs.Remains.{TakenUp, less-by, turn-can, turn-inside, turn-dead, turn-go, turn-fork, turn-scans, taken-up}
@@ -40,14 +40,14 @@ search-init g n c =
     let top = steps_of (search_from tree text (offset c.args.at) d (state_of offset c.args.start)) in
     let end = end_of_search (search_from tree text (offset c.args.at) d (state_of offset c.args.start)) in
     subst (λ l. Remains program text turns d top end (running (state_of offset c.args.start) ∷ waiting_threads offset l)) (sym c.clear.ensures.items)
-    (remains-begin program text turns d (state_of offset c.args.start) c.requires.inside c.requires.answers)
+    (remains-begin program text turns d (state_of offset c.args.start) c.requires.inside c.requires.terminates)
 
 pub returns-in_default : goal.returns-in_default
 returns-in_default g n c =
     turn-none c.search.invariant c.in_default.ensures
 
-pub execute_in_direction-requires-clause-can : goal.execute_in_direction-requires-clause-can
-execute_in_direction-requires-clause-can g n c = turn-can (taken g n (goal.at.execute_in_direction-requires-clause-can g n c).In-Some)
+pub execute_in_direction-requires-clause-executable : goal.execute_in_direction-requires-clause-executable
+execute_in_direction-requires-clause-executable g n c = turn-can (taken g n (goal.at.execute_in_direction-requires-clause-executable g n c).In-Some)
 
 pub execute_in_direction-requires-clause-inside : goal.execute_in_direction-requires-clause-inside
 execute_in_direction-requires-clause-inside g n c = turn-inside (taken g n (goal.at.execute_in_direction-requires-clause-inside g n c).In-Some)

@@ -3,7 +3,7 @@ use Rattle.regex_pattern_front.specs.AstToSpecTree.{tree_of}
 use Rattle.regress_input.specs.CharAndByteReadsFromOffset.{direction_of_forward_flag}
 use Rattle.regress_program.specs.CompilationOfTreesAsFunction.{compiled}
 use Rattle.regress_pikevm.specs.States.{state_of, running_thread, waiting_threads}
-use Rattle.regress_search.specs.AttemptResultsAndStartsToTry.{steps_for_attempt, search_from}
+use Rattle.regress_search.specs.AttemptsAndStarts.{steps_for_attempt, search_from}
 use Rattle.regress_machine.specs.InsnEffects.{end_of_search}
 use Rattle.regress_machine.proofs.Remains.{Remains, steps_left, steps_of}
 use Rattle.regress_pikevm.proofs.pikevm.+run.Given as goal

@@ -6,7 +6,7 @@ use Rattle.regex_pattern_front.specs.AstToSpecTree.{tree_of}
 use Rattle.regress_input.proofs.Places.{boundary_inside}
 use Rattle.regress_machine.specs.Machine as machine
 use Rattle.regress_machine.specs.SearchFindsFirstOutcomeAtPlace.{end_of}
-use Rattle.regress_search.specs.AttemptResultsAndStartsToTry.{search_from}
+use Rattle.regress_search.specs.AttemptsAndStarts.{search_from}
 use Rattle.regress_machine.specs.InsnEffects.{end_of_search}
 use Rattle.regress_search.proofs.Searchable.{can-search}
 use Rattle.regress_search.proofs.Attempts.{begins}
@@ -21,8 +21,8 @@ run-requires-clause-inside g c =
     let same : offset c.in_ok-start.start.pos ≡ offset c.args.pos = ap (λ (s : machine.State). s.pos) c.in_ok-start.ensures in
     subst (λ at. at ≤ units text) (sym same) (boundary_inside text is (offset c.args.pos) c.requires)
 
-pub run-requires-clause-answers : goal.run-requires-clause-answers
-run-requires-clause-answers g c =
+pub run-requires-clause-terminates : goal.run-requires-clause-terminates
+run-requires-clause-terminates g c =
     let searched = c.args.searched.now in
     let tree = tree_of searched.program.now in
     let text = g.Input.InputIndexer.text searched.input in

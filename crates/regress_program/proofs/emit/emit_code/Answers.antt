@@ -2,7 +2,7 @@ use Rattle.std.proofs.Common.{◌≡◌, ◌+◌, ◌∙◌, ap, sym, subst, ari
 use Rattle.regex_meaning.proofs.WellFormedLemmas.{clauses}
 use Rattle.regex_pattern_front.specs.AstToSpecTree.{node_of, tree_of}
 use Rattle.regress_program.specs.CompilationOfTreesAsFunction.{compiled, loop_count}
-use Rattle.regress_program.specs.EmitterStateAndAppendedCode.{node_with_char_loops_if_enabled, tree_with_char_loops_if_enabled, emitter_state, empty_state, with_code}
+use Rattle.regress_program.specs.EmitterStateAndAppendedCode.{node_with_char_loops_if_enabled, tree_with_char_loops, emitter_state, empty_state, with_code}
 use Rattle.regress_program.specs.ProgramFieldsMatchTree.{IsCodeOfTree}
 use Rattle.regress_program.proofs.ShapedLemmas.{size-shaped, loops-shaped}
 use Rattle.regress_program.proofs.emit.emit_code.Goals as goal
@@ -25,7 +25,7 @@ returns c =
     let made : emitter_state c.emit.new.self ≡ with_code re.flags.unicode false (node_with_char_loops_if_enabled c.args.narrow (node_of re.node)) empty_state =
     c.in_ok-emit.ensures ∙ ap (with_code re.flags.unicode false (node_with_char_loops_if_enabled c.args.narrow (node_of re.node))) c.in_ok-emitter.ensures in
     let counted : c.into_emitted_code-code.result.loops ≡ 0 + loop_count (node_with_char_loops_if_enabled c.args.narrow (node_of re.node)) = c.into_emitted_code-code.ensures.loops ∙ ap (λ s. s.loops) made in
-    subst (IsCodeOfTree (tree_with_char_loops_if_enabled c.args.narrow (tree_of re))) (sym c.in_ok-new.ensures.ok) (record {
+    subst (IsCodeOfTree (tree_with_char_loops c.args.narrow (tree_of re))) (sym c.in_ok-new.ensures.ok) (record {
       insns = c.into_emitted_code-code.ensures.insns ∙ ap (λ s. s.insns) made;
       brackets = c.into_emitted_code-code.ensures.brackets ∙ ap (λ s. s.brackets) made;
       loops = omega (arith, counted);

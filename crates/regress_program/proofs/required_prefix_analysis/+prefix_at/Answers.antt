@@ -1,6 +1,6 @@
 use Rattle.std.proofs.Common.{ℕ, Option, subst, arith}
 use Rattle.regress_program.specs.declared.required_prefix_analysis.OpPrefixContribution.TheVariants as ahead
-use Rattle.regress_program.specs.RequiredPrefixAnalysis.{allows_only_key, units_allowed_by_first_set, PrefixFollowsFromSuccessorPrefixes}
+use Rattle.regress_program.specs.RequiredPrefixAnalysis.{allows_only_key, units_allowed_by_first_set, FollowsFromSuccessors}
 use Rattle.regress_program.proofs.PrefixLemmas.{path-start, path-at, path-last, path-units, path-either}
 use Rattle.regress_program.proofs.required_prefix_analysis.+prefix_at.Goals as goal
 
@@ -43,7 +43,7 @@ pub path-preserved : goal.path-preserved
 path-preserved t c = (
   omega (arith, c.path.invariant.0),
   λ wide program ops.
-      let P : Option ℕ → Type 0 = λ to. PrefixFollowsFromSuccessorPrefixes wide program c.path.ip (ahead.Units c.in-Units.set c.in-Units.count to) in
+      let P : Option ℕ → Type 0 = λ to. FollowsFromSuccessors wide program c.path.ip (ahead.Units c.in-Units.set c.in-Units.count to) in
       path-units wide program c.args.from c.path.ip c.in-Units.count c.in-Some.next (units_allowed_by_first_set c.in-Units.set) c.path.prefix c.add_units.new.self (c.path.invariant.1 wide program ops)
       c.if-prefix-lt-MOST.true (subst P c.in-Some.is (c.in-Units.ensures wide program ops)) c.add_units.ensures,
 )

@@ -11,9 +11,9 @@ returns-then-ARE_BYTES g c = sym (ap (λ o. is_some_and o (is_passed_key c.args.
 
 pub returns-else-ARE_BYTES : goal.returns-else-ARE_BYTES
 returns-else-ARE_BYTES g c =
-    let w = g.W.SearchContext.searching c.args.planned.now in
+    let w = g.W.SearchContext.searching c.args.context.now in
     let no : g.W.Input.Units.CodeUnitEncoding.ARE_BYTES ≡ false = cc (c.ARE_BYTES.ensures, c.if-ARE_BYTES.false) in
     ap (is_passed_key c.args.leap.now) c.min.ensures
-    ∙ passed-as-cut w (g.met.W.SearchContext.has_units c.args.planned.now) c.args.leap.now c.requires.alike
-    (unit-wide w.encoding (ap is_byte_encoding (g.met.W.SearchContext.encoding c.args.planned.now) ∙ sym g.W.Input.Units.CodeUnitEncoding.by_encoding ∙ no))
+    ∙ passed-as-cut w (g.met.W.SearchContext.has_units c.args.context.now) c.args.leap.now c.requires.alike
+    (unit-wide w.encoding (ap is_byte_encoding (g.met.W.SearchContext.encoding c.args.context.now) ∙ sym g.W.Input.Units.CodeUnitEncoding.by_encoding ∙ no))
     c.args.at c.unit_at_offset.result c.unit_at_offset.ensures

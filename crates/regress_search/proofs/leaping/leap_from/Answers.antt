@@ -10,13 +10,13 @@ behind_barrier-to-requires-clause-ahead g c = c.in-Some.ensures.1
 
 pub behind_barrier-to-requires-clause-inside : goal.behind_barrier-to-requires-clause-inside
 behind_barrier-to-requires-clause-inside g c =
-    let w = g.W.SearchContext.searching c.args.planned.now in
-    boundary_inside w.text (g.met.W.SearchContext.is_text c.args.planned.now) c.in-Some.goal c.in-Some.ensures.0
+    let w = g.W.SearchContext.searching c.args.context.now in
+    boundary_inside w.text (g.met.W.SearchContext.is_text c.args.context.now) c.in-Some.goal c.in-Some.ensures.0
 
 pub returns-in-Some : goal.returns-in-Some
 returns-in-Some g c =
-    let w = g.W.SearchContext.searching c.args.planned.now in
-    let has = g.met.W.SearchContext.has_units c.args.planned.now in
+    let w = g.W.SearchContext.searching c.args.context.now in
+    let has = g.met.W.SearchContext.has_units c.args.context.now in
     record {
       occurs = occurs-at w has c.args.leap.now c.requires.ascii c.in-Some.goal c.in-Some.ensures.2;
       absent = absent-between w has c.args.leap.now c.requires.ascii c.args.from c.in-Some.goal c.in-Some.ensures.3;
@@ -25,6 +25,6 @@ returns-in-Some g c =
 
 pub returns-in-None : goal.returns-in-None
 returns-in-None g c =
-    let w = g.W.SearchContext.searching c.args.planned.now in
-    absent-from w (g.met.W.SearchContext.has_units c.args.planned.now) c.args.leap.now c.requires.ascii c.args.from c.in-None.ensures
-    (λ at on. boundary_inside w.text (g.met.W.SearchContext.is_text c.args.planned.now) at on)
+    let w = g.W.SearchContext.searching c.args.context.now in
+    absent-from w (g.met.W.SearchContext.has_units c.args.context.now) c.args.leap.now c.requires.ascii c.args.from c.in-None.ensures
+    (λ at on. boundary_inside w.text (g.met.W.SearchContext.is_text c.args.context.now) at on)

@@ -10,14 +10,14 @@ use Rattle.regress_search.proofs.leaping.next_goal.Goals as goal
 
 pub next_of_few_units-requires-clause-leads : goal.next_of_few_units-requires-clause-leads
 next_of_few_units-requires-clause-leads g c =
-    let w = g.W.SearchContext.searching c.args.planned.now in
+    let w = g.W.SearchContext.searching c.args.context.now in
     low-leads c.args.leap.now.units c.args.leap.now.len (is_16_bit_encoding w.encoding) c.requires.ascii.low
 
 pub next_wide-requires-clause-wide : goal.next_wide-requires-clause-wide
 next_wide-requires-clause-wide g c =
-    let w = g.W.SearchContext.searching c.args.planned.now in
+    let w = g.W.SearchContext.searching c.args.context.now in
     let no : g.W.Input.Units.CodeUnitEncoding.ARE_BYTES ≡ false = cc (c.ARE_BYTES.ensures, c.if-ARE_BYTES.false) in
-    unit-wide w.encoding (ap is_byte_encoding (g.met.W.SearchContext.encoding c.args.planned.now) ∙ sym g.W.Input.Units.CodeUnitEncoding.by_encoding ∙ no)
+    unit-wide w.encoding (ap is_byte_encoding (g.met.W.SearchContext.encoding c.args.context.now) ∙ sym g.W.Input.Units.CodeUnitEncoding.by_encoding ∙ no)
 
 pub next_wide-requires-clause-told : goal.next_wide-requires-clause-told
 next_wide-requires-clause-told g c =
@@ -28,13 +28,13 @@ next_wide-requires-clause-told g c =
 
 pub next_wide-requires-clause-at : goal.next_wide-requires-clause-at
 next_wide-requires-clause-at g c =
-    boundary_inside (g.W.SearchContext.searching c.args.planned.now).text (g.met.W.SearchContext.is_text c.args.planned.now) c.args.from c.requires.at
+    boundary_inside (g.W.SearchContext.searching c.args.context.now).text (g.met.W.SearchContext.is_text c.args.context.now) c.args.from c.requires.at
 
 pub returns-else-ARE_BYTES : goal.returns-else-ARE_BYTES
 returns-else-ARE_BYTES g c =
-    let w = g.W.SearchContext.searching c.args.planned.now in
+    let w = g.W.SearchContext.searching c.args.context.now in
     let leap = c.args.leap.now in
     let no : g.W.Input.Units.CodeUnitEncoding.ARE_BYTES ≡ false = cc (c.ARE_BYTES.ensures, c.if-ARE_BYTES.false) in
-    let wide = unit-wide w.encoding (ap is_byte_encoding (g.met.W.SearchContext.encoding c.args.planned.now) ∙ sym g.W.Input.Units.CodeUnitEncoding.by_encoding ∙ no) in
-    wide-found w (g.met.W.SearchContext.has_units c.args.planned.now) wide leap.units leap.len
+    let wide = unit-wide w.encoding (ap is_byte_encoding (g.met.W.SearchContext.encoding c.args.context.now) ∙ sym g.W.Input.Units.CodeUnitEncoding.by_encoding ∙ no) in
+    wide-found w (g.met.W.SearchContext.has_units c.args.context.now) wide leap.units leap.len
     (λ k listed. low-told k (low-listed leap.units leap.len k c.requires.ascii.low listed)) c.args.from c.next_wide.result c.next_wide.ensures

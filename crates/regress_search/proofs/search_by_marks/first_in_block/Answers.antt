@@ -4,7 +4,7 @@ use Rattle.regress_search.proofs.search_by_marks.first_in_block.Goals as goal
 
 pub returns-then-passes : goal.returns-then-passes
 returns-then-passes g c =
-    let test = g.Test.OffsetTest.passes_at c.args.test.now (g.W.SearchContext.searching c.args.planned.now) in
+    let test = g.Test.OffsetTest.passes_at c.args.test.now (g.W.SearchContext.searching c.args.context.now) in
     let bit = c.lowest_bit-bit.result in
     let short = c.marked.invariant.within bit c.lowest_bit-bit.ensures.set in (
       omega arith,
@@ -15,5 +15,5 @@ returns-then-passes g c =
 
 pub returns : goal.returns
 returns g c =
-    let test = g.Test.OffsetTest.passes_at c.args.test.now (g.W.SearchContext.searching c.args.planned.now) in
+    let test = g.Test.OffsetTest.passes_at c.args.test.now (g.W.SearchContext.searching c.args.context.now) in
     none-marked test c.args.from c.marked.left c.marked.invariant c.marked-test.false

@@ -4,7 +4,7 @@ use Rattle.regress_search.proofs.search_by_marks.past_quiet_blocks.Goals as goal
 
 pub blocks-2-preserved : goal.blocks-2-preserved
 blocks-2-preserved g c =
-    let test = g.Test.OffsetTest.passes_at c.args.test.now (g.W.SearchContext.searching c.args.planned.now) in
+    let test = g.Test.OffsetTest.passes_at c.args.test.now (g.W.SearchContext.searching c.args.context.now) in
     let at = c.blocks-2.at in (
       omega (arith, c.blocks-2.invariant.0),
       omega (arith, c.blocks-2-test.true, c.blocks-2.invariant.1),

@@ -6,12 +6,12 @@ use Rattle.regress_search.proofs.search_by_marks.units_with_bits.Goals as goal
 
 pub units_with_bits-requires : goal.units_with_bits-requires
 units_with_bits-requires g c =
-    let w = g.W.SearchContext.searching c.args.planned.now in
+    let w = g.W.SearchContext.searching c.args.context.now in
     let number = g.W.Input.Units.Unit.CodeUnit.number in
     let all = c.code_units-all.result.now in
     let same : map number all ≡ text_units_in_encoding w.encoding w.text =
     c.code_units-all.ensures.units
     ∙ ap (text_units_in_encoding g.W.Input.Units.CodeUnitEncoding.encoding) c.input.ensures.text
-    ∙ ap (λ e. text_units_in_encoding e w.text) (sym (g.met.W.SearchContext.encoding c.args.planned.now)) in
-    let long = units-length w.encoding w.text (g.met.W.SearchContext.has_units c.args.planned.now).spelled in
+    ∙ ap (λ e. text_units_in_encoding e w.text) (sym (g.met.W.SearchContext.encoding c.args.context.now)) in
+    let long = units-length w.encoding w.text (g.met.W.SearchContext.has_units c.args.context.now).spelled in
     omega (arith, c.requires, long, ap length same, length-map all number)

@@ -7,44 +7,44 @@ use Rattle.regress_search.proofs.start_search.first_candidate.Goals as goal
 
 pub returns-in-Anywhere : goal.returns-in-Anywhere
 returns-in-Anywhere g c =
-    let w = g.W.SearchContext.searching c.args.planned.now in
+    let w = g.W.SearchContext.searching c.args.context.now in
     let from = c.args.from in
-    try-as w Anywhere (sym c.candidate_start_filter_of_plan.ensures ∙ c.in-Anywhere.is) from (Some from) (try-anywhere w from c.requires)
+    try-as w Anywhere (sym c.start_filter_of_plan.ensures ∙ c.in-Anywhere.is) from (Some from) (try-anywhere w from c.requires)
 
 pub returns-in-InSet : goal.returns-in-InSet
-returns-in-InSet g c = try-as (g.W.SearchContext.searching c.args.planned.now) (InSet c.in-InSet.set) (sym c.candidate_start_filter_of_plan.ensures ∙ c.in-InSet.is) c.args.from c.next_among.result c.next_among.ensures
+returns-in-InSet g c = try-as (g.W.SearchContext.searching c.args.context.now) (InSet c.in-InSet.set) (sym c.start_filter_of_plan.ensures ∙ c.in-InSet.is) c.args.from c.next_among.result c.next_among.ensures
 
 pub next_of_few_units-requires-clause-leads : goal.next_of_few_units-requires-clause-leads
 next_of_few_units-requires-clause-leads g c =
-    let w = g.W.SearchContext.searching c.args.planned.now in
-    let few = few-known w (FewUnits c.in-FewUnits.units c.in-FewUnits.len) (sym c.candidate_start_filter_of_plan.ensures ∙ c.in-FewUnits.is) c.lemma_plan_fits_program.ensures.few in
+    let w = g.W.SearchContext.searching c.args.context.now in
+    let few = few-known w (FewUnits c.in-FewUnits.units c.in-FewUnits.len) (sym c.start_filter_of_plan.ensures ∙ c.in-FewUnits.is) c.lemma_plan_fits_program.ensures.few in
     low-leads c.in-FewUnits.units c.in-FewUnits.len (is_16_bit_encoding w.encoding) few.1
 
 pub returns-in-FewUnits : goal.returns-in-FewUnits
-returns-in-FewUnits g c = try-as (g.W.SearchContext.searching c.args.planned.now) (FewUnits c.in-FewUnits.units c.in-FewUnits.len) (sym c.candidate_start_filter_of_plan.ensures ∙ c.in-FewUnits.is) c.args.from c.next_of_few_units.result c.next_of_few_units.ensures
+returns-in-FewUnits g c = try-as (g.W.SearchContext.searching c.args.context.now) (FewUnits c.in-FewUnits.units c.in-FewUnits.len) (sym c.start_filter_of_plan.ensures ∙ c.in-FewUnits.is) c.args.from c.next_of_few_units.result c.next_of_few_units.ensures
 
 pub next_by_lookbehind-requires-clause-leads : goal.next_by_lookbehind-requires-clause-leads
 next_by_lookbehind-requires-clause-leads g c =
-    let w = g.W.SearchContext.searching c.args.planned.now in
-    (prefix-known w (Behind c.in-Behind.before) (sym c.candidate_start_filter_of_plan.ensures ∙ c.in-Behind.is) c.lemma_plan_fits_program.ensures.prefix).leads
+    let w = g.W.SearchContext.searching c.args.context.now in
+    (prefix-known w (Behind c.in-Behind.before) (sym c.start_filter_of_plan.ensures ∙ c.in-Behind.is) c.lemma_plan_fits_program.ensures.prefix).leads
 
 pub returns-in-Behind : goal.returns-in-Behind
-returns-in-Behind g c = try-as (g.W.SearchContext.searching c.args.planned.now) (Behind c.in-Behind.before) (sym c.candidate_start_filter_of_plan.ensures ∙ c.in-Behind.is) c.args.from c.next_by_lookbehind.result c.next_by_lookbehind.ensures
+returns-in-Behind g c = try-as (g.W.SearchContext.searching c.args.context.now) (Behind c.in-Behind.before) (sym c.start_filter_of_plan.ensures ∙ c.in-Behind.is) c.args.from c.next_by_lookbehind.result c.next_by_lookbehind.ensures
 
 pub first_filtered-requires-clause-some : goal.first_filtered-requires-clause-some
 first_filtered-requires-clause-some g c =
-    let w = g.W.SearchContext.searching c.args.planned.now in
-    (prefix-known w (Prefix c.in-Prefix.prefix c.in-Prefix.prefilter) (sym c.candidate_start_filter_of_plan.ensures ∙ c.in-Prefix.is) c.lemma_plan_fits_program.ensures.prefix).0
+    let w = g.W.SearchContext.searching c.args.context.now in
+    (prefix-known w (Prefix c.in-Prefix.prefix c.in-Prefix.prefilter) (sym c.start_filter_of_plan.ensures ∙ c.in-Prefix.is) c.lemma_plan_fits_program.ensures.prefix).0
 
 pub first_filtered-requires-clause-ascii : goal.first_filtered-requires-clause-ascii
 first_filtered-requires-clause-ascii g c =
-    let w = g.W.SearchContext.searching c.args.planned.now in
-    (prefix-known w (Prefix c.in-Prefix.prefix c.in-Prefix.prefilter) (sym c.candidate_start_filter_of_plan.ensures ∙ c.in-Prefix.is) c.lemma_plan_fits_program.ensures.prefix).2
+    let w = g.W.SearchContext.searching c.args.context.now in
+    (prefix-known w (Prefix c.in-Prefix.prefix c.in-Prefix.prefilter) (sym c.start_filter_of_plan.ensures ∙ c.in-Prefix.is) c.lemma_plan_fits_program.ensures.prefix).2
 
 pub first_filtered-requires-clause-filter : goal.first_filtered-requires-clause-filter
 first_filtered-requires-clause-filter g c =
-    let w = g.W.SearchContext.searching c.args.planned.now in
-    (prefix-known w (Prefix c.in-Prefix.prefix c.in-Prefix.prefilter) (sym c.candidate_start_filter_of_plan.ensures ∙ c.in-Prefix.is) c.lemma_plan_fits_program.ensures.prefix).3
+    let w = g.W.SearchContext.searching c.args.context.now in
+    (prefix-known w (Prefix c.in-Prefix.prefix c.in-Prefix.prefilter) (sym c.start_filter_of_plan.ensures ∙ c.in-Prefix.is) c.lemma_plan_fits_program.ensures.prefix).3
 
 pub returns-in-Prefix : goal.returns-in-Prefix
-returns-in-Prefix g c = try-as (g.W.SearchContext.searching c.args.planned.now) (Prefix c.in-Prefix.prefix c.in-Prefix.prefilter) (sym c.candidate_start_filter_of_plan.ensures ∙ c.in-Prefix.is) c.args.from c.first_filtered.result c.first_filtered.ensures
+returns-in-Prefix g c = try-as (g.W.SearchContext.searching c.args.context.now) (Prefix c.in-Prefix.prefix c.in-Prefix.prefilter) (sym c.start_filter_of_plan.ensures ∙ c.in-Prefix.is) c.args.from c.first_filtered.result c.first_filtered.ensures

@@ -5,7 +5,7 @@ use Rattle.regress_search.proofs.start_search.first_place.Given as goal
 
 abbrev pub invariant-units : goal.invariant-units
 invariant-units g l =
-    Scans (g.W.SearchContext.searching l.planned) (g.Set.StartSet.table l.set) l.fn.from l.at
+    Scans (g.W.SearchContext.searching l.context) (g.Set.StartSet.table l.set) l.fn.from l.at
 
 abbrev pub decreases-units : goal.decreases-units
-decreases-units g l = units (g.W.SearchContext.searching l.planned).text - l.at
+decreases-units g l = units (g.W.SearchContext.searching l.context).text - l.at

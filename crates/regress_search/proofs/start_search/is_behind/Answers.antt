@@ -6,8 +6,8 @@ use Rattle.regress_search.proofs.start_search.is_behind.Goals as goal
 
 pub unit_key_at_offset-requires : goal.unit_key_at_offset-requires
 unit_key_at_offset-requires g c =
-    let w = g.W.SearchContext.searching c.args.planned.now in
-    let is = g.met.W.SearchContext.is_text c.args.planned.now in
+    let w = g.W.SearchContext.searching c.args.context.now in
+    let is = g.met.W.SearchContext.is_text c.args.context.now in
     let inside = boundary_inside w.text is c.args.at c.requires in
     let led : past w.text leftwards c.args.at ≡ Some c.offset_in_searched_text.result =
     rw (← c.input.ensures.text, ← c.position_in_searched_text.ensures, c.offset_in_searched_text.ensures) (sym c.in-Some.ensures.read) in

@@ -9,13 +9,13 @@ next_wide-requires-clause-told g c = listed-told c.args.few.units c.args.few.len
 
 pub next_wide-requires-clause-at : goal.next_wide-requires-clause-at
 next_wide-requires-clause-at g c =
-    boundary_inside (g.W.SearchContext.searching c.args.planned.now).text (g.met.W.SearchContext.is_text c.args.planned.now) c.args.from c.requires.at
+    boundary_inside (g.W.SearchContext.searching c.args.context.now).text (g.met.W.SearchContext.is_text c.args.context.now) c.args.from c.requires.at
 
 pub returns-then-are_told_by_bits : goal.returns-then-are_told_by_bits
 returns-then-are_told_by_bits g c =
-    wide-found (g.W.SearchContext.searching c.args.planned.now) (g.met.W.SearchContext.has_units c.args.planned.now) c.requires.wide c.args.few.units c.args.few.len
+    wide-found (g.W.SearchContext.searching c.args.context.now) (g.met.W.SearchContext.has_units c.args.context.now) c.requires.wide c.args.few.units c.args.few.len
     (λ k listed. all-listed is_told_by_bits c.args.few.units c.args.few.len k (sym c.are_told_by_bits.ensures ∙ c.if-are_told_by_bits.true) listed)
     c.args.from c.next_wide.result c.next_wide.ensures
 
 pub first_place-requires-clause-leads : goal.first_place-requires-clause-leads
-first_place-requires-clause-leads g c = wide-leads (g.W.SearchContext.searching c.args.planned.now).encoding c.requires.wide c.args.few.units c.args.few.len
+first_place-requires-clause-leads g c = wide-leads (g.W.SearchContext.searching c.args.context.now).encoding c.requires.wide c.args.few.units c.args.few.len

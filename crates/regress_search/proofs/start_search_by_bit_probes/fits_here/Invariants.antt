@@ -6,7 +6,7 @@ use Rattle.regress_search.proofs.start_search_by_bit_probes.fits_here.Given as g
 abbrev pub invariant-units : goal.invariant-units
 invariant-units g l =
     (l.ahead ≤ l.prefix.len)
-    × (prefix_allows_units_at (units_allowed_by_prefix l.prefix) (keys_in (g.W.SearchContext.searching l.planned)) l.at l.ahead ≡ true)
+    × (prefix_allows_units_at (units_allowed_by_prefix l.prefix) (keys_in (g.W.SearchContext.searching l.context)) l.at l.ahead ≡ true)
 
 abbrev pub decreases-units : goal.decreases-units
 decreases-units g l = l.prefix.len - l.ahead

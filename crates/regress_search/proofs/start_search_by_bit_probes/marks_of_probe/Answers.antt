@@ -6,11 +6,11 @@ use Rattle.regress_search.proofs.start_search_by_bit_probes.marks_of_probe.Goals
 
 pub returns : goal.returns
 returns g c f is =
-    let w = g.W.SearchContext.searching c.args.planned.now in
+    let w = g.W.SearchContext.searching c.args.context.now in
     let us = text_units_in_encoding w.encoding w.text in
     let probe = c.args.probe in
     let from = c.args.at + probe.ahead in
     let marks = c.units_with_bits.result in
     let masked = subst (λ mask. MarksUnitsWithBits us from mask c.from-2.result marks) c.from.ensures c.units_with_bits.ensures in
-    probe-marks w (g.met.W.SearchContext.has_units c.args.planned.now) f probe is c.args.at marks c.requires
+    probe-marks w (g.met.W.SearchContext.has_units c.args.context.now) f probe is c.args.at marks c.requires
     (subst (λ bits. MarksUnitsWithBits us from probe.mask bits marks) c.from-2.ensures masked)

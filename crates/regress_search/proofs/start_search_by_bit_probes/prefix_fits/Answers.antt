@@ -12,21 +12,21 @@ use Rattle.regress_search.proofs.start_search_by_bit_probes.prefix_fits.Goals as
 
 pub overflow_sub-text_end : goal.overflow_sub-text_end
 overflow_sub-text_end g c =
-    let text = (g.W.SearchContext.searching c.args.planned.now).text in
-    let inside = boundary_inside text (g.met.W.SearchContext.is_text c.args.planned.now) c.args.at c.requires in
+    let text = (g.W.SearchContext.searching c.args.context.now).text in
+    let inside = boundary_inside text (g.met.W.SearchContext.is_text c.args.context.now) c.args.at c.requires in
     omega (arith, inside, c.text_end.ensures)
 
 pub fits_here-requires : goal.fits_here-requires
 fits_here-requires g c =
-    let text = (g.W.SearchContext.searching c.args.planned.now).text in
-    let inside = boundary_inside text (g.met.W.SearchContext.is_text c.args.planned.now) c.args.at c.requires in
+    let text = (g.W.SearchContext.searching c.args.context.now).text in
+    let inside = boundary_inside text (g.met.W.SearchContext.is_text c.args.context.now) c.args.at c.requires in
     omega (arith, inside, c.text_end.ensures, c.if-text_end-at.true)
 
 pub returns-else-text_end-at : goal.returns-else-text_end-at
 returns-else-text_end-at g c =
-    let w = g.W.SearchContext.searching c.args.planned.now in
+    let w = g.W.SearchContext.searching c.args.context.now in
     let prefix = c.args.prefix.now in
-    let has = g.met.W.SearchContext.has_units c.args.planned.now in
+    let has = g.met.W.SearchContext.has_units c.args.context.now in
     let inside = boundary_inside w.text has.is_text c.args.at c.requires in
     let us = text_units_in_encoding w.encoding w.text in
     let count = length-map us (key (is_16_bit_encoding w.encoding)) in

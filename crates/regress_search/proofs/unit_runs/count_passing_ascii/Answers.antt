@@ -5,7 +5,7 @@ use Rattle.regress_search.proofs.unit_runs.count_passing_ascii.Goals as goal
 
 pub units-preserved : goal.units-preserved
 units-preserved g c =
-    let w = g.W.SearchContext.searching c.args.planned.now in
+    let w = g.W.SearchContext.searching c.args.context.now in
     record {
       few = omega (arith, c.units-test.true);
       each =

@@ -12,7 +12,7 @@ loop-item-init c = record {
   can = tt;
   finite = tt;
   reached =
-      reached-unlimited c.args.line.now _ _ c.utf8.line c.in_ok-item-items.ensures.answers.unlimited c.in_ok-item-items.ensures.stand
+      reached-unlimited c.args.line.now _ _ c.utf8.line c.in_ok-item-items.ensures.answers.unlimited c.in_ok-item-items.ensures.in_text
       c.into_iter-item-iterator.ensures.into_iter_gives;
   made =
       ap (λ bs. bs ++ colored_from c.args.line.now c.args.paint.start.now c.args.paint.end.now 0 c.into_iter-item-iterator.result.answers) c.new-made.ensures.bytes

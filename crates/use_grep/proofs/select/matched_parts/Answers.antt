@@ -10,7 +10,7 @@ loop-item-init c = record {
   finite = tt;
   reached = (
     0,
-    reached-unlimited c.args.line.now _ _ c.utf8.line c.in_ok-item-items.ensures.answers.unlimited c.in_ok-item-items.ensures.stand
+    reached-unlimited c.args.line.now _ _ c.utf8.line c.in_ok-item-items.ensures.answers.unlimited c.in_ok-item-items.ensures.in_text
         c.into_iter-item-iterator.ensures.into_iter_gives,
   );
   parts =

@@ -14,7 +14,7 @@ pub loop-item-init : goal.loop-item-init
 loop-item-init c = record {
   can = tt;
   finite = tt;
-  reached = reached-unlimited c.args.text.now _ _ c.utf8.text c.in_ok-item-items.ensures.answers.unlimited c.in_ok-item-items.ensures.stand c.into_iter-item-iterator.ensures.into_iter_gives;
+  reached = reached-unlimited c.args.text.now _ _ c.utf8.text c.in_ok-item-items.ensures.answers.unlimited c.in_ok-item-items.ensures.in_text c.into_iter-item-iterator.ensures.into_iter_gives;
   cut = cut-none c.args.text.now (names_of c.args.tokens.now) _ c.into_iter-item-iterator.result.answers c.new-pieces.result.items
       (ap (λ (it : RemainingView). it.answers) c.into_iter-item-iterator.ensures.into_iter_gives ∙ c.in_ok-item-items.ensures.answers.answers) c.new-pieces.ensures.items;
 }

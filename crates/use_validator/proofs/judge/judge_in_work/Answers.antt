@@ -1,6 +1,6 @@
 use Rattle.std.proofs.Common.{inl}
 use Rattle.std.proofs.lemmas.Str.{IsCharBoundary-start}
-use Rattle.regress_search.specs.CostsOfCalls.{remaining}
+use Rattle.regress_search.specs.CostsOfCalls.{without_costs}
 use Rattle.use_validator.proofs.Decided.{never-out, work-match, work-none}
 use Rattle.use_validator.proofs.judge.judge_in_work.Goals as goal
 
@@ -17,4 +17,4 @@ returns-in-Ok-first c =
 
 pub returns-in_default-next : goal.returns-in_default-next
 returns-in_default-next c =
-    work-none c.args.bounded.now.re c.args.text.now _ _ (remaining c.in-Ok.matches) (remaining c.next.new.self) c.in-Ok.ensures.yields c.in_default-next.ensures.steps.0
+    work-none c.args.bounded.now.re c.args.text.now _ _ (without_costs c.in-Ok.matches) (without_costs c.next.new.self) c.in-Ok.ensures.yields c.in_default-next.ensures.steps.0

@@ -1,6 +1,6 @@
 use Rattle.std.proofs.Common.{sym, ◌∙◌, ap, refl}
 use Rattle.regex_meaning.specs.EcmaClasses.{escaped}
-use Rattle.regex_parser.specs.CodePointAndQuantifierReaderContracts.{is_syntax_error}
+use Rattle.regex_parser.specs.CodePointReaderContracts.{is_syntax_error}
 use Rattle.regex_parser.proofs.EcmaClassLemmas.{atom-verbatim, atom-escaped, atom-backslash}
 use Rattle.regex_parser.proofs.ecmascript_classes.ClassReader.read_atom.Goals as goal
 

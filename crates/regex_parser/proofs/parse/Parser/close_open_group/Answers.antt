@@ -1,7 +1,7 @@
 use Rattle.std.proofs.Common.{arith}
 use Rattle.regex_pattern_front.specs.AstToSpecTree.{node_of}
 use Rattle.regex_pattern_front.specs.SubtreeListInvariants.{IsSoundSubtreeWithGroupIds}
-use Rattle.regex_parser.specs.ParserGroupIdInvariant.{nodes_at}
+use Rattle.regex_parser.specs.GroupIdInvariant.{nodes_at}
 use Rattle.regex_pattern_front.proofs.PartLemmas.{parts-push, empty-list}
 use Rattle.regex_parser.proofs.LevelLemmas.{IsLast, open-pop}
 use Rattle.std.proofs.Common.{◌≡◌, [], refl}

@@ -1,5 +1,5 @@
 use Rattle.std.proofs.Common.{◌+◌}
-use Rattle.regex_parser.specs.ParserGroupIdInvariant.{captures_opened_by_group_kind}
+use Rattle.regex_parser.specs.GroupIdInvariant.{captures_opened_by_group_kind}
 use Rattle.regex_pattern_front.proofs.PartLemmas.{parts-none}
 use Rattle.regex_parser.proofs.LevelLemmas.{open-push}
 use Rattle.std.proofs.Common.{[], arith}

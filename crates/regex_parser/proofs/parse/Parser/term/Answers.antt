@@ -1,6 +1,6 @@
 use Rattle.std.proofs.Common.{◌≤◌}
 use Rattle.regex_pattern_front.specs.AstToSpecTree.{node_of}
-use Rattle.regex_parser.specs.ParserGroupIdInvariant.{nodes_at}
+use Rattle.regex_parser.specs.GroupIdInvariant.{nodes_at}
 use Rattle.regex_pattern_front.proofs.PartLemmas.{part-leaf, parts-push}
 use Rattle.regex_parser.proofs.LevelLemmas.{open-more}
 use Rattle.regex_parser.proofs.Readable.{readable}

@@ -1,15 +1,15 @@
 use Rattle.std.proofs.Common.{sym, ◌∙◌, subst, Ok, None}
-use Rattle.regress_search.specs.AttemptResultsAndStartsToTry.{NoMatchAt}
+use Rattle.regress_search.specs.AttemptsAndStarts.{NoMatchAt}
 use Rattle.regress_search.specs.declared.exec.SearchError.{SearchError}
 use Rattle.regress_backtrack.specs.ProgramsAndPlans.{executed_tree_of}
 use Rattle.regex_pattern_front.specs.AstToSpecTree.{tree_of}
 use Rattle.regress_backtrack.specs.State.{current_thread_state_of}
 use Rattle.regress_search.proofs.InWork.{goes-on-free}
-use Rattle.regress_backtrack.proofs.InPlace.{can-be, can-run, end-planned, ends-planned, search-run}
+use Rattle.regress_backtrack.proofs.InPlace.{can-be, can-run, end-context, ends-context, search-run}
 use Rattle.regress_backtrack.proofs.classicalbacktrack.BacktrackExecutorSingleAttemptExecutor.attempt.Goals as goal
 
-pub leaps_over_if_due-requires-clause-can : goal.leaps_over_if_due-requires-clause-can
-leaps_over_if_due-requires-clause-can g c =
+pub leaps_over_if_due-requires-clause-executable : goal.leaps_over_if_due-requires-clause-executable
+leaps_over_if_due-requires-clause-executable g c =
     let s = c.args.self.now.search in
     search-run s.program.wide s.same s.searched.well_formed s.searched.unicode s.searched.bytes (g.met.Input.InputIndexer.is_text s.searched.input)
 
@@ -20,15 +20,15 @@ returns-then-leaps_over_if_due-clause-found g c =
     let offset = g.Input.Position.PositionType.offset in
     let text = g.Input.InputIndexer.text s.searched.input in
     let none = subst (NoMatchAt (executed_tree_of s.program) text) c.pos_to_offset-at.ensures (c.leaps_over_if_due.ensures.none c.if-leaps_over_if_due.true) in
-    sym none ∙ end-planned s.program.wide (tree_of s.program.regex) text can.well_formed (offset c.args.pos)
+    sym none ∙ end-context s.program.wide (tree_of s.program.regex) text can.well_formed (offset c.args.pos)
 
 pub returns-then-leaps_over_if_due-clause-work : goal.returns-then-leaps_over_if_due-clause-work
 returns-then-leaps_over_if_due-clause-work g c =
     let offset = g.Input.Position.PositionType.offset in
     goes-on-free {E = SearchError} offset (offset c.args.pos) (Ok None)
 
-pub retry_with_memo-requires-clause-can : goal.retry_with_memo-requires-clause-can
-retry_with_memo-requires-clause-can g c =
+pub retry_with_memo-requires-clause-executable : goal.retry_with_memo-requires-clause-executable
+retry_with_memo-requires-clause-executable g c =
     let s = c.args.self.now.search in
     (can-run s.program.wide s.same s.searched.well_formed s.searched.unicode s.searched.bytes, c.requires)
 
@@ -37,11 +37,11 @@ returns-then-is_work_limit_exceeded-clause-found g c =
     let s = c.args.self.now.search in
     let can = can-be s.same s.searched.well_formed s.searched.unicode s.searched.bytes in
     let offset = g.Input.Position.PositionType.offset in
-    ends-planned offset s.program.wide (tree_of s.program.regex) (g.Input.InputIndexer.text s.searched.input) can.well_formed (offset c.args.pos)
+    ends-context offset s.program.wide (tree_of s.program.regex) (g.Input.InputIndexer.text s.searched.input) can.well_formed (offset c.args.pos)
     (current_thread_state_of c.retry_with_memo.new.memory 0 0).groups c.retry_with_memo.result c.retry_with_memo.ensures.found
 
-pub attempt-end-requires-clause-can : goal.attempt-end-requires-clause-can
-attempt-end-requires-clause-can g c =
+pub attempt-end-requires-clause-executable : goal.attempt-end-requires-clause-executable
+attempt-end-requires-clause-executable g c =
     let s = c.args.self.now.search in
     (can-run s.program.wide s.same s.searched.well_formed s.searched.unicode s.searched.bytes, c.requires)
 
@@ -50,11 +50,11 @@ returns-then-is_ok-clause-found g c =
     let s = c.args.self.now.search in
     let can = can-be s.same s.searched.well_formed s.searched.unicode s.searched.bytes in
     let offset = g.Input.Position.PositionType.offset in
-    ends-planned offset s.program.wide (tree_of s.program.regex) (g.Input.InputIndexer.text s.searched.input) can.well_formed (offset c.args.pos)
+    ends-context offset s.program.wide (tree_of s.program.regex) (g.Input.InputIndexer.text s.searched.input) can.well_formed (offset c.args.pos)
     (current_thread_state_of c.attempt-end.new.memory 0 0).groups c.attempt-end.result c.attempt-end.ensures.found
 
-pub retry_with_memo-requires-2-clause-can : goal.retry_with_memo-requires-2-clause-can
-retry_with_memo-requires-2-clause-can g c =
+pub retry_with_memo-requires-2-clause-executable : goal.retry_with_memo-requires-2-clause-executable
+retry_with_memo-requires-2-clause-executable g c =
     let s = c.args.self.now.search in
     (can-run s.program.wide s.same s.searched.well_formed s.searched.unicode s.searched.bytes, c.requires)
 
@@ -63,7 +63,7 @@ returns-clause-found g c =
     let s = c.args.self.now.search in
     let can = can-be s.same s.searched.well_formed s.searched.unicode s.searched.bytes in
     let offset = g.Input.Position.PositionType.offset in
-    ends-planned offset s.program.wide (tree_of s.program.regex) (g.Input.InputIndexer.text s.searched.input) can.well_formed (offset c.args.pos)
+    ends-context offset s.program.wide (tree_of s.program.regex) (g.Input.InputIndexer.text s.searched.input) can.well_formed (offset c.args.pos)
     (current_thread_state_of c.retry_with_memo-2.new.memory 0 0).groups c.retry_with_memo-2.result c.retry_with_memo-2.ensures.found
 
 pub returns-then-is_work_limit_exceeded-clause-work : goal.returns-then-is_work_limit_exceeded-clause-work

@@ -4,14 +4,14 @@ use Rattle.regress_machine.specs.Machine.{running}
 use Rattle.regress_memo.specs.MemoKeys.{IsSoundState}
 use Rattle.regress_memo.specs.declared.analysis_result.MemoAnalysis.{MemoAnalysis}
 use Rattle.regress_memo.specs.declared.analysis_result.InsnAnalysis.{InsnAnalysis}
-use Rattle.regress_memo.specs.AnalysisAsLivenessAndPotentials.{insn_analysis_of, analysis_as_liveness, insn_direction}
+use Rattle.regress_memo.specs.AnalysisAsPotentials.{insn_analysis_of, analysis_as_liveness, insn_direction}
 use Rattle.regress_backtrack.specs.State.{current_thread_state_of}
 use Rattle.regress_backtrack.proofs.MemoKeys.{key-of-thread, stored-key, same-way}
 use Rattle.regress_backtrack.proofs.failures_in_memo_table.MemoTableFailureMemo.key_at.Goals as goal
 
 pub returns : goal.returns
 returns g c =
-    let w = g.W.SearchContext.searching c.args.planned.now in
+    let w = g.W.SearchContext.searching c.args.context.now in
     let t = c.args.self.now.memo_analysis in
     let s = current_thread_state_of c.args.memory.now c.args.thread.here.ip c.args.thread.here.at in
     let line : c.insn_analysis_at-line.result ≡ insn_analysis_of t s.ip = c.insn_analysis_at-line.ensures ∙ ap (λ (x : MemoAnalysis). insn_analysis_of x s.ip) c.memo_analysis.ensures in

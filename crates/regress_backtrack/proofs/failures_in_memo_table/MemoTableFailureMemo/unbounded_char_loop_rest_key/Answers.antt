@@ -3,7 +3,7 @@ use Rattle.regex_meaning.specs.CodeUnitOffsets.{units}
 use Rattle.regress_memo.specs.MemoKeys.{IsSoundState}
 use Rattle.regress_memo.specs.declared.analysis_result.MemoAnalysis.{MemoAnalysis}
 use Rattle.regress_memo.specs.declared.analysis_result.InsnAnalysis.{InsnAnalysis}
-use Rattle.regress_memo.specs.AnalysisAsLivenessAndPotentials.{insn_analysis_of, analysis_as_liveness, insn_direction}
+use Rattle.regress_memo.specs.AnalysisAsPotentials.{insn_analysis_of, analysis_as_liveness, insn_direction}
 use Rattle.regress_memo.specs.MemoContents.{has_failure}
 use Rattle.regress_backtrack.specs.State.{current_thread_state_of}
 use Rattle.regress_backtrack.specs.FailuresInMemoTable.{scheme_of}
@@ -13,8 +13,8 @@ use Rattle.regress_backtrack.proofs.failures_in_memo_table.MemoTableFailureMemo.
 
 pub returns : goal.returns
 returns g c =
-    let w = g.W.SearchContext.searching c.args.planned.now in
-    let is = g.met.W.SearchContext.is_text c.args.planned.now in
+    let w = g.W.SearchContext.searching c.args.context.now in
+    let is = g.met.W.SearchContext.is_text c.args.context.now in
     let t = c.args.self.now.memo_analysis in
     let from = c.args.run.here in
     let h = c.args.memory.now in

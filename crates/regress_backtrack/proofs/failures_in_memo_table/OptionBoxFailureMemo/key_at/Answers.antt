@@ -5,7 +5,7 @@ use Rattle.regress_backtrack.proofs.failures_in_memo_table.OptionBoxFailureMemo.
 
 pub key_at-requires-clause-right : goal.key_at-requires-clause-right
 key_at-requires-clause-right g c =
-    let w = g.W.SearchContext.searching c.args.planned.now in
+    let w = g.W.SearchContext.searching c.args.context.now in
     subst (λ m. AreFailuresRightIn (program_of w) w.text (g.M.FailureMemo.terms m) (g.M.FailureMemo.failed m)) (sym c.deref.ensures)
     (subst (λ o. AreFailuresRightIn (program_of w) w.text (scheme_in (λ memo. g.M.FailureMemo.terms memo.value) o) (failed_in (λ memo. g.M.FailureMemo.failed memo.value) o))
     c.in-Some.is c.requires.right)

@@ -7,7 +7,7 @@ use Rattle.regress_backtrack.proofs.failures_in_memo_table.OptionBoxFailureMemo.
 
 pub unbounded_char_loop_rest_key-requires : goal.unbounded_char_loop_rest_key-requires
 unbounded_char_loop_rest_key-requires g c =
-    let w = g.W.SearchContext.searching c.args.planned.now in
+    let w = g.W.SearchContext.searching c.args.context.now in
     record {
       right =
           subst (λ m. AreFailuresRightIn (program_of w) w.text (g.M.FailureMemo.terms m) (g.M.FailureMemo.failed m)) (sym c.deref.ensures)
@@ -17,6 +17,6 @@ unbounded_char_loop_rest_key-requires g c =
 
 pub returns-in-Some : goal.returns-in-Some
 returns-in-Some g c =
-    let w = g.W.SearchContext.searching c.args.planned.now in
+    let w = g.W.SearchContext.searching c.args.context.now in
     subst (λ o. IfSome c.unbounded_char_loop_rest_key.result (λ k. DecidesLoopRest w (scheme_in (λ memo. g.M.FailureMemo.terms memo.value) o) c.args.run.forward c.args.run.here (memo_key_as_spec k) c.args.memory.now)) (sym c.in-Some.is)
     (subst (λ m. IfSome c.unbounded_char_loop_rest_key.result (λ k. DecidesLoopRest w (g.M.FailureMemo.terms m) c.args.run.forward c.args.run.here (memo_key_as_spec k) c.args.memory.now)) c.deref.ensures c.unbounded_char_loop_rest_key.ensures)

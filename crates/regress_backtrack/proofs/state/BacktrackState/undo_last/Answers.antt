@@ -10,11 +10,11 @@ some c = some-logged c.self.inside.begun c.self.inside.log_len c.self.inside.log
 pub invariant_of-self : goal.invariant_of-self
 invariant_of-self c =
     let m = c.self.inside in
-    back-there m.groups m.slots.items m.log_len m.free m.log.items m.marked m.marks.items c.self.invariant (some c) c.index-change.result.now c.index-change.ensures
+    back-there m.groups m.slots.items m.log_len m.free m.log.items m.choice_point_len m.choice_points.items c.self.invariant (some c) c.index-change.result.now c.index-change.ensures
 
 pub returns : goal.returns
 returns c =
     let m = c.self.inside in
     rw (sym c.self.view_is)
-    (back-seen m.groups m.slots.items m.log_len m.free m.log.items m.marked m.marks.items c.self.invariant (some c) c.index-change.result.now c.index-change.ensures
-    m.begun (take m.marked m.marks.items))
+    (back-seen m.groups m.slots.items m.log_len m.free m.log.items m.choice_point_len m.choice_points.items c.self.invariant (some c) c.index-change.result.now c.index-change.ensures
+    m.begun (take m.choice_point_len m.choice_points.items))

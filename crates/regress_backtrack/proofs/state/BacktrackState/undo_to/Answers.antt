@@ -13,7 +13,7 @@ changes-preserved c =
     let shorter : length then.log ≡ n = ap length c.undo_last.ensures.log ∙ length-take-le n h.log (omega arith) in
     record {
       groups = c.undo_last.ensures.groups ∙ c.changes.invariant.groups;
-      marks = c.undo_last.ensures.marks ∙ c.changes.invariant.marks;
+      choice_points = c.undo_last.ensures.choice_points ∙ c.changes.invariant.choice_points;
       inside = omega (arith, less, shorter);
       log = ap (take c.args.len) c.undo_last.ensures.log ∙ take-take c.args.len n h.log (omega (arith, less)) ∙ c.changes.invariant.log;
       slots = ap₂ (λ s l. undone s (drop c.args.len l)) c.undo_last.ensures.slots c.undo_last.ensures.log ∙ undone-in-two h.slots h.log c.args.len n (omega (arith, less)) (omega arith) ∙ c.changes.invariant.slots;

@@ -5,7 +5,7 @@ use Rattle.regress_backtrack.proofs.state.BacktrackState.undo_to.Given as goal
 abbrev pub invariant-changes : goal.invariant-changes
 invariant-changes l = record {
   groups : l.self.groups ≡ l.initial.self.groups;
-  marks : l.self.marks ≡ l.initial.self.marks;
+  choice_points : l.self.choice_points ≡ l.initial.self.choice_points;
   inside : l.len ≤ length l.self.log;
   log : take l.len l.self.log ≡ take l.len l.initial.self.log;
   slots : undone l.self.slots (drop l.len l.self.log) ≡ undone l.initial.self.slots (drop l.len l.initial.self.log);

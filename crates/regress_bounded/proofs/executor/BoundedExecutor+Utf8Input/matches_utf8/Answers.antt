@@ -1,6 +1,5 @@
 use Rattle.std.proofs.Common.{◌∙◌, ap, nat_le, not, subst, sym}
-use Rattle.regex_meaning.specs.CodeUnitOffsets.{units}
-use Rattle.regress_bounded.specs.ProgramWorkBoundForAllMatches.{IsBoundaryOrPastEnd}
+use Rattle.regex_meaning.specs.CodeUnitOffsets.{units, IsBoundaryOrPastEnd}
 use Rattle.regress_bounded.proofs.MatchLemmas.{begun-Yields, begun-costs}
 use Rattle.regress_bounded.proofs.executor.BoundedExecutor+Utf8Input.matches_utf8.Goals as goal
 

@@ -9,7 +9,7 @@ use Rattle.regex_pattern_front.specs.AstToSpecTree.{tree_of}
 use Rattle.regress_memo.specs.MemoContents.{IsEmptyMemo}
 use Rattle.regress_program.specs.CompilationOfTreesAsFunction.{compiled}
 use Rattle.regress_pikevm.proofs.Remains.{reads-literals}
-use Rattle.regress_bounded.specs.ProgramWorkBoundForAllMatches.{work_per_unit}
+use Rattle.regress_bounded.specs.WorkBoundForAllMatches.{work_per_unit}
 use Rattle.regress_bounded.proofs.Ending.{begun-right, begun-walked}
 use Rattle.regress_bounded.proofs.executor.BoundedExecutor.over.Goals as goal
 

@@ -4,7 +4,7 @@ use Rattle.regex_pattern_front.specs.AstToSpecTree.{tree_of}
 use Rattle.regress_input.proofs.Places.{boundary_inside}
 use Rattle.regress_machine.specs.SearchFindsFirstOutcomeAtPlace.{TreeProgramCanSearchText}
 use Rattle.regress_program.specs.CompilationOfTreesAsFunction.{compiled}
-use Rattle.regress_search.specs.AttemptsAndMatchesWithinWork.{least_offset_after_match}
+use Rattle.regress_search.specs.MatchesWithinWork.{least_offset_after_match}
 use Rattle.regress_search.proofs.Searchable.{can-search}
 use Rattle.regress_bounded.specs.CostsOfAttempts.{AttemptCosts, failures_of}
 use Rattle.regress_bounded.specs.WorkOfSuccessiveAttempts.{HasWalked}
@@ -27,7 +27,7 @@ can g c =
 pub least_offset_after_match-self-requires : goal.least_offset_after_match-self-requires
 least_offset_after_match-self-requires g c =
     let self = c.args.self.now in
-    let inside = found-inside g.Input.Position.PositionType.offset (can g (goal.at.least_offset_after_match-self-requires g c).Start) (g.Input.Position.PositionType.offset c.args.pos) c.requires self.course c.preferred_final_state.new.course c.in-Ok-Some.field-0-is self.right c.in-Ok-Some.ensures.runs in
+    let inside = found-inside g.Input.Position.PositionType.offset (can g (goal.at.least_offset_after_match-self-requires g c).Start) (g.Input.Position.PositionType.offset c.args.pos) c.requires self.progress c.preferred_final_state.new.progress c.in-Ok-Some.field-0-is self.right c.in-Ok-Some.ensures.runs in
     let short = g.met.Input.InputIndexer.offsets_fit self.searched.input in
     let end_is = c.to_offset.ensures in
     omega (arith, inside, short, end_is)
@@ -44,8 +44,8 @@ invariant_of-self g c = record {
         | else-self w ↦ absurd (let never : false ≡ true = sym w.if-self.false ∙ sym w.self-is ∙ on in let no : ⊥ = cc in no)
       ] in
       let end_is = ap (λ n. least_offset_after_match n c.to_offset.result) c.to_offset-at.ensures ∙ ap (least_offset_after_match (g.Input.Position.PositionType.offset c.args.pos)) c.to_offset.ensures in
-      subst (HasWalked (compiled (tree_of c.args.self.now.searched.program.now)) (g.Input.InputIndexer.text c.args.self.now.searched.input) c.preferred_final_state.new.course) (sym (c.least_offset_after_match-self.ensures ∙ end_is))
-      (on-by-found g.Input.Position.PositionType.offset (can g (goal.at.invariant_of-self g c).Start) (g.Input.Position.PositionType.offset c.args.pos) c.requires c.args.self.now.course c.preferred_final_state.new.course
+      subst (HasWalked (compiled (tree_of c.args.self.now.searched.program.now)) (g.Input.InputIndexer.text c.args.self.now.searched.input) c.preferred_final_state.new.progress) (sym (c.least_offset_after_match-self.ensures ∙ end_is))
+      (on-by-found g.Input.Position.PositionType.offset (can g (goal.at.invariant_of-self g c).Start) (g.Input.Position.PositionType.offset c.args.pos) c.requires c.args.self.now.progress c.preferred_final_state.new.progress
       (g.met.Input.InputIndexer.is_text c.args.self.now.searched.input) c.args.self.now.right c.preferred_final_state.ensures.memo_analysis (c.args.self.now.walked turn.0) turn.1
       c.in-Ok-Some.field-0-is c.in-Ok-Some.ensures.runs);
   spent = λ e. absurd (let no : ⊥ = cc in no);
@@ -72,8 +72,8 @@ invariant_of-self-in-Ok-None g c = record {
         )
         | else-self w ↦ absurd (let never : false ≡ true = sym w.if-self.false ∙ sym w.self-is ∙ on in let no : ⊥ = cc in no)
       ] in
-      subst (λ n. HasWalked (compiled (tree_of c.args.self.now.searched.program.now)) (g.Input.InputIndexer.text c.args.self.now.searched.input) c.preferred_final_state.new.course (n + 1)) (sym c.to_offset-at.ensures)
-      (on-by-none g.Input.Position.PositionType.offset (can g (goal.at.invariant_of-self-in-Ok-None g c).Start) (g.Input.Position.PositionType.offset c.args.pos) c.requires c.args.self.now.course c.preferred_final_state.new.course
+      subst (λ n. HasWalked (compiled (tree_of c.args.self.now.searched.program.now)) (g.Input.InputIndexer.text c.args.self.now.searched.input) c.preferred_final_state.new.progress (n + 1)) (sym c.to_offset-at.ensures)
+      (on-by-none g.Input.Position.PositionType.offset (can g (goal.at.invariant_of-self-in-Ok-None g c).Start) (g.Input.Position.PositionType.offset c.args.pos) c.requires c.args.self.now.progress c.preferred_final_state.new.progress
       (g.met.Input.InputIndexer.is_text c.args.self.now.searched.input) c.args.self.now.right c.preferred_final_state.ensures.memo_analysis (c.args.self.now.walked turn.0) turn.1
       c.in-Ok-None.field-0-is c.in-Ok-None.ensures.runs);
   spent = λ e. absurd (let no : ⊥ = cc in no);
@@ -88,7 +88,7 @@ invariant_of-self-in-Err g c =
       right = c.preferred_final_state.ensures.right;
       walked = λ e. absurd (let no : ⊥ = cc in no);
       spent = λ e. elim c.match-matches.branch [
-        | in-Work w ↦ none-left g.Input.Position.PositionType.offset (can g (goal.at.invariant_of-self-in-Err g c).Start) (g.Input.Position.PositionType.offset c.args.pos) c.requires self.course c.preferred_final_state.new.course c.in-Err.refusal self.right c.in-Err.ensures.runs w.in-Work.is
+        | in-Work w ↦ none-left g.Input.Position.PositionType.offset (can g (goal.at.invariant_of-self-in-Err g c).Start) (g.Input.Position.PositionType.offset c.args.pos) c.requires self.progress c.preferred_final_state.new.progress c.in-Err.refusal self.right c.in-Err.ensures.runs w.in-Work.is
         | in_default w ↦ absurd (let never : false ≡ true = sym w.self-is ∙ e in let no : ⊥ = cc in no)
       ];
     }
@@ -97,7 +97,7 @@ pub returns-after-matches-clause-work : goal.returns-after-matches-clause-work
 returns-after-matches-clause-work g c =
     let self = c.args.self.now in
     λ turn. elim c.match-matches.branch [
-      | in-Work w ↦ absurd (never-wanted g.Input.Position.PositionType.offset (can g (goal.at.returns-after-matches-clause-work g c).Start) (g.Input.Position.PositionType.offset c.args.pos) c.requires self.course c.preferred_final_state.new.course (g.met.Input.InputIndexer.is_text self.searched.input) self.right c.preferred_final_state.ensures.memo_analysis (self.walked turn.is) turn.past
+      | in-Work w ↦ absurd (never-wanted g.Input.Position.PositionType.offset (can g (goal.at.returns-after-matches-clause-work g c).Start) (g.Input.Position.PositionType.offset c.args.pos) c.requires self.progress c.preferred_final_state.new.progress (g.met.Input.InputIndexer.is_text self.searched.input) self.right c.preferred_final_state.ensures.memo_analysis (self.walked turn.is) turn.past
           c.in-Err.refusal c.in-Err.ensures.runs w.in-Work.is)
       | in_default w ↦ (w.self-is, tt)
     ]
@@ -106,23 +106,23 @@ returns-after-matches-clause-work g c =
 
 pub returns-in-Ok-Some-clause-cost : goal.returns-in-Ok-Some-clause-cost
 returns-in-Ok-Some-clause-cost g c =
-    exact-cost g.Input.Position.PositionType.offset (can g (goal.at.returns-in-Ok-Some-clause-cost g c).Start) (g.Input.Position.PositionType.offset c.args.pos) c.requires c.args.self.now.course
-    c.preferred_final_state.new.course c.args.self.now.right c.preferred_final_state.ensures.left _ c.in-Ok-Some.ensures.runs
+    exact-cost g.Input.Position.PositionType.offset (can g (goal.at.returns-in-Ok-Some-clause-cost g c).Start) (g.Input.Position.PositionType.offset c.args.pos) c.requires c.args.self.now.progress
+    c.preferred_final_state.new.progress c.args.self.now.right c.preferred_final_state.ensures.left _ c.in-Ok-Some.ensures.runs
 
 pub returns-in-Ok-None-clause-cost : goal.returns-in-Ok-None-clause-cost
 returns-in-Ok-None-clause-cost g c =
-    exact-cost g.Input.Position.PositionType.offset (can g (goal.at.returns-in-Ok-None-clause-cost g c).Start) (g.Input.Position.PositionType.offset c.args.pos) c.requires c.args.self.now.course
-    c.preferred_final_state.new.course c.args.self.now.right c.preferred_final_state.ensures.left _ c.in-Ok-None.ensures.runs
+    exact-cost g.Input.Position.PositionType.offset (can g (goal.at.returns-in-Ok-None-clause-cost g c).Start) (g.Input.Position.PositionType.offset c.args.pos) c.requires c.args.self.now.progress
+    c.preferred_final_state.new.progress c.args.self.now.right c.preferred_final_state.ensures.left _ c.in-Ok-None.ensures.runs
 
 pub returns-after-matches-clause-cost : goal.returns-after-matches-clause-cost
 returns-after-matches-clause-cost g c =
     let self = c.args.self.now in
     let at = g.Input.Position.PositionType.offset c.args.pos in
-    let costs = AttemptCosts (tree_of self.searched.program.now) (g.Input.InputIndexer.text self.searched.input) (failures_of self.course.memo) at in
-    let new = c.preferred_final_state.new.course in
+    let costs = AttemptCosts (tree_of self.searched.program.now) (g.Input.InputIndexer.text self.searched.input) (failures_of self.progress.memo) at in
+    let new = c.preferred_final_state.new.progress in
     elim c.match-matches.branch [
-      | in-Work w ↦ stops-out costs self.course.left _ new.left w.self-is
-          (more-than-left g.Input.Position.PositionType.offset (can g (goal.at.returns-after-matches-clause-cost g c).Start) at c.requires self.course new self.right
+      | in-Work w ↦ stops-out costs self.progress.left _ new.left w.self-is
+          (more-than-left g.Input.Position.PositionType.offset (can g (goal.at.returns-after-matches-clause-cost g c).Start) at c.requires self.progress new self.right
           c.in-Err.refusal c.in-Err.ensures.runs w.in-Work.is)
-      | in_default w ↦ stops-without costs self.course.left _ new.left w.self-is c.preferred_final_state.ensures.left
+      | in_default w ↦ stops-without costs self.progress.left _ new.left w.self-is c.preferred_final_state.ensures.left
     ]

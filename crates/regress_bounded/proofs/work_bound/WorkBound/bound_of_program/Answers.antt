@@ -2,12 +2,12 @@ use Rattle.std.proofs.Common.{◌≡◌, ◌≤◌, ◌^◌, ℕ, ◌+◌, ◌-�
 use Rattle.std.specs.Prelude.{IfSome, IsSome, slice_get, None}
 use Rattle.regex_meaning.specs.CompilationRelation.{Program}
 use Rattle.regex_pattern_front.specs.AstToSpecTree.{tree_of}
-use Rattle.regress_memo.specs.EquivalenceAfterSkippingSucceedingLookarounds.{lookaround_at}
+use Rattle.regress_memo.specs.SkippedLookarounds.{lookaround_at}
 use Rattle.regress_program.specs.CompilationOfTreesAsFunction.{compiled}
 use Rattle.regress_memo.specs.WorkBound.{IsWorkBounded, work_per_position}
 use Rattle.regress_memo.specs.Successors.{AreInsnsOfProgram}
 use Rattle.regress_memo.specs.CheckedAnalysis.{IsAnalysisOf}
-use Rattle.regress_bounded.specs.ProgramWorkBoundForAllMatches.{HasBound, most_memo_codes_per_insn, program_size, size_of_insn, work_per_unit}
+use Rattle.regress_bounded.specs.WorkBoundForAllMatches.{HasBound, most_memo_codes_per_insn, program_size, size_of_insn, work_per_unit}
 use Rattle.regress_bounded.proofs.Sizes.{few-by}
 use Rattle.regress_bounded.proofs.work_bound.WorkBound.bound_of_program.Goals as goal
 

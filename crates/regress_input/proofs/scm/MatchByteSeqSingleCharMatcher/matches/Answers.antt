@@ -15,11 +15,11 @@ returns-then-ARE_BYTES g c =
     let literal = c.args.self.now.0.now in
     let d = direction_of_forward_flag g.Dir.Direction.FORWARD in
     let at = g.Input.Position.PositionType.offset c.args.pos.now in
-    let one = c.requires.can.1 in
+    let one = c.requires.executable.1 in
     let are : g.Input.Units.CodeUnitEncoding.ARE_BYTES ≡ true = sym c.ARE_BYTES.ensures ∙ c.if-ARE_BYTES.true in
     c.match_bytes.ensures
     ∙ ap (λ (b : Bool). read_if_units_are_bytes b (past_bytes_if_next (bytes_of text) literal d at)) are
     ∙ literal_accepts text (laws.is_text input) (laws.in_utf8 input are) literal one.0 one.1 one.2 d at c.requires.at
 
 pub shared_whole_as_slice-match_bytes : goal.shared_whole_as_slice-match_bytes
-shared_whole_as_slice-match_bytes g c = omega (arith, c.requires.can.0)
+shared_whole_as_slice-match_bytes g c = omega (arith, c.requires.executable.0)

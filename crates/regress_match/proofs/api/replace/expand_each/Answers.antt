@@ -22,14 +22,14 @@ loop-item-init g c =
           ∙ ap (λ (it : RemainingView). replaced text 0 (matches_with_expansions text replacement it.answers)) c.into_iter-item-iterator.ensures.into_iter_gives;
     }
 
-pub append_unmatched_text_up_to_match-requires-clause-rising : goal.append_unmatched_text_up_to_match-requires-clause-rising
-append_unmatched_text_up_to_match-requires-clause-rising g c = (takes-next _ _ _ _ _ _ c.in_ok-found.found c.loop-item.invariant.reached c.in-Some.ensures.steps c.in_ok-found.was).before.0
+pub append_text_before_match-requires-clause-rising : goal.append_text_before_match-requires-clause-rising
+append_text_before_match-requires-clause-rising g c = (takes-next _ _ _ _ _ _ c.in_ok-found.found c.loop-item.invariant.reached c.in-Some.ensures.steps c.in_ok-found.was).before.0
 
-pub append_unmatched_text_up_to_match-requires-clause-boundary : goal.append_unmatched_text_up_to_match-requires-clause-boundary
-append_unmatched_text_up_to_match-requires-clause-boundary g c = c.loop-item.invariant.reached.boundary
+pub append_text_before_match-requires-clause-boundary : goal.append_text_before_match-requires-clause-boundary
+append_text_before_match-requires-clause-boundary g c = c.loop-item.invariant.reached.boundary
 
-pub append_unmatched_text_up_to_match-requires-clause-fits : goal.append_unmatched_text_up_to_match-requires-clause-fits
-append_unmatched_text_up_to_match-requires-clause-fits g c = (takes-next _ _ _ _ _ _ c.in_ok-found.found c.loop-item.invariant.reached c.in-Some.ensures.steps c.in_ok-found.was).fits
+pub append_text_before_match-requires-clause-fits : goal.append_text_before_match-requires-clause-fits
+append_text_before_match-requires-clause-fits g c = (takes-next _ _ _ _ _ _ c.in_ok-found.found c.loop-item.invariant.reached c.in-Some.ensures.steps c.in_ok-found.was).fits
 
 -- what holds once a match is expanded
 written : (g : Over) (c : In_ok-expand g)
@@ -39,7 +39,7 @@ written : (g : Over) (c : In_ok-expand g)
 written g c =
     let takes = takes-next c.args.text.now _ _ c.loop-item.item-iterator c.next.new.self _ c.in_ok-found.found c.loop-item.invariant.reached c.in-Some.ensures.steps c.in_ok-found.was in (
       takes.reached c.in_ok-from.from c.in_ok-from.ensures.behind,
-      replaced-more c.args.text.now (λ m. expansion c.args.text.now m c.args.replacement.now) (string_bytes c.loop-item.made) (string_bytes c.append_unmatched_text_up_to_match.new.made) (string_bytes c.expand.new.out) _ c.loop-item.from c.in_ok-from.from
+      replaced-more c.args.text.now (λ m. expansion c.args.text.now m c.args.replacement.now) (string_bytes c.loop-item.made) (string_bytes c.append_text_before_match.new.made) (string_bytes c.expand.new.out) _ c.loop-item.from c.in_ok-from.from
           c.loop-item.item-iterator.answers c.next.new.self.answers _ c.loop-item.invariant.begun takes.next c.in_ok-from.ensures.made c.in_ok-expand.ensures c.in_ok-from.ensures.behind,
     )
 

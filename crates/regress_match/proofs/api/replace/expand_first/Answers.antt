@@ -15,15 +15,15 @@ returns-in_default-clause-made g c =
     replaced-end c.args.text.now (λ m. expansion c.args.text.now m c.args.replacement.now) [] _ _ 0 (take 1 c.args.matches.answers) refl (ap (take 1) c.in_default.ensures.steps.0)
     (c.in_ok-append_rest.ensures ∙ ap (λ bs. bs ++ drop 0 c.args.text.now) c.new-made.ensures.bytes)
 
-pub append_unmatched_text_up_to_match-requires-clause-rising : goal.append_unmatched_text_up_to_match-requires-clause-rising
-append_unmatched_text_up_to_match-requires-clause-rising g c =
+pub append_text_before_match-requires-clause-rising : goal.append_text_before_match-requires-clause-rising
+append_text_before_match-requires-clause-rising g c =
     (takes-next _ _ _ _ _ _ c.in_ok-found.found (reached-none c.args.text.now 0 c.args.matches c.args.matches c.utf8.text c.requires refl) c.in-Some.ensures.steps c.in_ok-found.was).before.0
 
-pub append_unmatched_text_up_to_match-requires-clause-boundary : goal.append_unmatched_text_up_to_match-requires-clause-boundary
-append_unmatched_text_up_to_match-requires-clause-boundary g c = IsCharBoundary-start c.args.text.now c.utf8.text
+pub append_text_before_match-requires-clause-boundary : goal.append_text_before_match-requires-clause-boundary
+append_text_before_match-requires-clause-boundary g c = IsCharBoundary-start c.args.text.now c.utf8.text
 
-pub append_unmatched_text_up_to_match-requires-clause-fits : goal.append_unmatched_text_up_to_match-requires-clause-fits
-append_unmatched_text_up_to_match-requires-clause-fits g c =
+pub append_text_before_match-requires-clause-fits : goal.append_text_before_match-requires-clause-fits
+append_text_before_match-requires-clause-fits g c =
     (takes-next _ _ _ _ _ _ c.in_ok-found.found (reached-none c.args.text.now 0 c.args.matches c.args.matches c.utf8.text c.requires refl) c.in-Some.ensures.steps c.in_ok-found.was).fits
 
 pub returns-clause-made : goal.returns-clause-made
@@ -33,6 +33,6 @@ returns-clause-made g c =
     let replacement = c.args.replacement.now in
     let all = take 1 c.args.matches.answers in
     let made = c.in_ok-from.ensures.made ∙ ap (λ bs. bs ++ slice_range text 0 c.in_ok-found.found.range.start) c.new-made.ensures.bytes in
-    let more = replaced-more text (λ m. expansion text m replacement) [] (string_bytes c.append_unmatched_text_up_to_match.new.made) (string_bytes c.expand.new.out) (replaced text 0 (matches_with_expansions text replacement all)) 0 c.in_ok-from.from all []
+    let more = replaced-more text (λ m. expansion text m replacement) [] (string_bytes c.append_text_before_match.new.made) (string_bytes c.expand.new.out) (replaced text 0 (matches_with_expansions text replacement all)) 0 c.in_ok-from.from all []
     (answer_of c.in_ok-found.found) refl (ap (take 1) takes.next) made c.in_ok-expand.ensures c.in_ok-from.ensures.behind in
     replaced-end text (λ m. expansion text m replacement) (string_bytes c.expand.new.out) _ (replaced text 0 (matches_with_expansions text replacement all)) c.in_ok-from.from [] more refl c.in_ok-append_rest-2.ensures

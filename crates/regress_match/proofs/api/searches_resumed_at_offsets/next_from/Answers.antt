@@ -6,15 +6,15 @@ use Rattle.regress_match.specs.Resuming.{ResumesFrom, FindsNext}
 use Rattle.regress_match.proofs.ResumingLemmas.{none-over, past-over, place-is, place-none, refused-from, steps-to}
 use Rattle.regress_match.proofs.api.searches_resumed_at_offsets.next_from.Goals as goal
 
-pub returns-in_default-clause-goes : goal.returns-in_default-clause-goes
-returns-in_default-clause-goes g c =
+pub returns-in_default-clause-continues : goal.returns-in_default-clause-continues
+returns-in_default-clause-continues g c =
     let search = c.args.search.now in
     let offset = g.E.Input.Position.PositionType.offset in
     past-over (g.E.SingleAttemptExecutor.tree search) (g.E.SingleAttemptExecutor.text search) (g.met.E.SingleAttemptExecutor.is_text search) (g.E.SingleAttemptExecutor.budget search) c.args.start
     (place-none offset c.initial_position.result (units (g.E.SingleAttemptExecutor.text search)) c.args.start c.in_default.is c.initial_position.ensures)
 
-pub returns-in_err-found-clause-goes : goal.returns-in_err-found-clause-goes
-returns-in_err-found-clause-goes g c =
+pub returns-in_err-found-clause-continues : goal.returns-in_err-found-clause-continues
+returns-in_err-found-clause-continues g c =
     let search = c.args.search.now in
     let offset = g.E.Input.Position.PositionType.offset in
     let tree = g.E.SingleAttemptExecutor.tree search in
@@ -24,8 +24,8 @@ returns-in_err-found-clause-goes g c =
     (refused-from tree text (g.met.E.SingleAttemptExecutor.is_text search) (Option Match) (g.E.SingleAttemptExecutor.budget search) (offset c.in-Some.pos) c.in_err-found.field-0.0
     (g.E.SingleAttemptExecutor.budget c.next_match.new.self) c.from_residual.result c.from_residual.ensures.1 c.in_err-found.ensures.steps)
 
-pub returns-in_default-2-clause-goes : goal.returns-in_default-2-clause-goes
-returns-in_default-2-clause-goes g c =
+pub returns-in_default-2-clause-continues : goal.returns-in_default-2-clause-continues
+returns-in_default-2-clause-continues g c =
     let search = c.args.search.now in
     let offset = g.E.Input.Position.PositionType.offset in
     let tree = g.E.SingleAttemptExecutor.tree search in
@@ -35,8 +35,8 @@ returns-in_default-2-clause-goes g c =
     (none-over tree text (g.met.E.SingleAttemptExecutor.is_text search) (g.E.SingleAttemptExecutor.budget search) (offset c.in-Some.pos) c.in_ok-found.field-0
     (g.E.SingleAttemptExecutor.budget c.next_match.new.self) (rw c.in_default-2.is at c.in_ok-found.ensures.found.0) c.in_ok-found.ensures.steps)
 
-pub returns-clause-goes : goal.returns-clause-goes
-returns-clause-goes g c =
+pub returns-clause-continues : goal.returns-clause-continues
+returns-clause-continues g c =
     let search = c.args.search.now in
     let offset = g.E.Input.Position.PositionType.offset in
     let tree = g.E.SingleAttemptExecutor.tree search in

@@ -1,5 +1,5 @@
 use Rattle.std.proofs.Common.{ℕ, arith}
-use Rattle.regress_memo.specs.AnalysisAsLivenessAndPotentials.{count_bound_of}
+use Rattle.regress_memo.specs.AnalysisAsPotentials.{count_bound_of}
 use Rattle.regress_memo.proofs.Digits.{few-next}
 use Rattle.regress_memo.proofs.analysis_result.MemoAnalysis.code_count_at.Goals as goal
 

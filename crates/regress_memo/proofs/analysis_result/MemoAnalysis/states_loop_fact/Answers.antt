@@ -1,6 +1,6 @@
 use Rattle.std.proofs.Common.{◌≡◌, true, subst, sym, ◌∙◌}
 use Rattle.std.proofs.lemmas.Option.{slice_get-get_or}
-use Rattle.regress_memo.specs.AnalysisAsLivenessAndPotentials.{states_loop_fact}
+use Rattle.regress_memo.specs.AnalysisAsPotentials.{states_loop_fact}
 use Rattle.regress_memo.proofs.AnalysisRows.{holds-there}
 use Rattle.regress_memo.proofs.analysis_result.MemoAnalysis.states_loop_fact.Goals as goal
 

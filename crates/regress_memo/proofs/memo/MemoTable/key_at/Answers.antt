@@ -2,7 +2,7 @@ use Rattle.std.proofs.Common.{◌≡◌, ◌<◌, Some, subst, ap, ◌∙◌, ar
 use Rattle.std.specs.Arc.{arc_value}
 use Rattle.std.proofs.lemmas.Bool.{not-false}
 use Rattle.regress_memo.specs.LoopDataKeyCodes.{code_of}
-use Rattle.regress_memo.specs.AnalysisAsLivenessAndPotentials.{insn_analysis_of, key_code_questions_of}
+use Rattle.regress_memo.specs.AnalysisAsPotentials.{insn_analysis_of, key_code_questions_of}
 use Rattle.regress_memo.specs.CheckedAnalysis.{IsRecordableMemoKey}
 use Rattle.regress_memo.specs.MemoContractView.{MemoView}
 use Rattle.regress_memo.specs.MemoContents.{memo_key_at as key_of_state}

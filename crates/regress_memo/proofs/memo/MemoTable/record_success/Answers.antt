@@ -1,6 +1,6 @@
 use Rattle.std.proofs.Common.{◌≡◌, true, sym, subst, ap, ◌∙◌}
 use Rattle.std.specs.Arc.{arc_value}
-use Rattle.regress_memo.specs.AnalysisAsLivenessAndPotentials.{memo_bit_index_of_key}
+use Rattle.regress_memo.specs.AnalysisAsPotentials.{memo_bit_index_of_key}
 use Rattle.regress_memo.specs.CheckedAnalysis.{IsRecordableMemoKey}
 use Rattle.regress_memo.specs.MemoContractView.{MemoView}
 use Rattle.regress_memo.specs.MemoContents.{memo_key_as_spec, RecordsSuccess}

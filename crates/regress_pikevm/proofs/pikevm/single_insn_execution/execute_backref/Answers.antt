@@ -10,4 +10,4 @@ returns g c =
     let text = g.Input.InputIndexer.text c.args.searched.now.input in
     let offset = g.Input.Position.PositionType.offset in
     by-index (range_of offset) c.args.state.groups.items c.args.group c.index-range.result.now
-    (λ range. read_group text (sameness_of c.args.same) (direction_of_forward_flag g.Dir.Direction.FORWARD) range (state_of offset c.args.state)) _ c.index-range.ensures c.requires.can c.match_range_again.ensures
+    (λ range. read_group text (sameness_of c.args.same) (direction_of_forward_flag g.Dir.Direction.FORWARD) range (state_of offset c.args.state)) _ c.index-range.ensures c.requires.executable c.match_range_again.ensures

@@ -2,7 +2,7 @@ use Rattle.std.proofs.Common.{◌≡◌, ◌∙◌, ◌+◌, ap, sym, Bool, true
 use Rattle.regex_pattern_front.specs.AstToSpecTree.{tree_of}
 use Rattle.regress_input.specs.CharAndByteReadsFromOffset.{end_if_matched, direction_of_forward_flag}
 use Rattle.regress_program.specs.CompilationOfTreesAsFunction.{compiled}
-use Rattle.regress_program.specs.InsnsAndStartPredicatesAsSpec.{insn_as_spec_insn}
+use Rattle.regress_program.specs.InsnsAsSpec.{insn_as_spec_insn}
 use Rattle.regress_machine.specs.Machine as machine
 use Rattle.regress_machine.specs.Machine.{go_if}
 use Rattle.regress_pikevm.specs.States.{state_of}
@@ -12,12 +12,12 @@ use Rattle.regress_pikevm.proofs.pikevm.single_insn_execution.execute_test.Given
 use Rattle.regress_pikevm.proofs.pikevm.single_insn_execution.execute_test.Goals.{After-read_or_assertion_insn_matches}
 use Rattle.regress_pikevm.proofs.pikevm.single_insn_execution.execute_test.Goals as goal
 
-pub read_or_assertion_insn_matches-requires-clause-can : goal.read_or_assertion_insn_matches-requires-clause-can
-read_or_assertion_insn_matches-requires-clause-can g c =
+pub read_or_assertion_insn_matches-requires-clause-executable : goal.read_or_assertion_insn_matches-requires-clause-executable
+read_or_assertion_insn_matches-requires-clause-executable g c =
     let searched = c.args.searched.now in
     let text = g.Input.InputIndexer.text searched.input in
     turn-leads (compiled (tree_of searched.program.now)) text (g.met.Input.InputIndexer.is_text searched.input) (direction_of_forward_flag g.Dir.Direction.FORWARD)
-    (insn_as_spec_insn c.args.insn) (state_of g.Input.Position.PositionType.offset c.args.state) c.requires.can c.requires.reader
+    (insn_as_spec_insn c.args.insn) (state_of g.Input.Position.PositionType.offset c.args.state) c.requires.executable c.requires.reader
 
 -- where it goes, by whether the instruction passes
 passed : (g : Over) (c : After-read_or_assertion_insn_matches g) (b : Bool) → c.read_or_assertion_insn_matches.result ≡ b
@@ -30,7 +30,7 @@ passed g c b is =
     let offset = g.Input.Position.PositionType.offset in
     let to = offset c.read_or_assertion_insn_matches.new.pos in
     turn-passes (compiled (tree_of searched.program.now)) (g.Input.InputIndexer.text searched.input) (g.met.Input.InputIndexer.is_text searched.input)
-    (direction_of_forward_flag g.Dir.Direction.FORWARD) (insn_as_spec_insn c.args.insn) (state_of offset c.args.state) b to c.requires.can c.requires.reader
+    (direction_of_forward_flag g.Dir.Direction.FORWARD) (insn_as_spec_insn c.args.insn) (state_of offset c.args.state) b to c.requires.executable c.requires.reader
     (λ literal. (c.requires.bytes literal).reads) c.requires.inside (ap (λ b. Some (end_if_matched b to)) (sym is) ∙ c.read_or_assertion_insn_matches.ensures)
 
 pub returns-then-read_or_assertion_insn_matches : goal.returns-then-read_or_assertion_insn_matches

@@ -17,7 +17,7 @@ returns-in_default g c =
     let offset = g.Input.Position.PositionType.offset in
     let d = direction_of_forward_flag g.Dir.Direction.FORWARD in
     let s = state_of offset c.args.state in
-    let can = subst (λ r. IsNotStuck (read_group text (sameness_of c.args.same) d (range_of offset r) s)) c.in_default.is c.requires.can in
+    let can = subst (λ r. IsNotStuck (read_group text (sameness_of c.args.same) d (range_of offset r) s)) c.in_default.is c.requires.executable in
     nothing-read text (g.met.Input.InputIndexer.is_text c.args.searched.now.input) (sameness_of c.args.same) d s can ∙ ap (λ r. read_group text (sameness_of c.args.same) d (range_of offset r) s) (sym c.in_default.is)
 
 -- where it goes, by whether they stand there
@@ -31,7 +31,7 @@ again g c b stands =
     let offset = g.Input.Position.PositionType.offset in
     let d = direction_of_forward_flag g.Dir.Direction.FORWARD in
     let s = state_of offset c.args.state in
-    let can = subst (λ r. IsNotStuck (read_group text (sameness_of c.args.same) d (range_of offset r) s)) c.in-Some.is c.requires.can in
+    let can = subst (λ r. IsNotStuck (read_group text (sameness_of c.args.same) d (range_of offset r) s)) c.in-Some.is c.requires.executable in
     let to = offset c.backref_matches.new.pos in
     group-read text (g.met.Input.InputIndexer.is_text c.args.searched.now.input) (sameness_of c.args.same) d (offset c.in-Some.span.0) (offset c.in-Some.span.1) s b to can
     (ap (λ b. end_if_matched b to) (sym stands) ∙ c.backref_matches.ensures) ∙ ap (λ r. read_group text (sameness_of c.args.same) d (range_of offset r) s) (sym c.in-Some.is)

@@ -4,7 +4,7 @@ use Rattle.regex_meaning.specs.CodeUnitOffsets.{place_at}
 use Rattle.regex_pattern_front.specs.AstToSpecTree.{tree_of}
 use Rattle.regress_input.specs.CharAndByteReadsFromOffset.{direction_of_forward_flag}
 use Rattle.regress_program.specs.CompilationOfTreesAsFunction.{compiled}
-use Rattle.regress_program.specs.InsnsAndStartPredicatesAsSpec.{insn_as_spec_insn}
+use Rattle.regress_program.specs.InsnsAsSpec.{insn_as_spec_insn}
 use Rattle.regress_machine.specs.Machine.{act_on, loop_again_effect, with_some, test_of, scan}
 use Rattle.regress_pikevm.specs.States.{state_of, next_threads}
 use Rattle.regress_machine.specs.InsnEffects.{IsNotStuck}
@@ -13,8 +13,8 @@ use Rattle.regress_machine.proofs.Fetched.{again-some, fetched-some}
 use Rattle.regress_pikevm.proofs.Fetching.{insn-behind, fits-behind}
 use Rattle.regress_pikevm.proofs.pikevm.single_insn_execution.perform.Goals as goal
 
-pub execute_test-requires-clause-can : goal.execute_test-requires-clause-can
-execute_test-requires-clause-can g c = c.requires.can
+pub execute_test-requires-clause-executable : goal.execute_test-requires-clause-executable
+execute_test-requires-clause-executable g c = c.requires.executable
 
 pub execute_test-requires-clause-bytes : goal.execute_test-requires-clause-bytes
 execute_test-requires-clause-bytes g c = c.requires.bytes
@@ -33,7 +33,7 @@ returns-in-LoopAgain g c =
     let d = direction_of_forward_flag g.Dir.Direction.FORWARD in
     let s = state_of offset c.args.state in
     let begin = c.in-LoopAgain.begin in
-    let can = subst (λ i. IsNotStuck (act_on program text d (Some (insn_as_spec_insn i)) s)) c.in-LoopAgain.is c.requires.can in
+    let can = subst (λ i. IsNotStuck (act_on program text d (Some (insn_as_spec_insn i)) s)) c.in-LoopAgain.is c.requires.executable in
     let there = again-some (slice_get program.insns begin) begin s can in
     let head = fetched-some insn_as_spec_insn c.args.insns.now program.insns begin c.index-insns-begin.result c.index-insns-begin.is c.requires.code there in
     subst (λ i. IfOk c.end_body.result (λ t. next_threads offset t ≡ act_on program text d (Some (insn_as_spec_insn i)) s)) (sym c.in-LoopAgain.is)
@@ -43,7 +43,7 @@ pub execute_char_loop-requires-clause-bytes : goal.execute_char_loop-requires-cl
 execute_char_loop-requires-clause-bytes g c = λ literal.
     let re = c.args.searched.now.program.now in
     let s = state_of g.Input.Position.PositionType.offset c.args.state in
-    let can = subst (λ i. IsNotStuck (act_on (compiled (tree_of re)) (g.Input.InputIndexer.text c.args.searched.now.input) (direction_of_forward_flag g.Dir.Direction.FORWARD) (Some (insn_as_spec_insn i)) s)) c.in-Loop1CharBody.is c.requires.can in
+    let can = subst (λ i. IsNotStuck (act_on (compiled (tree_of re)) (g.Input.InputIndexer.text c.args.searched.now.input) (direction_of_forward_flag g.Dir.Direction.FORWARD) (Some (insn_as_spec_insn i)) s)) c.in-Loop1CharBody.is c.requires.executable in
     let is = insn-behind re c.args.insns.now c.requires.code (s.ip + 1) _ can c.index-insns-state.result c.index-insns-state.is in
     c.args.searched.now.bytes (literal-reads (tree_of re) (s.ip + 1) (insn_as_spec_insn c.index-insns-state.result) is literal)
 
@@ -52,7 +52,7 @@ execute_char_loop-requires-clause-within g c =
     let short : length c.args.insns.now < 2 ^ 64 = search rules in
     let s = state_of g.Input.Position.PositionType.offset c.args.state in
     let re = c.args.searched.now.program.now in
-    let can = subst (λ i. IsNotStuck (act_on (compiled (tree_of re)) (g.Input.InputIndexer.text c.args.searched.now.input) (direction_of_forward_flag g.Dir.Direction.FORWARD) (Some (insn_as_spec_insn i)) s)) c.in-Loop1CharBody.is c.requires.can in
+    let can = subst (λ i. IsNotStuck (act_on (compiled (tree_of re)) (g.Input.InputIndexer.text c.args.searched.now.input) (direction_of_forward_flag g.Dir.Direction.FORWARD) (Some (insn_as_spec_insn i)) s)) c.in-Loop1CharBody.is c.requires.executable in
     let below = fits-behind re c.args.insns.now c.requires.code (s.ip + 1) _ can short in
     omega (arith, below)
 
@@ -64,7 +64,7 @@ returns-in-Loop1CharBody g c =
     let d = direction_of_forward_flag g.Dir.Direction.FORWARD in
     let offset = g.Input.Position.PositionType.offset in
     let s = state_of offset c.args.state in
-    let can = subst (λ i. IsNotStuck (act_on program text d (Some (insn_as_spec_insn i)) s)) c.in-Loop1CharBody.is c.requires.can in
+    let can = subst (λ i. IsNotStuck (act_on program text d (Some (insn_as_spec_insn i)) s)) c.in-Loop1CharBody.is c.requires.executable in
     let body = insn-behind re c.args.insns.now c.requires.code (s.ip + 1) _ can c.index-insns-state.result c.index-insns-state.is in
     subst (λ i. IfOk c.execute_char_loop.result (λ t. next_threads offset t ≡ act_on program text d (Some (insn_as_spec_insn i)) s)) (sym c.in-Loop1CharBody.is)
     (subst (λ o. IfOk c.execute_char_loop.result (λ t. next_threads offset t ≡ with_some (test_of program o) (λ test. with_some (place_at text s.pos) (λ p.

@@ -2,5 +2,5 @@ use Rattle.regex_pattern_front.specs.AstToSpecTree.{node_of}
 use Rattle.regress_program.proofs.IdLemmas.{unseen_stand}
 use Rattle.regress_program.proofs.emit.group_id_and_range_check.group_id_span_if_ids_valid.Goals as goal
 
-pub returns-in-Some-clause-stand : goal.returns-in-Some-clause-stand
-returns-in-Some-clause-stand c = unseen_stand (node_of c.args.root.now) _ c.in-Some.ensures.stand
+pub returns-in-Some-clause-in_text : goal.returns-in-Some-clause-in_text
+returns-in-Some-clause-in_text c = unseen_stand (node_of c.args.root.now) _ c.in-Some.ensures.in_text

@@ -3,5 +3,5 @@ use Rattle.regex_pattern_front.specs.AstToSpecTree.{node_of}
 use Rattle.regress_program.proofs.IdLemmas.{none_stand}
 use Rattle.regress_program.proofs.emit.group_id_and_range_check.span_of_many.Goals as goal
 
-pub returns-clause-stand : goal.returns-clause-stand
-returns-clause-stand c = c.span_in.ensures.stand ∙ none_stand (node_of c.args.root.now)
+pub returns-clause-in_text : goal.returns-clause-in_text
+returns-clause-in_text c = c.span_in.ensures.in_text ∙ none_stand (node_of c.args.root.now)

@@ -2,7 +2,7 @@ use Rattle.std.proofs.Common.{◌≡◌, ◌≤◌, true, false, length, ◌∙�
 use Rattle.regex_meaning.specs.Tree.{group_ids}
 use Rattle.regex_meaning.proofs.WellFormedLemmas.{clauses}
 use Rattle.regex_pattern_front.specs.AstToSpecTree.{node_of}
-use Rattle.regress_program.specs.GroupIdsInWellFormednessCheck.{id_end, group_ids_distinct_and_ranges_exact}
+use Rattle.regress_program.specs.GroupIdCheck.{id_end, has_exact_group_ids}
 use Rattle.regress_program.proofs.IdLemmas.{sound_is_well_formed, well_formed_is_sound, well_formed_is_found, well_formed_has_room, few_ids}
 use Rattle.regress_program.proofs.IdLemmas.{false_is_true}
 use Rattle.regress_program.proofs.emit.well_formedness_check.is_root_well_formed.Goals as goal
@@ -16,19 +16,19 @@ returns-then-not-is_goal_last c = (
 pub returns-in_default : goal.returns-in_default
 returns-in_default c =
     let root = node_of c.args.root.now in
-    (λ h. absurd (false_is_true h), λ w. absurd (false_is_true (c.in_default.ensures.stand ∙ well_formed_is_found root (λ k. false) (λ k. refl) w)))
+    (λ h. absurd (false_is_true h), λ w. absurd (false_is_true (c.in_default.ensures.in_text ∙ well_formed_is_found root (λ k. false) (λ k. refl) w)))
 
 pub returns-then-span : goal.returns-then-span
 returns-then-span c =
     let root = node_of c.args.root.now in
     let span = c.in-Some.ensures.span in
-    let few = few_ids root (λ k. false) _ c.in-Some.ensures.stand (omega (arith, ap (λ s. s.high) span, c.in-Some.ensures.high)) in
+    let few = few_ids root (λ k. false) _ c.in-Some.ensures.in_text (omega (arith, ap (λ s. s.high) span, c.in-Some.ensures.high)) in
     (λ h. absurd (false_is_true h), λ w. absurd (omega (arith, well_formed_has_room root w, few, ap (λ s. s.high) span, ap (λ s. s.count) span, c.if-span.true)))
 
 pub returns : goal.returns
 returns c =
     let root = node_of c.args.root.now in
-    let found = c.in-Some.ensures.stand in
+    let found = c.in-Some.ensures.in_text in
     let span = c.in-Some.ensures.span in
     let few = few_ids root (λ k. false) _ found (omega (arith, ap (λ s. s.high) span, c.in-Some.ensures.high)) in
     let count : c.in-Some.span.count ≡ length (group_ids root) = omega (arith, few, ap (λ s. s.count) span) in

@@ -1,5 +1,5 @@
 use Rattle.std.proofs.Common.{rules, get_or, refl, ap, ◌∙◌, arith}
-use Rattle.regress_program.specs.RequiredPrefixAnalysis.{low_bits_followed_by_shifted_mask}
+use Rattle.regress_program.specs.RequiredPrefixAnalysis.{joined_masks}
 use Rattle.regress_program.proofs.PrefixLemmas.{change-none, change-next, then-of}
 use Rattle.regress_program.proofs.required_prefix_types.Prefix.add_prefix.Goals as goal
 
@@ -11,7 +11,7 @@ loop-key-preserved c = (
   c.loop-key.invariant.0,
   change-next c.args.self.now.masks c.loop-key.self.masks _ c.loop-key.key c.join_masks.result c.loop-key.invariant.1 c.loop-key-test.true
       (c.join_masks.ensures
-      ∙ ap (λ len. low_bits_followed_by_shifted_mask (get_or c.loop-key.self.masks c.loop-key.key 0) len (get_or c.args.behind.now.masks c.loop-key.key 0)) c.loop-key.invariant.0),
+      ∙ ap (λ len. joined_masks (get_or c.loop-key.self.masks c.loop-key.key 0) len (get_or c.args.behind.now.masks c.loop-key.key 0)) c.loop-key.invariant.0),
 )
 
 pub returns : goal.returns

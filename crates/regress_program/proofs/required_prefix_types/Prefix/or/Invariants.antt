@@ -1,7 +1,7 @@
 use Rattle.std.proofs.Common.{bit_and, get_or}
-use Rattle.regress_program.specs.RequiredPrefixAnalysis.{low_bits_followed_by_shifted_mask}
+use Rattle.regress_program.specs.RequiredPrefixAnalysis.{joined_masks}
 use Rattle.regress_program.proofs.PrefixLemmas.{AreChanged}
 use Rattle.regress_program.proofs.required_prefix_types.Prefix.or.Given as goal
 
 abbrev pub invariant-loop-key : goal.invariant-loop-key
-invariant-loop-key l = AreChanged l.fn.self.masks l.self.masks (λ k mask. low_bits_followed_by_shifted_mask (bit_and mask (get_or l.other.masks k 0)) l.len 65535) l.key
+invariant-loop-key l = AreChanged l.fn.self.masks l.self.masks (λ k mask. joined_masks (bit_and mask (get_or l.other.masks k 0)) l.len 65535) l.key

@@ -2,10 +2,10 @@ use Rattle.std.proofs.Common.{◌≡◌, ◌+◌, ◌<◌, ◌∙◌, ap, sym, a
 use Rattle.regex_meaning.specs.Tree.{alt}
 use Rattle.regex_meaning.specs.StartPredicate.{abstract_start_predicate}
 use Rattle.regex_pattern_front.specs.AstToSpecTree.{node_of}
-use Rattle.regress_program.specs.JoinedStartPredicatesOfAlternatives.{abstract_start_predicate_as_spec, join_alternative_starts_skipping_empty}
-use Rattle.regress_program.specs.JoinedStartPredicatesOfAlternatives.{join_starts_empty_node_as_anything}
+use Rattle.regress_program.specs.JoinedStarts.{abstract_start_as_spec, join_nonempty_starts}
+use Rattle.regress_program.specs.JoinedStarts.{join_starts_of_alternatives}
 use Rattle.regress_program.specs.LeafNodesAndOptimizableLoops.{cat_of}
-use Rattle.regress_program.specs.StartPredicatesAndWhenTheyAllocate.{making_node_start_predicate_may_allocate}
+use Rattle.regress_program.specs.StartPredicates.{making_node_start_predicate_may_allocate}
 use Rattle.regress_program.proofs.BeginningLemmas.{arms-after, arms-next, quiet-arms}
 use Rattle.regress_program.proofs.NodeLemmas.{node_of-Cat}
 use Rattle.regress_program.proofs.Weights.{inner_node_count, weight-child}
@@ -25,11 +25,11 @@ unfolding node_of
 join_node-returns-in_ok-join_arms-in-Alt-clause-shared t c =
     let l = node_of c.in-Alt.left.value in
     let r = node_of c.in-Alt.right.value in
-    let shared = abstract_start_predicate_as_spec c.args.shared.now in
+    let shared = abstract_start_as_spec c.args.shared.now in
     let is : node_of c.args.node.now ≡ alt l r = ap node_of c.in-Alt.is in
-    let arms : abstract_start_predicate_as_spec c.join_arms.new.shared ≡ join_starts_empty_node_as_anything (join_starts_empty_node_as_anything shared (abstract_start_predicate l)) (abstract_start_predicate r) =
+    let arms : abstract_start_as_spec c.join_arms.new.shared ≡ join_starts_of_alternatives (join_starts_of_alternatives shared (abstract_start_predicate l)) (abstract_start_predicate r) =
     rw (c.deref-in-Alt.ensures, c.deref-in-Alt-2.ensures) at c.in_ok-join_arms-in-Alt.ensures.shared in
-    arms ∙ arms-after shared l r ∙ sym (ap (λ n. join_alternative_starts_skipping_empty shared (abstract_start_predicate n)) is)
+    arms ∙ arms-after shared l r ∙ sym (ap (λ n. join_nonempty_starts shared (abstract_start_predicate n)) is)
 
 pub join_arms-loop-rest-preserved : goal.join_arms-loop-rest-preserved
 unfolding node_of inner_node_count
@@ -39,12 +39,12 @@ join_arms-loop-rest-preserved t c =
     let i = c.loop-rest.invariant in
     let is : node_of c.loop-rest.rest.now ≡ alt l r = ap node_of c.in-Alt.is in
     let next : node_of c.deref-rest.result.now ≡ r = ap node_of c.deref-rest.ensures in
-    let one : abstract_start_predicate_as_spec c.join_one_arm-in-Alt.new.shared ≡ join_starts_empty_node_as_anything (abstract_start_predicate_as_spec c.loop-rest.shared) (abstract_start_predicate l) = rw c.deref.ensures at c.in_ok-join_one_arm-2.ensures.shared in
+    let one : abstract_start_as_spec c.join_one_arm-in-Alt.new.shared ≡ join_starts_of_alternatives (abstract_start_as_spec c.loop-rest.shared) (abstract_start_predicate l) = rw c.deref.ensures at c.in_ok-join_one_arm-2.ensures.shared in
     let smaller : inner_node_count (node_of c.loop-rest.rest.now) ≡ inner_node_count l + inner_node_count r + 1 = ap inner_node_count is in
     record {
       within = omega (arith, ap inner_node_count next, smaller, i.within);
-      shared = ap (λ n. join_starts_empty_node_as_anything (abstract_start_predicate_as_spec c.join_one_arm-in-Alt.new.shared) (abstract_start_predicate n)) next
-          ∙ arms-next _ _ _ l r one (ap (λ n. join_starts_empty_node_as_anything (abstract_start_predicate_as_spec c.loop-rest.shared) (abstract_start_predicate n)) (sym is) ∙ i.shared);
+      shared = ap (λ n. join_starts_of_alternatives (abstract_start_as_spec c.join_one_arm-in-Alt.new.shared) (abstract_start_predicate n)) next
+          ∙ arms-next _ _ _ l r one (ap (λ n. join_starts_of_alternatives (abstract_start_as_spec c.loop-rest.shared) (abstract_start_predicate n)) (sym is) ∙ i.shared);
       no_memory = λ quiet. ap making_node_start_predicate_may_allocate next ∙ quiet-arms l r (ap making_node_start_predicate_may_allocate (sym is) ∙ i.no_memory quiet);
     }
 

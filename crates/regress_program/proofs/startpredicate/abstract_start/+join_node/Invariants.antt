@@ -1,9 +1,9 @@
 use Rattle.std.proofs.Common.{◌≡◌, ◌+◌, ◌*◌, ◌≤◌, false, drop}
 use Rattle.regex_meaning.specs.StartPredicate.{abstract_start_predicate}
 use Rattle.regex_pattern_front.specs.AstToSpecTree.{node_of}
-use Rattle.regress_program.specs.JoinedStartPredicatesOfAlternatives.{abstract_start_predicate_as_spec, join_starts_empty_node_as_anything}
+use Rattle.regress_program.specs.JoinedStarts.{abstract_start_as_spec, join_starts_of_alternatives}
 use Rattle.regress_program.specs.LeafNodesAndOptimizableLoops.{cat_of}
-use Rattle.regress_program.specs.StartPredicatesAndWhenTheyAllocate.{making_node_start_predicate_may_allocate}
+use Rattle.regress_program.specs.StartPredicates.{making_node_start_predicate_may_allocate}
 use Rattle.regress_program.proofs.Weights.{inner_node_count}
 use Rattle.regress_program.proofs.startpredicate.abstract_start.+join_node.Given as goal
 
@@ -21,7 +21,7 @@ decreases-join_one_arm l = 3 * inner_node_count (node_of l.arm.now) + 2
 
 abbrev pub invariant-join_node_list-loop-node : goal.invariant-join_node_list-loop-node
 invariant-join_node_list-loop-node l = record {
-  shared : abstract_start_predicate_as_spec l.shared ≡ abstract_start_predicate_as_spec l.initial.shared;
+  shared : abstract_start_as_spec l.shared ≡ abstract_start_as_spec l.initial.shared;
   abstract_start_predicate : abstract_start_predicate (cat_of (drop l.node-index l.nodes)) ≡ abstract_start_predicate (cat_of l.nodes);
   no_memory : making_node_start_predicate_may_allocate (cat_of l.nodes) ≡ false → making_node_start_predicate_may_allocate (cat_of (drop l.node-index l.nodes)) ≡ false;
 }
@@ -29,7 +29,7 @@ invariant-join_node_list-loop-node l = record {
 abbrev pub invariant-join_arms-loop-rest : goal.invariant-join_arms-loop-rest
 invariant-join_arms-loop-rest l = record {
   within : inner_node_count (node_of l.rest) ≤ inner_node_count (node_of l.others);
-  shared : join_starts_empty_node_as_anything (abstract_start_predicate_as_spec l.shared) (abstract_start_predicate (node_of l.rest)) ≡ join_starts_empty_node_as_anything (join_starts_empty_node_as_anything (abstract_start_predicate_as_spec l.fn.shared) (abstract_start_predicate (node_of l.first))) (abstract_start_predicate (node_of l.others));
+  shared : join_starts_of_alternatives (abstract_start_as_spec l.shared) (abstract_start_predicate (node_of l.rest)) ≡ join_starts_of_alternatives (join_starts_of_alternatives (abstract_start_as_spec l.fn.shared) (abstract_start_predicate (node_of l.first))) (abstract_start_predicate (node_of l.others));
   no_memory : making_node_start_predicate_may_allocate (node_of l.others) ≡ false → making_node_start_predicate_may_allocate (node_of l.rest) ≡ false;
 }
 

@@ -6,7 +6,7 @@ use Rattle.regress_search.proofs.FirstMatch.{read-as}
 use Rattle.regress_search.proofs.program_and_input.ProgramAndInput+Utf8Input.pair_with_utf8_text.Goals as goal
 
 pub pair_with_bytes-requires-clause-unicode : goal.pair_with_bytes-requires-clause-unicode
-pair_with_bytes-requires-clause-unicode c = read-as c.new.ensures refl c.flags.ensures c.program_common_to_both_unit_kinds.ensures
+pair_with_bytes-requires-clause-unicode c = read-as c.new.ensures refl c.flags.ensures c.common_program.ensures
 
 pub pair_with_bytes-requires-clause-bytes : goal.pair_with_bytes-requires-clause-bytes
 pair_with_bytes-requires-clause-bytes c = record {

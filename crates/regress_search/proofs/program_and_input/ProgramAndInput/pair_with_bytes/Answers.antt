@@ -1,12 +1,12 @@
 use Rattle.std.proofs.Common.{ap, sym, ◌∙◌}
 use Rattle.regex_pattern_front.specs.AstToSpecTree.{tree_of}
-use Rattle.regress_program.specs.StartPredicatesAndWhenTheyAllocate.{is_anchored_tree}
+use Rattle.regress_program.specs.StartPredicates.{is_anchored_tree}
 use Rattle.regress_search.proofs.program_and_input.ProgramAndInput.pair_with_bytes.Goals as goal
 
 pub invariant_of-result : goal.invariant_of-result
 invariant_of-result g c = record {
-  unicode = c.requires.unicode ∙ ap (λ re. (tree_of re).flags.unicode) (sym c.program_common_to_both_unit_kinds-program.ensures);
+  unicode = c.requires.unicode ∙ ap (λ re. (tree_of re).flags.unicode) (sym c.common_program-program.ensures);
   well_formed = c.insns-well_formed.ensures.well_formed;
   bytes = λ _. c.requires.bytes;
-  anchors = c.is_anchored.ensures ∙ ap (λ re. is_anchored_tree (tree_of re)) (sym c.program_common_to_both_unit_kinds-program.ensures);
+  anchors = c.is_anchored.ensures ∙ ap (λ re. is_anchored_tree (tree_of re)) (sym c.common_program-program.ensures);
 }

@@ -4,10 +4,10 @@ use Rattle.regex_meaning.specs.Tree.{Tree}
 use Rattle.regex_meaning.specs.MatchGroupsByNumberAndName.{group_names_by_id}
 use Rattle.regex_meaning.specs.StepBudget.{need_from}
 use Rattle.regress_search.specs.MatchesAsSpecAnswers.{answer_from_parts}
-use Rattle.regress_search.specs.AttemptResultsAndStartsToTry.{next_search_offset}
+use Rattle.regress_search.specs.AttemptsAndStarts.{next_search_offset}
 use Rattle.regress_search.specs.CostsOfSearches.{SearchCosts}
 use Rattle.regress_search.specs.declared.exec.Match.{Match}
-use Rattle.regress_search.specs.AttemptsAndMatchesWithinWork.{is_work_enough}
+use Rattle.regress_search.specs.MatchesWithinWork.{is_work_enough}
 use Rattle.regress_search.specs.declared.exec.SearchError.TheVariants.{Memory}
 use Rattle.regress_search.proofs.Budget.{handed, refused-last, spent-begins}
 use Rattle.regress_search.proofs.Skips.{untried, walk-begins}
@@ -31,7 +31,7 @@ places-init g c = record {
       enough-next (a.enough self) (a.ahead self) (a.tree self) (a.text self) (offset c.args.pos) (option_map offset c.first_start_to_try_from-next.result) c.first_start_to_try_from-next.ensures.next;
   next_start = refl;
   left = omega arith;
-  course =
+  progress =
       let a = g.A.SingleAttemptExecutor in
       let offset = g.A.Input.Position.PositionType.offset in
       let self = c.args.self.now in
@@ -87,17 +87,17 @@ pub places-smaller : goal.places-smaller
 places-smaller g c =
     let goes = goes-there g.A.Input.Position.PositionType.offset (g.A.SingleAttemptExecutor.groups c.attempt.new.self) (g.met.A.SingleAttemptExecutor.is_text c.args.self.now)
     c.places.invariant.walk c.in-Some.is c.places.invariant.same_tree c.places.invariant.same_text c.in_ok-end.ensures.found c.in_ok-end.ensures.steps
-    c.in_default-2.is c.in_ok-end.ensures.same.0 c.in_ok-end.ensures.same.1 c.next_start_after_failed_attempt-next.ensures.next c.next_start_after_failed_attempt-next.ensures.counted in
+    c.in_default-2.is c.in_ok-end.ensures.same.0 c.in_ok-end.ensures.same.1 c.next_start_after_failure-next.ensures.next c.next_start_after_failure-next.ensures.counted in
     let offset = g.A.Input.Position.PositionType.offset in
     let text = g.A.SingleAttemptExecutor.text c.args.self.now in
-    subst (λ o. untried text (option_map offset c.next_start_after_failed_attempt-next.result) < untried text (option_map offset o)) (sym c.in-Some.is) goes.less
+    subst (λ o. untried text (option_map offset c.next_start_after_failure-next.result) < untried text (option_map offset o)) (sym c.in-Some.is) goes.less
 
 pub places-preserved : goal.places-preserved
 places-preserved g c =
     let invariant = c.places.invariant in
     let goes = goes-there g.A.Input.Position.PositionType.offset (g.A.SingleAttemptExecutor.groups c.attempt.new.self) (g.met.A.SingleAttemptExecutor.is_text c.args.self.now)
     c.places.invariant.walk c.in-Some.is c.places.invariant.same_tree c.places.invariant.same_text c.in_ok-end.ensures.found c.in_ok-end.ensures.steps
-    c.in_default-2.is c.in_ok-end.ensures.same.0 c.in_ok-end.ensures.same.1 c.next_start_after_failed_attempt-next.ensures.next c.next_start_after_failed_attempt-next.ensures.counted in
+    c.in_default-2.is c.in_ok-end.ensures.same.0 c.in_ok-end.ensures.same.1 c.next_start_after_failure-next.ensures.next c.next_start_after_failure-next.ensures.counted in
     record {
       walk = goes.walk;
       same_tree = c.in_ok-end.ensures.same.0 ∙ invariant.same_tree;
@@ -107,21 +107,21 @@ places-preserved g c =
           let offset = g.A.Input.Position.PositionType.offset in
           let old = c.places.self in
           let new = c.attempt.new.self in
-          enough-next (a.enough new) (a.ahead new) (a.tree new) (a.text new) (offset c.in-Some.start + 1) (option_map offset c.next_start_after_failed_attempt-next.result) c.next_start_after_failed_attempt-next.ensures.next
+          enough-next (a.enough new) (a.ahead new) (a.tree new) (a.text new) (offset c.in-Some.start + 1) (option_map offset c.next_start_after_failure-next.result) c.next_start_after_failure-next.ensures.next
           (turn-behind (a.enough old) (a.ahead old) (a.enough new) (a.ahead new) (a.out_of_work new) offset c.places.next _ None c.in-Some.start
           c.in-Some.is (invariant.turn begins) c.in_ok-end.ensures.work c.in_default-2.is);
       next_start = invariant.next_start;
       left = omega (arith, c.in_ok-end.ensures.left, invariant.left);
-      course =
+      progress =
           let a = g.A.SingleAttemptExecutor in
           let offset = g.A.Input.Position.PositionType.offset in
           let old = c.places.self in
           let new = c.attempt.new.self in
           counted₃ a.counts_work
           (λ f takes on. failing-goes a.attempt_costs offset c.places.next c.in-Some.start c.in-Some.is (a.tree old) (a.text old) invariant.same_tree invariant.same_text (a.failures old) (a.left old) f
-          (a.groups new) _ c.in_ok-end.ensures.found c.in_default-2.is (option_map offset c.next_start_after_failed_attempt-next.result) (a.tree new) (a.text new)
+          (a.groups new) _ c.in_ok-end.ensures.found c.in_default-2.is (option_map offset c.next_start_after_failure-next.result) (a.tree new) (a.text new)
           c.in_ok-end.ensures.same.0 c.in_ok-end.ensures.same.1 (a.failures new) (a.left new) takes on)
-          invariant.course c.in_ok-end.ensures.cost c.next_start_after_failed_attempt-next.ensures.at_work;
+          invariant.progress c.in_ok-end.ensures.cost c.next_start_after_failure-next.ensures.at_work;
     }
 
 pub returns-in_err-end-clause-steps : goal.returns-in_err-end-clause-steps
@@ -152,7 +152,7 @@ returns-in-Some-2-clause-cost g c =
     counted₂ a.counts_work
     (λ f takes. failing-finds a.attempt_costs g.A.Input.Position.PositionType.offset c.places.next c.in-Some.start c.in-Some.is (a.tree old) (a.text old) invariant.same_tree invariant.same_text
     (a.failures old) (a.left old) f (a.groups new) _ c.in_ok-end.ensures.found c.in-Some-2.end c.in-Some-2.is (a.failures new) (a.left new) takes)
-    invariant.course c.in_ok-end.ensures.cost
+    invariant.progress c.in_ok-end.ensures.cost
 
 pub returns-in_err-end-clause-cost : goal.returns-in_err-end-clause-cost
 returns-in_err-end-clause-cost g c =
@@ -167,7 +167,7 @@ returns-in_err-end-clause-cost g c =
     (a.out_of_work new) (a.left new) (a.failures new) c.from_residual.ensures.1
     (failing-stops a.attempt_costs offset c.places.next c.in-Some.start c.in-Some.is (a.tree old) (a.text old) invariant.same_tree invariant.same_text (a.failures old) (a.left old) f
     (a.out_of_work new) (a.left new) stops))
-    invariant.course c.in_err-end.ensures.cost
+    invariant.progress c.in_err-end.ensures.cost
 
 pub returns-in_err-found-clause-cost : goal.returns-in_err-found-clause-cost
 returns-in_err-found-clause-cost g c =
@@ -188,4 +188,4 @@ returns-clause-cost g c =
     counted₁ a.counts_work
     (failing-ends a.attempt_costs (a.failures last.self) (a.left last.self) (option_map g.A.Input.Position.PositionType.offset last.next)
     (ap (option_map g.A.Input.Position.PositionType.offset) c.in_default.is))
-    last.invariant.course
+    last.invariant.progress

@@ -1,5 +1,5 @@
 use Rattle.std.proofs.Common.{◌≡◌, ◌≤◌, option_map, true}
-use Rattle.regress_search.specs.AttemptsAndMatchesWithinWork.{IsOrderedAttempt, is_work_enough}
+use Rattle.regress_search.specs.MatchesWithinWork.{IsOrderedAttempt, is_work_enough}
 use Rattle.regress_search.specs.CostsOfSearches.{IfCounted}
 use Rattle.regress_search.proofs.Costing.{Failing}
 use Rattle.regress_search.proofs.Skips.{untried}
@@ -17,7 +17,7 @@ invariant-places g l =
       turn : IsOrderedAttempt (a.enough l.initial.self) (a.ahead l.initial.self) (offset l.fn.pos) → is_work_enough (a.enough l.self) (a.ahead l.self) (option_map offset l.next) ≡ true;
       next_start : l.next_start ≡ l.initial.next_start;
       left : a.left l.self ≤ a.left l.initial.self;
-      course :
+      progress :
           IfCounted a.counts_work (Failing a.attempt_costs (a.tree l.initial.self) (a.text l.initial.self) (a.failures l.initial.self) (offset l.fn.pos) (a.left l.initial.self)
           (a.failures l.self) (a.left l.self) (option_map offset l.next));
     }

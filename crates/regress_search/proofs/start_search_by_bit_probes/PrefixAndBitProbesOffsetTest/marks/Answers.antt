@@ -32,5 +32,5 @@ returns g c =
     let prefix = probed.prefix.now in
     let first = probed.are_probes.each 0 (slice_index_or probed.probes.now 0 no_probe) (slice_get-get_or probed.probes.now 0 no_probe (omega (arith, four))) in
     let second = probed.are_probes.each 1 (slice_index_or probed.probes.now 1 no_probe) (slice_get-get_or probed.probes.now 1 no_probe (omega (arith, four))) in
-    marks-both (prefix_fits_at (g.W.SearchContext.searching c.args.planned.now) prefix) c.args.at c.marks_of_probe.result c.marks_of_probe-2.result
+    marks-both (prefix_fits_at (g.W.SearchContext.searching c.args.context.now) prefix) c.args.at c.marks_of_probe.result c.marks_of_probe-2.result
     (c.marks_of_probe.ensures prefix first) (c.marks_of_probe-2.ensures prefix second)

@@ -15,12 +15,12 @@ cuts-init c = cut-none c.args.self.now c.args.text.now c.args.limit _ (ap (map (
 pub cuts-preserved : goal.cuts-preserved
 cuts-preserved c =
     cut-more c.args.self.now c.args.text.now c.args.limit c.cuts.from _ c.cuts.invariant _ c.in-Some.found c.in-Some.is c.end-from.result c.end-from.ensures
-    c.in_ok-found.ensures.stands _ c.in_ok-found.ensures.goes c.in_ok-push_pieces.ensures
+    c.in_ok-found.ensures.stands _ c.in_ok-found.ensures.continues c.in_ok-push_pieces.ensures
 
 pub cuts-preserved-in_ok-push_pieces : goal.cuts-preserved-in_ok-push_pieces
 cuts-preserved-in_ok-push_pieces c =
     cut-more c.args.self.now c.args.text.now c.args.limit c.cuts.from _ c.cuts.invariant _ c.in-Some.found c.in-Some.is c.end-from.result c.end-from.ensures
-    c.in_ok-found.ensures.stands _ c.in_ok-found.ensures.goes c.in_ok-push_pieces.ensures
+    c.in_ok-found.ensures.stands _ c.in_ok-found.ensures.continues c.in_ok-push_pieces.ensures
 
 pub cuts-smaller : goal.cuts-smaller
 cuts-smaller c =

@@ -13,7 +13,7 @@ pub returns-clause-ended : goal.returns-clause-ended
 returns-clause-ended c =
     IfOk-map c.search_with_executor_from.result _ _ (λ it e. e ∙ ap (λ n. not (nat_le c.args.start n)) (ascii_units _ c.args.text.now (tree_for_byte_units c.args.self.now).flags.unicode refl)) c.search_with_executor_from.ensures.ended
 
-pub returns-clause-stand : goal.returns-clause-stand
-returns-clause-stand c =
+pub returns-clause-in_text : goal.returns-clause-in_text
+returns-clause-in_text c =
     IfOk-map c.search_with_executor_from.result _ _
     (λ it y. subst (MatchesFitTextInOrderFrom c.args.text.now c.args.start) (sym y.answers) (ascii-stand c.args.self.now c.args.text.now c.args.start c.utf8.text c.requires)) c.search_with_executor_from.ensures.answers

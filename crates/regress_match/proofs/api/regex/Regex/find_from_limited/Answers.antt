@@ -13,8 +13,8 @@ returns-clause-ended c =
     c.new-matches.ensures.ended
     ∙ ap (λ n. not (nat_le c.args.start n)) (utf8_units _ c.args.text.now _ c.in_ok-executor.ensures.text c.utf8.text)
 
-pub returns-clause-stand : goal.returns-clause-stand
-returns-clause-stand c =
+pub returns-clause-in_text : goal.returns-clause-in_text
+returns-clause-in_text c =
     let text = c.args.text.now in
     let yields : c.new-matches.result.answers ≡ utf8_answers_within_steps c.args.steps c.args.self.now text c.args.start = search rules in
     subst (MatchesFitTextInOrderFrom text c.args.start) (sym yields) (within-stand text c.args.start c.args.steps _ _ (matches-stand c.args.self.now text c.args.start c.utf8.text))

@@ -17,7 +17,7 @@ use Rattle.regress_match.proofs.api.regex.Regex.from_unicode_with_syntax.Goals a
 pub returns-clause-compiled : goal.returns-clause-compiled
 returns-clause-compiled c =
     let parsed = c.in_ok-parsed.ensures in
-    let both = c.in_ok-cr.ensures in
+    let both = c.in_ok-byte_program.ensures in
     record {
       parsed = subst (ParsesBy _ _ _) (sym (ap tree_of both.units)) (subst (λ f. ParsesBy (spec_syntax_of c.args.syntax) f c.args.pattern.now (tree_of c.in_ok-parsed.parsed)) c.for_front.ensures parsed.tree);
       flags = ap (λ t. (tree_of t).flags) both.units ∙ ap spec_flags_of parsed.flags ∙ c.for_front.ensures;
@@ -34,13 +34,13 @@ returns-in_err-parsed-clause-refused c =
     err-refused c.from_residual.result (error_of_parse e) _ _ (λ x h. h) c.from_residual.ensures.1
     (parse-refuses c.args.syntax _ _ e (subst (λ f. IsParseErrorIn (spec_syntax_of c.args.syntax) f c.args.pattern.now e) c.for_front.ensures c.in_err-parsed.ensures.refused))
 
-pub returns-in_err-cr-clause-refused : goal.returns-in_err-cr-clause-refused
-returns-in_err-cr-clause-refused c =
+pub returns-in_err-byte_program-clause-refused : goal.returns-in_err-byte_program-clause-refused
+returns-in_err-byte_program-clause-refused c =
     let tree = tree_of c.in_ok-parsed.parsed in
     let parsed = c.in_ok-parsed.ensures in
-    let e = c.in_err-cr.field-0.0 in
-    let refused = c.in_err-cr.ensures.refused in
-    err-refused c.from_residual-in_err-cr.result (error_of_emit e) _ _ (λ x h. h) c.from_residual-in_err-cr.ensures.1
+    let e = c.in_err-byte_program.field-0.0 in
+    let refused = c.in_err-byte_program.ensures.refused in
+    err-refused c.from_residual-in_err-byte_program.result (error_of_emit e) _ _ (λ x h. h) c.from_residual-in_err-byte_program.ensures.1
     (emit-refuses c.args.syntax _ _ tree (subst (λ f. ParsesBy (spec_syntax_of c.args.syntax) f c.args.pattern.now tree) c.for_front.ensures parsed.tree) e
     (λ is. subst (λ x. Is16BitUnitCompileErrorCause x tree) is refused parsed.well_formed)
     (λ is. reads-not tree.root parsed.characters (subst (λ x. Is16BitUnitCompileErrorCause x tree) is refused).1)

@@ -7,4 +7,4 @@ use Rattle.regress_match.proofs.api.regex.Regex.unit_group_count.Goals as goal
 
 pub returns-clause-count : goal.returns-clause-count
 unfolding compiled
-returns-clause-count c = c.groups.ensures ∙ ap (λ (p : Parsed). length (group_ids (tree_of p).root)) (c.program_common_to_both_unit_kinds.ensures.tree ∙ c.unit_program.ensures)
+returns-clause-count c = c.groups.ensures ∙ ap (λ (p : Parsed). length (group_ids (tree_of p).root)) (c.common_program.ensures.tree ∙ c.unit_program.ensures)

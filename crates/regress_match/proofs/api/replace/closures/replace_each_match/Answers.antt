@@ -2,7 +2,7 @@ use Rattle.std.proofs.Common.{◌≡◌, ap, refl, string_bytes}
 use Rattle.regress_search.specs.MatchesAsSpecAnswers.{answer_of}
 use Rattle.regress_search.specs.RemainingAnswers.{RemainingView}
 use Rattle.regress_match.proofs.Answering.{IsBegun, begins, ends, goes-answered, refuses-answered}
-use Rattle.regress_match.specs.ReplacementClosuresReturningStrings.{ClosureCanBeCalled}
+use Rattle.regress_match.specs.StringClosures.{ClosureCanBeCalled}
 use Rattle.regress_match.proofs.CallerLemmas.{IsReached, reached-none, takes-next}
 use Rattle.regress_match.proofs.Replacing.{callable-all, callable-next, callable-rest}
 use Rattle.regress_match.proofs.api.replace.closures.replace_each_match.Given as given
@@ -16,8 +16,8 @@ loop-item-init g c =
     record {
       can = tt;
       finite = tt;
-      reached = reached-none c.args.text.now 0 c.args.matches c.into_iter-item-iterator.result c.utf8.text c.requires.stand into;
-      callable = callable-all _ c.into_iter-item-iterator.result.answers c.args.matches.answers c.requires.can (ap (λ (it : RemainingView). it.answers) into);
+      reached = reached-none c.args.text.now 0 c.args.matches c.into_iter-item-iterator.result c.utf8.text c.requires.in_text into;
+      callable = callable-all _ c.into_iter-item-iterator.result.answers c.args.matches.answers c.requires.executable (ap (λ (it : RemainingView). it.answers) into);
       begun = begins _ string_bytes c.args.text.now c.args.matches.answers c.into_iter-item-iterator.result.answers _ (ap (λ (it : RemainingView). it.answers) into) c.new-made.ensures.bytes;
     }
 
@@ -43,7 +43,7 @@ written g c =
       callable-rest _ c.loop-item.item-iterator.answers c.next.new.self.answers (answer_of c.in_ok-found.found) c.loop-item.invariant.callable takes.next,
       goes-answered _ string_bytes c.args.text.now c.args.matches.answers c.loop-item.item-iterator.answers c.loop-item.from (string_bytes c.loop-item.made) c.loop-item.invariant.begun
           c.next.new.self.answers (answer_of c.in_ok-found.found) c.with.result takes.next (_, refl, c.with.ensures)
-          c.in_ok-from.from (string_bytes c.append_unmatched_text_up_to_match.new.made) (string_bytes c.append_closure_result.new.made) c.in_ok-from.ensures.made c.in_ok-append_closure_result.ensures.made c.in_ok-from.ensures.behind,
+          c.in_ok-from.from (string_bytes c.append_text_before_match.new.made) (string_bytes c.append_closure_result.new.made) c.in_ok-from.ensures.made c.in_ok-append_closure_result.ensures.made c.in_ok-from.ensures.behind,
     )
 
 pub loop-item-preserved : goal.loop-item-preserved

@@ -1,7 +1,7 @@
 use Rattle.std.proofs.Common.{◌∙◌, ap, arith, rules, string_bytes}
 use Rattle.std.proofs.lemmas.Str.Pattern.{split_once_first}
 use Rattle.regress_search.specs.MatchesAsSpecAnswers.{answer_of}
-use Rattle.regress_match.specs.ReplacementPartsAsSpecParts.{spec_parts_of_dollar_substitution}
+use Rattle.regress_match.specs.ReplacementPartsAsSpecParts.{spec_parts_of_substitution}
 use Rattle.regress_match.proofs.Expansion.{expansion-more, expansion-end, left-less}
 use Rattle.regress_match.proofs.api.replace.expansion.expand.Goals as goal
 
@@ -9,7 +9,7 @@ pub loop-before-preserved : goal.loop-before-preserved
 loop-before-preserved c =
     let cut = rw c.in-Some.is at (split_once_first 36 c.loop-before.rest.now c.split_once.result c.split_once.ensures.cases (omega arith)) in (
       search rules,
-      expansion-more c.args.text.now (answer_of c.args.found.now) c.loop-before.rest.now c.in-Some.before.now c.in-Some.behind.now c.read_part.result.1.now (spec_parts_of_dollar_substitution c.read_part.result.0)
+      expansion-more c.args.text.now (answer_of c.args.found.now) c.loop-before.rest.now c.in-Some.before.now c.in-Some.behind.now c.read_part.result.1.now (spec_parts_of_substitution c.read_part.result.0)
           (string_bytes c.loop-before.out) (string_bytes c.push_str.new.self) (string_bytes c.write_part.new.out) _ cut.0
           (ap (λ x. x.now) c.in-Some.before-is ∙ cut.1) (ap (λ x. x.now) c.in-Some.behind-is ∙ cut.2) c.read_part.ensures c.in_ok-push_str.ensures.bytes c.in_ok-write_part.ensures
           c.loop-before.invariant.1,
@@ -18,7 +18,7 @@ loop-before-preserved c =
 pub loop-before-smaller : goal.loop-before-smaller
 loop-before-smaller c =
     let cut = rw c.in-Some.is at (split_once_first 36 c.loop-before.rest.now c.split_once.result c.split_once.ensures.cases (omega arith)) in
-    left-less c.loop-before.rest.now c.in-Some.behind.now c.read_part.result.1.now (spec_parts_of_dollar_substitution c.read_part.result.0) cut.0 (ap (λ x. x.now) c.in-Some.behind-is ∙ cut.2) c.read_part.ensures
+    left-less c.loop-before.rest.now c.in-Some.behind.now c.read_part.result.1.now (spec_parts_of_substitution c.read_part.result.0) cut.0 (ap (λ x. x.now) c.in-Some.behind-is ∙ cut.2) c.read_part.ensures
 
 pub returns : goal.returns
 returns c =

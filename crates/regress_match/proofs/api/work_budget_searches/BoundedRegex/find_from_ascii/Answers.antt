@@ -1,7 +1,7 @@
 use Rattle.std.proofs.Common.{◌∙◌, ap, nat_le, not, refl, subst, sym}
 use Rattle.regex_meaning.specs.Text.{ascii_text}
 use Rattle.regex_pattern_front.specs.AstToSpecTree.{tree_of}
-use Rattle.regress_bounded.specs.ProgramWorkBoundForAllMatches.{TreeHasWorkBound}
+use Rattle.regress_bounded.specs.WorkBoundForAllMatches.{TreeHasWorkBound}
 use Rattle.regress_match.specs.ProgramTreesAndAnswers.{tree_for_byte_units}
 use Rattle.regress_match.specs.ExpansionsAndMatchRanges.{MatchesFitTextInOrderFrom}
 use Rattle.regress_match.proofs.CallerLemmas.{ascii-stand}
@@ -19,8 +19,8 @@ matches_ascii-requires c = record {
 pub returns-clause-yields : goal.returns-clause-yields
 returns-clause-yields c = bound-Yields tree_for_byte_units c.self.inside.re.now (ascii_text c.args.text.now) (higher-left _ _) c.self.view_is (ap tree_of c.byte_program-program.ensures) c.in_ok-matches.ensures.yields
 
-pub returns-clause-stand : goal.returns-clause-stand
-returns-clause-stand c =
+pub returns-clause-in_text : goal.returns-clause-in_text
+returns-clause-in_text c =
     subst (MatchesFitTextInOrderFrom c.args.text.now c.args.start) (sym (returns-clause-yields c).answers) (ascii-stand c.args.self.now.re c.args.text.now c.args.start c.utf8.text c.requires)
 
 pub returns-clause-ended : goal.returns-clause-ended

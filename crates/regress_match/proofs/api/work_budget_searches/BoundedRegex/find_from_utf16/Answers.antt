@@ -1,7 +1,7 @@
 use Rattle.std.proofs.Common.{◌∙◌, ap, nat_le, not, refl, subst, sym}
 use Rattle.regex_meaning.specs.Text.{utf16_text}
 use Rattle.regex_pattern_front.specs.AstToSpecTree.{tree_of}
-use Rattle.regress_bounded.specs.ProgramWorkBoundForAllMatches.{TreeHasWorkBound}
+use Rattle.regress_bounded.specs.WorkBoundForAllMatches.{TreeHasWorkBound}
 use Rattle.regress_match.specs.ProgramTreesAndAnswers.{tree_for_16_bit_units}
 use Rattle.regress_match.proofs.Starts.{utf16_start, utf16_units}
 use Rattle.regress_match.proofs.WorkLemmas.{bound-Begins, bound-Yields, higher-right}

@@ -10,7 +10,7 @@ pub loop-at-preserved : goal.loop-at-preserved
 loop-at-preserved c =
     let string = c.args.string.now in
     let at = c.loop-at.at in
-    let x = get_or string c.index_of_part_in_emission_order.result 0 in
-    let next = ordered-next c.args.mode.behind string at c.index_of_part_in_emission_order.result x c.loop-at-test.true c.index_of_part_in_emission_order.ensures.value (slice_get-get_or string c.index_of_part_in_emission_order.result 0 c.index_of_part_in_emission_order.ensures.within) in
+    let x = get_or string c.index_in_emission_order.result 0 in
+    let next = ordered-next c.args.mode.behind string at c.index_in_emission_order.result x c.loop-at-test.true c.index_in_emission_order.ensures.value (slice_get-get_or string c.index_in_emission_order.result 0 c.index_in_emission_order.ensures.within) in
     parts_step (λ y. case_variants_insn (expand_code_point y c.args.icase c.args.mode.unicode)) (ordered c.args.mode.behind string) at x
     (emitter_state c.loop-at.self) (emitter_state c.emit_spellings.new.self) _ next c.in_ok-emit_spellings.ensures c.loop-at.invariant

@@ -5,7 +5,7 @@ use Rattle.regex_meaning.specs.Tree.{alt, cat, end_of_cat, capture_group, group_
 use Rattle.regex_meaning.specs.WellFormedTrees.{names_the_groups_inside}
 use Rattle.regex_pattern_front.specs.AstToSpecTree.{node_of, group_name_bytes}
 use Rattle.regress_program.specs.LeafNodesAndOptimizableLoops.{cat_of}
-use Rattle.regress_program.specs.GroupIdsInWellFormednessCheck.{is_group_id_seen, group_ids_distinct_and_ranges_exact, count_and_span_of_group_ids, joined}
+use Rattle.regress_program.specs.GroupIdCheck.{is_group_id_seen, has_exact_group_ids, count_and_span_of_group_ids, joined}
 use Rattle.regress_program.specs.GroupIdSpans.{group_id_span_as_numbers}
 use Rattle.regress_program.proofs.NodeLemmas.{node_of-Cat, cat_of-drop}
 use Rattle.regress_program.proofs.LeafLemmas.{leaf-left}
@@ -48,7 +48,7 @@ check_ids_along-returns-then-not-check_arm_ids-clause-found t c =
     let is : node_of c.loop-rest.rest.now ≡ alt a b = ap node_of c.in-Alt.is in
     let l = left-same _ _ _ _ f (group_id_span_as_numbers c.loop-rest.self.inside) (node_of c.loop-rest.rest.now) (alt a b) is c.loop-rest.invariant.left in
     let node : node_of c.deref-in-Alt.result.now ≡ a = ap node_of c.deref-in-Alt.ensures in
-    let fails : false ≡ group_ids_distinct_and_ranges_exact f a = sym c.if-not-check_arm_ids.true ∙ c.check_arm_ids.ensures.found ∙ ap (group_ids_distinct_and_ranges_exact f) node in
+    let fails : false ≡ has_exact_group_ids f a = sym c.if-not-check_arm_ids.true ∙ c.check_arm_ids.ensures.found ∙ ap (has_exact_group_ids f) node in
     left-fails _ _ _ _ f (group_id_span_as_numbers c.loop-rest.self.inside) (group_ids a) (group_ids b) (every_node_passes names_the_groups_inside a) (every_node_passes names_the_groups_inside b) l fails
 
 pub check_ids_along-loop-rest-preserved-in-Alt : goal.check_ids_along-loop-rest-preserved-in-Alt
@@ -66,7 +66,7 @@ check_ids_along-loop-rest-preserved-in-Alt t c =
     let l = left-same _ _ _ _ f s (node_of c.loop-rest.rest.now) (alt a b) is c.loop-rest.invariant.left in
     let went = sym c.if-not-check_arm_ids.false in
     let node : node_of c.deref-in-Alt.result.now ≡ a = ap node_of c.deref-in-Alt.ensures in
-    let found : true ≡ group_ids_distinct_and_ranges_exact f a = went ∙ c.check_arm_ids.ensures.found ∙ ap (group_ids_distinct_and_ranges_exact f) node in
+    let found : true ≡ has_exact_group_ids f a = went ∙ c.check_arm_ids.ensures.found ∙ ap (has_exact_group_ids f) node in
     let span : t ≡ joined s (count_and_span_of_group_ids (group_ids a)) = c.check_arm_ids.ensures.span (sym went) ∙ ap (λ n. joined s (count_and_span_of_group_ids (group_ids n))) node in
     let seen : (k : ℕ) → g k ≡ (f k || contains (group_ids a) k) = λ k. c.check_arm_ids.ensures.seen (sym went) k ∙ ap (λ n. f k || contains (group_ids n) k) node in
     record {

@@ -3,7 +3,7 @@ use Rattle.regex_meaning.specs.Tree.{group_ids, every_node_passes}
 use Rattle.regex_meaning.specs.WellFormedTrees.{names_the_groups_inside}
 use Rattle.regex_pattern_front.specs.AstToSpecTree.{node_of}
 use Rattle.regress_program.specs.LeafNodesAndOptimizableLoops.{cat_of}
-use Rattle.regress_program.specs.GroupIdsInWellFormednessCheck.{is_group_id_seen}
+use Rattle.regress_program.specs.GroupIdCheck.{is_group_id_seen}
 use Rattle.regress_program.specs.GroupIdSpans.{group_id_span_as_numbers}
 use Rattle.regress_program.proofs.IdLemmas.{IsLeft}
 use Rattle.regress_program.proofs.Weights.{inner_node_count}

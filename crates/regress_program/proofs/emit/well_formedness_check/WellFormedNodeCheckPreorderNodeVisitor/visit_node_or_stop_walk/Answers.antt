@@ -1,7 +1,7 @@
 use Rattle.std.proofs.Common.{◌≡◌, true, ap, sym}
 use Rattle.std.specs.Prelude.{is_some}
 use Rattle.regex_pattern_front.specs.AstToSpecTree.{node_of}
-use Rattle.regress_program.specs.GroupIdsInWellFormednessCheck.{is_well_formed_node}
+use Rattle.regress_program.specs.GroupIdCheck.{is_well_formed_node}
 use Rattle.regress_program.specs.TryFoldOverTreeNodes.{step_of_test}
 use Rattle.regress_program.proofs.LeafLemmas.{sound-other}
 use Rattle.regress_program.proofs.emit.well_formedness_check.WellFormedNodeCheckPreorderNodeVisitor.visit_node_or_stop_walk.Goals as goal

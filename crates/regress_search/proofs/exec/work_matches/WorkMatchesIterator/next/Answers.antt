@@ -12,7 +12,7 @@ returns-clause-steps g c =
     let counts = g.met.P.WorkLimitedProducer.is_counted in
     let found = c.advance_matches in
     let result = c.match-branch-2.result in
-    let called : CalledBy p offset c.self.inside.mp c.self.inside.position found.new.mp found.new.position found.result = record {
+    let called : CalledBy p offset c.self.inside.producer c.self.inside.position found.new.producer found.new.position found.result = record {
       yields = found.ensures.gives;
       enough = found.ensures.work;
       less = found.ensures.left;
@@ -21,12 +21,12 @@ returns-clause-steps g c =
       same_tree = found.ensures.same.0;
       same_text = found.ensures.same.1;
     } in
-    subst (λ s. NextYieldsAtCost p.attempt_costs p.tree p.text p.failures s result (view-of p offset found.new.mp found.new.position)) c.self.view_is
+    subst (λ s. NextYieldsAtCost p.attempt_costs p.tree p.text p.failures s result (view-of p offset found.new.producer found.new.position)) c.self.view_is
     (elim c.match-branch-2.branch [
       | in-Ok w ↦
-          gives-Ok p offset c.self.inside.mp c.self.inside.position found.new.mp found.new.position found.result called result w.in-Ok.found
+          gives-Ok p offset c.self.inside.producer c.self.inside.position found.new.producer found.new.position found.result called result w.in-Ok.found
           (c.in_ok-found.was ∙ ap Some w.in-Ok.is) w.result-is
       | in-Err w ↦
-          gives-Err p offset c.self.inside.mp c.self.inside.position found.new.mp found.new.position found.result called result w.in-Err.field-0
+          gives-Err p offset c.self.inside.producer c.self.inside.position found.new.producer found.new.position found.result called result w.in-Err.field-0
           w.cause_in.result (c.in_ok-found.was ∙ ap Some w.in-Err.is) w.result-is w.cause_in.ensures
     ])

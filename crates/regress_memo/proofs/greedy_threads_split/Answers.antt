@@ -1,0 +1,5 @@
+use Rattle.regress_memo.proofs.Runs.{runs-begin}
+use Rattle.regress_memo.proofs.greedy_threads_split.Goals as goal
+
+pub returns : goal.returns
+returns c = runs-begin

@@ -1,5 +1,0 @@
-use Rattle.regress_memo.proofs.Runs.{runs-begin}
-use Rattle.regress_memo.proofs.greedy_threads_split_at_later_place.Goals as goal
-
-pub returns : goal.returns
-returns c = runs-begin

@@ -1,5 +1,0 @@
-use Rattle.regress_memo.proofs.Agree.{rows-alike}
-use Rattle.regress_memo.proofs.live_data_decide_thread_list_result.Goals as goal
-
-pub returns : goal.returns
-returns c = rows-alike

@@ -1,0 +1,5 @@
+use Rattle.regress_memo.proofs.Agree.{rows-alike}
+use Rattle.regress_memo.proofs.live_data_decide_thread_lists.Goals as goal
+
+pub returns : goal.returns
+returns c = rows-alike

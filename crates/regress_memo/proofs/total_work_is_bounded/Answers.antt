@@ -1,0 +1,5 @@
+use Rattle.regress_memo.proofs.Starts.{attempts-few}
+use Rattle.regress_memo.proofs.total_work_is_bounded.Goals as goal
+
+pub returns : goal.returns
+returns c = attempts-few

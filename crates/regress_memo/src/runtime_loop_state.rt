@@ -1,0 +1,126 @@
+//! Checks that loop states are sound, that is, of the kind that a search may reach.
+
+ghost use Rattle.std.specs.Prelude.{◌≡◌, ◌<◌, ◌+◌, ◌^◌, ◌↔◌, true, option_map, IsTrue};
+ghost use Rattle.regress_memo.specs.{Liveness.{IsNotAheadInDirection}, MemoKeys.{IsSoundState}};
+ghost use Rattle.regress_machine.specs.Machine.{State};
+ghost use Rattle.regress_memo.specs.AnalysisAsPotentials.{analysis_as_liveness, insn_direction};
+ghost use Rattle.regress_memo.specs.ReachableThreadLoopStates.{direction_from_forward, IsWithinCountBound, LoopDataFitsLoopFacts, ThreadLoopStateFitsAnalysis};
+ghost use Rattle.regress_memo.specs.CheckedAnalysis.{loop_iteration_state_as_spec};
+
+use crate::analysis_result::{EnclosingLoop, LoopCountsDistinguishedUpTo, MemoAnalysis};
+use crate::loop_data_key_codes::{IterationStatesOfAllLoops, LoopCountAndIterationStart};
+
+// An offset in a text of `units` code units, and the direction in which a search continues.
+#[derive(Clone, Copy)]
+struct TextOffsetAndSearchDirection {
+    at: usize,
+    units: usize,
+    forward: bool,
+}
+
+impl MemoAnalysis {
+    /// Checks whether a search may reach a thread at this instruction and offset of a text of
+    /// `units` code units with these loop states.
+    ///
+    /// The current iterations began at offsets that were passed, and read a character where the
+    /// analysis states so. A loop has no more iterations than code units, apart from those that the
+    /// analysis counts.
+    pub fn is_reachable_loop_state<R: IterationStatesOfAllLoops>(
+        &self,
+        ip: usize,
+        at: usize,
+        units: usize,
+        rounds: &R,
+    ) -> bool
+        requires { units < 2 ^ 63 }
+        ensures { (s : State) → s.ip ≡ ip → s.pos ≡ at → s.loops ≡ R.rounds rounds.now
+            → IsTrue result ↔ IsSoundState (analysis_as_liveness self.now) units (insn_direction self.now ip) s }
+    {
+        if at > units {
+            return false;
+        }
+        let forward = self.insn_analysis_at(ip).forward;
+        let place = TextOffsetAndSearchDirection { at, units, forward };
+        let rows = self.enclosing_loops(ip);
+        for row in rows {
+            let loop_iteration_state = rounds.iteration_state_of_loop(row.id);
+            if !self.is_sound_row(row, place, loop_iteration_state) {
+                return false;
+            }
+        }
+        true
+    }
+
+    // Checks that the state of an entry's loop is sound; a missing state is.
+    fn is_sound_row(
+        &self,
+        row: &EnclosingLoop,
+        place: TextOffsetAndSearchDirection,
+        loop_iteration_state: Option<LoopCountAndIterationStart>,
+    ) -> bool
+        requires { place.units < 2 ^ 63 }
+        ensures { IsTrue result ↔ ThreadLoopStateFitsAnalysis self.now (direction_from_forward place.forward)
+            place.units place.at
+            (option_map loop_iteration_state_as_spec loop_iteration_state) row.now }
+    {
+        match loop_iteration_state {
+            Some(loop_iteration_state) => is_sound_by(
+                self.count_bound_of_loop(row.id),
+                row.moved,
+                place,
+                loop_iteration_state,
+            ),
+            None => true,
+        }
+    }
+}
+
+// Checks this by what the analysis states of the loop.
+fn is_sound_by(
+    count: LoopCountsDistinguishedUpTo,
+    moved: bool,
+    place: TextOffsetAndSearchDirection,
+    loop_iteration_state: LoopCountAndIterationStart,
+) -> bool
+    requires { place.units < 2 ^ 63 }
+    ensures { IsTrue result ↔ LoopDataFitsLoopFacts count moved (direction_from_forward place.forward) place.units
+        place.at (loop_iteration_state_as_spec loop_iteration_state) }
+{
+    is_passed(place, loop_iteration_state.entry)
+        && (!moved || loop_iteration_state.entry != place.at)
+        && are_few(count, place, loop_iteration_state)
+}
+
+// Checks that an offset was passed or is the current one.
+fn is_passed(place: TextOffsetAndSearchDirection, entry: usize) -> bool
+    ensures { IsTrue result ↔ IsNotAheadInDirection (direction_from_forward place.forward) entry place.at }
+{
+    if place.forward {
+        entry <= place.at
+    } else {
+        place.at <= entry
+    }
+}
+
+// Checks that there were no more iterations than possible.
+fn are_few(
+    count: LoopCountsDistinguishedUpTo,
+    place: TextOffsetAndSearchDirection,
+    loop_iteration_state: LoopCountAndIterationStart,
+) -> bool
+    requires { place.units < 2 ^ 63 }
+    ensures { IsTrue result ↔ IsWithinCountBound count (direction_from_forward place.forward) place.units
+        (loop_iteration_state_as_spec loop_iteration_state) }
+{
+    let up_to = usize::from(count.up_to);
+    if count.counted {
+        return loop_iteration_state.iters <= up_to;
+    }
+    let left = if place.forward {
+        place.units.saturating_sub(loop_iteration_state.entry)
+    } else {
+        loop_iteration_state.entry
+    };
+    let most = place.units + up_to;
+    left <= most && loop_iteration_state.iters <= most - left
+}

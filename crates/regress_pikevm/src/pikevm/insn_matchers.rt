@@ -1,0 +1,119 @@
+//! Executing instructions that only read or test the text.
+
+ghost use Rattle.std.specs.Prelude.{◌≡◌, ◌≤◌, IsTrue, IsSome, Some};
+ghost use Rattle.regex_meaning.specs.CodeUnitOffsets.{IsBoundary, units};
+ghost use Rattle.regress_input.specs.CharAndByteReadsFromOffset.{end_if_matched};
+ghost use Rattle.regress_machine.specs.InsnEffects.{is_byte_sequence_insn};
+ghost use Rattle.regress_program.specs.InsnsAsSpec.{insn_as_spec_insn};
+ghost use Rattle.regress_search.specs.OffsetsAfterMatchedInsns.{HasPassed, ByteInsnHasByteText, offset_after_matched_insn, read_accepted_char, char_test_of_insn};
+
+use regress_input::cursor::{self, Direction};
+use regress_input::indexing::InputIndexer;
+use regress_program::insn::Insn;
+use regress_search::insns_that_read_or_test_text::{
+    accepts, at_line_end, at_line_start, bytes_of_literal_insn, passes_word_boundary,
+};
+use regress_search::program_and_input::ProgramAndInput;
+
+/// Checks whether the instruction, which reads one character, accepts the next character in the
+/// direction. If so, the position is after the character, and otherwise the position is not
+/// specified.
+#[inline(always)]
+pub fn insn_accepts_next_char<Input: InputIndexer, Dir: Direction>(
+    searched: &ProgramAndInput<'_, Input>,
+    insn: Insn,
+    dir: Dir,
+    pos: &mut Input::Position,
+) -> bool
+    requires test { IsSome (char_test_of_insn searched.now.program.now insn) }
+    requires at { IsBoundary (Input.text searched.now.input) (Input.Position.offset pos.old) }
+    requires bytes { ByteInsnHasByteText insn (Input.text searched.now.input) Input.Units.ARE_BYTES }
+    ensures { let s = searched.now in let at = Input.Position.offset in
+        HasPassed (Input.text s.input) Dir.FORWARD s.program.now insn (at pos.old) result (at pos.new) }
+{
+    match cursor::next(&searched.input, dir, pos) {
+        Some(c) => accepts::<Input>(insn, searched.program, c),
+        None => false,
+    }
+}
+
+// Does the work of `insn_accepts_next_char` where neither a boundary nor an instruction that reads a
+// character is known. The precondition `can` excludes the other cases.
+#[inline(always)]
+fn reads_one<Input: InputIndexer, Dir: Direction>(
+    searched: &ProgramAndInput<'_, Input>,
+    insn: Insn,
+    dir: Dir,
+    pos: &mut Input::Position,
+) -> bool
+    requires executable { let s = searched.now in
+        IsSome (read_accepted_char (Input.text s.input) Dir.FORWARD
+        s.program.now insn (Input.Position.offset pos.old)) }
+    requires bytes { ByteInsnHasByteText insn (Input.text searched.now.input) Input.Units.ARE_BYTES }
+    ensures { let s = searched.now in let at = Input.Position.offset in
+        Some (end_if_matched result (at pos.new))
+        ≡ read_accepted_char (Input.text s.input) Dir.FORWARD s.program.now insn (at pos.old) }
+{
+    insn_accepts_next_char(searched, insn, dir, pos)
+}
+
+// Checks whether the bytes of the instruction occur in the direction from any offset. If so, the
+// position is after them, and otherwise it is not specified.
+#[inline(always)]
+fn reads_literal<Input: InputIndexer, Dir: Direction>(
+    searched: &ProgramAndInput<'_, Input>,
+    insn: Insn,
+    dir: Dir,
+    pos: &mut Input::Position,
+) -> bool
+    requires literal { IsTrue (is_byte_sequence_insn (insn_as_spec_insn insn)) }
+    requires bytes { ByteInsnHasByteText insn (Input.text searched.now.input) Input.Units.ARE_BYTES }
+    requires inside { Input.Position.offset pos.old ≤ units (Input.text searched.now.input) }
+    ensures { let s = searched.now in let at = Input.Position.offset in
+        Some (end_if_matched result (at pos.new))
+        ≡ offset_after_matched_insn s.program.now (Input.text s.input) Dir.FORWARD insn (at pos.old) }
+{
+    searched
+        .input
+        .match_bytes(dir, pos, bytes_of_literal_insn(&insn))
+}
+
+/// Checks whether an instruction that only reads or tests the text matches at a position. If so,
+/// the position is where matching continues, and otherwise it is not specified.
+#[inline(always)]
+pub(crate) fn read_or_assertion_insn_matches<Input: InputIndexer, Dir: Direction>(
+    searched: &ProgramAndInput<'_, Input>,
+    insn: Insn,
+    dir: Dir,
+    pos: &mut Input::Position,
+) -> bool
+    requires executable { let s = searched.now in
+        IsSome (offset_after_matched_insn s.program.now (Input.text s.input)
+        Dir.FORWARD insn (Input.Position.offset pos.old)) }
+    requires bytes { ByteInsnHasByteText insn (Input.text searched.now.input) Input.Units.ARE_BYTES }
+    requires inside { Input.Position.offset pos.old ≤ units (Input.text searched.now.input) }
+    ensures { let s = searched.now in let at = Input.Position.offset in
+        Some (end_if_matched result (at pos.new))
+        ≡ offset_after_matched_insn s.program.now (Input.text s.input) Dir.FORWARD insn (at pos.old) }
+{
+    let input = &searched.input;
+    match insn {
+        Insn::StartOfLine { multiline } => at_line_start(input, multiline, *pos),
+        Insn::EndOfLine { multiline } => at_line_end(input, multiline, *pos),
+        Insn::WordBoundary { invert } => passes_word_boundary(input, invert, false, *pos),
+        Insn::WordBoundaryUnicodeICase { invert } => passes_word_boundary(
+            input, invert, true, *pos,
+        ),
+        Insn::JustFail => false,
+        Insn::Char(_) => reads_one(searched, insn, dir, pos),
+        Insn::CharSet(_) => reads_one(searched, insn, dir, pos),
+        Insn::ByteSet2(_) => reads_one(searched, insn, dir, pos),
+        Insn::ByteSet3(_) => reads_one(searched, insn, dir, pos),
+        Insn::ByteSet4(_) => reads_one(searched, insn, dir, pos),
+        Insn::AsciiBracket(_) => reads_one(searched, insn, dir, pos),
+        Insn::Bracket(_) => reads_one(searched, insn, dir, pos),
+        Insn::MatchAny => reads_one(searched, insn, dir, pos),
+        Insn::MatchAnyExceptLineTerminator => reads_one(searched, insn, dir, pos),
+        _ => reads_literal(searched, insn, dir, pos),
+    }
+}

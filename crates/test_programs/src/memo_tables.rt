@@ -1,0 +1,113 @@
+//! Counts the keys that tables of three offsets record, one by one.
+
+ghost use Rattle.std.specs.Prelude.{IfOk, IfSome};
+ghost use Rattle.regress_memo.specs.CheckedAnalysis.{HasDisjointCodes};
+
+use regex_pattern_front::ir::Regex;
+use regress_memo::analysis_result::MemoAnalysis;
+use regress_memo::memo::{MemoTable, ThreadMemoKey};
+use regress_program::emit::emit;
+use std::alloc::{AllocError, Global};
+
+/// So many places there are, and so many codes are tried.
+const PLACES: usize = 3;
+
+const CODES: usize = 7;
+
+// Writes how many keys the byte program of a tree has, if it has a memo analysis, and whether there
+// may be a table for as many offsets as can be counted.
+pub(crate) fn write_memo(alloc: Global, text: &mut String, tree: &Regex) -> Result<(), AllocError> {
+    let Some(memo_analysis) = memo_analysis_of(alloc, tree)? else {
+        return text.push_str("none");
+    };
+    match MemoTable::new(alloc, memo_analysis, PLACES, true)? {
+        Some(mut memo) => write_keys(text, &mut memo)?,
+        None => text.push_str("too many")?,
+    }
+    let Some(memo_analysis) = memo_analysis_of(alloc, tree)? else {
+        return text.push_str("none");
+    };
+    match MemoTable::new(alloc, memo_analysis, usize::MAX, false) {
+        Ok(Some(_memo)) => text.push_str(", in all places"),
+        Ok(None) => text.push_str(", too many"),
+        Err(_) => text.push_str(", refused"),
+    }
+}
+
+// The memo analysis of a program, if it has one.
+fn memo_analysis_of(alloc: Global, tree: &Regex) -> Result<Option<MemoAnalysis>, AllocError>
+    ensures { IfOk result (λ found. IfSome found HasDisjointCodes) }
+{
+    let Ok(program) = emit(alloc, tree) else {
+        return Ok(None);
+    };
+    let loops = program.common_program().loops() as usize;
+    MemoAnalysis::new(alloc, program.insns(), loops)
+}
+
+// Records each key as failing, and then as finding an end. Counts those that change no other key.
+fn write_keys(text: &mut String, memo: &mut MemoTable) -> Result<(), AllocError> {
+    let mut noted = 0usize;
+    for ip in 0..memo.memo_analysis().lines.len() {
+        for at in 0..PLACES + 1 {
+            for code in 0..CODES {
+                if fails_alone(memo, ThreadMemoKey { ip, at, code }) {
+                    noted = noted.wrapping_add(1);
+                }
+            }
+        }
+    }
+    write!(text, "{noted} fail")?;
+    let mut noted = 0usize;
+    for ip in 0..memo.memo_analysis().lines.len() {
+        for at in 0..PLACES + 1 {
+            for code in 0..CODES {
+                if reaches_alone(memo, ThreadMemoKey { ip, at, code }) {
+                    noted = noted.wrapping_add(1);
+                }
+            }
+        }
+    }
+    write!(text, ", {noted} find an end")
+}
+
+// Returns whether a key is recorded as failing, and no other key changes.
+fn fails_alone(memo: &mut MemoTable, key: ThreadMemoKey) -> bool {
+    if !memo.has(key) || memo.fails(key) {
+        return false;
+    }
+    let before = known(memo);
+    memo.record_failure(key);
+    let after = known(memo);
+    memo.fails(key) && after.0 == before.0.wrapping_add(1) && after.1 == before.1
+}
+
+// Returns whether a key is recorded as finding an end, and no other key changes.
+fn reaches_alone(memo: &mut MemoTable, key: ThreadMemoKey) -> bool {
+    if !memo.has(key) || memo.is_known_to_reach_end(key) || !memo.records_successes() {
+        return false;
+    }
+    let before = known(memo);
+    memo.record_success(key);
+    let after = known(memo);
+    memo.is_known_to_reach_end(key) && after.1 == before.1.wrapping_add(1) && after.0 == before.0
+}
+
+// Returns how many keys are known to fail, and how many to find an end.
+fn known(memo: &MemoTable) -> (usize, usize) {
+    let (mut failures, mut ends) = (0usize, 0usize);
+    for ip in 0..memo.memo_analysis().lines.len() {
+        for at in 0..PLACES + 1 {
+            for code in 0..CODES {
+                let key = ThreadMemoKey { ip, at, code };
+                if memo.has(key) && memo.fails(key) {
+                    failures = failures.wrapping_add(1);
+                }
+                if memo.has(key) && memo.is_known_to_reach_end(key) {
+                    ends = ends.wrapping_add(1);
+                }
+            }
+        }
+    }
+    (failures, ends)
+}

@@ -337,6 +337,15 @@ static void print_in_work(const char *what, regress_c_pattern *pattern, const ch
     printf(" %" PRIu64 " left\n", work);
 }
 
+/* Why the work of a pattern has no bound. */
+static void print_unbounded(const char *what, const char *text)
+{
+    regress_c_pattern pattern = compiled(text, "");
+    uint64_t each = 0;
+    print_code(what, regress_c_work_per_unit(&pattern, &each));
+    regress_c_free(&pattern);
+}
+
 static void work(void)
 {
     static const char text[] = "aaaaaaaaaaaaaaaaaaaaaaaaac";
@@ -356,6 +365,9 @@ static void work(void)
     print_in_work("no text", &light, "\xFF", 0, 10);
     print_in_work("a lookaround", &looking, "a", 0, 10);
     print_code("its work", regress_c_work_per_unit(&looking, &each));
+    print_unbounded("a backreference", "(a)\\1");
+    print_unbounded("a large count", "(?:a|a){0,65}");
+    print_unbounded("a large bound", ".+?.+?.+?.+?.+?.+?.+?.+?.+?.+?.+?.+?");
     print_in_work("by nothing", &nothing, "a", 0, 10);
     print_code("work of nothing", regress_c_work_per_unit(&nothing, &each));
     regress_c_free(&looking);
@@ -413,8 +425,8 @@ static void all_in_work(void)
 /* The texts of the codes, which are those of the header. */
 static void messages(void)
 {
-    uint8_t message[64];
-    for (uint32_t code = 0; code <= 22; code++) {
+    uint8_t message[128];
+    for (uint32_t code = 0; code <= 25; code++) {
         const char *other = regress_c_message(code);
         regress_c_reply reply = regress_c_message_utf8(code, message, sizeof message);
         int same = reply.count == strlen(other) && memcmp(message, other, reply.count) == 0;

@@ -248,7 +248,11 @@ static void check_at(regress_c_pattern *pattern, text t, size_t start, matches a
 static void check_in_work(regress_c_pattern *pattern, text t, size_t start, matches all, size_t ranges)
 {
     uint64_t each = 0;
-    if (regress_c_work_per_unit(pattern, &each) == REGRESS_C_NO_BOUND) {
+    uint32_t code = regress_c_work_per_unit(pattern, &each);
+    if (code != REGRESS_C_DONE) {
+        check(code == REGRESS_C_UNBOUNDED_LOOKAROUND || code == REGRESS_C_UNBOUNDED_BACKREFERENCE
+                  || code == REGRESS_C_UNBOUNDED_COUNT || code == REGRESS_C_UNBOUNDED_PRICE,
+              "why there is no bound");
         return;
     }
     size_t room = (t.len + 2) * ranges;

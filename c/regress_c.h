@@ -92,12 +92,18 @@ enum regress_c_code {
     REGRESS_C_NOT_OPEN = 17,
     /* Steps are counted in UTF-8 only. */
     REGRESS_C_NOT_COUNTED = 18,
-    /* No bound of the work of the pattern's searches is known. */
-    REGRESS_C_NO_BOUND = 19,
+    /* No bound of the work of the pattern's searches is known, since the pattern has a lookaround. */
+    REGRESS_C_UNBOUNDED_LOOKAROUND = 19,
     /* The work limit is reached. */
     REGRESS_C_WORK_LIMIT = 20,
     /* A syntax is none of enum regress_c_syntax. */
-    REGRESS_C_UNKNOWN_SYNTAX = 21
+    REGRESS_C_UNKNOWN_SYNTAX = 21,
+    /* No bound is known, since the pattern has a backreference. */
+    REGRESS_C_UNBOUNDED_BACKREFERENCE = 22,
+    /* No bound is known, since counts are too large, or loops are nested too deeply. */
+    REGRESS_C_UNBOUNDED_COUNT = 23,
+    /* No bound is known, since it would be too large. */
+    REGRESS_C_UNBOUNDED_PRICE = 24
 };
 
 /* The language of a pattern. */
@@ -280,8 +286,8 @@ regress_c_reply regress_c_match_at_ucs2(regress_c_pattern *pattern, const uint16
 /*
  * Sets `per_unit` to the work bound of the pattern, and returns DONE: on a text of n bytes, `per_unit` * (n + 1) work
  * is enough for all matches together. (That it is enough for the calls below is tested.) Returns EMPTY or MEMORY, or
- * NO_BOUND if no bound is known, as with a lookaround or a backreference (docs/LINEAR.md), and then `per_unit` is
- * unchanged.
+ * one of the UNBOUNDED codes if no bound is known (docs/LINEAR.md), and then `per_unit` is unchanged. A pattern with a
+ * lookaround is UNBOUNDED_LOOKAROUND, and another pattern with a backreference is UNBOUNDED_BACKREFERENCE.
  *
  * A unit of work is one step of a thread, one character that a loop over characters examines, one way back to a waiting
  * thread, one thread that is dropped since it is known to fail, or one record of a failure that is reached.
@@ -293,8 +299,8 @@ uint32_t regress_c_work_per_unit(regress_c_pattern *pattern, uint64_t *per_unit)
  * which is never more than before.
  *
  * Returns WORK_LIMIT only if `*work` was less than a work bound of the pattern for each byte of the text and one more;
- * then no work is left. (That this is the bound of regress_c_work_per_unit is tested.) Returns NO_BOUND if no bound is
- * known. NO_BOUND and refusals of the handle, the text or the start take no work.
+ * then no work is left. (That this is the bound of regress_c_work_per_unit is tested.) Returns one of the UNBOUNDED
+ * codes if no bound is known. These and refusals of the handle, the text or the start take no work.
  *
  * A loop over characters examines no more of them than the work that is left pays for. The clauses of this call do not
  * say how much work it did, only that the work left never rises; those of the iterator below say exactly what each
@@ -319,7 +325,8 @@ regress_c_reply regress_c_find_utf8_in_work(regress_c_pattern *pattern, const ui
  * matches more than the text has characters, one call never returns DONE.
  *
  * If there is no room for one match, returns SHORT_BUFFER, and `count` is the number of ranges of a match. Returns
- * EMPTY, NOT_UTF8, NOT_BOUNDARY or NO_BOUND if it is refused. Then nothing is written, and no work is done.
+ * EMPTY, NOT_UTF8, NOT_BOUNDARY or one of the UNBOUNDED codes if it is refused. Then nothing is written, and no work is
+ * done.
  */
 regress_c_reply regress_c_find_all_utf8_in_work(regress_c_pattern *pattern, const uint8_t *text, size_t text_len,
                                                 size_t start, uint64_t *work, regress_c_span *spans, size_t spans_len);
@@ -407,9 +414,9 @@ regress_c_reply regress_c_escape_utf8(const uint8_t *text, size_t text_len, uint
 /* ---- Messages */
 
 /*
- * Writes the text of a code: `count` bytes of ASCII without a terminating 0. Returns DONE or SHORT_BUFFER. 64 bytes are
- * enough for each text. A number that is no code has the text "unknown code". The function is for programs that cannot
- * include this header.
+ * Writes the text of a code: `count` bytes of ASCII without a terminating 0. Returns DONE or SHORT_BUFFER. 128 bytes
+ * are enough for each text. A number that is no code has the text "unknown code". The function is for programs that
+ * cannot include this header.
  */
 regress_c_reply regress_c_message_utf8(uint32_t code, uint8_t *message, size_t message_len);
 
@@ -436,9 +443,13 @@ static inline const char *regress_c_message(uint32_t code)
     case REGRESS_C_NO_GROUP: return "no such group";
     case REGRESS_C_NOT_OPEN: return "the search is not open";
     case REGRESS_C_NOT_COUNTED: return "steps are counted in UTF-8 only";
-    case REGRESS_C_NO_BOUND: return "no work bound is known";
     case REGRESS_C_WORK_LIMIT: return "the work limit is reached";
     case REGRESS_C_UNKNOWN_SYNTAX: return "unknown syntax";
+    case REGRESS_C_UNBOUNDED_LOOKAROUND: return "no work bound is known: the pattern has a lookaround";
+    case REGRESS_C_UNBOUNDED_BACKREFERENCE: return "no work bound is known: the pattern has a backreference";
+    case REGRESS_C_UNBOUNDED_COUNT:
+        return "no work bound is known: counts are too large, or loops are nested too deeply";
+    case REGRESS_C_UNBOUNDED_PRICE: return "no work bound is known: the bound of the pattern is too large";
     default: return "unknown code";
     }
 }

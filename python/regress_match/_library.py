@@ -134,7 +134,7 @@ library = _open()
 
 def message(code):
     """Returns the text of a code."""
-    return written(64, lambda room, length: library.regress_c_message_utf8(code, room, length)).decode()
+    return written(128, lambda room, length: library.regress_c_message_utf8(code, room, length)).decode()
 
 
 def written(length, write, done=DONE):

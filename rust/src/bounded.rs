@@ -1,6 +1,6 @@
 //! Searches with a work limit.
 
-use crate::error::SearchError;
+use crate::error::{SearchError, Unbounded};
 use crate::found::Match;
 use crate::raw::{code, Span};
 use crate::regex::Regex;
@@ -87,7 +87,9 @@ impl<'r> BoundedRegex<'r> {
             .with(|handle| handle.find_all_in_work(text, start, left, spans));
         match reply.code {
             code::NOT_BOUNDARY => splits_character(start),
-            code::NO_BOUND => unreachable!("the bound of this pattern is known"),
+            code if Unbounded::of(code).is_some() => {
+                unreachable!("the bound of this pattern is known")
+            }
             code => matches.code = code,
         }
         matches.found = reply.count;

@@ -1,5 +1,6 @@
 //! Errors of patterns and of searches.
 
+use crate::raw::code;
 use std::error;
 use std::fmt;
 
@@ -138,3 +139,44 @@ impl fmt::Display for SearchError {
 }
 
 impl error::Error for SearchError {}
+
+/// Why no work bound of a pattern is known.
+#[derive(Clone, Copy, Debug, PartialEq, Eq, Hash)]
+#[non_exhaustive]
+pub enum Unbounded {
+    /// The pattern has a lookahead or a lookbehind.
+    Lookaround,
+    /// The pattern has a backreference, and no lookaround.
+    Backreference,
+    /// The counts of loops are too large, or loops are nested too deeply.
+    Count,
+    /// The bound would be too large, as with many lazy loops in sequence.
+    Price,
+}
+
+impl Unbounded {
+    // Returns the reason that a code of the C library gives.
+    pub(crate) fn of(code: u32) -> Option<Self> {
+        match code {
+            code::UNBOUNDED_LOOKAROUND => Some(Unbounded::Lookaround),
+            code::UNBOUNDED_BACKREFERENCE => Some(Unbounded::Backreference),
+            code::UNBOUNDED_COUNT => Some(Unbounded::Count),
+            code::UNBOUNDED_PRICE => Some(Unbounded::Price),
+            _ => None,
+        }
+    }
+}
+
+impl fmt::Display for Unbounded {
+    fn fmt(&self, f: &mut fmt::Formatter<'_>) -> fmt::Result {
+        f.write_str("no work bound is known: ")?;
+        f.write_str(match self {
+            Unbounded::Lookaround => "the pattern has a lookaround",
+            Unbounded::Backreference => "the pattern has a backreference",
+            Unbounded::Count => "counts are too large, or loops are nested too deeply",
+            Unbounded::Price => "the bound of the pattern is too large",
+        })
+    }
+}
+
+impl error::Error for Unbounded {}

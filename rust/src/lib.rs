@@ -28,7 +28,7 @@ mod regex;
 mod search;
 
 pub use crate::bounded::{BoundedRegex, MatchesInWork};
-pub use crate::error::{Cause, Error, SearchError};
+pub use crate::error::{Cause, Error, SearchError, Unbounded};
 pub use crate::flags::Flags;
 pub use crate::found::{Groups, Match, NamedGroups};
 pub use crate::regex::{escape, Bounds, Regex, Syntax};

@@ -20,8 +20,11 @@ pub mod code {
     pub const TOO_MANY_INSTRUCTIONS: u32 = 12;
     pub const TOO_LONG: u32 = 14;
     pub const TOO_DEEP: u32 = 15;
-    pub const NO_BOUND: u32 = 19;
+    pub const UNBOUNDED_LOOKAROUND: u32 = 19;
     pub const WORK_LIMIT: u32 = 20;
+    pub const UNBOUNDED_BACKREFERENCE: u32 = 22;
+    pub const UNBOUNDED_COUNT: u32 = 23;
+    pub const UNBOUNDED_PRICE: u32 = 24;
 }
 
 /// The languages of patterns.
@@ -330,7 +333,7 @@ impl Handle {
         }
     }
 
-    /// Returns the work bound, or the code `NO_BOUND`.
+    /// Returns the work bound, or one of the codes `UNBOUNDED_..` or `MEMORY`.
     pub fn work_per_unit(&mut self) -> Result<u64, u32> {
         let mut per_unit = 0;
         // SAFETY: the handle and the number are exclusive.

@@ -1,7 +1,7 @@
 //! Compiled patterns.
 
 use crate::bounded::BoundedRegex;
-use crate::error::{Cause, Error, Place, SearchError};
+use crate::error::{Cause, Error, Place, SearchError, Unbounded};
 use crate::flags::Flags;
 use crate::found::{Match, Names};
 use crate::raw::{self, code, Handle, RawBounds, Reading, Reply, Span, Text};
@@ -446,26 +446,30 @@ impl Regex {
 
     /// Returns the pattern with its work bound, for searches with a work limit.
     ///
-    /// Returns `None` if no bound is known, for example with a lookaround, a backreference or a large count (`docs/LINEAR.md`).
+    /// # Errors
+    ///
+    /// Why no bound is known (`docs/LINEAR.md`).
     ///
     /// # Panics
     ///
     /// If an allocation fails.
-    pub fn bounded(&self) -> Option<BoundedRegex<'_>> {
+    pub fn bounded(&self) -> Result<BoundedRegex<'_>, Unbounded> {
         match self.with(Handle::work_per_unit) {
-            Ok(per_unit) => Some(BoundedRegex::new(self, per_unit)),
-            Err(code::NO_BOUND) => None,
-            Err(_) => out_of_memory(),
+            Ok(per_unit) => Ok(BoundedRegex::new(self, per_unit)),
+            Err(code) => Err(Unbounded::of(code).unwrap_or_else(|| out_of_memory())),
         }
     }
 
-    /// Returns the work bound: in a text of n bytes, `work_per_unit` × (n + 1) work is enough for all matches. Returns `None` if no
-    /// bound is known.
+    /// Returns the work bound: in a text of n bytes, `work_per_unit` × (n + 1) work is enough for all matches.
+    ///
+    /// # Errors
+    ///
+    /// Why no bound is known (`docs/LINEAR.md`).
     ///
     /// # Panics
     ///
     /// If an allocation fails.
-    pub fn work_per_unit(&self) -> Option<u64> {
+    pub fn work_per_unit(&self) -> Result<u64, Unbounded> {
         self.bounded().map(|bounded| bounded.work_per_unit())
     }
 

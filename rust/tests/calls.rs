@@ -2,7 +2,7 @@
 
 use regress_match::{
     escape, library_version, AsciiMatches, Bounds, Cause, Error, Flags, Match, Matches, Regex,
-    SearchError, Syntax,
+    SearchError, Syntax, Unbounded,
 };
 use std::error;
 use std::fmt::Debug;
@@ -169,7 +169,7 @@ fn a_match_begins_at_one_place_alone() {
 fn work_is_bounded() {
     let re = Regex::new("(a)|b").unwrap();
     let bounded = re.bounded().unwrap();
-    assert_eq!(re.work_per_unit(), Some(bounded.work_per_unit()));
+    assert_eq!(re.work_per_unit(), Ok(bounded.work_per_unit()));
     for count in [0, 1, 31, 32, 33, 256, 1000] {
         let text = "ab".repeat(count);
         let enough = bounded.work_per_unit() * (text.len() as u64 + 1);
@@ -206,12 +206,21 @@ fn work_is_bounded() {
     assert_eq!(bounded.find_from("éa", 2, u64::MAX).count(), 1);
     assert_eq!(bounded.find_from("a", 2, u64::MAX).count(), 0);
     assert!(std::panic::catch_unwind(|| bounded.find_from("é", 1, 9)).is_err());
-    for unbounded in ["(?=a)b", r"(a)\1"] {
-        let re = Regex::new(unbounded).unwrap();
-        assert!(
-            re.bounded().is_none() && re.work_per_unit().is_none(),
-            "{unbounded}"
-        );
+    let lazy = ".+?".repeat(12);
+    for (pattern, reason, text) in [
+        ("(?=a)b", Unbounded::Lookaround, "the pattern has a lookaround"),
+        (r"(a)\1", Unbounded::Backreference, "the pattern has a backreference"),
+        (
+            "(?:a|a){0,65}",
+            Unbounded::Count,
+            "counts are too large, or loops are nested too deeply",
+        ),
+        (&lazy, Unbounded::Price, "the bound of the pattern is too large"),
+    ] {
+        let re = Regex::new(pattern).unwrap();
+        assert_eq!(re.bounded().err(), Some(reason), "{pattern}");
+        assert_eq!(re.work_per_unit(), Err(reason), "{pattern}");
+        assert_eq!(reason.to_string(), format!("no work bound is known: {text}"));
     }
     assert_eq!(SearchError::WorkLimit.to_string(), "the work limit is reached");
 }

@@ -75,7 +75,7 @@ pub record PatternDialect : Type 1 where
   pub may_repeat : Flags → (backwards : Bool) → Bool
 
 mutual
-  -- Disjunction, from one state to another; `behind` says whether it is inside a lookbehind
+  -- Disjunction, from one state to another; the index says whether it is inside a lookbehind
   pub data Disjunction (s : PatternDialect) (w : PatternContext) : (in_lookbehind : Bool) → ParseState → ParseState → Node → Type 0 where
     last_alternative : {in_lookbehind : Bool} {p q : ParseState} {terms : List Node}
         → Alternative s w in_lookbehind p q terms

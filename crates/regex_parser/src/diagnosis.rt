@@ -27,7 +27,7 @@ pub enum Cause {
     #[error("comments are not supported")]
     Comment,
     /// `(?P`, as in `(?P<n>a)` and `(?P=n)`.
-    #[error("(?P is not supported, write (?<n> or \\k<n>")]
+    #[error("(?P is not supported, write (?<name>..) or \\k<name>")]
     PythonGroup,
     /// More capturing groups than the limit of 65,535; `groups` is their number, and `u32::MAX` also
     /// stands for more. It is reported whatever else is wrong with the text.
@@ -122,7 +122,7 @@ pub enum Cause {
     #[error("incomplete quantifier")]
     IncompleteQuantifier,
     /// With `unicode`, a `]` or `}` without its partner.
-    #[error("lone bracket")]
+    #[error("unmatched bracket")]
     LoneBracket,
 }
 

@@ -10,7 +10,7 @@ ghost use Rattle.regress_backtrack.specs.AttemptResults.{HasFirstOutcomeEndAndGr
 ghost use Rattle.regress_backtrack.specs.{MemoizedExecution.{IsMemoSound, KeepsMemoSound}, Interpreter.{IfDone}};
 ghost use Rattle.regress_backtrack.specs.{FailuresInMemoTable.{IsMemoRight}, TextsReadAsTreeRequires.{TreeCanSearchText}};
 
-use crate::failure_memo::{FailureMemo, ResultStoredOrSearchStopped, StepsAndMemo};
+use crate::failure_memo::{FailureMemo, StepsAndMemo, StoredOrStopped};
 use crate::failures_in_memo_table::{CounterAndMemoForRetries, enable_memo};
 use crate::interpreter::run_thread;
 use crate::position_and_result::ThreadPos;
@@ -88,22 +88,22 @@ fn attempt_with_memo<W: SearchContext>(
     memory: &mut BacktrackState,
     again: &mut CounterAndMemoForRetries,
     came: &mut Option<PositionOf<W>>,
-) -> ResultStoredOrSearchStopped
+) -> StoredOrStopped
     requires executable { let w = W.searching context.now in
         TreeCanSearchText w.tree w.text × IsBoundary w.text (W.Input.Position.offset pos) }
     requires insns { map insn_as_spec_insn insns.now ≡ (program_of (W.searching context.now)).insns }
-    requires right { IsMemoRight (λ memo. memo.value) (W.searching context.now) again.old.progress.memo }
+    requires sound { IsMemoRight (λ memo. memo.value) (W.searching context.now) again.old.progress.memo }
     ensures found { let at = W.Input.Position.offset in
         IfDone result (HasFirstOutcomeEndAndGroups at (W.searching context.now) (at pos) memory.new came.new) }
-    ensures right { IsMemoRight (λ memo. memo.value) (W.searching context.now) again.new.progress.memo }
+    ensures sound { IsMemoRight (λ memo. memo.value) (W.searching context.now) again.new.progress.memo }
 {
     enable_memo(context, insns, again);
     match attempt(context, pos, memory, &mut again.progress) {
         Ok(end) => {
             *came = end;
-            ResultStoredOrSearchStopped::Done
+            StoredOrStopped::Done
         }
-        Err(_) => ResultStoredOrSearchStopped::Stopped,
+        Err(_) => StoredOrStopped::Stopped,
     }
 }
 
@@ -120,16 +120,16 @@ pub(crate) fn retry_with_memo<W: SearchContext>(
     requires executable { let w = W.searching context.now in
         TreeCanSearchText w.tree w.text × IsBoundary w.text (W.Input.Position.offset pos) }
     requires insns { map insn_as_spec_insn insns.now ≡ (program_of (W.searching context.now)).insns }
-    requires right { IsMemoRight (λ memo. memo.value) (W.searching context.now) again.old.progress.memo }
+    requires sound { IsMemoRight (λ memo. memo.value) (W.searching context.now) again.old.progress.memo }
     ensures found { let at = W.Input.Position.offset in
         IfOk result (HasFirstOutcomeEndAndGroups at (W.searching context.now) (at pos) memory.new) }
     ensures steps { let w = W.searching context.now in
         SpendsNeedOrReachesLimit (ticks_of_attempt_at w.tree w.text (W.Input.Position.offset pos)) None result None }
     ensures cause { TellsIfStepLimitReached result false }
-    ensures right { IsMemoRight (λ memo. memo.value) (W.searching context.now) again.new.progress.memo }
+    ensures sound { IsMemoRight (λ memo. memo.value) (W.searching context.now) again.new.progress.memo }
 {
     match attempt_with_memo(context, insns, pos, memory, again, came) {
-        ResultStoredOrSearchStopped::Done => Ok(*came),
-        ResultStoredOrSearchStopped::Stopped => Err(SearchError::Memory),
+        StoredOrStopped::Done => Ok(*came),
+        StoredOrStopped::Stopped => Err(SearchError::Memory),
     }
 }

@@ -7,7 +7,7 @@ ghost use Rattle.regex_pattern_front.specs.AstToSpecTree.{tree_of};
 ghost use Rattle.regress_search.specs.AttemptsAndStarts.{NextStartSkipsNoMatch, NoMatchAt};
 ghost use Rattle.regress_search.specs.NewExecutorsAndAsciiTexts.{ReadsBytesAsAscii, IsNewExecutor, CanSearchAllAsciiTexts};
 ghost use Rattle.regress_machine.specs.SearchFindsFirstOutcomeAtPlace.{TreeProgramCanSearchText};
-ghost use Rattle.regress_program.specs.TableKeysOfUnits.{is_16_bit_encoding};
+ghost use Rattle.regress_program.specs.{TableKeysOfUnits.{is_16_bit_encoding}, LeadingCharLoops.{OnlyOpensGroups}};
 ghost use Rattle.regress_search.specs.TreePlanAndText.{program_of};
 ghost use Rattle.regress_memo.specs.MemoContents.{has_failure, has_success};
 ghost use Rattle.regress_program.specs.CompilationOfTreesAsFunction.{compiled};
@@ -27,8 +27,9 @@ pub use crate::step_limited::LimitedExecutor;
 use regress_input::indexing::{AsciiInput, InputIndexer, Ucs2Input, Utf8Input, Utf16Input};
 use regress_input::position::PositionType;
 use regress_program::insn::{CompiledRegex, CompiledRegexFor16BitUnits, Program};
+use regress_program::leading_char_loop::LeadingCharLoop;
 use regress_search::exec::{Executor, MatchProducer, ProducerFromProgramAndText, SearchError};
-use regress_search::leading_char_loop::{leading_loop_max_char_units, skip_leading_char_loop};
+use regress_search::leading_char_loop::skip_leading_char_loop;
 use regress_search::program_and_input::ProgramAndInput;
 use regress_search::search_context::{
     PositionOf, SearchContext, offset_in_searched_text, position_in_searched_text,
@@ -51,10 +52,9 @@ pub struct BacktrackExecutor<'r, Input: InputIndexer> {
     // The end found by the last attempt that was made again. Its position type also exposes the
     // text's lifetime in this struct, which calls that are generic in the executor require.
     came: Option<Input::Position>,
-    // The maximum number of units of a character of the leading char loop (the one with which each
-    // match begins), if that loop is scanned again after a failed start, so that none of its
-    // positions is tried. Else 0.
-    leads: usize,
+    // The leading char loop (the one with which each match begins), which is scanned again after a
+    // failed start, so that none of its positions is tried.
+    leads: LeadingCharLoop,
     // How far the last leap has led.
     leap: LeapMemory,
     // The memo is right: each key that it holds as failed does fail, and each one that it holds as
@@ -67,6 +67,8 @@ pub struct BacktrackExecutor<'r, Input: InputIndexer> {
         (failed_in (λ memo. has_success memo.value) again.progress.memo) } by { Prim.hlevel props },
     // No match begins between the two offsets of the last leap.
     ghost leapt: { IsLeapMemoryRight (executed_tree_of search.program) (Input.text search.searched.input) leap } by { Prim.hlevel props },
+    // Only groups are opened before the leading char loop.
+    ghost opened: { OnlyOpensGroups search.program.plan leads.opens } by { Prim.hlevel props },
 }
 
 // The work allowed for each offset of a text, which is more than most searches do, and for each
@@ -99,7 +101,7 @@ impl<'r, Input: InputIndexer> BacktrackExecutor<'r, Input> {
         let alloc = search.searched.program.allocator();
         let units = search.searched.input.unit_count();
         let work = work_at_first(units, search.program.insns().len());
-        let leads = leading_loop_max_char_units(search.program.plan());
+        let leads = LeadingCharLoop::of(search.program.plan());
         let leap = LeapMemory::new(&search.program.plan().leap);
         BacktrackExecutor {
             search,
@@ -128,7 +130,8 @@ impl<'r, Input: InputIndexer> BacktrackExecutor<'r, Input> {
     // loop's end, so each character is scanned again only once.
     #[inline(always)]
     fn goes_over(&self, tried: Input::Position, next: Input::Position) -> bool {
-        self.leads != 0 && next.to_offset().wrapping_sub(tried.to_offset()) <= self.leads
+        let most = self.leads.max_char_units;
+        most != 0 && next.to_offset().wrapping_sub(tried.to_offset()) <= most
     }
 
     /// Makes all further attempts record failures, as they do once the work budget is spent. The
@@ -192,14 +195,17 @@ fn next_candidate_behind_leap<W: SearchContext>(
     next_candidate_start(context, position_in_searched_text(context, past))
 }
 
-// Returns the first candidate start at or after `from`, where each match begins with a char loop
-// and no match begins at `tried`: none of the loop's positions is tried.
+// Returns the first candidate start at or after `from`, where each match opens `opens` groups and
+// then begins with a char loop, and no match begins at `tried`: none of the loop's positions is
+// tried.
 #[inline(never)]
 fn next_start_past_loop<W: SearchContext>(
     context: &W,
+    opens: usize,
     tried: PositionOf<W>,
     from: PositionOf<W>,
 ) -> Option<PositionOf<W>>
+    requires opens { OnlyOpensGroups (W.searching context.now).plan opens }
     requires tried { IsBoundary (W.searching context.now).text (W.Input.Position.offset tried) }
     requires at { IsBoundary (W.searching context.now).text (W.Input.Position.offset from) }
     requires ahead { W.Input.Position.offset tried ≤ W.Input.Position.offset from }
@@ -210,7 +216,7 @@ fn next_start_past_loop<W: SearchContext>(
         NextStartSkipsNoMatch w.tree w.text (at from) (option_map at result) }
 {
     context.lemma_plan_fits_program();
-    let past = skip_leading_char_loop(context, offset_in_searched_text(context, tried));
+    let past = skip_leading_char_loop(context, opens, offset_in_searched_text(context, tried));
     let start = offset_in_searched_text(context, from);
     if past <= start {
         return Some(from);
@@ -298,7 +304,7 @@ impl<'r, Input: InputIndexer> SingleAttemptExecutor for BacktrackExecutor<'r, In
         let next = self.search.searched.position_after_failure(tried)?;
         let to = next_candidate_past_leap(&self.search, &self.leap, next)?;
         if self.goes_over(tried, to) {
-            return next_start_past_loop(&self.search, tried, to);
+            return next_start_past_loop(&self.search, self.leads.opens, tried, to);
         }
         Some(to)
     }

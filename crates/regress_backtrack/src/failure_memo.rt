@@ -45,7 +45,7 @@ pub trait FailureMemo {
         thread: DirectedThreadPos,
         memory: &BacktrackState,
     ) -> Option<RecordKey>
-        requires right { AreFailuresRight (W.searching context.now) (terms self.now) (failed self.now) }
+        requires sound { AreFailuresRight (W.searching context.now) (terms self.now) (failed self.now) }
         requires inside { thread.here.at ≤ units (W.searching context.now).text }
         ensures { IfSome result (λ k. IsKeyOf (W.searching context.now) (terms self.now) thread.forward
             (memo_key_as_spec k)
@@ -59,7 +59,7 @@ pub trait FailureMemo {
         run: DirectedThreadPos,
         memory: &BacktrackState,
     ) -> Option<RecordKey>
-        requires right { AreFailuresRight (W.searching context.now) (terms self.now) (failed self.now) }
+        requires sound { AreFailuresRight (W.searching context.now) (terms self.now) (failed self.now) }
         ensures { IfSome result (λ k. DecidesLoopRest (W.searching context.now) (terms self.now) run.forward run.here
             (memo_key_as_spec k) memory.now) };
 
@@ -101,7 +101,7 @@ pub struct StepsAndMemo<S: StepCounter, M: FailureMemo> {
 /// Whether a call had a result, which it then left outside of its return value (as in `end` of
 /// `StepsAndMemo`).
 #[derive(Clone, Copy)]
-pub enum ResultStoredOrSearchStopped {
+pub enum StoredOrStopped {
     Done,
     Stopped,
 }

@@ -283,7 +283,7 @@ pub(crate) fn enable_memo<W: SearchContext>(
     again: &mut CounterAndMemoForRetries,
 )
     requires insns { map insn_as_spec_insn insns.now ≡ (program_of (W.searching context.now)).insns }
-    requires right { IsMemoRight (λ memo. memo.value) (W.searching context.now) again.old.progress.memo }
+    requires sound { IsMemoRight (λ memo. memo.value) (W.searching context.now) again.old.progress.memo }
     ensures { IsMemoRight (λ memo. memo.value) (W.searching context.now) again.new.progress.memo }
 {
     if again.began {

@@ -103,7 +103,7 @@ pub(crate) fn leaps_over_if_due<W: SearchContext>(
     requires at { IsBoundary (W.searching context.now).text at }
     requires executable { let w = W.searching context.now in TreeProgramCanSearchText (program_of w) w.tree w.text }
     ensures none { let w = W.searching context.now in result ≡ true → NoMatchAt w.tree w.text at }
-    ensures right { let w = W.searching context.now in IsLeapMemoryRight w.tree w.text memory.old
+    ensures sound { let w = W.searching context.now in IsLeapMemoryRight w.tree w.text memory.old
         → IsLeapMemoryRight w.tree w.text memory.new }
 {
     if !memory.is_due(at) {
@@ -119,7 +119,7 @@ fn leaps_over<W: SearchContext>(context: &W, memory: &mut LeapMemory, at: usize)
     requires at { IsBoundary (W.searching context.now).text at }
     requires executable { let w = W.searching context.now in TreeProgramCanSearchText (program_of w) w.tree w.text }
     ensures none { let w = W.searching context.now in result ≡ true → NoMatchAt w.tree w.text at }
-    ensures right { let w = W.searching context.now in IsLeapMemoryRight w.tree w.text memory.old
+    ensures sound { let w = W.searching context.now in IsLeapMemoryRight w.tree w.text memory.old
         → IsLeapMemoryRight w.tree w.text memory.new }
 {
     context.lemma_plan_fits_program();
@@ -140,7 +140,7 @@ fn leap_over<W: SearchContext>(context: &W, leap: &Leap, memory: &mut LeapMemory
     requires executable { let w = W.searching context.now in TreeProgramCanSearchText (program_of w) w.tree w.text }
     requires leap { let w = W.searching context.now in IsLeap (is_16_bit_encoding w.encoding) (program_of w) leap.now }
     ensures none { let w = W.searching context.now in result ≡ true → NoMatchAt w.tree w.text at }
-    ensures right { let w = W.searching context.now in IsLeapMemoryRight w.tree w.text memory.new }
+    ensures sound { let w = W.searching context.now in IsLeapMemoryRight w.tree w.text memory.new }
 {
     memory.from = at;
     match leap_from(context, leap, at) {

@@ -3,7 +3,7 @@
 ghost use Rattle.std.specs.Prelude.{◌≡◌, ◌≢◌, ◌<◌, ◌≤◌, ◌+◌, ◌-◌, ◌^◌, ◌++◌, ℕ, [], ◌∷◌, length, take, map, slice_get, slice_set, Some, true, false, OnOk, OnErr, IfOk};
 ghost use Rattle.regress_backtrack.specs.State.{StateModel, undone, IsStateInvariant, initial_slot as first_slot_at, logical_slot_value, seen_change};
 ghost use Rattle.regress_backtrack.specs.State.{SlotsAreUnsetAndUnlogged, undo_entry_logged_for_slot};
-ghost use Rattle.regress_backtrack.specs.State.{last_mark_log as noted_since, initial_state, current_thread_state_of, loop_data_in_slot, with_choice_point_list};
+ghost use Rattle.regress_backtrack.specs.State.{log_len_at_choice_point as noted_since, initial_state, current_thread_state_of, loop_data_in_slot, with_choice_point_list};
 ghost use Rattle.regress_backtrack.specs.State.{ChangesFromNumberAreUndone, SetsSlotUndoably, ChangesStateUndoably, with_group_open};
 ghost use Rattle.regress_backtrack.specs.State.{state_with_group_unset, with_group_range, with_loop_iteration};
 ghost use Rattle.regress_backtrack.specs.UndoLog.{HasLogRoomOrIsLogged, IsLoggedOnce};
@@ -150,7 +150,7 @@ fn grow<T: Copy + Drop>(row: &mut Vec<T>, value: T) -> Result<(), AllocError>
 
 // Returns the length of the undo log when the last choice point was pushed, or 0 if there is none.
 #[inline(always)]
-fn last_mark_log(choice_points: &[ChoicePoint]) -> usize
+fn log_len_at_choice_point(choice_points: &[ChoicePoint]) -> usize
     ensures { result ≡ noted_since choice_points.now }
 {
     if choice_points.len() == 0 {
@@ -181,7 +181,7 @@ fn reserve(
     if used < *free {
         return Ok(true);
     }
-    if last_mark_log(choice_points) < noted as usize {
+    if log_len_at_choice_point(choice_points) < noted as usize {
         return Ok(false);
     }
     grow_log(log, free, used)?;

@@ -6,7 +6,7 @@ ghost use Rattle.regress_backtrack.specs.StepsTakenFromBudget.{Budget, AreStepsT
 use std::alloc::AllocError;
 
 /// A search stopped without a result: allocation failed, or too much work was done; or, where steps
-/// are counted, too few steps were left. The type is empty, so that a result with a position is
+/// are counted, too few steps were left. It has no fields, so that a result with a position is
 /// returned in registers. The step counter knows the cause.
 #[derive(Clone, Copy)]
 pub struct SearchStoppedWithoutResult;

@@ -18,7 +18,7 @@ use Rattle.regress_machine.specs.Machine.{running, ends, Found, search}
 use Rattle.regress_memo.specs.Liveness.{ReadsAsBytes}
 use Rattle.regress_memo.specs.MemoSearch.{Key, Entry, tried, tries, Answers}
 use Rattle.regress_memo.specs.declared.analysis_result.MemoAnalysis.{MemoAnalysis}
-use Rattle.regress_memo.specs.WorkBound.{first_row, work_per_position, all_keys_cost_per_position}
+use Rattle.regress_memo.specs.WorkBound.{initial_threads, work_per_position, all_keys_cost_per_position}
 use Rattle.regress_memo.specs.AnalysisAsPotentials.{insn_analysis_of}
 use Rattle.regress_memo.specs.Laws.{ListsExactlyKnownKeys}
 use Rattle.regress_memo.specs.MemoContents.{has_failure, IsEmptyMemo}
@@ -34,26 +34,26 @@ use Rattle.regress_pikevm.specs.InsnEffects.{end_and_groups}
 use Rattle.regress_pikevm.proofs.Remains.{map-end}
 use Rattle.regress_pikevm.specs.declared.pikevm.states.State.{State}
 use Rattle.regress_bounded.specs.WorkBoundForAllMatches.{HasBound, work_per_unit}
-use Rattle.regress_bounded.specs.BoundedState.{IsPaid, IsRight, IsMemoRight, BoundedAttempt, BoundedAttemptBegins, Stands}
+use Rattle.regress_bounded.specs.BoundedState.{HasWorkBound, IsSoundMemo, IsMemoRight, BoundedAttempt, BoundedAttemptBegins, AttemptHasState}
 use Rattle.regress_bounded.specs.CostsOfSearchEvents.{Costs, nothing_yet, then_happens}
 use Rattle.regress_bounded.specs.CostsOfAttempts.{AttemptCosts, EventsOfAttempt, HasFinished, ListsFailures, failures_of, is_end, no_entry}
 use Rattle.regress_bounded.specs.declared.pending_stack.StackEntry.{StackEntry}
 use Rattle.regress_search.specs.CostsOfSearches.{CostsMoreThanLeft, Failures, TakesExactCost}
-use Rattle.regress_bounded.specs.BoundedState.{IsStanding, IsOver, EndsAt, Runs, front_of}
+use Rattle.regress_bounded.specs.BoundedState.{HasAttemptState, StoppedForWork, AttemptEndsAt, AttemptResultIs, front_of}
 use Rattle.regress_bounded.specs.WorkOfCharLoopsAndAttempts.{HasWalked, IsWalked, AttemptIsUnderWay}
 use Rattle.regress_pikevm.specs.States.{state_of}
 use Rattle.regress_bounded.specs.WorkOfSuccessiveAttempts.{Walked, HasWalked as AreWalked}
 use Rattle.regress_bounded.proofs.Ends.{ends-itself}
 use Rattle.regress_bounded.proofs.EventCosts.{event-comes}
 use Rattle.regress_bounded.proofs.PaidSearches.{memory-of, then-starts, in-order, still-onward, so-far, behind-end, then-ends, then-none}
-use Rattle.regress_bounded.proofs.Standing.{row-none}
-use Rattle.regress_bounded.proofs.Standing as standing
+use Rattle.regress_bounded.proofs.AttemptState.{row-none}
+use Rattle.regress_bounded.proofs.AttemptState as standing
 
 -- ---- It begins
 
 module _ {P : Type 0} {offset : P → ℕ} {program : Program} {text : Text} where
   pub begins-stands : {at : ℕ} {c : MemoAndWorkBudget} {b : BoundedAttempt} (start : State P) → HasRisingPlaceOffsets text → IsBoundary text at → state_of offset start ≡ state_before_first_insn program at → BoundedAttemptBegins program text at c b
-      → Stands offset program text b (front_of offset (Some start)) [] c
+      → AttemptHasState offset program text b (front_of offset (Some start)) [] c
   begins-stands {at} {c} {b} start is_text on is h =
       let right = h.right in
       let paid = right.paid in
@@ -68,7 +68,7 @@ module _ {P : Type 0} {offset : P → ℕ} {program : Program} {text : Text} whe
         work = 0;
         now = b.memory;
         row = [];
-        costs = subst (λ u. Costs program text t rightwards b.memory (tries (first_row program b.at)) 0 b.memory (tried (running u) ∷ [])) same nothing_yet;
+        costs = subst (λ u. Costs program text t rightwards b.memory (tries (initial_threads program b.at)) 0 b.memory (tried (running u) ∷ [])) same nothing_yet;
         is = tt;
         holds = h.holds;
         spent = (let t = h.total in omega (arith, t));
@@ -81,10 +81,10 @@ module _ {P : Type 0} (offset : P → ℕ) (program : Program) (text : Text) whe
     begins : BoundedAttemptBegins program text at c begin
     found : searched ≡ Some begin.found
 
-  attempt-begins : (at turns : ℕ) (c : MemoAndWorkBudget) → IsRight program text c.memo → IsSome (search program text turns rightwards (first_row program at))
-      → Attempt at c (search program text turns rightwards (first_row program at))
+  attempt-begins : (at turns : ℕ) (c : MemoAndWorkBudget) → IsSoundMemo program text c.memo → IsSome (search program text turns rightwards (initial_threads program at))
+      → Attempt at c (search program text turns rightwards (initial_threads program at))
   attempt-begins at turns c right answers =
-      let f = some-of (search program text turns rightwards (first_row program at)) answers in
+      let f = some-of (search program text turns rightwards (initial_threads program at)) answers in
       let m = memos-are-true.failures program text c.memo right.is_true in
       record {
         begin = record { at = at; memory = m.memory; total = c.left; turns = turns; found = f.0 };
@@ -95,32 +95,32 @@ module _ {P : Type 0} (offset : P → ℕ) (program : Program) (text : Text) whe
   -- ---- What it finds
 
   module _ (b : BoundedAttempt) (c : MemoAndWorkBudget) where
-    nothing-found : Stands offset program text b [] [] c → b.found.end ≡ None
+    nothing-found : AttemptHasState offset program text b [] [] c → b.found.end ≡ None
     nothing-found h =
         let none : h.row ≡ [] = row-none offset program text h.row h.is in
         standing.then-none program text c.memo.memo_analysis h.right.paid b h.is_memory h.answers h.work h.now
-        (subst (HasCome program text c.memo.memo_analysis rightwards b.memory (tries (first_row program b.at)) h.work h.now) none (standing.come offset program text b h))
+        (subst (HasCome program text c.memo.memo_analysis rightwards b.memory (tries (initial_threads program b.at)) h.work h.now) none (standing.come offset program text b h))
 
-    end-found : (end : State P) → EndsAt offset program text b end c → b.found.end ≡ Some (state_of offset end)
+    end-found : (end : State P) → AttemptEndsAt offset program text b end c → b.found.end ≡ Some (state_of offset end)
     end-found end h =
         let s = h.stands in
         standing.then-ends program text c.memo.memo_analysis s.right.paid b s.is_memory s.answers s.work s.now h.from (state_of offset end) s.row (standing.come offset program text b s) h.ends
 
   -- its end is inside the text
-  end-inside : (b : BoundedAttempt) (c : MemoAndWorkBudget) (end : State P) → EndsAt offset program text b end c → offset end.pos ≤ units text
+  end-inside : (b : BoundedAttempt) (c : MemoAndWorkBudget) (end : State P) → AttemptEndsAt offset program text b end c → offset end.pos ≤ units text
   end-inside b c end h =
       let own : offset end.pos ≡ h.from.pos = ap (λ (u : machine.State). u.pos) (ends-itself program text rightwards h.from (state_of offset end) h.ends) in
       let within = standing.inside offset program text b h.from h.stands in
       omega (arith, own, within)
 
-  runs-found : (b : BoundedAttempt) (c : MemoAndWorkBudget) (end : Option (State P)) → Runs offset program text b (Ok end) c → b.found.end ≡ option_map (λ e. state_of offset e) end
+  runs-found : (b : BoundedAttempt) (c : MemoAndWorkBudget) (end : Option (State P)) → AttemptResultIs offset program text b (Ok end) c → b.found.end ≡ option_map (λ e. state_of offset e) end
   runs-found b c None h = nothing-found b c h
   runs-found b c (Some e) h = end-found b c e h
 
   -- ---- What the next ones may do
 
   module _ (at ahead : ℕ) (old new : MemoAndWorkBudget) (same : new.memo.memo_analysis ≡ old.memo.memo_analysis) (walked : Walked program text old ahead) (le : ahead ≤ at) (inside : at ≤ units text)
-      (answered : Answers program text rightwards (first_row program at)) where
+      (answered : Answers program text rightwards (initial_threads program at)) where
     abbrev t : MemoAnalysis
     t = new.memo.memo_analysis
 
@@ -128,14 +128,14 @@ module _ {P : Type 0} (offset : P → ℕ) (program : Program) (text : Text) whe
     abbrev its : BoundedAttempt
     its = record { at = at; memory = walked.walked.memory; total = old.left; turns = answered.turns; found = answered.found }
 
-    its-begins : IsRight program text old.memo → BoundedAttemptBegins program text at old its
+    its-begins : IsSoundMemo program text old.memo → BoundedAttemptBegins program text at old its
     its-begins right = record { right = right; at = refl; is_memory = walked.walked.has.is; holds = walked.walked.holds; total = refl; answers = answered.searches }
 
     has : HasWalked program text t ahead walked.done walked.walked.memory
     has = subst (λ t. HasWalked program text t ahead walked.done walked.walked.memory) (sym same) walked.walked.has
 
-    module _ (paid : IsPaid program text t) where
-      trying : (known : Key → Bool) (work : ℕ) (now : List Key) (row : List Entry) → HasCome program text t rightwards its.memory (tries (first_row program at)) work now row → ListsExactlyKnownKeys known now
+    module _ (paid : HasWorkBound program text t) where
+      trying : (known : Key → Bool) (work : ℕ) (now : List Key) (row : List Entry) → HasCome program text t rightwards its.memory (tries (initial_threads program at)) work now row → ListsExactlyKnownKeys known now
           → AttemptIsUnderWay program text t known at walked.done work row
       trying known work now row h holds = record {
         memory = its.memory;
@@ -152,10 +152,10 @@ module _ {P : Type 0} (offset : P → ℕ) (program : Program) (text : Text) whe
           omega (arith, e, u, spent)
 
       -- none begins there
-      walked-none : Stands offset program text its [] [] new → Walked program text new (at + 1)
+      walked-none : AttemptHasState offset program text its [] [] new → Walked program text new (at + 1)
       walked-none h =
           let none : h.row ≡ [] = row-none offset program text h.row h.is in
-          let come = subst (HasCome program text t rightwards its.memory (tries (first_row program at)) h.work h.now) none (standing.come offset program text its h) in
+          let come = subst (HasCome program text t rightwards its.memory (tries (initial_threads program at)) h.work h.now) none (standing.come offset program text its h) in
           record {
             done = walked.done + h.work;
             walked = then-none program t paid.memo_analysis text paid.is_text paid.bytes paid.short (has_failure new.memo) at walked.done h.work answered (trying (has_failure new.memo) h.work h.now [] come h.holds);
@@ -163,7 +163,7 @@ module _ {P : Type 0} (offset : P → ℕ) (program : Program) (text : Text) whe
           }
 
       -- a match ends it
-      walked-found : (end : State P) → EndsAt offset program text its end new → Walked program text new (least_offset_after_match at (offset end.pos))
+      walked-found : (end : State P) → AttemptEndsAt offset program text its end new → Walked program text new (least_offset_after_match at (offset end.pos))
       walked-found end h =
           let s = h.stands in
           let own : offset end.pos ≡ h.from.pos = ap (λ (u : machine.State). u.pos) (ends-itself program text rightwards h.from (state_of offset end) h.ends) in
@@ -178,13 +178,13 @@ module _ {P : Type 0} (offset : P → ℕ) (program : Program) (text : Text) whe
           }
 
       -- work is never wanting
-      never-over : IsOver offset program text its new → ⊥
+      never-over : StoppedForWork offset program text its new → ⊥
       never-over h =
           let x = h.short in
           let before = h.stands in
-          let comes : HasCome program text t rightwards its.memory (tries (first_row program at)) (before.work + x.cost) x.now x.row =
-          subst (λ t. HasCome program text t rightwards its.memory (tries (first_row program at)) (before.work + x.cost) x.now x.row) (sym h.same)
-          (event-comes program text h.before.memo.memo_analysis before.right.paid its.memory (tries (first_row program at)) before.work x.cost before.now x.now (h.front ++ before.row) x.row x.happens
+          let comes : HasCome program text t rightwards its.memory (tries (initial_threads program at)) (before.work + x.cost) x.now x.row =
+          subst (λ t. HasCome program text t rightwards its.memory (tries (initial_threads program at)) (before.work + x.cost) x.now x.row) (sym h.same)
+          (event-comes program text h.before.memo.memo_analysis before.right.paid its.memory (tries (initial_threads program at)) before.work x.cost before.now x.now (h.front ++ before.row) x.row x.happens
           (standing.come offset program text its before)) in
           let all =
           so-far program t paid.memo_analysis text paid.is_text paid.bytes paid.short at walked.done its.memory
@@ -201,11 +201,11 @@ module _ {P : Type 0} (offset : P → ℕ) (program : Program) (text : Text) whe
 
 module _ (program : Program) (text : Text) (is_text : HasRisingPlaceOffsets text) (bytes : ReadsAsBytes program text) (short : units text < 2 ^ 63) (t : MemoAnalysis) (has : HasBound program t)
     (m : MemoView) (begun : IsEmptyMemo t (units text + 1) false m) where
-  its-paid : IsPaid program text t
+  its-paid : HasWorkBound program text t
   its-paid = record { memo_analysis = has.memo_analysis; bounded = has.bounded; no_look = has.no_look; is_text = is_text; bytes = bytes; short = short }
 
-  pub begun-right : IsRight program text m
-  begun-right = record { paid = subst (IsPaid program text) (sym begun.memo_analysis) its-paid; is_true = memos-are-true.begun program text t false m has.memo_analysis begun }
+  pub begun-right : IsSoundMemo program text m
+  begun-right = record { paid = subst (HasWorkBound program text) (sym begun.memo_analysis) its-paid; is_true = memos-are-true.begun program text t false m has.memo_analysis begun }
 
   pub begun-walked : (left : ℕ) → work_per_unit t * (units text + 1) ≤ left → Walked program text (record { memo = m; left = left }) 0
   begun-walked left enough = record {
@@ -216,7 +216,7 @@ module _ (program : Program) (text : Text) (is_text : HasRisingPlaceOffsets text
   }
 
 -- the search of an attempt answers
-answered-at : (tree : Tree) (text : Text) → TreeProgramCanSearchText (compiled tree) tree text → (at : ℕ) → IsBoundary text at → Answers (compiled tree) text rightwards (first_row (compiled tree) at)
+answered-at : (tree : Tree) (text : Text) → TreeProgramCanSearchText (compiled tree) tree text → (at : ℕ) → IsBoundary text at → Answers (compiled tree) text rightwards (initial_threads (compiled tree) at)
 answered-at tree text can at on =
     let s = some-of (search_from tree text at rightwards (state_before_first_insn (compiled tree) at)) (begins tree text at can on).answers in
     record { turns = steps_for_attempt tree text at; found = s.0; searches = s.1 }
@@ -224,17 +224,17 @@ answered-at tree text can at on =
 -- ---- What an attempt comes to, by all that begin so
 
 module _ {P : Type 0} (offset : P → ℕ) {tree : Tree} {text : Text} (can : TreeProgramCanSearchText (compiled tree) tree text) (at : ℕ) (on : IsBoundary text at) (old : MemoAndWorkBudget) where
-  first : IsRight (compiled tree) text old.memo → Attempt offset (compiled tree) text at old (search (compiled tree) text (steps_for_attempt tree text at) rightwards (first_row (compiled tree) at))
+  first : IsSoundMemo (compiled tree) text old.memo → Attempt offset (compiled tree) text at old (search (compiled tree) text (steps_for_attempt tree text at) rightwards (initial_threads (compiled tree) at))
   first right = attempt-begins offset (compiled tree) text at (steps_for_attempt tree text at) old right (begins tree text at can on).answers
 
   -- it stands so at its start
   pub attempt-stands : HasRisingPlaceOffsets text → IsMemoRight (compiled tree) text old.memo → (start : State P) → state_of offset start ≡ state_before_first_insn (compiled tree) at
-      → IsStanding offset (compiled tree) text (front_of offset (Some start)) [] old
+      → HasAttemptState offset (compiled tree) text (front_of offset (Some start)) [] old
   attempt-stands is knows start begun = ∥∥₁_map knows (λ right. let x = first right in record { begin = x.begin; stands = begins-stands start is on begun x.begins })
 
   module _ (new : MemoAndWorkBudget) where
     abbrev ByRuns : Result (Option (State P)) AttemptAbortReason → Type 0
-    ByRuns r = (b : BoundedAttempt) → BoundedAttemptBegins (compiled tree) text at old b → Runs offset (compiled tree) text b r new
+    ByRuns r = (b : BoundedAttempt) → BoundedAttemptBegins (compiled tree) text at old b → AttemptResultIs offset (compiled tree) text b r new
 
     -- an end that is found is inside the text
     pub found-inside : {found : Option (State P)} {end : State P} → found ≡ Some end → IsMemoRight (compiled tree) text old.memo → ByRuns (Ok found) → offset end.pos ≤ units text
@@ -254,7 +254,7 @@ module _ {P : Type 0} (offset : P → ℕ) {tree : Tree} {text : Text} (can : Tr
     pub none-left : (e : AttemptAbortReason) → IsMemoRight (compiled tree) text old.memo → ByRuns (Err e) → e ≡ Work → new.left ≡ 0
     none-left e knows runs is =
         ∥∥₁_elim knows (Prim.hlevel props) (λ right.
-        let x = first right in (subst (λ e. Runs offset (compiled tree) text x.begin (Err e) new) is (runs x.begin x.begins)).short.none)
+        let x = first right in (subst (λ e. AttemptResultIs offset (compiled tree) text x.begin (Err e) new) is (runs x.begin x.begins)).short.none)
 
     -- ---- In turn
 
@@ -266,7 +266,7 @@ module _ {P : Type 0} (offset : P → ℕ) {tree : Tree} {text : Text} (can : Tr
       abbrev from : Walked (compiled tree) text old ahead → BoundedAttempt
       from w = its offset (compiled tree) text at ahead old new same w le inside (answered-at tree text can at on)
 
-      from-begins : (w : Walked (compiled tree) text old ahead) → IsRight (compiled tree) text old.memo → BoundedAttemptBegins (compiled tree) text at old (from w)
+      from-begins : (w : Walked (compiled tree) text old ahead) → IsSoundMemo (compiled tree) text old.memo → BoundedAttemptBegins (compiled tree) text at old (from w)
       from-begins w right = its-begins offset (compiled tree) text at ahead old new same w le inside (answered-at tree text can at on) right
 
       -- none is found
@@ -289,8 +289,8 @@ module _ {P : Type 0} (offset : P → ℕ) {tree : Tree} {text : Text} (can : Tr
       pub never-wanted : (e : AttemptAbortReason) → ByRuns (Err e) → e ≡ Work → ⊥
       never-wanted e runs is =
           ∥∥₁_elim knows (Prim.hlevel props) (λ right. ∥∥₁_elim walked (Prim.hlevel props) (λ w.
-          let over = subst (λ e. Runs offset (compiled tree) text (from w) (Err e) new) is (runs (from w) (from-begins w right)) in
-          never-over offset (compiled tree) text at ahead old new same w le inside (answered-at tree text can at on) (subst (IsPaid (compiled tree) text) (sym same) right.paid) over))
+          let over = subst (λ e. AttemptResultIs offset (compiled tree) text (from w) (Err e) new) is (runs (from w) (from-begins w right)) in
+          never-over offset (compiled tree) text at ahead old new same w le inside (answered-at tree text can at on) (subst (HasWorkBound (compiled tree) text) (sym same) right.paid) over))
 
 -- ---- Its exact cost
 
@@ -302,8 +302,8 @@ module _ {P : Type 0} (offset : P → ℕ) {tree : Tree} {text : Text} (can : Tr
 
   module _ (b : BoundedAttempt) (begun : BoundedAttemptBegins (compiled tree) text at old b) where
     -- events that led to a state
-    events-of : {front : List Entry} {stack : List (StackEntry P)} {c : MemoAndWorkBudget} → Stands offset (compiled tree) text b front stack c → (cost : ℕ) (now : List Key) (row : List Entry)
-        → Costs (compiled tree) text c.memo.memo_analysis rightwards b.memory (tries (first_row (compiled tree) b.at)) cost now row
+    events-of : {front : List Entry} {stack : List (StackEntry P)} {c : MemoAndWorkBudget} → AttemptHasState offset (compiled tree) text b front stack c → (cost : ℕ) (now : List Key) (row : List Entry)
+        → Costs (compiled tree) text c.memo.memo_analysis rightwards b.memory (tries (initial_threads (compiled tree) b.at)) cost now row
         → (after : Option Failures) → IfSome after (λ failures. HasFinished (compiled tree) text row × ListsFailures failures now)
         → EventsOfAttempt tree text (failures_of old.memo) at cost after
     events-of {c = c} h cost now row costs after over = record {
@@ -313,12 +313,12 @@ module _ {P : Type 0} (offset : P → ℕ) {tree : Tree} {text : Text} (can : Tr
       lists = record { only = λ k is. begun.holds.only k is; all = λ k known. begun.holds.all k known };
       now = now;
       row = row;
-      costs = subst (λ n. Costs (compiled tree) text c.memo.memo_analysis rightwards b.memory (tries (first_row (compiled tree) n)) cost now row) begun.at costs;
+      costs = subst (λ n. Costs (compiled tree) text c.memo.memo_analysis rightwards b.memory (tries (initial_threads (compiled tree) n)) cost now row) begun.at costs;
       over = over;
     }
 
     -- one that is over took exactly its cost
-    finished : {front : List Entry} {stack : List (StackEntry P)} → (h : Stands offset (compiled tree) text b front stack new) → HasFinished (compiled tree) text (front ++ h.row)
+    finished : {front : List Entry} {stack : List (StackEntry P)} → (h : AttemptHasState offset (compiled tree) text b front stack new) → HasFinished (compiled tree) text (front ++ h.row)
         → TakesExactCost Spends old.left new.left (failures_of new.memo)
     finished {front} h over = (
       h.work,
@@ -327,12 +327,12 @@ module _ {P : Type 0} (offset : P → ℕ) {tree : Tree} {text : Text} (can : Tr
     )
 
     -- no entry is left, or the current one ends the search
-    its-cost : (found : Option (State P)) → Runs offset (compiled tree) text b (Ok found) new → TakesExactCost Spends old.left new.left (failures_of new.memo)
+    its-cost : (found : Option (State P)) → AttemptResultIs offset (compiled tree) text b (Ok found) new → TakesExactCost Spends old.left new.left (failures_of new.memo)
     its-cost None h = finished h (subst (HasFinished (compiled tree) text) (sym (row-none offset (compiled tree) text h.row h.is)) no_entry)
     its-cost (Some end) h = finished h.stands (is_end h.from (state_of offset end) h.stands.row h.ends)
 
     -- it was given up before an event that costs more than was left
-    its-cost-more : IsOver offset (compiled tree) text b new → CostsMoreThanLeft Spends old.left
+    its-cost-more : StoppedForWork offset (compiled tree) text b new → CostsMoreThanLeft Spends old.left
     its-cost-more h =
         let s = h.stands in
         let x = h.short in ∣ (
@@ -357,4 +357,4 @@ module _ {P : Type 0} (offset : P → ℕ) {tree : Tree} {text : Text} (can : Tr
   pub more-than-left : (e : AttemptAbortReason) → ByRuns offset can at on old new (Err e) → e ≡ Work → CostsMoreThanLeft Spends old.left
   more-than-left e runs is = ∥∥₁_elim knows ∥∥₁_prop (λ right.
       let x = first offset can at on old right in
-      its-cost-more x.begin x.begins (subst (λ e. Runs offset (compiled tree) text x.begin (Err e) new) is (runs x.begin x.begins)))
+      its-cost-more x.begin x.begins (subst (λ e. AttemptResultIs offset (compiled tree) text x.begin (Err e) new) is (runs x.begin x.begins)))

@@ -10,7 +10,7 @@ use Rattle.regress_machine.specs.InsnEffects.{IsNotStuck}
 use Rattle.regress_memo.specs.CharLoopExitThreadLists.{passing}
 use Rattle.regress_memo.specs.MemoSearch.{Key, Entry, tried, kept, tries}
 use Rattle.regress_memo.specs.declared.analysis_result.MemoAnalysis.{MemoAnalysis}
-use Rattle.regress_memo.specs.WorkBound.{first_row}
+use Rattle.regress_memo.specs.WorkBound.{initial_threads}
 use Rattle.regress_memo.specs.AnalysisChecks.{unlimited}
 use Rattle.regress_memo.specs.MemoContents.{memo_key_at}
 use Rattle.regress_memo.specs.AmortizedMemoSearchSteps.{HasCome, ComesOn}
@@ -18,8 +18,8 @@ use Rattle.regress_memo.proofs.SearchLemmas.{searches-are-paid}
 use Rattle.regress_bounded.specs.CostsOfSearchEvents.{Happens, Costs, WaitAbove, none_waits, some_wait, drops, turns, tries_chars, too_few, fails_from, takes_furthest}
 use Rattle.regress_bounded.specs.CostsOfSearchEvents.{takes_nearest, drops_loop, resumes_loop, resumes, reaches, nothing_yet, then_happens}
 use Rattle.regress_bounded.specs.CostsOfSearchEvents.{IsNewIfAny, with_record_of}
-use Rattle.regress_bounded.specs.BoundedState.{IsPaid}
-use Rattle.regress_bounded.specs.WorkOfCharLoopsAndAttempts.{IsEndless}
+use Rattle.regress_bounded.specs.BoundedState.{HasWorkBound}
+use Rattle.regress_bounded.specs.WorkOfCharLoopsAndAttempts.{IsUnboundedCharLoop}
 use Rattle.regress_bounded.proofs.PaidRuns.{limited-turned, limited-recorded, greedy-none, greedy-known, greedy-all, lazy-none, lazy-first, lazy-known, lazy-again}
 use Rattle.regress_bounded.proofs.PaidRuns.{kept-none}
 
@@ -57,16 +57,16 @@ pub cost-some : {program : Program} {text : Text} {t : MemoAnalysis} {d : Direct
 cost-some (drops s k rest is known) = omega arith
 cost-some (turns s ts key rest acts is new) = omega arith
 cost-some (tries_chars s least most greedy n ts key rest run limited acts is new) = omega arith
-cost-some (too_few s test least place greedy rest endless at few) = omega arith
-cost-some (fails_from s test least place n rest endless at le few new known) = omega arith
-cost-some (takes_furthest s test least place n rest endless at all le new) = omega arith
-cost-some (takes_nearest s test least place rest row endless at le wait) = omega arith
-cost-some (drops_loop s test least place rest endless at known) = omega arith
-cost-some (resumes_loop s test least place rest row endless at new wait) = omega arith
+cost-some (too_few s test least place greedy rest unbounded_loop at few) = omega arith
+cost-some (fails_from s test least place n rest unbounded_loop at le few new known) = omega arith
+cost-some (takes_furthest s test least place n rest unbounded_loop at all le new) = omega arith
+cost-some (takes_nearest s test least place rest row unbounded_loop at le wait) = omega arith
+cost-some (drops_loop s test least place rest unbounded_loop at known) = omega arith
+cost-some (resumes_loop s test least place rest row unbounded_loop at new wait) = omega arith
 cost-some (resumes s rest) = omega arith
 cost-some (reaches k ts rest) = omega arith
 
-module _ (program : Program) (text : Text) (t : MemoAnalysis) (paid : IsPaid program text t) (memory : List Key) (first : List Entry) where
+module _ (program : Program) (text : Text) (t : MemoAnalysis) (paid : HasWorkBound program text t) (memory : List Key) (first : List Entry) where
   abbrev pub Come : (work : ℕ) → List Key → List Entry → Type 0
   Come work now row = HasCome program text t rightwards memory first work now row
 
@@ -101,12 +101,12 @@ module _ (program : Program) (text : Text) (t : MemoAnalysis) (paid : IsPaid pro
         limited-recorded program t paid.memo_analysis paid.bounded text paid.is_text paid.bytes paid.short rightwards memory first work now rest
         s least most greedy run its.test its.body its.place its.at (not-unlimited most limited) n ts acts k is new h
 
-  had-too-few : (work : ℕ) (now : List Key) (rest : List Entry) (s : State) (test : ℕ → Bool) (least place : ℕ) (greedy : Bool) → IsEndless program s test least greedy → place_at text s.pos ≡ Some place
+  had-too-few : (work : ℕ) (now : List Key) (rest : List Entry) (s : State) (test : ℕ → Bool) (least place : ℕ) (greedy : Bool) → IsUnboundedCharLoop program s test least greedy → place_at text s.pos ≡ Some place
       → passing text test rightwards place < least → Come work now (tried (running s) ∷ rest) → Come (work + (passing text test rightwards place + 2)) now rest
-  had-too-few work now rest s test least place true endless at few h =
-      greedy-none program t paid.memo_analysis paid.bounded text paid.is_text paid.bytes paid.short rightwards memory first work now rest s test least place endless at few h
-  had-too-few work now rest s test least place false endless at few h =
-      lazy-none program t paid.memo_analysis paid.bounded text paid.is_text paid.bytes paid.short rightwards memory first work now rest s test least place endless at few h
+  had-too-few work now rest s test least place true unbounded_loop at few h =
+      greedy-none program t paid.memo_analysis paid.bounded text paid.is_text paid.bytes paid.short rightwards memory first work now rest s test least place unbounded_loop at few h
+  had-too-few work now rest s test least place false unbounded_loop at few h =
+      lazy-none program t paid.memo_analysis paid.bounded text paid.is_text paid.bytes paid.short rightwards memory first work now rest s test least place unbounded_loop at few h
 
   -- what was done before it and what it costs are covered
   pub event-comes : (work cost : ℕ) (now now' : List Key) (row row' : List Entry) → Event now cost row now' row' → Come work now row → Come (work + cost) now' row'
@@ -114,20 +114,20 @@ module _ (program : Program) (text : Text) (t : MemoAnalysis) (paid : IsPaid pro
   event-comes work cost now now' row row' (turns s ts key rest acts is new) h = turned work now rest s ts key acts is new h
   event-comes work cost now now' row row' (tries_chars s least most greedy n ts key rest run limited acts is new) h =
       tried-chars work now rest s least most greedy run limited n ts acts key is new h
-  event-comes work cost now now' row row' (too_few s test least place greedy rest endless at few) h = had-too-few work now rest s test least place greedy endless at few h
-  event-comes work cost now now' row row' (fails_from s test least place n rest endless at le few new known) h =
-      greedy-known program t paid.memo_analysis paid.bounded text paid.is_text paid.bytes paid.short rightwards memory first work now rest s test least place endless at n le few known.fails new h
-  event-comes work cost now now' row row' (takes_furthest s test least place n rest endless at all le new) h =
-      greedy-all program t paid.memo_analysis paid.bounded text paid.is_text paid.bytes paid.short rightwards memory first work now rest s test least place endless at n all le new h
-  event-comes work cost now now' row row' (takes_nearest s test least place rest above endless at le wait) h =
+  event-comes work cost now now' row row' (too_few s test least place greedy rest unbounded_loop at few) h = had-too-few work now rest s test least place greedy unbounded_loop at few h
+  event-comes work cost now now' row row' (fails_from s test least place n rest unbounded_loop at le few new known) h =
+      greedy-known program t paid.memo_analysis paid.bounded text paid.is_text paid.bytes paid.short rightwards memory first work now rest s test least place unbounded_loop at n le few known.fails new h
+  event-comes work cost now now' row row' (takes_furthest s test least place n rest unbounded_loop at all le new) h =
+      greedy-all program t paid.memo_analysis paid.bounded text paid.is_text paid.bytes paid.short rightwards memory first work now rest s test least place unbounded_loop at n all le new h
+  event-comes work cost now now' row row' (takes_nearest s test least place rest above unbounded_loop at le wait) h =
       waits-above (work + (least + 2)) now _ _ rest above wait
-      (lazy-first program t paid.memo_analysis paid.bounded text paid.is_text paid.bytes paid.short rightwards memory first work now rest s test least place endless at le h)
-  event-comes work cost now now' row row' (drops_loop s test least place rest endless at known) h =
-      lazy-known program t paid.memo_analysis paid.bounded text paid.is_text paid.bytes paid.short rightwards memory first work now rest s test least place endless
+      (lazy-first program t paid.memo_analysis paid.bounded text paid.is_text paid.bytes paid.short rightwards memory first work now rest s test least place unbounded_loop at le h)
+  event-comes work cost now now' row row' (drops_loop s test least place rest unbounded_loop at known) h =
+      lazy-known program t paid.memo_analysis paid.bounded text paid.is_text paid.bytes paid.short rightwards memory first work now rest s test least place unbounded_loop
       (offset-place_at text s.pos place paid.is_text at).1 known.fails h
-  event-comes work cost now now' row row' (resumes_loop s test least place rest above endless at new wait) h =
+  event-comes work cost now now' row row' (resumes_loop s test least place rest above unbounded_loop at new wait) h =
       waits-above (work + 2) now _ _ _ above wait
-      (lazy-again program t paid.memo_analysis paid.bounded text paid.is_text paid.bytes paid.short rightwards memory first work now rest s test least place endless
+      (lazy-again program t paid.memo_analysis paid.bounded text paid.is_text paid.bytes paid.short rightwards memory first work now rest s test least place unbounded_loop
       (offset-place_at text s.pos place paid.is_text at).1 new h)
   event-comes work cost now now' row row' (resumes s rest) h = (laws work now rest).taken_up s h
   event-comes work cost now now' row row' (reaches k ts rest) h = (laws work now rest).reached k ts h
@@ -135,9 +135,9 @@ module _ (program : Program) (text : Text) (t : MemoAnalysis) (paid : IsPaid pro
 -- ---- A course of events
 
 -- It is one of the laws on work: whatever it costs is covered.
-pub costs-come : (program : Program) (text : Text) (t : MemoAnalysis) → IsPaid program text t → (at : ℕ) → at ≤ units text → (memory : List Key) (work : ℕ) (now : List Key) (row : List Entry)
-    → Costs program text t rightwards memory (tries (first_row program at)) work now row → HasCome program text t rightwards memory (tries (first_row program at)) work now row
+pub costs-come : (program : Program) (text : Text) (t : MemoAnalysis) → HasWorkBound program text t → (at : ℕ) → at ≤ units text → (memory : List Key) (work : ℕ) (now : List Key) (row : List Entry)
+    → Costs program text t rightwards memory (tries (initial_threads program at)) work now row → HasCome program text t rightwards memory (tries (initial_threads program at)) work now row
 costs-come program text t paid at inside memory work now row nothing_yet =
     searches-are-paid.begins program t paid.memo_analysis text paid.is_text paid.bytes paid.short at inside memory
 costs-come program text t paid at inside memory work now row (then_happens before cost now0 now' row0 row' c e) =
-    event-comes program text t paid memory (tries (first_row program at)) before cost now0 now' row0 row' e (costs-come program text t paid at inside memory before now0 row0 c)
+    event-comes program text t paid memory (tries (initial_threads program at)) before cost now0 now' row0 row' e (costs-come program text t paid at inside memory before now0 row0 c)

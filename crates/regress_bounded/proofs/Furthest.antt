@@ -30,12 +30,12 @@ use Rattle.regress_bounded.specs.declared.pending_stack.StackEntry.{StackEntry}
 use Rattle.regress_bounded.specs.declared.pending_stack.StackEntry.TheVariants.{Thread as AsThread, Record as AsRecord}
 use Rattle.regress_pikevm.specs.declared.pikevm.states.State.{State}
 use Rattle.regress_pikevm.specs.States.{state_of}
-use Rattle.regress_bounded.specs.BoundedState.{IsRight, IsMemoRight, IsRow, IsRunHere, PlacesWait, ScansWithMemo, IsPast}
-use Rattle.regress_bounded.specs.WorkOfCharLoopsAndAttempts.{key_on, row_on, row_of_places}
-use Rattle.regress_bounded.proofs.Lazily.{endless-by}
+use Rattle.regress_bounded.specs.BoundedState.{IsSoundMemo, IsMemoRight, IsStackOf, IsAtCharLoop, ExitsArePending, ScansWithMemo, IsAfterChars}
+use Rattle.regress_bounded.specs.WorkOfCharLoopsAndAttempts.{key_after_chars, threads_after_chars, row_of_places}
+use Rattle.regress_bounded.proofs.Lazily.{unbounded_loop-by}
 use Rattle.regress_bounded.proofs.Passed.{past-none, past-more, past-all}
 use Rattle.regress_bounded.proofs.PaidRuns.{key-is}
-use Rattle.regress_bounded.proofs.Standing.{row-push}
+use Rattle.regress_bounded.proofs.AttemptState.{row-push}
 
 -- ---- Characters
 
@@ -70,7 +70,7 @@ module _ {P : Type 0} (offset : P → ℕ) (text : Text) (is : HasRisingPlaceOff
   further-by {tests} some at next found h passes led = let t = some-of tests some in one-further t.0 at next found h passes (led t.0 t.1)
 
   -- so many characters are no more than units before the place behind them
-  pub past-few : (test : ℕ → Bool) (place count : ℕ) (at : P) → IsPast offset text test place count at → count ≤ offset at
+  pub past-few : (test : ℕ → Bool) (place count : ℕ) (at : P) → IsAfterChars offset text test place count at → count ≤ offset at
   past-few test place count at h =
       let few : place + count ≤ text_offset text (place + count) = places-few text is (place + count) h.within in
       let e : offset at ≡ text_offset text (place + count) = h.at in
@@ -79,8 +79,8 @@ module _ {P : Type 0} (offset : P → ℕ) (text : Text) (is : HasRisingPlaceOff
 -- all characters up to a position pass, and the places before it wait
 pub record Furthest {P : Type 0} (offset : P → ℕ) (program : Program) (text : Text) (m : MemoView) (s : machine.State) (least : ℕ) (test : ℕ → Bool) (place : ℕ)
     (old new : List (StackEntry P)) (at : P) (n : ℕ) : Type 0 where
-  pub past : IsPast offset text test place n at
-  pub wait : PlacesWait offset program text m.memo_analysis (has_failure m) test place s least old new n
+  pub past : IsAfterChars offset text test place n at
+  pub wait : ExitsArePending offset program text m.memo_analysis (has_failure m) test place s least old new n
 
 -- The same by whatever the test is, and from whatever place the characters begin that a run needs.
 pub record HasGoneOver {P : Type 0} (offset : P → ℕ) (program : Program) (text : Text) (m : MemoView) (s : machine.State) (tests : Option (ℕ → Bool)) (least : ℕ) (from : P)
@@ -88,7 +88,7 @@ pub record HasGoneOver {P : Type 0} (offset : P → ℕ) (program : Program) (te
   pub boundary : IsBoundary text (offset at)
   pub few : n ≤ offset at
   pub paid : n ≤ left
-  pub going : (test : ℕ → Bool) (place : ℕ) → tests ≡ Some test → IsPast offset text test place least from → Furthest offset program text m s least test place old new at n
+  pub going : (test : ℕ → Bool) (place : ℕ) → tests ≡ Some test → IsAfterChars offset text test place least from → Furthest offset program text m s least test place old new at n
 
 -- ---- Keys
 
@@ -100,16 +100,16 @@ same-keys j k ip at code =
     let c : record { ip = k.ip; at = k.at; code = j.code } ≡ k = ap (λ n. record { ip = k.ip; at = k.at; code = n }) code in
     a ∙ b ∙ c
 
-module _ {P : Type 0} {offset : P → ℕ} {program : Program} {text : Text} {run : UnboundedCharLoop} (state : State P) (here : IsRunHere offset program text run true (state_of offset state)) where
+module _ {P : Type 0} {offset : P → ℕ} {program : Program} {text : Text} {run : UnboundedCharLoop} (state : State P) (here : IsAtCharLoop offset program text run true (state_of offset state)) where
   abbrev s : machine.State
   s = state_of offset state
 
   module _ {m : MemoView} (knows : IsMemoRight program text m) where
     abbrev key-of : (test : ℕ → Bool) (place n : ℕ) → Key
-    key-of test place n = key_on program text m.memo_analysis rightwards test place s n
+    key-of test place n = key_after_chars program text m.memo_analysis rightwards test place s n
 
     -- the way of a run's instruction is nothing to its keys
-    key-there : IsRight program text m → (test : ℕ → Bool) → test_of program (Some (insn_as_spec_insn run.body)) ≡ Some test → (place n : ℕ)
+    key-there : IsSoundMemo program text m → (test : ℕ → Bool) → test_of program (Some (insn_as_spec_insn run.body)) ≡ Some test → (place n : ℕ)
         → memo_key_at m.memo_analysis (record s { ip = s.ip + 1; pos = text_offset text (moved text rightwards n place) }) ≡ Some (key-of test place n)
     key-there r test e place n =
         let d = insn_direction m.memo_analysis s.ip in
@@ -121,7 +121,7 @@ module _ {P : Type 0} {offset : P → ℕ} {program : Program} {text : Text} {ru
           code = plan_code (key_code_questions_of m.memo_analysis) (record s { ip = s.ip + 2; pos = text_offset text y });
         } in
         let is : memo_key_at m.memo_analysis (record s { ip = s.ip + 1; pos = text_offset text (moved text d 0 q) }) ≡ Some (its (moved text d 0 q) (moved text d 0 (moved text d 0 q))) =
-        key-is program m.memo_analysis r.paid.memo_analysis r.paid.bounded text r.paid.is_text r.paid.bytes r.paid.short d s test run.least true (endless-by here test e) refl q 0 in
+        key-is program m.memo_analysis r.paid.memo_analysis r.paid.bounded text r.paid.is_text r.paid.bytes r.paid.short d s test run.least true (unbounded_loop-by here test e) refl q 0 in
         let there : memo_key_at m.memo_analysis (record s { ip = s.ip + 1; pos = text_offset text q }) ≡ Some (its q (moved text d 0 q)) =
         subst (λ x. memo_key_at m.memo_analysis (record s { ip = s.ip + 1; pos = text_offset text x }) ≡ Some (its x (moved text d 0 x))) zero_on is in
         there ∙ ap (λ y. Some (its q y)) (zero_on ∙ sym (moved-zero text rightwards q))
@@ -134,7 +134,7 @@ module _ {P : Type 0} {offset : P → ℕ} {program : Program} {text : Text} {ru
         (∥∥₁_elim knows (Prim.hlevel props) (λ r. ap (λ (k : Key). k.at) (from r)))
         (∥∥₁_elim knows (Prim.hlevel props) (λ r. ap (λ (k : Key). k.code) (from r)))
       where
-        from : IsRight program text m → memo_key_as_spec key ≡ key-of test place n
+        from : IsSoundMemo program text m → memo_key_as_spec key ≡ key-of test place n
         from r = some-same _ _ (sym (ap (option_map memo_key_as_spec) is_key) ∙ told ∙ ap (λ x. memo_key_at m.memo_analysis (record s { ip = s.ip + 1; pos = x })) same ∙ key-there r test e place n)
 
     -- there is one
@@ -145,7 +145,7 @@ module _ {P : Type 0} {offset : P → ℕ} {program : Program} {text : Text} {ru
         p : (p : ℕ) × (place_at text at ≡ Some p) × (text_offset text p ≡ at) × (p ≤ last_place text)
         p = IsBoundary-place text at is h
 
-        never : IsRight program text m → ⊥
+        never : IsSoundMemo program text m → ⊥
         never r =
             let same : at ≡ text_offset text (moved text rightwards 0 p.0) = sym p.2 ∙ ap (text_offset text) (sym (moved-zero text rightwards p.0)) in
             let no : None ≡ Some (key-of test p.0 0) = sym (ap (option_map memo_key_as_spec) none) ∙ told ∙ ap (λ x. memo_key_at m.memo_analysis (record s { ip = s.ip + 1; pos = x })) same ∙ key-there r test e p.0 0 in
@@ -164,7 +164,7 @@ module _ {P : Type 0} {offset : P → ℕ} {program : Program} {text : Text} {ru
     places-row test place count = row_of_places program text m.memo_analysis rightwards test place s run.least count
 
     -- so far none waits
-    pub furthest-none : (test : ℕ → Bool) (place : ℕ) (old : List (StackEntry P)) (from : P) → IsPast offset text test place run.least from → Goes test place old old from run.least
+    pub furthest-none : (test : ℕ → Bool) (place : ℕ) (old : List (StackEntry P)) (from : P) → IsAfterChars offset text test place run.least from → Goes test place old old from run.least
     furthest-none test place old from h =
         let none : run.least - run.least ≡ 0 = omega arith in
         let sum = h.sum in
@@ -174,7 +174,7 @@ module _ {P : Type 0} {offset : P → ℕ} {program : Program} {text : Text} {ru
             enough = omega arith;
             pass = omega (arith, sum);
             unknown = λ m le less. absurd (omega (arith, le, less));
-            rows = λ row r. subst (λ count. IsRow offset program text old (places-row test place count ++ row)) (sym none) r;
+            rows = λ row r. subst (λ count. IsStackOf offset program text old (places-row test place count ++ row)) (sym none) r;
           };
         }
 
@@ -203,12 +203,12 @@ module _ {P : Type 0} {offset : P → ℕ} {program : Program} {text : Text} {ru
       ]
 
       abbrev recorded-row : Entry
-      recorded-row = noted (key-of test place n) (row_on program text m.memo_analysis rightwards test place s n)
+      recorded-row = noted (key-of test place n) (threads_after_chars program text m.memo_analysis rightwards test place s n)
 
-      with-record : (row : List Entry) → IsRow offset program text old row
-          → IsRow offset program text (mid ++ AsRecord key ∷ []) (recorded-row ∷ places-row test place (n - run.least) ++ row)
+      with-record : (row : List Entry) → IsStackOf offset program text old row
+          → IsStackOf offset program text (mid ++ AsRecord key ∷ []) (recorded-row ∷ places-row test place (n - run.least) ++ row)
       with-record row r =
-          let threads = row_on program text m.memo_analysis rightwards test place s n in
+          let threads = threads_after_chars program text m.memo_analysis rightwards test place s n in
           row-push offset program text mid (AsRecord key) recorded-row (places-row test place (n - run.least) ++ row)
           (record { threads = threads; is = ap (λ k. noted k threads) (sym its-key) }) (h.wait.rows row r)
 
@@ -223,7 +223,7 @@ module _ {P : Type 0} {offset : P → ℕ} {program : Program} {text : Text} {ru
             all = omega (arith, sum, none);
             unknown = more-unknown;
             is_here = place-behind;
-            rows = λ row r. subst (λ xs. IsRow offset program text xs (recorded-row ∷ places-row test place (n - run.least) ++ row)) (sym same) (with-record row r);
+            rows = λ row r. subst (λ xs. IsStackOf offset program text xs (recorded-row ∷ places-row test place (n - run.least) ++ row)) (sym same) (with-record row r);
           }
 
       -- it waits, and the next one is gone on from
@@ -242,16 +242,16 @@ module _ {P : Type 0} {offset : P → ℕ} {program : Program} {text : Text} {ru
               pass = omega (arith, sum);
               unknown = more-unknown;
               rows = λ row r.
-                  let both : IsRow offset program text ((mid ++ AsRecord key ∷ []) ++ AsThread there ∷ [])
+                  let both : IsStackOf offset program text ((mid ++ AsRecord key ∷ []) ++ AsThread there ∷ [])
                   (tried (waiting (behind text rightwards place s n)) ∷ recorded-row ∷ places-row test place (n - run.least) ++ row) =
                   row-push offset program text (mid ++ AsRecord key ∷ []) (AsThread there) (tried (waiting (behind text rightwards place s n)))
                   (recorded-row ∷ places-row test place (n - run.least) ++ row) (ap (λ u. tried (waiting u)) (sym place-behind)) (with-record row r) in
-                  let placed : IsRow offset program text ((mid ++ AsRecord key ∷ []) ++ AsThread there ∷ []) (places-row test place (suc (n - run.least)) ++ row) =
-                  subst (λ i. IsRow offset program text ((mid ++ AsRecord key ∷ []) ++ AsThread there ∷ [])
-                  (tried (waiting (behind text rightwards place s i)) ∷ noted (key-of test place i) (row_on program text m.memo_analysis rightwards test place s i)
+                  let placed : IsStackOf offset program text ((mid ++ AsRecord key ∷ []) ++ AsThread there ∷ []) (places-row test place (suc (n - run.least)) ++ row) =
+                  subst (λ i. IsStackOf offset program text ((mid ++ AsRecord key ∷ []) ++ AsThread there ∷ [])
+                  (tried (waiting (behind text rightwards place s i)) ∷ noted (key-of test place i) (threads_after_chars program text m.memo_analysis rightwards test place s i)
                   ∷ places-row test place (n - run.least) ++ row)) last both in
-                  let counted : IsRow offset program text ((mid ++ AsRecord key ∷ []) ++ AsThread there ∷ []) (places-row test place (n + 1 - run.least) ++ row) =
-                  subst (λ i. IsRow offset program text ((mid ++ AsRecord key ∷ []) ++ AsThread there ∷ []) (places-row test place i ++ row)) (sym count) placed in
-                  subst (λ xs. IsRow offset program text xs (places-row test place (n + 1 - run.least) ++ row)) (sym same) counted;
+                  let counted : IsStackOf offset program text ((mid ++ AsRecord key ∷ []) ++ AsThread there ∷ []) (places-row test place (n + 1 - run.least) ++ row) =
+                  subst (λ i. IsStackOf offset program text ((mid ++ AsRecord key ∷ []) ++ AsThread there ∷ []) (places-row test place i ++ row)) (sym count) placed in
+                  subst (λ xs. IsStackOf offset program text xs (places-row test place (n + 1 - run.least) ++ row)) (sym same) counted;
             };
           }

@@ -14,21 +14,21 @@ use Rattle.regress_bounded.specs.declared.memo_and_work_budget.MemoAndWorkBudget
 use Rattle.regress_bounded.specs.declared.pending_stack.UnboundedCharLoop.{UnboundedCharLoop}
 use Rattle.regress_bounded.specs.declared.pending_stack.StackEntry.{StackEntry}
 use Rattle.regress_pikevm.specs.declared.pikevm.states.State.{State}
-use Rattle.regress_bounded.specs.BoundedState.{BoundedAttempt, IsRunHere, ScansWithMemo, IsPast, Stands, ComesOn, IsShort, MayHappen}
+use Rattle.regress_bounded.specs.BoundedState.{BoundedAttempt, IsAtCharLoop, ScansWithMemo, IsAfterChars, AttemptHasState, TakesOneEvent, WorkIsTooLittle, MayHappen}
 use Rattle.regress_bounded.specs.BudgetSpending.{IsTakenFromBudget, WorkExceedsBudget}
-use Rattle.regress_bounded.specs.WorkOfCharLoopsAndAttempts.{IsEndless, key_on, row_on, row_of_places}
-use Rattle.regress_bounded.proofs.Lazily.{few-passed, PassesOver, endless-by}
+use Rattle.regress_bounded.specs.WorkOfCharLoopsAndAttempts.{IsUnboundedCharLoop, key_after_chars, threads_after_chars, row_of_places}
+use Rattle.regress_bounded.proofs.Lazily.{few-passed, PassesOver, unbounded_loop-by}
 use Rattle.regress_bounded.proofs.Meeting.{known-happens, furthest-happens, greedy-at-least}
-use Rattle.regress_bounded.proofs.Standing.{CostsAtLeast, comes-on, falls-short}
+use Rattle.regress_bounded.proofs.AttemptState.{CostsAtLeast, comes-on, falls-short}
 
 module _ {P : Type 0} {offset : P → ℕ} {program : Program} {text : Text} {run : UnboundedCharLoop} {limit : ℕ} {s : machine.State} {passed : ℕ} {pos : P}
     (p : PassesOver offset program text run limit s passed pos) (few : limit ≤ run.least) (le : run.least ≤ passed) where
   -- where all are there that are needed, the position is behind so many
-  pub all-passed : IsPast offset text p.test p.place run.least pos
+  pub all-passed : IsAfterChars offset text p.test p.place run.least pos
   all-passed =
       let most = p.over.few in
       let same : passed ≡ run.least = omega (arith, most, few, le) in
-      subst (λ n. IsPast offset text p.test p.place n pos) same p.over.past
+      subst (λ n. IsAfterChars offset text p.test p.place n pos) same p.over.past
 
   module _ (c : MemoAndWorkBudget) (old last : List (StackEntry P)) (next : Option (State P)) (n : ℕ) where
     abbrev Meets : (test : ℕ → Bool) (place : ℕ) → Option (State P) → Type 0
@@ -36,7 +36,7 @@ module _ {P : Type 0} {offset : P → ℕ} {program : Program} {text : Text} {ru
 
     -- what is met from there on, by each test and place
     abbrev pub HasMet : Type 0
-    HasMet = (test : ℕ → Bool) (place : ℕ) → test_of program (Some (insn_as_spec_insn run.body)) ≡ Some test → IsPast offset text test place run.least pos → Meets test place next
+    HasMet = (test : ℕ → Bool) (place : ℕ) → test_of program (Some (insn_as_spec_insn run.body)) ≡ Some test → IsAfterChars offset text test place run.least pos → Meets test place next
 
     pub met-few : HasRisingPlaceOffsets text → HasMet → n ≤ units text
     met-few is_text met =
@@ -49,39 +49,39 @@ module _ {P : Type 0} {offset : P → ℕ} {program : Program} {text : Text} {ru
         passes (Some here) w = let e = w.all in omega (arith, e)
 
 module _ {P : Type 0} {offset : P → ℕ} {program : Program} {text : Text} {b : BoundedAttempt} {s : machine.State} {stack : List (StackEntry P)} {c : MemoAndWorkBudget}
-    (h : Stands offset program text b (tried (running s) ∷ []) stack c) {run : UnboundedCharLoop} (here : IsRunHere offset program text run true s)
+    (h : AttemptHasState offset program text b (tried (running s) ∷ []) stack c) {run : UnboundedCharLoop} (here : IsAtCharLoop offset program text run true s)
     {limit : ℕ} {passed : ℕ} {pos : P} (p : PassesOver offset program text run limit s passed pos) (few : limit ≤ run.least) (le : run.least ≤ passed) (last : List (StackEntry P)) (next : Option (State P)) (n : ℕ)
     (met : HasMet p few le c stack last next n) where
-  abbrev endless : IsEndless program s p.test run.least true
-  endless = endless-by here p.test p.tests
+  abbrev unbounded_loop : IsUnboundedCharLoop program s p.test run.least true
+  unbounded_loop = unbounded_loop-by here p.test p.tests
 
   abbrev its : Meets p few le c stack last next n p.test p.place next
   its = met p.test p.place p.tests (all-passed p few le)
 
   -- there was not so much
-  pub met-over : (c' : MemoAndWorkBudget) → WorkExceedsBudget (n + 2) c.left c'.left → IsShort offset program text b h c'
+  pub met-over : (c' : MemoAndWorkBudget) → WorkExceedsBudget (n + 2) c.left c'.left → WorkIsTooLittle offset program text b h c'
   met-over c' spent = falls-short offset program text b h (n + 2) c' (by next its) spent
     where
       by : (next : Option (State P)) → Meets p few le c stack last next n p.test p.place next → CostsAtLeast offset program text b h (n + 2)
-      by None w = greedy-at-least offset program text b s h p.test run.least p.place endless p.at n w.0.enough w.0.pass w.0.unknown
+      by None w = greedy-at-least offset program text b s h p.test run.least p.place unbounded_loop p.at n w.0.enough w.0.pass w.0.unknown
       by (Some furthest) w =
           let all = w.all in
-          greedy-at-least offset program text b s h p.test run.least p.place endless p.at n w.enough (omega (arith, all)) (λ m first less. w.unknown m first (omega (arith, less)))
+          greedy-at-least offset program text b s h p.test run.least p.place unbounded_loop p.at n w.enough (omega (arith, all)) (λ m first less. w.unknown m first (omega (arith, less)))
 
-  pub met-goes : (c' : MemoAndWorkBudget) → c'.memo ≡ c.memo → IsTakenFromBudget (n + 2) c.left c'.left → ComesOn offset program text b h next last c'
+  pub met-goes : (c' : MemoAndWorkBudget) → c'.memo ≡ c.memo → IsTakenFromBudget (n + 2) c.left c'.left → TakesOneEvent offset program text b h next last c'
   met-goes c' same spent = by next its
     where
-      known : has_failure c.memo (key_on program text c.memo.memo_analysis rightwards p.test p.place s n) ≡ true ⊎ (c.left < n + 2) → has_failure c.memo (key_on program text c.memo.memo_analysis rightwards p.test p.place s n) ≡ true
+      known : has_failure c.memo (key_after_chars program text c.memo.memo_analysis rightwards p.test p.place s n) ≡ true ⊎ (c.left < n + 2) → has_failure c.memo (key_after_chars program text c.memo.memo_analysis rightwards p.test p.place s n) ≡ true
       known (inl is) = is
       known (inr out) = absurd (let left : c.left ≡ n + 2 + c'.left = spent in omega (arith, left, out))
 
-      by : (next : Option (State P)) → Meets p few le c stack last next n p.test p.place next → ComesOn offset program text b h next last c'
+      by : (next : Option (State P)) → Meets p few le c stack last next n p.test p.place next → TakesOneEvent offset program text b h next last c'
       by None w =
           comes-on offset program text b h None (row_of_places program text c.memo.memo_analysis rightwards p.test p.place s run.least (n - run.least) ++ h.row) last (n + 2) c'
-          (known-happens offset program text b s h p.test run.least p.place endless p.at n w.0.enough w.0.pass w.0.unknown (known w.1)) (w.0.rows h.row h.is) same spent
+          (known-happens offset program text b s h p.test run.least p.place unbounded_loop p.at n w.0.enough w.0.pass w.0.unknown (known w.1)) (w.0.rows h.row h.is) same spent
       by (Some furthest) w =
-          let row = noted (key_on program text c.memo.memo_analysis rightwards p.test p.place s n) (row_on program text c.memo.memo_analysis rightwards p.test p.place s n)
+          let row = noted (key_after_chars program text c.memo.memo_analysis rightwards p.test p.place s n) (threads_after_chars program text c.memo.memo_analysis rightwards p.test p.place s n)
           ∷ row_of_places program text c.memo.memo_analysis rightwards p.test p.place s run.least (n - run.least) ++ h.row in
           comes-on offset program text b h (Some furthest) row last (n + 2) c'
           (subst (λ r. MayHappen offset program text b h (n + 2) h.now (tried (running r) ∷ row)) (sym w.is_here)
-          (furthest-happens offset program text b s h p.test run.least p.place endless p.at n w.all w.enough w.unknown)) (w.rows h.row h.is) same spent
+          (furthest-happens offset program text b s h p.test run.least p.place unbounded_loop p.at n w.all w.enough w.unknown)) (w.rows h.row h.is) same spent

@@ -1,4 +1,4 @@
--- Runs without a maximum: what they read, the turn of a lazy one, and the way back to it.
+-- AttemptResultIs without a maximum: what they read, the turn of a lazy one, and the way back to it.
 use Rattle.std.proofs.Common.{◌≡◌, ◌≤◌, ◌<◌, ◌^◌, ℕ, ◌+◌, ◌-◌, Bool, true, false, min, List, [], ◌∷◌, ◌++◌, Option, Some, None, refl, sym, ap, ◌∙◌, subst}
 use Rattle.std.proofs.Common.{arith, inl, inr}
 use Rattle.std.specs.Prelude.{◌⊎◌, IsSome, is_some, option_map, slice_get}
@@ -18,7 +18,7 @@ use Rattle.regress_machine.specs.CharLoopExitStatesByPreference.{behind}
 use Rattle.regress_memo.specs.CharLoopExitThreadLists.{passing, pending_loop_threads}
 use Rattle.regress_memo.specs.DistinctLists.{IsNew}
 use Rattle.regress_memo.specs.MemoSearch.{Key, Entry, tried, kept, noted, tries}
-use Rattle.regress_memo.specs.WorkBound.{first_row}
+use Rattle.regress_memo.specs.WorkBound.{initial_threads}
 use Rattle.regress_memo.specs.AnalysisChecks.{unlimited}
 use Rattle.regress_memo.specs.declared.memo.ThreadMemoKey.{ThreadMemoKey as Stored}
 use Rattle.regress_memo.specs.MemoContents.{memo_key_as_spec, memo_key_at, has_failure}
@@ -29,9 +29,9 @@ use Rattle.regress_bounded.specs.declared.pending_stack.StackEntry.{StackEntry}
 use Rattle.regress_bounded.specs.declared.pending_stack.StackEntry.TheVariants.{Run as AsRun, Record as AsRecord}
 use Rattle.regress_pikevm.specs.declared.pikevm.states.State.{State}
 use Rattle.regress_bounded.specs.CostsOfSearchEvents.{IsKnownToFail, WaitAbove, some_wait, takes_nearest, drops_loop, resumes_loop}
-use Rattle.regress_bounded.specs.BoundedState.{BoundedAttempt, IsRow, IsRest, Stands, Standing, IsStanding, ComesOn, IsShort}
-use Rattle.regress_bounded.specs.BoundedState.{IsRunHere, HasPassedOver, IsNearest, MayHappen}
-use Rattle.regress_bounded.specs.WorkOfCharLoopsAndAttempts.{IsEndless, key_on}
+use Rattle.regress_bounded.specs.BoundedState.{BoundedAttempt, IsStackOf, IsPendingLazyLoop, AttemptHasState, SomeAttemptHasState, HasAttemptState, TakesOneEvent, WorkIsTooLittle}
+use Rattle.regress_bounded.specs.BoundedState.{IsAtCharLoop, HasPassedOver, IsNearest, MayHappen}
+use Rattle.regress_bounded.specs.WorkOfCharLoopsAndAttempts.{IsUnboundedCharLoop, key_after_chars}
 use Rattle.regress_bounded.specs.BudgetSpending.{IsTakenFromBudget, WorkExceedsBudget}
 use Rattle.regress_pikevm.specs.States.{state_of}
 use Rattle.regress_bounded.proofs.EventCosts.{ScansAt, scans-at}
@@ -41,7 +41,7 @@ use Rattle.regress_search.proofs.Reach.{some-of}
 use Rattle.regress_search.proofs.StopSets.{places-few}
 use Rattle.regress_bounded.proofs.PaidRuns.{lazy-key}
 use Rattle.regress_bounded.proofs.Stopping.{some-key}
-use Rattle.regress_bounded.proofs.Standing.{Popped, popped, back-comes, happens-back, row-push, can-turn, new, known, CostsAtLeast, comes-on, is-short}
+use Rattle.regress_bounded.proofs.AttemptState.{Popped, popped, back-comes, happens-back, row-push, can-turn, new, known, CostsAtLeast, comes-on, is-short}
 use Rattle.regress_input.proofs.Places.{boundary_inside}
 
 -- ---- What a run reads
@@ -62,7 +62,7 @@ pub record PassesOver {P : Type 0} (offset : P → ℕ) (program : Program) (tex
   pub inside : place ≤ last_place text
   pub over : HasPassedOver offset text test limit place passed pos
 
-module _ {P : Type 0} {offset : P → ℕ} {program : Program} {text : Text} {run : UnboundedCharLoop} {greedy : Bool} {s : machine.State} (here : IsRunHere offset program text run greedy s) where
+module _ {P : Type 0} {offset : P → ℕ} {program : Program} {text : Text} {run : UnboundedCharLoop} {greedy : Bool} {s : machine.State} (here : IsAtCharLoop offset program text run greedy s) where
   -- a test, at a place
   pub record Reads : Type 0 where
     pub test : IsSome (test_of program (Some (insn_as_spec_insn run.body)))
@@ -71,10 +71,10 @@ module _ {P : Type 0} {offset : P → ℕ} {program : Program} {text : Text} {ru
   reads-at : ScansAt program text s → Reads
   reads-at x = record { test = ap is_some (ap (test_of program) (sym here.body) ∙ x.body); at = ap is_some x.at }
 
-  module _ {stack : List (StackEntry P)} {c : MemoAndWorkBudget} (there : IsStanding offset program text (tried (running s) ∷ []) stack c) where
+  module _ {stack : List (StackEntry P)} {c : MemoAndWorkBudget} (there : HasAttemptState offset program text (tried (running s) ∷ []) stack c) where
     pub reads-here : Reads
     reads-here =
-        let by = λ (x : Standing offset program text (tried (running s) ∷ []) stack c).
+        let by = λ (x : SomeAttemptHasState offset program text (tried (running s) ∷ []) stack c).
         reads-at (scans-at program text s run.least unlimited greedy here.insn (can-turn offset program text x.begin s x.stands)) in
         record {
           test = ∥∥₁_elim there (Prim.hlevel props) (λ x. (by x).test);
@@ -90,8 +90,8 @@ module _ {P : Type 0} {offset : P → ℕ} {program : Program} {text : Text} {ru
         record { test = t.0; tests = t.1; place = p.0; at = p.1; inside = p.3; over = h t.0 p.0 t.1 p.1 }
 
   -- the run by its test
-  pub endless-by : (test : ℕ → Bool) → test_of program (Some (insn_as_spec_insn run.body)) ≡ Some test → IsEndless program s test run.least greedy
-  endless-by test e = record { run = here.insn; body = ap (test_of program) here.body ∙ e }
+  pub unbounded_loop-by : (test : ℕ → Bool) → test_of program (Some (insn_as_spec_insn run.body)) ≡ Some test → IsUnboundedCharLoop program s test run.least greedy
+  unbounded_loop-by test e = record { run = here.insn; body = ap (test_of program) here.body ∙ e }
 
 -- the number of what was passed fits
 pub passed-fits : {P : Type 0} {offset : P → ℕ} {program : Program} {text : Text} {run : UnboundedCharLoop} {limit : ℕ} {s : machine.State} {passed : ℕ} {pos : P}
@@ -100,14 +100,14 @@ pub passed-fits : {P : Type 0} {offset : P → ℕ} {program : Program} {text : 
 passed-fits p is short = let few = few-passed _ is p.test p.place p.inside in let sum = p.over.past.sum in omega (arith, few, sum, short)
 
 -- what is known of whether it is greedy
-pub run-which : {P : Type 0} {offset : P → ℕ} {program : Program} {text : Text} {run : UnboundedCharLoop} {greedy which : Bool} {s : machine.State} → IsRunHere offset program text run greedy s → greedy ≡ which
-    → IsRunHere offset program text run which s
+pub run-which : {P : Type 0} {offset : P → ℕ} {program : Program} {text : Text} {run : UnboundedCharLoop} {greedy which : Bool} {s : machine.State} → IsAtCharLoop offset program text run greedy s → greedy ≡ which
+    → IsAtCharLoop offset program text run which s
 run-which {run = run} here same = record { insn = here.insn ∙ ap (λ b. Some (Loop1CharBody run.least unlimited b)) same; body = here.body }
 
 -- ---- Its turn
 
 module _ {P : Type 0} {offset : P → ℕ} {program : Program} {text : Text} {b : BoundedAttempt} {s : machine.State} {stack : List (StackEntry P)} {c : MemoAndWorkBudget}
-    (h : Stands offset program text b (tried (running s) ∷ []) stack c) {run : UnboundedCharLoop} {passed : ℕ} {pos : P} (p : PassesOver offset program text run (min run.least (c.left - 1)) s passed pos) where
+    (h : AttemptHasState offset program text b (tried (running s) ∷ []) stack c) {run : UnboundedCharLoop} {passed : ℕ} {pos : P} (p : PassesOver offset program text run (min run.least (c.left - 1)) s passed pos) where
   abbrev all : ℕ
   all = passing text p.test rightwards p.place
 
@@ -115,22 +115,22 @@ module _ {P : Type 0} {offset : P → ℕ} {program : Program} {text : Text} {b 
   Least = CostsAtLeast offset program text b h (passed + 2)
 
   -- so many characters pass, so what happens costs them, or more
-  pub at-least : {greedy : Bool} → IsRunHere offset program text run greedy s → Least
+  pub at-least : {greedy : Bool} → IsAtCharLoop offset program text run greedy s → Least
   at-least {greedy} here = by (cases_lt all run.least)
     where
-      some-first : (greedy : Bool) → IsEndless program s p.test run.least greedy → run.least ≤ all → Least
-      some-first true endless le =
+      some-first : (greedy : Bool) → IsUnboundedCharLoop program s p.test run.least greedy → run.least ≤ all → Least
+      some-first true unbounded_loop le =
           let few = p.over.few in
-          let x = greedy-at-least offset program text b s h p.test run.least p.place endless p.at run.least (omega arith) le (λ m first less. absurd (omega (arith, first, less))) in
+          let x = greedy-at-least offset program text b s h p.test run.least p.place unbounded_loop p.at run.least (omega arith) le (λ m first less. absurd (omega (arith, first, less))) in
           let more = x.more in
           record { cost = x.cost; now = x.now; row = x.row; happens = x.happens; more = omega (arith, more, few) }
-      some-first false endless le =
+      some-first false unbounded_loop le =
           let few = p.over.few in
           record {
             cost = run.least + 2;
             now = h.now;
             row = tried (running (behind text rightwards p.place s run.least)) ∷ kept (pending_loop_threads text p.test rightwards (run.least + 1) p.place s) ∷ h.row;
-            happens = takes_nearest s p.test run.least p.place h.row (kept (pending_loop_threads text p.test rightwards (run.least + 1) p.place s) ∷ h.row) endless p.at le some_wait;
+            happens = takes_nearest s p.test run.least p.place h.row (kept (pending_loop_threads text p.test rightwards (run.least + 1) p.place s) ∷ h.row) unbounded_loop p.at le some_wait;
             more = omega (arith, few);
           }
 
@@ -141,63 +141,63 @@ module _ {P : Type 0} {offset : P → ℕ} {program : Program} {text : Text} {b 
             cost = all + 2;
             now = h.now;
             row = h.row;
-            happens = few-happen offset program text b s h p.test run.least p.place (endless-by here p.test p.tests) p.at few;
+            happens = few-happen offset program text b s h p.test run.least p.place (unbounded_loop-by here p.test p.tests) p.at few;
             more = omega (arith, sum);
           }
-      by (inr le) = some-first greedy (endless-by here p.test p.tests) le
+      by (inr le) = some-first greedy (unbounded_loop-by here p.test p.tests) le
 
   -- where there are too few, none goes on
-  pub short-goes : {greedy : Bool} → IsRunHere offset program text run greedy s → passed < run.least → (c' : MemoAndWorkBudget) → c'.memo ≡ c.memo → IsTakenFromBudget (passed + 2) c.left c'.left
-      → ComesOn offset program text b h None stack c'
+  pub short-goes : {greedy : Bool} → IsAtCharLoop offset program text run greedy s → passed < run.least → (c' : MemoAndWorkBudget) → c'.memo ≡ c.memo → IsTakenFromBudget (passed + 2) c.left c'.left
+      → TakesOneEvent offset program text b h None stack c'
   short-goes here few c' same spent =
       let left : c.left ≡ passed + 2 + c'.left = spent in
       let none = p.over.all (omega (arith, few, left)) in
       let sum = p.over.past.sum in
       let is : all ≡ passed = omega (arith, sum, none) in
-      let happens = few-happen offset program text b s h p.test run.least p.place (endless-by here p.test p.tests) p.at (omega (arith, is, few)) in
+      let happens = few-happen offset program text b s h p.test run.least p.place (unbounded_loop-by here p.test p.tests) p.at (omega (arith, is, few)) in
       comes-on offset program text b h None h.row stack (passed + 2) c' (subst (λ n. MayHappen offset program text b h (n + 2) h.now h.row) is happens) h.is same spent
 
 -- ---- The turn of a lazy one
 
 module _ {P : Type 0} {offset : P → ℕ} {program : Program} {text : Text} {b : BoundedAttempt} (state : State P) {stack : List (StackEntry P)} {c : MemoAndWorkBudget}
-    (h : Stands offset program text b (tried (running (state_of offset state)) ∷ []) stack c) {run : UnboundedCharLoop} (here : IsRunHere offset program text run false (state_of offset state))
+    (h : AttemptHasState offset program text b (tried (running (state_of offset state)) ∷ []) stack c) {run : UnboundedCharLoop} (here : IsAtCharLoop offset program text run false (state_of offset state))
     {passed : ℕ} {pos : P} (p : PassesOver offset program text run (min run.least (c.left - 1)) (state_of offset state) passed pos) (le : run.least ≤ passed) where
   abbrev s : machine.State
   s = state_of offset state
 
-  endless : IsEndless program s p.test run.least false
-  endless = endless-by here p.test p.tests
+  unbounded_loop : IsUnboundedCharLoop program s p.test run.least false
+  unbounded_loop = unbounded_loop-by here p.test p.tests
 
   pub lazy-goes : (next : State P) (new : List (StackEntry P))
       → ((test : ℕ → Bool) (place : ℕ) → test_of program (Some (insn_as_spec_insn run.body)) ≡ Some test → place_at text (offset pos) ≡ Some place → IsNearest offset text test place pos state next stack new)
-      → (c' : MemoAndWorkBudget) → c'.memo ≡ c.memo → IsTakenFromBudget (passed + 2) c.left c'.left → ComesOn offset program text b h (Some next) new c'
+      → (c' : MemoAndWorkBudget) → c'.memo ≡ c.memo → IsTakenFromBudget (passed + 2) c.left c'.left → TakesOneEvent offset program text b h (Some next) new c'
   lazy-goes next new nearest c' same spent =
       let sum = p.over.past.sum in
       let few = p.over.few in
       let there = moved text rightwards passed p.place in
       let near = nearest p.test there p.tests (ap (place_at text) p.over.past.at ∙ place_at-offset text there h.right.paid.is_text p.over.past.within) in
       let is : behind text rightwards p.place s passed ≡ state_of offset next = sym (near.is_here ∙ ap (λ at. state_after_char_loop_to_offset at s) p.over.past.at) in
-      let after = nearest-behind offset program text c.memo.memo_analysis h.right.paid p.test run.least p.place state endless p.inside passed (omega (arith, sum)) there refl pos next stack new near in
+      let after = nearest-behind offset program text c.memo.memo_analysis h.right.paid p.test run.least p.place state unbounded_loop p.inside passed (omega (arith, sum)) there refl pos next stack new near in
       let x = row-above offset program text (pending_loop_threads text p.test rightwards (passed + 1) p.place s) h.row stack new h.is after in
       let least_is : passed ≡ run.least = omega (arith, le, few) in
       let above : WaitAbove (pending_loop_threads text p.test rightwards (run.least + 1) p.place s) h.row x.row =
       subst (λ n. WaitAbove (pending_loop_threads text p.test rightwards (n + 1) p.place s) h.row x.row) least_is x.above in
       let first : MayHappen offset program text b h (run.least + 2) h.now (tried (running (behind text rightwards p.place s run.least)) ∷ x.row) =
-      takes_nearest s p.test run.least p.place h.row x.row endless p.at (omega (arith, sum, le)) above in
+      takes_nearest s p.test run.least p.place h.row x.row unbounded_loop p.at (omega (arith, sum, le)) above in
       let counted = subst (λ n. MayHappen offset program text b h (n + 2) h.now (tried (running (behind text rightwards p.place s n)) ∷ x.row)) (sym least_is) first in
       comes-on offset program text b h (Some next) x.row new (passed + 2) c' (subst (λ r. MayHappen offset program text b h (passed + 2) h.now (tried (running r) ∷ x.row)) is counted) x.is same spent
 
 -- ---- The way back to one
 
 module _ {P : Type 0} {offset : P → ℕ} {program : Program} {text : Text} {b : BoundedAttempt} (stack : List (StackEntry P)) (state : State P) {c : MemoAndWorkBudget}
-    (h : Stands offset program text b [] (stack ++ AsRun state ∷ []) c) where
+    (h : AttemptHasState offset program text b [] (stack ++ AsRun state ∷ []) c) where
   abbrev its : machine.State
   its = state_of offset state
 
   abbrev pub left-off : Popped offset program text stack (AsRun state) h.row
   left-off = popped offset program text b stack (AsRun state) h
 
-  abbrev pub rest-of : IsRest offset program text its left-off.entry
+  abbrev pub rest-of : IsPendingLazyLoop offset program text its left-off.entry
   rest-of = left-off.stands
 
   its-inside : rest-of.place ≤ last_place text
@@ -206,11 +206,11 @@ module _ {P : Type 0} {offset : P → ℕ} {program : Program} {text : Text} {b 
   abbrev waits-at : List Entry
   waits-at = kept (pending_loop_threads text rest-of.test rightwards 0 rest-of.place its) ∷ left-off.rest
 
-  comes-back : HasCome program text c.memo.memo_analysis rightwards b.memory (tries (first_row program b.at)) h.work h.now waits-at
+  comes-back : HasCome program text c.memo.memo_analysis rightwards b.memory (tries (initial_threads program b.at)) h.work h.now waits-at
   comes-back = back-comes offset program text b stack (AsRun state) h (kept (pending_loop_threads text rest-of.test rightwards 0 rest-of.place its)) rest-of.is
 
   abbrev pub key-back : Key
-  key-back = key_on program text c.memo.memo_analysis rightwards rest-of.test rest-of.place its 0
+  key-back = key_after_chars program text c.memo.memo_analysis rightwards rest-of.test rest-of.place its 0
 
   -- its key
   key-there : memo_key_at c.memo.memo_analysis (record its { ip = its.ip + 1; pos = its.pos }) ≡ Some key-back
@@ -218,7 +218,7 @@ module _ {P : Type 0} {offset : P → ℕ} {program : Program} {text : Text} {b 
       let paid = h.right.paid in
       let same : text_offset text rest-of.place ≡ its.pos = (offset-place_at text its.pos rest-of.place paid.is_text rest-of.at).0 in
       subst (λ q. memo_key_at c.memo.memo_analysis (record its { ip = its.ip + 1; pos = q }) ≡ Some key-back) same
-      (lazy-key program c.memo.memo_analysis paid.memo_analysis paid.bounded text paid.is_text paid.bytes paid.short rightwards b.memory (tries (first_row program b.at)) h.work h.now left-off.rest
+      (lazy-key program c.memo.memo_analysis paid.memo_analysis paid.bounded text paid.is_text paid.bytes paid.short rightwards b.memory (tries (initial_threads program b.at)) h.work h.now left-off.rest
       its rest-of.test rest-of.least rest-of.place rest-of.run its-inside comes-back)
 
   place-in : its.pos < c.memo.places
@@ -243,10 +243,10 @@ module _ {P : Type 0} {offset : P → ℕ} {program : Program} {text : Text} {b 
         happens-back offset program text b stack (AsRun state) h (kept (pending_loop_threads text rest-of.test rightwards 0 rest-of.place its)) rest-of.is
         (drops_loop its rest-of.test rest-of.least rest-of.place left-off.rest rest-of.run rest-of.at known-there)
 
-    pub back-known-over : has_failure c.memo k ≡ true → (c' : MemoAndWorkBudget) → WorkExceedsBudget 1 c.left c'.left → IsShort offset program text b h c'
+    pub back-known-over : has_failure c.memo k ≡ true → (c' : MemoAndWorkBudget) → WorkExceedsBudget 1 c.left c'.left → WorkIsTooLittle offset program text b h c'
     back-known-over fails c' spent = is-short offset program text b h 1 c' (back-known fails) spent
 
-    pub back-known-goes : has_failure c.memo k ≡ true → (c' : MemoAndWorkBudget) → c'.memo ≡ c.memo → IsTakenFromBudget 1 c.left c'.left → ComesOn offset program text b h None stack c'
+    pub back-known-goes : has_failure c.memo k ≡ true → (c' : MemoAndWorkBudget) → c'.memo ≡ c.memo → IsTakenFromBudget 1 c.left c'.left → TakesOneEvent offset program text b h None stack c'
     back-known-goes fails c' same spent = comes-on offset program text b h None left-off.rest stack 1 c' (back-known fails) left-off.below same spent
 
     -- it is not
@@ -259,12 +259,12 @@ module _ {P : Type 0} {offset : P → ℕ} {program : Program} {text : Text} {b 
         happens-back offset program text b stack (AsRun state) h (kept (pending_loop_threads text rest-of.test rightwards 0 rest-of.place its)) rest-of.is
         (resumes_loop its rest-of.test rest-of.least rest-of.place left-off.rest row rest-of.run rest-of.at (subst (λ k. IsNew k h.now) is (new offset program text b h k unknown)) above)
 
-    pub back-over : has_failure c.memo k ≡ false → (c' : MemoAndWorkBudget) → WorkExceedsBudget 2 c.left c'.left → IsShort offset program text b h c'
+    pub back-over : has_failure c.memo k ≡ false → (c' : MemoAndWorkBudget) → WorkExceedsBudget 2 c.left c'.left → WorkIsTooLittle offset program text b h c'
     back-over unknown c' spent = is-short offset program text b h 2 c' (back-again unknown (kept (pending_loop_threads text rest-of.test rightwards 1 rest-of.place its) ∷ recorded-row) some_wait) spent
 
     pub back-goes : has_failure c.memo k ≡ false → (next : State P) (mid last : List (StackEntry P)) → mid ≡ stack ++ AsRecord stored ∷ []
         → IsNearest offset text rest-of.test rest-of.place state.pos state next mid last
-        → (c' : MemoAndWorkBudget) → c'.memo ≡ c.memo → IsTakenFromBudget 2 c.left c'.left → ComesOn offset program text b h (Some next) last c'
+        → (c' : MemoAndWorkBudget) → c'.memo ≡ c.memo → IsTakenFromBudget 2 c.left c'.left → TakesOneEvent offset program text b h (Some next) last c'
     back-goes unknown next mid last pushed near' c' same spent =
         let t = c.memo.memo_analysis in
         let near = subst (λ xs. IsNearest offset text rest-of.test rest-of.place state.pos state next xs last) pushed near' in
@@ -276,7 +276,7 @@ module _ {P : Type 0} {offset : P → ℕ} {program : Program} {text : Text} {b 
         let more = pending_loop_threads text rest-of.test rightwards 1 rest-of.place its in
         let after = nearest-behind offset program text t h.right.paid rest-of.test rest-of.least rest-of.place state rest-of.run its-inside 0 (omega arith)
         rest-of.place (sym none) state.pos next (stack ++ AsRecord stored ∷ []) last near in
-        let below : IsRow offset program text (stack ++ AsRecord stored ∷ []) recorded-row =
+        let below : IsStackOf offset program text (stack ++ AsRecord stored ∷ []) recorded-row =
         row-push offset program text stack (AsRecord stored) (noted key-back all) left-off.rest (record { threads = all; is = ap (λ k. noted k all) (sym is) }) left-off.below in
         let x = row-above offset program text more recorded-row (stack ++ AsRecord stored ∷ []) last below after in
         comes-on offset program text b h (Some next) x.row last 2 c'
@@ -285,7 +285,7 @@ module _ {P : Type 0} {offset : P → ℕ} {program : Program} {text : Text} {b 
 -- ---- What there is to come back to
 
 module _ {P : Type 0} {offset : P → ℕ} {program : Program} {text : Text} (stack : List (StackEntry P)) (state : State P) {c : MemoAndWorkBudget}
-    (there : IsStanding offset program text [] (stack ++ AsRun state ∷ []) c) where
+    (there : HasAttemptState offset program text [] (stack ++ AsRun state ∷ []) c) where
   -- its place is one of the memory's
   pub back-place : offset state.pos < c.memo.places
   back-place = ∥∥₁_elim there (Prim.hlevel props) (λ x. place-in stack state x.stands)

@@ -12,7 +12,8 @@ pub mod PaidRuns
 pub mod PaidSearches
 pub mod Passed
 pub mod Sizes
-pub mod Standing
+pub mod Sought
+pub mod AttemptState
 pub mod Stopping
 pub mod Taken
 pub mod Turning

@@ -1,4 +1,4 @@
--- Runs of a search in so much work: what a turn over one comes to.
+-- AttemptResultIs of a search in so much work: what a turn over one comes to.
 use Rattle.std.proofs.Common.{◌≡◌, ◌≤◌, ◌<◌, ℕ, zero, suc, ◌+◌, ◌-◌, Bool, true, false, List, [], ◌∷◌, ◌++◌, Some, refl, sym, ap, ◌∙◌}
 use Rattle.std.proofs.Common.{subst, arith, inl, inr}
 use Rattle.std.specs.Prelude.{◌⊎◌}
@@ -21,11 +21,11 @@ use Rattle.regress_bounded.specs.declared.pending_stack.StackEntry.{StackEntry}
 use Rattle.regress_bounded.specs.declared.pending_stack.StackEntry.TheVariants.{Run as AsRun}
 use Rattle.regress_pikevm.specs.declared.pikevm.states.State.{State}
 use Rattle.regress_bounded.specs.CostsOfSearchEvents.{WaitAbove, none_waits, some_wait, too_few, fails_from, takes_furthest}
-use Rattle.regress_bounded.specs.BoundedState.{BoundedAttempt, IsRow, IsRest, IsPaid, Stands, MayHappen, IsNearest}
-use Rattle.regress_bounded.specs.WorkOfCharLoopsAndAttempts.{IsEndless, key_on, row_on, row_of_places}
+use Rattle.regress_bounded.specs.BoundedState.{BoundedAttempt, IsStackOf, IsPendingLazyLoop, HasWorkBound, AttemptHasState, MayHappen, IsNearest}
+use Rattle.regress_bounded.specs.WorkOfCharLoopsAndAttempts.{IsUnboundedCharLoop, key_after_chars, threads_after_chars, row_of_places}
 use Rattle.regress_pikevm.specs.States.{state_of}
 use Rattle.regress_bounded.proofs.PaidRuns.{lazy-later, lazy-last}
-use Rattle.regress_bounded.proofs.Standing.{row-push, new, known, CostsAtLeast}
+use Rattle.regress_bounded.proofs.AttemptState.{row-push, new, known, CostsAtLeast}
 
 -- ---- A greedy one without a maximum
 
@@ -63,15 +63,15 @@ first-known known (suc count) from = by (known from) refl (first-known known cou
     ])
 
 module _ {P : Type 0} (offset : P → ℕ) (program : Program) (text : Text) (b : BoundedAttempt) (s : machine.State) {stack : List (StackEntry P)} {c : MemoAndWorkBudget}
-    (h : Stands offset program text b (tried (running s) ∷ []) stack c) (test : ℕ → Bool) (least place : ℕ) where
+    (h : AttemptHasState offset program text b (tried (running s) ∷ []) stack c) (test : ℕ → Bool) (least place : ℕ) where
   -- there are too few characters
-  pub few-happen : {greedy : Bool} → IsEndless program s test least greedy → place_at text s.pos ≡ Some place → passing text test rightwards place < least
+  pub few-happen : {greedy : Bool} → IsUnboundedCharLoop program s test least greedy → place_at text s.pos ≡ Some place → passing text test rightwards place < least
       → MayHappen offset program text b h (passing text test rightwards place + 2) h.now h.row
-  few-happen {greedy} endless at few = too_few s test least place greedy h.row endless at few
+  few-happen {greedy} unbounded_loop at few = too_few s test least place greedy h.row unbounded_loop at few
 
-  module _ (endless : IsEndless program s test least true) (at : place_at text s.pos ≡ Some place) where
+  module _ (unbounded_loop : IsUnboundedCharLoop program s test least true) (at : place_at text s.pos ≡ Some place) where
     abbrev key-of : ℕ → Key
-    key-of n = key_on program text c.memo.memo_analysis rightwards test place s n
+    key-of n = key_after_chars program text c.memo.memo_analysis rightwards test place s n
 
     abbrev places-row : ℕ → List Entry
     places-row n = row_of_places program text c.memo.memo_analysis rightwards test place s least (n - least)
@@ -83,14 +83,14 @@ module _ {P : Type 0} (offset : P → ℕ) (program : Program) (text : Text) (b 
     pub known-happens : (n : ℕ) → least ≤ n → n ≤ passing text test rightwards place → AreUnknown n → has_failure c.memo (key-of n) ≡ true
         → MayHappen offset program text b h (n + 2) h.now (places-row n ++ h.row)
     known-happens n le few unknown fails =
-        fails_from s test least place n h.row endless at le few (λ m first less. new offset program text b h (key-of m) (unknown m first less)) (known offset program text b h (key-of n) fails)
+        fails_from s test least place n h.row unbounded_loop at le few (λ m first less. new offset program text b h (key-of m) (unknown m first less)) (known offset program text b h (key-of n) fails)
 
     -- from none it is
     pub furthest-happens : (n : ℕ) → n ≡ passing text test rightwards place → least ≤ n → AreUnknown (n + 1)
         → MayHappen offset program text b h (n + 2) h.now
-        (tried (running (behind text rightwards place s n)) ∷ noted (key-of n) (row_on program text c.memo.memo_analysis rightwards test place s n) ∷ places-row n ++ h.row)
+        (tried (running (behind text rightwards place s n)) ∷ noted (key-of n) (threads_after_chars program text c.memo.memo_analysis rightwards test place s n) ∷ places-row n ++ h.row)
     furthest-happens n all le unknown =
-        takes_furthest s test least place n h.row endless at all le (λ m first less. new offset program text b h (key-of m) (unknown m first less))
+        takes_furthest s test least place n h.row unbounded_loop at all le (λ m first less. new offset program text b h (key-of m) (unknown m first less))
 
     -- so far it is from none, so what happens costs so much, or more
     pub greedy-at-least : (n : ℕ) → least ≤ n → n ≤ passing text test rightwards place → AreUnknown n → CostsAtLeast offset program text b h (n + 2)
@@ -121,7 +121,7 @@ module _ {P : Type 0} (offset : P → ℕ) (program : Program) (text : Text) (b 
             record {
               cost = all + 2;
               now = h.now;
-              row = tried (running (behind text rightwards place s all)) ∷ noted (key-of all) (row_on program text c.memo.memo_analysis rightwards test place s all) ∷ places-row all ++ h.row;
+              row = tried (running (behind text rightwards place s all)) ∷ noted (key-of all) (threads_after_chars program text c.memo.memo_analysis rightwards test place s all) ∷ places-row all ++ h.row;
               happens = furthest-happens all refl (omega (arith, le, few)) (λ m first last. below m all (λ past. none m past (omega (arith, last, few))) first);
               more = omega (arith, few);
             }
@@ -135,10 +135,10 @@ inside-passing text test place inside n few = let left = passing-left text test 
 -- what waits behind a place goes on from the next one, if there is one
 pub data Behind {P : Type 0} (offset : P → ℕ) (program : Program) (text : Text) (waits : List Thread) (old new : List (StackEntry P)) : Type 0 where
   none-waits : waits ≡ [] → new ≡ old → Behind offset program text waits old new
-  some-wait : (next : State P) → IsRest offset program text (state_of offset next) (kept waits) → new ≡ old ++ AsRun next ∷ [] → Behind offset program text waits old new
+  some-wait : (next : State P) → IsPendingLazyLoop offset program text (state_of offset next) (kept waits) → new ≡ old ++ AsRun next ∷ [] → Behind offset program text waits old new
 
-module _ {P : Type 0} (offset : P → ℕ) (program : Program) (text : Text) (t : MemoAnalysis) (paid : IsPaid program text t) (test : ℕ → Bool) (least place : ℕ) (state : State P)
-    (endless : IsEndless program (state_of offset state) test least false) (inside : place ≤ last_place text) (n : ℕ) (few : n ≤ passing text test rightwards place) where
+module _ {P : Type 0} (offset : P → ℕ) (program : Program) (text : Text) (t : MemoAnalysis) (paid : HasWorkBound program text t) (test : ℕ → Bool) (least place : ℕ) (state : State P)
+    (unbounded_loop : IsUnboundedCharLoop program (state_of offset state) test least false) (inside : place ≤ last_place text) (n : ℕ) (few : n ≤ passing text test rightwards place) where
   abbrev s : machine.State
   s = state_of offset state
 
@@ -154,7 +154,7 @@ module _ {P : Type 0} (offset : P → ℕ) (program : Program) (text : Text) (t 
 
       by : (m : ℕ) → passing text test rightwards p ≡ m → Behind offset program text waits old new
       by zero none =
-          none-waits (lazy-last program t paid.memo_analysis paid.bounded text paid.is_text paid.bytes paid.short rightwards s test least false endless place inside n few (ap (passing text test rightwards) (sym e) ∙ none))
+          none-waits (lazy-last program t paid.memo_analysis paid.bounded text paid.is_text paid.bytes paid.short rightwards s test least false unbounded_loop place inside n few (ap (passing text test rightwards) (sym e) ∙ none))
           (near.alone none)
       by (suc m) some =
           let more : 1 ≤ passing text test rightwards p = omega (arith, some) in
@@ -165,13 +165,13 @@ module _ {P : Type 0} (offset : P → ℕ) (program : Program) (text : Text) (t 
           let within : on ≤ last_place text = (inside-passing text test place inside (n + 1) further) in
           let sum_on = passing-on text test rightwards (n + 1) place inside further in
           let here = ap (passing text test rightwards) e in
-          let later = lazy-later program t paid.memo_analysis paid.bounded text paid.is_text paid.bytes paid.short rightwards s test least false endless place inside n few (omega (arith, sum, sum_on, here)) in
+          let later = lazy-later program t paid.memo_analysis paid.bounded text paid.is_text paid.bytes paid.short rightwards s test least false unbounded_loop place inside n few (omega (arith, sum, sum_on, here)) in
           some-wait others.next
           (record {
             test = test;
             least = least;
             place = on;
-            run = subst (λ u. IsEndless program u test least false) (sym others.is) (record { run = endless.run; body = endless.body });
+            run = subst (λ u. IsUnboundedCharLoop program u test least false) (sym others.is) (record { run = unbounded_loop.run; body = unbounded_loop.body });
             at = ap (λ (u : machine.State). place_at text u.pos) others.is ∙ ap (λ q. place_at text (text_offset text q)) there ∙ place_at-offset text on paid.is_text within;
             is = ap kept (later ∙ ap (pending_loop_threads text test rightwards 0 on) (sym others.is));
           })
@@ -181,9 +181,9 @@ module _ {P : Type 0} (offset : P → ℕ) (program : Program) (text : Text) (t 
 pub record RowAbove {P : Type 0} (offset : P → ℕ) (program : Program) (text : Text) (waits : List Thread) (rest : List Entry) (stack : List (StackEntry P)) : Type 0 where
   pub row : List Entry
   pub above : WaitAbove waits rest row
-  pub is : IsRow offset program text stack row
+  pub is : IsStackOf offset program text stack row
 
-pub row-above : {P : Type 0} (offset : P → ℕ) (program : Program) (text : Text) (waits : List Thread) (rest : List Entry) (old new : List (StackEntry P)) → IsRow offset program text old rest
+pub row-above : {P : Type 0} (offset : P → ℕ) (program : Program) (text : Text) (waits : List Thread) (rest : List Entry) (old new : List (StackEntry P)) → IsStackOf offset program text old rest
     → Behind offset program text waits old new → RowAbove offset program text waits rest new
 row-above offset program text waits rest old new is (none-waits e same) =
     subst (RowAbove offset program text waits rest) (sym same) (record { row = rest; above = none_waits e; is = is })

@@ -1,4 +1,4 @@
--- Runs in a search that remembers: what they leave has keys, and each turn of one is paid.
+-- AttemptResultIs in a search that remembers: what they leave has keys, and each turn of one is paid.
 use Rattle.std.proofs.Common.{◌≡◌, ◌≤◌, ◌<◌, ◌^◌, ℕ, zero, suc, ◌+◌, ◌-◌, Bool, true, false, min, List, [], ◌∷◌, ◌++◌, map, reverse, length, Some}
 use Rattle.std.proofs.Common.{None, refl, sym, ap, ◌∙◌, subst, arith, append_assoc, append-nil, slice_get, sum_by}
 use Rattle.std.specs.Prelude.{if◌then◌else◌, ◌≢◌}
@@ -62,7 +62,7 @@ use Rattle.regress_memo.proofs.LawLemmas.{keys-are-there, records-there}
 use Rattle.regress_memo.proofs.SearchLemmas.{HasKey, has-key, no-key, keyed-joined}
 use Rattle.regress_search.proofs.Reach.{numbers-last}
 use Rattle.regress_search.proofs.StopSets.{places-few}
-use Rattle.regress_bounded.specs.WorkOfCharLoopsAndAttempts.{IsEndless, key_on, row_on, row_of_places}
+use Rattle.regress_bounded.specs.WorkOfCharLoopsAndAttempts.{IsUnboundedCharLoop, key_after_chars, threads_after_chars, row_of_places}
 
 -- ---- Numbers
 
@@ -125,7 +125,7 @@ pub left-few : (text : Text) (d : Direction) (p : ℕ) → p ≤ last_place text
 left-few text rightwards p le = omega arith
 left-few text leftwards p le = le
 
--- ---- Runs
+-- ---- AttemptResultIs
 
 module _ (program : Program) (t : MemoAnalysis) (of : IsAnalysisOf program t) (bounded : IsWorkBounded t program) (text : Text) (is_text : HasRisingPlaceOffsets text) (bytes : ReadsAsBytes program text)
     (less : units text < 2 ^ 63) (d : Direction) where
@@ -222,23 +222,23 @@ module _ (program : Program) (t : MemoAnalysis) (of : IsAnalysisOf program t) (b
             (turn-so Keyed (behind text d place s) (if greedy then reverse its-places else its-places) (either-way _ its-places places-keyed greedy)));
       }
 
--- ---- Runs without a maximum: their keys, and the places that they leave
+-- ---- AttemptResultIs without a maximum: their keys, and the places that they leave
 
 module _ (program : Program) (t : MemoAnalysis) (of : IsAnalysisOf program t) (bounded : IsWorkBounded t program) (text : Text) (is_text : HasRisingPlaceOffsets text) (bytes : ReadsAsBytes program text)
-    (less : units text < 2 ^ 63) (d : Direction) (s : State) (test : ℕ → Bool) (least : ℕ) (greedy : Bool) (endless : IsEndless program s test least greedy) where
+    (less : units text < 2 ^ 63) (d : Direction) (s : State) (test : ℕ → Bool) (least : ℕ) (greedy : Bool) (unbounded_loop : IsUnboundedCharLoop program s test least greedy) where
   abbrev serves-here : Serves program t text
   serves-here = served program t of bounded text is_text bytes less d
 
   -- behind the run the way is the same
   way-behind : insn_direction t (s.ip + 2) ≡ insn_direction t s.ip
-  way-behind = (subst (λ o. IsConsistentAt t program (successors_of_insn_if_any s.ip o) s.ip) endless.run (of.steps s.ip)).way
+  way-behind = (subst (λ o. IsConsistentAt t program (successors_of_insn_if_any s.ip o) s.ip) unbounded_loop.run (of.steps s.ip)).way
 
   run-records : insn_direction t s.ip ≡ d → CharLoopRecords program (analysis_as_liveness t) (key_code_questions_of t) (insn_direction t) (recorded t) d test greedy s.ip
   run-records way =
-      let written = of.runs s.ip least unlimited greedy endless.run in
+      let written = of.runs s.ip least unlimited greedy unbounded_loop.run in
       record {
-        run = ap char_loop_greediness_at endless.run;
-        body = endless.body;
+        run = ap char_loop_greediness_at unbounded_loop.run;
+        body = unbounded_loop.body;
         goes = written.way ∙ way;
         records = records-there t (s.ip + 1) (written.records refl);
         asks = written.asks refl;
@@ -247,7 +247,7 @@ module _ (program : Program) (t : MemoAnalysis) (of : IsAnalysisOf program t) (b
 
   -- The state at the run's body has the key of what the run leaves from there.
   pub key-is : insn_direction t s.ip ≡ d → (place n : ℕ)
-      → memo_key_at t (record s { ip = s.ip + 1; pos = offset text (moved text d n place) }) ≡ Some (key_on program text t d test place s n)
+      → memo_key_at t (record s { ip = s.ip + 1; pos = offset text (moved text d n place) }) ≡ Some (key_after_chars program text t d test place s n)
   key-is way place n = keys-are-there.run program text t d test greedy s (moved text d n place) (run-records way)
 
   module _ (place : ℕ) (inside : place ≤ last_place text) where
@@ -288,10 +288,10 @@ module _ (program : Program) (t : MemoAnalysis) (of : IsAnalysisOf program t) (b
     -- ---- Rows of a greedy run
 
     abbrev its-row : ℕ → List Thread
-    its-row n = row_on program text t d test place s n
+    its-row n = threads_after_chars program text t d test place s n
 
     abbrev its-key : ℕ → Key
-    its-key n = key_on program text t d test place s n
+    its-key n = key_after_chars program text t d test place s n
 
     abbrev its-waiting : ℕ → List (Thread × Key)
     its-waiting count = placed program text (analysis_as_liveness t) (key_code_questions_of t) (insn_direction t) (recorded t) (plan_taken program) d test s place least count
@@ -329,7 +329,7 @@ module _ (program : Program) (t : MemoAnalysis) (of : IsAnalysisOf program t) (b
       place-keyed : (n : ℕ) → least ≤ n → n ≤ passes → IsKeyed program text t d (at-place n)
       place-keyed n le few =
           let below = passes-few in
-          scan-keyed program t of bounded text is_text bytes less d s keyed least unlimited greedy endless.run test endless.body place at n le (omega (arith, few, below)) few
+          scan-keyed program t of bounded text is_text bytes less d s keyed least unlimited greedy unbounded_loop.run test unbounded_loop.body place at n le (omega (arith, few, below)) few
 
       row-keyed : (n : ℕ) → least ≤ n → n ≤ passes → AreKeyed program text t d (its-row n)
       row-keyed n le few =
@@ -355,7 +355,7 @@ module _ (program : Program) (t : MemoAnalysis) (of : IsAnalysisOf program t) (b
 
       at-run : AtCharLoop program text (analysis_as_liveness t) (key_code_questions_of t) (insn_direction t) (recorded t) (plan_taken program) d test s greedy least unlimited place
       at-run = record {
-        run = endless.run;
+        run = unbounded_loop.run;
         records = run-records keyed.way;
         at = at;
         unlimited = passes-few;
@@ -369,7 +369,7 @@ module _ (program : Program) (text : Text) (t : MemoAnalysis) (d : Direction) wh
       each-alike (Agree (analysis_as_liveness t) (units text) outermost d) ts
       (Each-map (λ u. IsKeyed program text t d (state_of_thread u)) _ (λ u k. k.sound) ts h)
 
--- ---- Turns
+-- ---- StepResultIs
 
 module _ (program : Program) (t : MemoAnalysis) (of : IsAnalysisOf program t) (bounded : IsWorkBounded t program) (text : Text) (is_text : HasRisingPlaceOffsets text) (bytes : ReadsAsBytes program text)
     (less : units text < 2 ^ 63) (d : Direction) (memory : List Key) (first : List Entry) (work : ℕ) (now : List Key) (rest : List Entry) where
@@ -439,7 +439,7 @@ module _ (program : Program) (t : MemoAnalysis) (of : IsAnalysisOf program t) (b
 
   -- ---- A greedy run without one
 
-  module _ (s : State) (test : ℕ → Bool) (least place : ℕ) (endless : IsEndless program s test least true) (at : place_at text s.pos ≡ Some place) where
+  module _ (s : State) (test : ℕ → Bool) (least place : ℕ) (unbounded_loop : IsUnboundedCharLoop program s test least true) (at : place_at text s.pos ≡ Some place) where
     -- the keys of its places behind `least` characters up to before so many are new
     abbrev pub New : (n : ℕ) → Type 0
     New n = AreUnknown program text (analysis_as_liveness t) (key_code_questions_of t) (insn_direction t) (recorded t) (plan_taken program) d test s now place least n
@@ -450,42 +450,42 @@ module _ (program : Program) (t : MemoAnalysis) (of : IsAnalysisOf program t) (b
     abbrev greedy-gives : IsKeyed program text t d s → GreedyGives program text (analysis_as_liveness t) (key_code_questions_of t) (insn_direction t) (recorded t) (plan_taken program) d test s now place least
     greedy-gives keyed =
         runs-give.greedy program text (analysis_as_liveness t) (key_code_questions_of t) (insn_direction t) (recorded t) (plan_taken program) d test s now place least unlimited serves.plan.account
-        (at-run program t of bounded text is_text bytes less d s test least true endless place on-text keyed at)
-        (λ n. let k = key_on program text t d test place s n in plans-take.greedy program s.ip k.at k.code (ap char_loop_greediness_at endless.run))
+        (at-run program t of bounded text is_text bytes less d s test least true unbounded_loop place on-text keyed at)
+        (λ n. let k = key_after_chars program text t d test place s n in plans-take.greedy program s.ip k.at k.code (ap char_loop_greediness_at unbounded_loop.run))
 
     abbrev greedy-ready : GreedyLoopIsCovered program (potentials_of t) (key_cost_of t) (recorded t) least s.ip
-    greedy-ready = (of.runs s.ip least unlimited true endless.run).greedy refl refl
+    greedy-ready = (of.runs s.ip least unlimited true unbounded_loop.run).greedy refl refl
 
     abbrev greedy-paid : RunTurnsArePaid program (potentials_of t) (key_cost_of t) (recorded t) text (analysis_as_liveness t) (key_code_questions_of t) (insn_direction t) (plan_taken program) d test s place least
     greedy-paid =
         turns-paid.runs program (potentials_of t) (key_cost_of t) (recorded t) text (analysis_as_liveness t) (key_code_questions_of t) (insn_direction t) (plan_taken program) d test s place least greedy-ready
 
     -- what is known to fail from a place on finds nothing
-    row-fails : IsKeyed program text t d s → (n : ℕ) → least ≤ n → n ≤ passing text test d place → KeyFails program text t (key_on program text t d test place s n)
-        → FindNothing program text d (row_on program text t d test place s n)
+    row-fails : IsKeyed program text t d s → (n : ℕ) → least ≤ n → n ≤ passing text test d place → KeyFails program text t (key_after_chars program text t d test place s n)
+        → FindNothing program text d (threads_after_chars program text t d test place s n)
     row-fails keyed n le few fails =
-        let row = row_on program text t d test place s n in
+        let row = threads_after_chars program text t d test place s n in
         fails d row
         ((runs-have-keys program text (analysis_as_liveness t) (key_code_questions_of t) (insn_direction t) (recorded t) (plan_taken program) d test (moved text d n place) s is_text
-        (further-inside program t of bounded text is_text bytes less d s test least true endless place on-text n few) keyed.of).greedy
-        (run-records program t of bounded text is_text bytes less d s test least true endless keyed.way)
-        (keyed-sound program text t d row (row-keyed program t of bounded text is_text bytes less d s test least true endless place on-text keyed at n le few)))
+        (further-inside program t of bounded text is_text bytes less d s test least true unbounded_loop place on-text n few) keyed.of).greedy
+        (run-records program t of bounded text is_text bytes less d s test least true unbounded_loop keyed.way)
+        (keyed-sound program text t d row (row-keyed program t of bounded text is_text bytes less d s test least true unbounded_loop place on-text keyed at n le few)))
 
     keyed-places : IsKeyed program text t d s → AreKeyed program text t d (threads_in rest) → (n : ℕ) → least ≤ n → n ≤ passing text test d place
         → AreKeyed program text t d (threads_in (row_of_places program text t d test place s least (n - least) ++ rest))
     keyed-places keyed below n le few =
-        places-keyed-over program t of bounded text is_text bytes less d s test least true endless place on-text keyed at rest below (n - least) (omega (arith, le, few))
+        places-keyed-over program t of bounded text is_text bytes less d s test least true unbounded_loop place on-text keyed at rest below (n - least) (omega (arith, le, few))
 
     -- from a place on it is known to fail, so nearer places are left
-    pub greedy-known : (n : ℕ) → least ≤ n → n ≤ passing text test d place → KeyFails program text t (key_on program text t d test place s n) → New n
+    pub greedy-known : (n : ℕ) → least ≤ n → n ≤ passing text test d place → KeyFails program text t (key_after_chars program text t d test place s n) → New n
         → Come work now (tried (running s) ∷ rest) → Come (work + (n + 2)) now (row_of_places program text t d test place s least (n - least) ++ rest)
     greedy-known n le few fails new h =
         let keyed = h.keyed.0 in
-        let waiting_there = its-waiting program t of bounded text is_text bytes less d s test least true endless place on-text (n - least) in
-        let row = row_on program text t d test place s n in
+        let waiting_there = its-waiting program t of bounded text is_text bytes less d s test least true unbounded_loop place on-text (n - least) in
+        let row = threads_after_chars program text t d test place s n in
         record {
           comes = subst (λ entries. Steps (work + (n + 2)) (entries ++ rest))
-              (rows-from program t of bounded text is_text bytes less d s test least true endless place on-text n le few)
+              (rows-from program t of bounded text is_text bytes less d s test least true unbounded_loop place on-text n le few)
               (gives work (n + 2) now (tried (running s) ∷ []) (each_noted row waiting_there) rest tt h.comes
               ((greedy-gives keyed).known n le few (row-fails keyed n le few fails) new) (greedy-paid.known n le));
           keyed = keyed-places keyed h.keyed.1 n le few;
@@ -493,25 +493,25 @@ module _ (program : Program) (t : MemoAnalysis) (of : IsAnalysisOf program t) (b
 
     -- from none it is, so the furthest is taken
     pub greedy-all : (n : ℕ) → n ≡ passing text test d place → least ≤ n → New (n + 1) → Come work now (tried (running s) ∷ rest)
-        → Come (work + (n + 2)) now (tried (running (behind text d place s n)) ∷ noted (key_on program text t d test place s n) (row_on program text t d test place s n)
+        → Come (work + (n + 2)) now (tried (running (behind text d place s n)) ∷ noted (key_after_chars program text t d test place s n) (threads_after_chars program text t d test place s n)
         ∷ row_of_places program text t d test place s least (n - least) ++ rest)
     greedy-all n same le new h =
         let keyed = h.keyed.0 in
         let few : n ≤ passing text test d place = omega (arith, same) in
-        let waiting_there = its-waiting program t of bounded text is_text bytes less d s test least true endless place on-text (n - least) in
+        let waiting_there = its-waiting program t of bounded text is_text bytes less d s test least true unbounded_loop place on-text (n - least) in
         let furthest_one = running (behind text d place s n) in
-        let key = key_on program text t d test place s n in
+        let key = key_after_chars program text t d test place s n in
         let entries_are : each_noted [] ((furthest_one, key) ∷ waiting_there)
-        ≡ tried furthest_one ∷ noted key (row_on program text t d test place s n) ∷ row_of_places program text t d test place s least (n - least) =
+        ≡ tried furthest_one ∷ noted key (threads_after_chars program text t d test place s n) ∷ row_of_places program text t d test place s least (n - least) =
         ap (λ ts. tried furthest_one ∷ noted key ts ∷ each_noted ts waiting_there) (row-last text is_text test d place s on-text n same)
-        ∙ ap (λ row. tried furthest_one ∷ noted key (row_on program text t d test place s n) ∷ row)
-        (rows-from program t of bounded text is_text bytes less d s test least true endless place on-text n le few) in
+        ∙ ap (λ row. tried furthest_one ∷ noted key (threads_after_chars program text t d test place s n) ∷ row)
+        (rows-from program t of bounded text is_text bytes less d s test least true unbounded_loop place on-text n le few) in
         record {
           comes = subst (λ entries. Steps (work + (n + 2)) (entries ++ rest)) entries_are
               (gives work (n + 2) now (tried (running s) ∷ []) (each_noted [] ((furthest_one, key) ∷ waiting_there)) rest tt h.comes
               ((greedy-gives keyed).all n same le new) (greedy-paid.all n le));
           keyed = (
-            place-keyed program t of bounded text is_text bytes less d s test least true endless place on-text keyed at n le few,
+            place-keyed program t of bounded text is_text bytes less d s test least true unbounded_loop place on-text keyed at n le few,
             keyed-places keyed h.keyed.1 n le few,
           );
         }
@@ -526,9 +526,9 @@ module _ (program : Program) (t : MemoAnalysis) (of : IsAnalysisOf program t) (b
 
   -- ---- A lazy one
 
-  module _ (s : State) (test : ℕ → Bool) (least place : ℕ) (endless : IsEndless program s test least false) where
+  module _ (s : State) (test : ℕ → Bool) (least place : ℕ) (unbounded_loop : IsUnboundedCharLoop program s test least false) where
     abbrev lazy-ready : LazyLoopIsCovered program (potentials_of t) (key_cost_of t) (recorded t) least s.ip
-    lazy-ready = (of.runs s.ip least unlimited false endless.run).lazy refl refl
+    lazy-ready = (of.runs s.ip least unlimited false unbounded_loop.run).lazy refl refl
 
     abbrev lazy-paid : LazyTurnsArePaid program (potentials_of t) (key_cost_of t) (recorded t) text (analysis_as_liveness t) (key_code_questions_of t) (insn_direction t) (plan_taken program) d test s place least
     lazy-paid =
@@ -543,7 +543,7 @@ module _ (program : Program) (t : MemoAnalysis) (of : IsAnalysisOf program t) (b
       abbrev lazy-gives : IsKeyed program text t d s → LazyGives program text (analysis_as_liveness t) (key_code_questions_of t) (insn_direction t) (recorded t) (plan_taken program) d test s now place least
       lazy-gives keyed =
           runs-give.lazy program text (analysis_as_liveness t) (key_code_questions_of t) (insn_direction t) (recorded t) (plan_taken program) d test s now place least unlimited serves.plan.account
-          (at-run program t of bounded text is_text bytes less d s test least false endless place on-its-text keyed at)
+          (at-run program t of bounded text is_text bytes less d s test least false unbounded_loop place on-its-text keyed at)
 
       -- the nearest place is taken, and the others wait
       pub lazy-first : least ≤ passing text test d place → Come work now (tried (running s) ∷ rest)
@@ -555,9 +555,9 @@ module _ (program : Program) (t : MemoAnalysis) (of : IsAnalysisOf program t) (b
             comes = gives work (least + 2) now (tried (running s) ∷ []) (tried (running (behind text d place s least)) ∷ kept waits ∷ []) rest tt h.comes
                 ((lazy-gives keyed).first le) lazy-paid.taken_up;
             keyed = (
-              place-keyed program t of bounded text is_text bytes less d s test least false endless place on-its-text keyed at least (omega arith) le,
+              place-keyed program t of bounded text is_text bytes less d s test least false unbounded_loop place on-its-text keyed at least (omega arith) le,
               Each-append (λ u. IsKeyed program text t d (state_of_thread u)) waits (threads_in rest)
-                  (waits-keyed program t of bounded text is_text bytes less d s test least false endless place on-its-text keyed at (least + 1) (omega arith)) h.keyed.1,
+                  (waits-keyed program t of bounded text is_text bytes less d s test least false unbounded_loop place on-its-text keyed at (least + 1) (omega arith)) h.keyed.1,
             );
           }
 
@@ -582,7 +582,7 @@ module _ (program : Program) (t : MemoAnalysis) (of : IsAnalysisOf program t) (b
       nearest = behind text d place s 0
 
       abbrev its-first-key : Key
-      its-first-key = key_on program text t d test place s 0
+      its-first-key = key_after_chars program text t d test place s 0
 
       nearest-first : its-waits ≡ waiting nearest ∷ more-waits
       nearest-first = (lazy-runs-go-on text test d place s inside).next
@@ -606,13 +606,13 @@ module _ (program : Program) (t : MemoAnalysis) (of : IsAnalysisOf program t) (b
           }
 
       run-way : Waits → insn_direction t s.ip ≡ d
-      run-way w = sym (way-behind program t of bounded text is_text bytes less d s test least false endless) ∙ w.nearest_keyed.way
+      run-way w = sym (way-behind program t of bounded text is_text bytes less d s test least false unbounded_loop) ∙ w.nearest_keyed.way
 
       run-state : Waits → HasSlotsOfProgram program s
       run-state w = let k = w.nearest_keyed in record { groups = k.of.groups; starts = k.of.starts; loops = k.of.loops }
 
       its-records : Waits → CharLoopRecords program (analysis_as_liveness t) (key_code_questions_of t) (insn_direction t) (recorded t) d test false s.ip
-      its-records w = run-records program t of bounded text is_text bytes less d s test least false endless (run-way w)
+      its-records w = run-records program t of bounded text is_text bytes less d s test least false unbounded_loop (run-way w)
 
       waits-sound : Waits → AreSound program text (analysis_as_liveness t) (analysis_keys program text t) d its-waits
       waits-sound w = keyed-sound program text t d its-waits w.all_keyed
@@ -643,7 +643,7 @@ module _ (program : Program) (t : MemoAnalysis) (of : IsAnalysisOf program t) (b
       pub lazy-key : Come work now (kept its-waits ∷ rest) → memo_key_at t (record s { ip = s.ip + 1; pos = offset text place }) ≡ Some its-first-key
       lazy-key h =
           ap (λ p. memo_key_at t (record s { ip = s.ip + 1; pos = offset text p })) (sym (moved-zero text d place))
-          ∙ key-is program t of bounded text is_text bytes less d s test least false endless (lazy-way h) place 0
+          ∙ key-is program t of bounded text is_text bytes less d s test least false unbounded_loop (lazy-way h) place 0
 
       -- what waits is known to fail
       pub lazy-known : KeyFails program text t its-first-key → Come work now (kept its-waits ∷ rest) → Come (work + 1) now rest
@@ -667,7 +667,7 @@ module _ (program : Program) (t : MemoAnalysis) (of : IsAnalysisOf program t) (b
             comes = gives work 2 now (kept its-waits ∷ []) entries rest tt h.comes
                 (subst (λ ts. IsMemoStep program text (analysis_as_liveness t) (analysis_keys program text t) d now ts entries) (sym alone)
                 (runs-give.lazy_again program text (analysis_as_liveness t) (key_code_questions_of t) (insn_direction t) (recorded t) (plan_taken program) d test s now place serves.plan.account inside
-                (its-records w) (run-state w) (waits-sound w) (plans-take.lazy program s.ip its-first-key.at its-first-key.code (ap char_loop_greediness_at endless.run)) new))
+                (its-records w) (run-state w) (waits-sound w) (plans-take.lazy program s.ip its-first-key.at its-first-key.code (ap char_loop_greediness_at unbounded_loop.run)) new))
                 lazy-paid.again;
             keyed = (w.nearest_keyed, Each-append (λ u. IsKeyed program text t d (state_of_thread u)) more-waits (threads_in rest) w.more_keyed w.below);
           }

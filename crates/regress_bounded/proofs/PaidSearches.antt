@@ -20,7 +20,7 @@ use Rattle.regress_memo.proofs.Paid.{one-weighs}
 use Rattle.regress_memo.proofs.Turns.{turns-go-on, work-is-bounded}
 use Rattle.regress_memo.proofs.Weights.{places-keys}
 use Rattle.regress_memo.specs.declared.analysis_result.MemoAnalysis.{MemoAnalysis}
-use Rattle.regress_memo.specs.WorkBound.{all_keys_cost_per_position, work_per_position, first_row}
+use Rattle.regress_memo.specs.WorkBound.{all_keys_cost_per_position, work_per_position, initial_threads}
 use Rattle.regress_memo.specs.AnalysisAsPotentials.{insn_analysis_of, analysis_as_liveness, key_code_questions_of, recorded, potentials_of}
 use Rattle.regress_memo.specs.AnalysisAsPotentials.{key_cost_of}
 use Rattle.regress_memo.specs.CheckedAnalysis.{IsAnalysisOf, Serves}
@@ -57,11 +57,11 @@ module _ (program : Program) (t : MemoAnalysis) (of : IsAnalysisOf program t) (t
   Walked ahead done memory = HasWalked program text t ahead done memory
 
   abbrev Come : (at : ℕ) → (memory : List Key) → (work : ℕ) → (now : List Key) → List Entry → Type 0
-  Come at memory work now row = HasCome program text t rightwards memory (tries (first_row program at)) work now row
+  Come at memory work now row = HasCome program text t rightwards memory (tries (initial_threads program at)) work now row
 
   -- the search at an offset answers
   abbrev Answered : ℕ → Type 0
-  Answered at = Answers program text rightwards (first_row program at)
+  Answered at = Answers program text rightwards (initial_threads program at)
 
   abbrev served : Serves program t text
   served = ledgers-serve program t of text is_text bytes less
@@ -95,23 +95,23 @@ module _ (program : Program) (t : MemoAnalysis) (of : IsAnalysisOf program t) (t
   }
 
   -- what one has in hand at first
-  pub in-hand : (at : ℕ) → at ≤ units text → (memory : List Key) → Come at memory 0 memory (tries (first_row program at))
+  pub in-hand : (at : ℕ) → at ≤ units text → (memory : List Key) → Come at memory 0 memory (tries (initial_threads program at))
   in-hand at inside memory = searches-are-paid.begins program t of text is_text bytes less at inside memory
 
-  first-onward : (at : ℕ) → AreOnward at (tries (first_row program at))
+  first-onward : (at : ℕ) → AreOnward at (tries (initial_threads program at))
   first-onward at = (omega arith, tt, tt)
 
   -- it goes on from there
   pub in-order : (at : ℕ) (memory : List Key) (work : ℕ) (now : List Key) (u : Thread) (rest : List Entry) → Come at memory work now (tried u ∷ rest) → at ≤ at_of u
   in-order at memory work now u rest h =
-      (turns-go-on program text (analysis_as_liveness t) (analysis_keys program text t) rightwards price weight memory (first_row program at) at work now (tried u ∷ rest) refl (first-onward at) h.comes).0
+      (turns-go-on program text (analysis_as_liveness t) (analysis_keys program text t) rightwards price weight memory (initial_threads program at) at work now (tried u ∷ rest) refl (first-onward at) h.comes).0
 
   module _ (at done : ℕ) (memory : List Key) (walked : Walked at done memory) (answers : Answered at) (more : ℕ) (now : List Key) (row : List Entry) where
     -- what a search knows and owes after any number of turns
     stands-so : Come at memory more now row
-        → turns.HasCome program text (analysis_as_liveness t) (analysis_keys program text t) rightwards price weight memory (first_row program at) more now row answers.found
+        → turns.HasCome program text (analysis_as_liveness t) (analysis_keys program text t) rightwards price weight memory (initial_threads program at) more now row answers.found
     stands-so h =
-        work-is-bounded program text (analysis_as_liveness t) (analysis_keys program text t) served.plan.account served.serves.keys rightwards price weight memory (first_row program at)
+        work-is-bounded program text (analysis_as_liveness t) (analysis_keys program text t) served.plan.account served.serves.keys rightwards price weight memory (initial_threads program at)
         answers.turns answers.found walked.is answers.searches more now row h.comes
 
     still-memory : Come at memory more now row → IsMemory program text (analysis_as_liveness t) (analysis_keys program text t) now

@@ -32,8 +32,8 @@ use Rattle.regress_pikevm.specs.declared.pikevm.states.NextStates.{NextStates}
 use Rattle.regress_bounded.specs.CostsOfSearchEvents.{LeavesThreads, IsNewIfAny, chars_tried, work_of, threads_left, with_record_of, drops, turns, tries_chars}
 use Rattle.regress_bounded.specs.BoundedState.{BoundedAttempt, IsUnfailedStateKeyIfAny, IsNotUnboundedCharLoop, char_loop_max}
 use Rattle.regress_bounded.specs.BoundedState.{is_goal_insn}
-use Rattle.regress_bounded.specs.BoundedState.{IsStanding, IsRow, Stands, MayHappen, ComesOn, IsShort, HasTaken, HasTakenThreads, HasPassedOver}
-use Rattle.regress_bounded.specs.BoundedState.{IsRunHere, front_of, is_known_key, stack_with_record, min_and_greed_of_loop}
+use Rattle.regress_bounded.specs.BoundedState.{HasAttemptState, IsStackOf, AttemptHasState, MayHappen, TakesOneEvent, WorkIsTooLittle, HasTaken, HasTakenThreads, HasPassedOver}
+use Rattle.regress_bounded.specs.BoundedState.{IsAtCharLoop, front_of, is_known_key, stack_with_record, min_and_greed_of_loop}
 use Rattle.regress_bounded.specs.BudgetSpending.{IsTakenFromBudget, IsWorkOrMoreThanLeft, WorkExceedsBudget}
 use Rattle.regress_pikevm.specs.States.{state_of, next_threads, preferred_last, waiting_threads}
 use Rattle.regress_pikevm.proofs.Fetching.{insn-here}
@@ -42,7 +42,7 @@ use Rattle.regress_bounded.proofs.Bodies.{body-tested, body-insn, body-below}
 use Rattle.regress_bounded.proofs.Ends.{asks-none, never-ends, scans-run}
 use Rattle.regress_bounded.proofs.EventCosts.{ScansAt, scans-at}
 use Rattle.regress_bounded.proofs.Stopping.{some-key}
-use Rattle.regress_bounded.proofs.Standing.{row-push, can-turn, inside, new, known, comes-on, is-short}
+use Rattle.regress_bounded.proofs.AttemptState.{row-push, can-turn, inside, new, known, comes-on, is-short}
 
 -- ---- What the thread in hand can do
 
@@ -66,7 +66,7 @@ yes-can (asks d negate u s) h = tt
 yes-can stuck h = cc
 
 module _ {P : Type 0} {offset : P → ℕ} {program : Program} {text : Text} {s : machine.State} {stack : List (StackEntry P)} {c : MemoAndWorkBudget}
-    (there : IsStanding offset program text (tried (running s) ∷ []) stack c) where
+    (there : HasAttemptState offset program text (tried (running s) ∷ []) stack c) where
   pub standing-can : IsNotStuck (act program text rightwards s)
   standing-can =
       yes-can (act program text rightwards s)
@@ -93,23 +93,23 @@ known-key test (Some k) o e h = record { key = memo_key_as_spec k; is = sym e; k
 
 -- it has failed
 module _ {P : Type 0} {offset : P → ℕ} {program : Program} {text : Text} {b : BoundedAttempt} {s : machine.State} {stack : List (StackEntry P)} {c : MemoAndWorkBudget}
-    (h : Stands offset program text b (tried (running s) ∷ []) stack c) (key : Option Stored) (its : option_map memo_key_as_spec key ≡ memo_key_at c.memo.memo_analysis s)
+    (h : AttemptHasState offset program text b (tried (running s) ∷ []) stack c) (key : Option Stored) (its : option_map memo_key_as_spec key ≡ memo_key_at c.memo.memo_analysis s)
     (fails : is_known_key (has_failure c.memo) (option_map memo_key_as_spec key) ≡ true) where
   known-happens : MayHappen offset program text b h 1 h.now h.row
   known-happens = let k = known-key (has_failure c.memo) key (memo_key_at c.memo.memo_analysis s) its fails in drops s k.key h.row k.is (known offset program text b h k.key k.known)
 
-  pub known-over : (c' : MemoAndWorkBudget) → WorkExceedsBudget 1 c.left c'.left → IsShort offset program text b h c'
+  pub known-over : (c' : MemoAndWorkBudget) → WorkExceedsBudget 1 c.left c'.left → WorkIsTooLittle offset program text b h c'
   known-over c' spent = is-short offset program text b h 1 c' known-happens spent
 
-  pub known-goes : (c' : MemoAndWorkBudget) → c'.memo ≡ c.memo → IsTakenFromBudget 1 c.left c'.left → ComesOn offset program text b h None stack c'
+  pub known-goes : (c' : MemoAndWorkBudget) → c'.memo ≡ c.memo → IsTakenFromBudget 1 c.left c'.left → TakesOneEvent offset program text b h None stack c'
   known-goes c' same spent = comes-on offset program text b h None h.row stack 1 c' known-happens h.is same spent
 
 -- ---- What stands there
 
 -- no other instruction is a run
-pub endless-other : (insn : Coded) → ((greedy : Bool) (least most : ℕ) → insn ≡ CodedRun greedy least most → ⊥) → None ≡ min_and_greed_of_loop (insn_as_spec_insn insn)
-endless-other (CodedRun greedy least most) other = absurd (other greedy least most refl)
-endless-other insn other = refl
+pub unbounded_loop-other : (insn : Coded) → ((greedy : Bool) (least most : ℕ) → insn ≡ CodedRun greedy least most → ⊥) → None ≡ min_and_greed_of_loop (insn_as_spec_insn insn)
+unbounded_loop-other (CodedRun greedy least most) other = absurd (other greedy least most refl)
+unbounded_loop-other insn other = refl
 
 -- no other instruction ends the search
 pub goal-other : (insn : Coded) → (insn ≡ CodedGoal → ⊥) → false ≡ is_goal_insn (insn_as_spec_insn insn)
@@ -138,8 +138,8 @@ has-maximum greedy least most none = by (most == unlimited) refl
     by true e = let never : false ≡ true = ap is_some (none ∙ ap (λ b. if b then Some (least, greedy) else None) e) in cc
     by false e = e
 
-endless-run : (insn : Insn) (greedy : Bool) (least : ℕ) → Some (least, greedy) ≡ min_and_greed_of_loop insn → insn ≡ Loop1CharBody least unlimited greedy
-endless-run (Loop1CharBody l m g) greedy least found = by (m == unlimited) refl
+unbounded_loop-run : (insn : Insn) (greedy : Bool) (least : ℕ) → Some (least, greedy) ≡ min_and_greed_of_loop insn → insn ≡ Loop1CharBody least unlimited greedy
+unbounded_loop-run (Loop1CharBody l m g) greedy least found = by (m == unlimited) refl
   where
     by : (b : Bool) → (m == unlimited) ≡ b → Loop1CharBody l m g ≡ Loop1CharBody least unlimited greedy
     by true e =
@@ -147,7 +147,7 @@ endless-run (Loop1CharBody l m g) greedy least found = by (m == unlimited) refl
         let pair = some-key same in
         ap (λ n. Loop1CharBody l n g) (eqb-true m unlimited e) ∙ ap (λ p. Loop1CharBody p.0 unlimited p.1) (sym pair)
     by false e = let never : true ≡ false = ap is_some (found ∙ ap (λ b. if b then Some (l, g) else None) e) in cc
-endless-run insn greedy least found = cc
+unbounded_loop-run insn greedy least found = cc
 
 module _ {P : Type 0} (offset : P → ℕ) (re : Regex) (text : Text) (insns : List Coded) (s : machine.State) where
   -- a run without a maximum, and the instruction that it reads by
@@ -155,7 +155,7 @@ module _ {P : Type 0} (offset : P → ℕ) (re : Regex) (text : Text) (insns : L
     pub below : s.ip + 1 < length insns
     pub reads : (body : Coded) → body ≡ get_or insns (s.ip + 1) body → slice_get (compiled (tree_of re)).insns (s.ip + 1) ≡ Some (insn_as_spec_insn body)
     pub here : (body : Coded) → body ≡ get_or insns (s.ip + 1) body
-        → IsRunHere offset (compiled (tree_of re)) text (record { body = body; least = least; greedy = greedy }) greedy s
+        → IsAtCharLoop offset (compiled (tree_of re)) text (record { body = body; least = least; greedy = greedy }) greedy s
 
 module _ (re : Regex) (text : Text) (insns : List Coded) (code : map insn_as_spec_insn insns ≡ (compiled (tree_of re)).insns) (s : machine.State)
     (can : IsNotStuck (act (compiled (tree_of re)) text rightwards s)) where
@@ -193,7 +193,7 @@ module _ (re : Regex) (text : Text) (insns : List Coded) (code : map insn_as_spe
       record { least = m.least; greedy = m.greedy; reads = reads-at m.least most m.greedy (can-insn insn is ∙ ap Some m.is) }
 
 module _ {P : Type 0} {offset : P → ℕ} (re : Regex) {text : Text} (insns : List Coded) (code : map insn_as_spec_insn insns ≡ (compiled (tree_of re)).insns) {s : machine.State}
-    {stack : List (StackEntry P)} {c : MemoAndWorkBudget} (there : IsStanding offset (compiled (tree_of re)) text (tried (running s) ∷ []) stack c) where
+    {stack : List (StackEntry P)} {c : MemoAndWorkBudget} (there : HasAttemptState offset (compiled (tree_of re)) text (tried (running s) ∷ []) stack c) where
   pub here-below : s.ip < length insns
   here-below = can-below re text insns code s (standing-can there)
 
@@ -203,7 +203,7 @@ module _ {P : Type 0} {offset : P → ℕ} (re : Regex) {text : Text} (insns : L
   pub run-at : (insn : Coded) → insn ≡ get_or insns s.ip insn → (greedy : Bool) (least : ℕ) → Some (least, greedy) ≡ min_and_greed_of_loop (insn_as_spec_insn insn)
       → RunAt offset re text insns s greedy least
   run-at insn is greedy least found =
-      let x = reads-at re text insns code s (standing-can there) least unlimited greedy (here-insn insn is ∙ ap Some (endless-run (insn_as_spec_insn insn) greedy least found)) in
+      let x = reads-at re text insns code s (standing-can there) least unlimited greedy (here-insn insn is ∙ ap Some (unbounded_loop-run (insn_as_spec_insn insn) greedy least found)) in
       record { below = x.below; reads = x.body; here = λ body body_is. record { insn = x.run; body = x.body body body_is } }
 
 -- ---- What its turn is
@@ -220,7 +220,7 @@ goal-ends re text s insn here goal =
 
 -- one elsewhere leaves threads
 module _ {P : Type 0} {offset : P → ℕ} {program : Program} {text : Text} {s : machine.State} {stack : List (StackEntry P)} {c : MemoAndWorkBudget}
-    (there : IsStanding offset program text (tried (running s) ∷ []) stack c) where
+    (there : HasAttemptState offset program text (tried (running s) ∷ []) stack c) where
   pub leads-on : (insn : Insn) → slice_get program.insns s.ip ≡ Some insn → false ≡ is_goal_insn insn → LeavesThreads (act program text rightwards s)
   leads-on insn here other = by (act program text rightwards s) refl (standing-can there)
     where
@@ -304,25 +304,25 @@ tries-on (v ∷ us) u row = ap (λ l. tried v ∷ l) (tries-on us u row)
 
 module _ {P : Type 0} (offset : P → ℕ) (program : Program) (text : Text) where
   -- these wait as well, the last one first
-  rows-push : (others : List (State P)) (old : List (StackEntry P)) (row : List Entry) → IsRow offset program text old row
-      → IsRow offset program text (old ++ map (λ o. AsThread o) others) (tries (waiting_threads offset others) ++ row)
-  rows-push [] old row r = subst (λ l. IsRow offset program text l row) (sym (append-nil old)) r
+  rows-push : (others : List (State P)) (old : List (StackEntry P)) (row : List Entry) → IsStackOf offset program text old row
+      → IsStackOf offset program text (old ++ map (λ o. AsThread o) others) (tries (waiting_threads offset others) ++ row)
+  rows-push [] old row r = subst (λ l. IsStackOf offset program text l row) (sym (append-nil old)) r
   rows-push (s ∷ others) old row r =
       let more = row-push offset program text old (AsThread s) (tried (waiting (state_of offset s))) row refl r in
       let all = rows-push others (old ++ AsThread s ∷ []) (tried (waiting (state_of offset s)) ∷ row) more in
       let order : tries (waiting_threads offset (s ∷ others)) ++ row ≡ tries (waiting_threads offset others) ++ tried (waiting (state_of offset s)) ∷ row =
       ap (λ us. tries us ++ row) (waiting-append offset (s ∷ []) others) ∙ tries-on (waiting_threads offset others) (waiting (state_of offset s)) row in
-      subst (λ l. IsRow offset program text (old ++ map (λ o. AsThread o) (s ∷ others)) l) (sym order)
-      (subst (λ l. IsRow offset program text l (tries (waiting_threads offset others) ++ tried (waiting (state_of offset s)) ∷ row))
+      subst (λ l. IsStackOf offset program text (old ++ map (λ o. AsThread o) (s ∷ others)) l) (sym order)
+      (subst (λ l. IsStackOf offset program text l (tries (waiting_threads offset others) ++ tried (waiting (state_of offset s)) ∷ row))
       (append_assoc old (AsThread s ∷ []) (map (λ o. AsThread o) others)) all)
 
   -- the preferred one is taken, and the others wait above a row
   record TakenAbove (ts : List Thread) (below : List Entry) (next : Option (State P)) (stack : List (StackEntry P)) : Type 0 where
     row : List Entry
     same : tries ts ++ below ≡ front_of offset next ++ row
-    is : IsRow offset program text stack row
+    is : IsStackOf offset program text stack row
 
-  taken-above : (ts : List Thread) (below : List Entry) (old last : List (StackEntry P)) → IsRow offset program text old below → (next : Option (State P)) → HasTakenThreads offset ts old next last
+  taken-above : (ts : List Thread) (below : List Entry) (old last : List (StackEntry P)) → IsStackOf offset program text old below → (next : Option (State P)) → HasTakenThreads offset ts old next last
       → TakenAbove ts below next last
   taken-above ts below old last is next t = by next t.taken
     where
@@ -330,7 +330,7 @@ module _ {P : Type 0} (offset : P → ℕ) (program : Program) (text : Text) whe
       by None h = record {
         row = below;
         same = ap (λ us. tries us ++ below) (t.are ∙ ap (λ l. first_running_and_others_waiting (preferred_last offset l)) h.0);
-        is = subst (λ l. IsRow offset program text l below) (sym h.1) is;
+        is = subst (λ l. IsStackOf offset program text l below) (sym h.1) is;
       }
       by (Some s) h =
           let order : ts ≡ running (state_of offset s) ∷ waiting_threads offset h.others =
@@ -338,11 +338,11 @@ module _ {P : Type 0} (offset : P → ℕ) (program : Program) (text : Text) whe
           record {
             row = tries (waiting_threads offset h.others) ++ below;
             same = ap (λ us. tries us ++ below) order;
-            is = subst (λ l. IsRow offset program text l (tries (waiting_threads offset h.others) ++ below)) (sym h.wait) (rows-push h.others old below is);
+            is = subst (λ l. IsStackOf offset program text l (tries (waiting_threads offset h.others) ++ below)) (sym h.wait) (rows-push h.others old below is);
           }
 
 module _ {P : Type 0} {offset : P → ℕ} {program : Program} {text : Text} {b : BoundedAttempt} {s : machine.State} {stack : List (StackEntry P)} {c : MemoAndWorkBudget}
-    (h : Stands offset program text b (tried (running s) ∷ []) stack c) (limited : IsNotUnboundedCharLoop program s.ip) {key : Option Stored} (k : IsUnfailedStateKeyIfAny c.memo s key)
+    (h : AttemptHasState offset program text b (tried (running s) ∷ []) stack c) (limited : IsNotUnboundedCharLoop program s.ip) {key : Option Stored} (k : IsUnfailedStateKeyIfAny c.memo s key)
     (leads : LeavesThreads (act program text rightwards s)) where
   abbrev recorded : List Entry
   recorded = with_record_of s (option_map memo_key_as_spec key) h.row
@@ -365,22 +365,22 @@ module _ {P : Type 0} {offset : P → ℕ} {program : Program} {text : Text} {b 
 
   -- there was not so much
   pub turn-over : (number : ℕ) → IsWorkOrMoreThanLeft c.left (work_of (act program text rightwards s)) number → (c' : MemoAndWorkBudget) → WorkExceedsBudget number c.left c'.left
-      → IsShort offset program text b h c'
+      → WorkIsTooLittle offset program text b h c'
   turn-over number (inl same) c' spent = is-short offset program text b h (work_of (act program text rightwards s)) c' turn-happens (subst (λ n. WorkExceedsBudget n c.left c'.left) same spent)
   turn-over number (inr more) c' spent = is-short offset program text b h (work_of (act program text rightwards s)) c' turn-happens (more.1, spent.1)
 
   -- its record waits
-  record-waits : (mid : List (StackEntry P)) → mid ≡ stack_with_record key stack → IsRow offset program text mid recorded
-  record-waits mid pushed = subst (λ xs. IsRow offset program text xs recorded) (sym pushed) (by key)
+  record-waits : (mid : List (StackEntry P)) → mid ≡ stack_with_record key stack → IsStackOf offset program text mid recorded
+  record-waits mid pushed = subst (λ xs. IsStackOf offset program text xs recorded) (sym pushed) (by key)
     where
-      by : (key : Option Stored) → IsRow offset program text (stack_with_record key stack) (with_record_of s (option_map memo_key_as_spec key) h.row)
+      by : (key : Option Stored) → IsStackOf offset program text (stack_with_record key stack) (with_record_of s (option_map memo_key_as_spec key) h.row)
       by None = h.is
       by (Some k) =
           row-push offset program text stack (AsRecord k) (noted (memo_key_as_spec k) (running s ∷ [])) h.row (record { threads = running s ∷ []; is = refl }) h.is
 
   pub turn-goes : (number : ℕ) → IsWorkOrMoreThanLeft c.left (work_of (act program text rightwards s)) number → (mid last : List (StackEntry P)) → mid ≡ stack_with_record key stack
       → (next : Option (State P)) → HasTakenThreads offset (threads_left (act program text rightwards s)) mid next last
-      → (c' : MemoAndWorkBudget) → c'.memo ≡ c.memo → IsTakenFromBudget number c.left c'.left → ComesOn offset program text b h next last c'
+      → (c' : MemoAndWorkBudget) → c'.memo ≡ c.memo → IsTakenFromBudget number c.left c'.left → TakesOneEvent offset program text b h next last c'
   turn-goes number works mid last pushed next taken c' same spent =
       let x = taken-above offset program text (threads_left (act program text rightwards s)) recorded mid last (record-waits mid pushed) next taken in
       let work = work_of (act program text rightwards s) in

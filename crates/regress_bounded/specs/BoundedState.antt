@@ -18,7 +18,7 @@ use Rattle.regress_memo.specs.SkippedLookarounds.{lookaround_at}
 use Rattle.regress_memo.specs.CharLoopExitThreadLists.{passing, pending_loop_threads}
 use Rattle.regress_memo.specs.MemoSearch.{Key, Entry, tried, kept, noted, tries, IsMemory}
 use Rattle.regress_memo.specs.declared.analysis_result.MemoAnalysis.{MemoAnalysis}
-use Rattle.regress_memo.specs.WorkBound.{IsWorkBounded, first_row}
+use Rattle.regress_memo.specs.WorkBound.{IsWorkBounded, initial_threads}
 use Rattle.regress_memo.specs.AnalysisChecks.{unlimited}
 use Rattle.regress_memo.specs.AnalysisAsPotentials.{analysis_as_liveness}
 use Rattle.regress_memo.specs.CheckedAnalysis.{IsAnalysisOf}
@@ -37,7 +37,7 @@ use Rattle.regress_bounded.specs.declared.thread_steps_and_backtracking.StepResu
 use Rattle.regress_pikevm.specs.declared.pikevm.states.State.{State}
 use Rattle.regress_bounded.specs.BudgetSpending.{IsTakenFromBudget}
 use Rattle.regress_bounded.specs.CostsOfSearchEvents.{Costs, Happens}
-use Rattle.regress_bounded.specs.WorkOfCharLoopsAndAttempts.{IsEndless, key_on, row_on, row_of_places}
+use Rattle.regress_bounded.specs.WorkOfCharLoopsAndAttempts.{IsUnboundedCharLoop, key_after_chars, threads_after_chars, row_of_places}
 use Rattle.regress_pikevm.specs.States.{state_of, preferred_last, running_thread}
 
 -- The stack with a record of the key pushed, if there is a key.
@@ -47,7 +47,7 @@ stack_with_record (Some key) stack = stack ++ AsRecord key ∷ []
 
 module _ (program : Program) (text : Text) where
   -- The memo analysis covers searches of this text, and the program has no lookarounds.
-  pub record IsPaid (t : MemoAnalysis) : Type 0 where
+  pub record HasWorkBound (t : MemoAnalysis) : Type 0 where
     pub memo_analysis : IsAnalysisOf program t
     pub bounded : IsWorkBounded t program
     pub no_look : (ip : ℕ) → lookaround_at (slice_get program.insns ip) ≡ None
@@ -56,13 +56,13 @@ module _ (program : Program) (text : Text) where
     pub short : units text < 2 ^ 63
 
   -- Everything that is known to fail does fail.
-  pub record IsRight (m : MemoView) : Type 0 where
-    pub paid : IsPaid m.memo_analysis
+  pub record IsSoundMemo (m : MemoView) : Type 0 where
+    pub paid : HasWorkBound m.memo_analysis
     pub is_true : IsTrueOf program text m
 
   -- The same as a proposition.
   abbrev pub IsMemoRight : MemoView → Type 0
-  IsMemoRight m = ∥ IsRight m ∥₁
+  IsMemoRight m = ∥ IsSoundMemo m ∥₁
 
 -- `IsMemoRight` for the program of a regex.
 abbrev pub IsMemoRightForRegex : Regex → Text → MemoView → Type 0
@@ -108,12 +108,12 @@ pub record BoundedAttempt : Type 0 where
 
 -- An attempt begins at an offset with this memo table and budget.
 pub record BoundedAttemptBegins (program : Program) (text : Text) (from : ℕ) (c : MemoAndWorkBudget) (b : BoundedAttempt) : Type 0 where
-  pub right : IsRight program text c.memo
+  pub right : IsSoundMemo program text c.memo
   pub at : b.at ≡ from
   pub is_memory : IsMemory program text (analysis_as_liveness c.memo.memo_analysis) (analysis_keys program text c.memo.memo_analysis) b.memory
   pub holds : ListsExactlyKnownKeys (has_failure c.memo) b.memory
   pub total : b.total ≡ c.left
-  pub answers : search program text b.turns rightwards (first_row program b.at) ≡ Some b.found
+  pub answers : search program text b.turns rightwards (initial_threads program b.at) ≡ Some b.found
 
 module _ {P : Type 0} (offset : P → ℕ) where
   -- The entry of the current thread, if there is one.
@@ -124,11 +124,11 @@ module _ {P : Type 0} (offset : P → ℕ) where
     -- ---- Pending entries
 
     -- A pending lazy loop stands for its exits from a place on.
-    pub record IsRest (s : machine.State) (e : Entry) : Type 0 where
+    pub record IsPendingLazyLoop (s : machine.State) (e : Entry) : Type 0 where
       pub test : ℕ → Bool
       pub least : ℕ
       pub place : ℕ
-      pub run : IsEndless program s test least false
+      pub run : IsUnboundedCharLoop program s test least false
       pub at : place_at text s.pos ≡ Some place
       pub is : e ≡ kept (pending_loop_threads text test rightwards 0 place s)
 
@@ -140,53 +140,53 @@ module _ {P : Type 0} (offset : P → ℕ) where
     -- The entry of the search that a stack entry stands for.
     abbrev pub StandsFor : StackEntry P → Entry → Type 0
     StandsFor (AsThread s) e = e ≡ tried (waiting (state_of offset s))
-    StandsFor (AsRun s) e = IsRest (state_of offset s) e
+    StandsFor (AsRun s) e = IsPendingLazyLoop (state_of offset s) e
     StandsFor (AsRecord k) e = IsRecordOf (memo_key_as_spec k) e
 
     -- Stack entries and search entries correspond one to one.
-    abbrev pub AreFor : List (StackEntry P) → List Entry → Type 0
-    AreFor [] [] = Unit {0}
-    AreFor (w ∷ ws) (e ∷ row) = StandsFor w e × AreFor ws row
-    AreFor _ _ = ⊥
+    abbrev pub StackStandsFor : List (StackEntry P) → List Entry → Type 0
+    StackStandsFor [] [] = Unit {0}
+    StackStandsFor (w ∷ ws) (e ∷ row) = StandsFor w e × StackStandsFor ws row
+    StackStandsFor _ _ = ⊥
 
     -- A stack stands for a list of entries; the top of the stack comes first.
-    abbrev pub IsRow : List (StackEntry P) → List Entry → Type 0
-    IsRow stack row = AreFor (reverse stack) row
+    abbrev pub IsStackOf : List (StackEntry P) → List Entry → Type 0
+    IsStackOf stack row = StackStandsFor (reverse stack) row
 
     -- ---- The state of an attempt
 
     -- The events so far led to the entries `front`, followed by those of the stack. The budget is
     -- what they cost and what is left. The memo table holds exactly the known failures.
-    pub record Stands (b : BoundedAttempt) (front : List Entry) (stack : List (StackEntry P)) (c : MemoAndWorkBudget) : Type 0 where
-      pub right : IsRight program text c.memo
+    pub record AttemptHasState (b : BoundedAttempt) (front : List Entry) (stack : List (StackEntry P)) (c : MemoAndWorkBudget) : Type 0 where
+      pub right : IsSoundMemo program text c.memo
       pub inside : b.at ≤ units text
       pub is_memory :
           IsMemory program text (analysis_as_liveness c.memo.memo_analysis) (analysis_keys program text c.memo.memo_analysis) b.memory
-      pub answers : search program text b.turns rightwards (first_row program b.at) ≡ Some b.found
+      pub answers : search program text b.turns rightwards (initial_threads program b.at) ≡ Some b.found
       pub work : ℕ
       pub now : List Key
       pub row : List Entry
-      pub costs : Costs program text c.memo.memo_analysis rightwards b.memory (tries (first_row program b.at)) work now (front ++ row)
-      pub is : IsRow stack row
+      pub costs : Costs program text c.memo.memo_analysis rightwards b.memory (tries (initial_threads program b.at)) work now (front ++ row)
+      pub is : IsStackOf stack row
       pub holds : ListsExactlyKnownKeys (has_failure c.memo) now
       pub spent : work + c.left ≡ b.total
 
     -- There is an attempt in this state.
-    pub record Standing (front : List Entry) (stack : List (StackEntry P)) (c : MemoAndWorkBudget) : Type 0 where
+    pub record SomeAttemptHasState (front : List Entry) (stack : List (StackEntry P)) (c : MemoAndWorkBudget) : Type 0 where
       pub begin : BoundedAttempt
-      pub stands : Stands begin front stack c
+      pub stands : AttemptHasState begin front stack c
 
     -- The same as a proposition.
-    abbrev pub IsStanding : (front : List Entry) → List (StackEntry P) → MemoAndWorkBudget → Type 0
-    IsStanding front stack c = ∥ Standing front stack c ∥₁
+    abbrev pub HasAttemptState : (front : List Entry) → List (StackEntry P) → MemoAndWorkBudget → Type 0
+    HasAttemptState front stack c = ∥ SomeAttemptHasState front stack c ∥₁
 
-    module _ (b : BoundedAttempt) {front : List Entry} {stack : List (StackEntry P)} {c : MemoAndWorkBudget} (h : Stands b front stack c) where
+    module _ (b : BoundedAttempt) {front : List Entry} {stack : List (StackEntry P)} {c : MemoAndWorkBudget} (h : AttemptHasState b front stack c) where
       -- What may happen next, and what it costs.
       abbrev pub MayHappen : (cost : ℕ) → List Key → List Entry → Type 0
       MayHappen cost now row = Happens program text c.memo.memo_analysis rightwards h.now cost (front ++ h.row) now row
 
       -- The next event costs more than is left. Then nothing is left.
-      pub record IsShort (after : MemoAndWorkBudget) : Type 0 where
+      pub record WorkIsTooLittle (after : MemoAndWorkBudget) : Type 0 where
         pub cost : ℕ
         pub now : List Key
         pub row : List Entry
@@ -195,8 +195,8 @@ module _ {P : Type 0} (offset : P → ℕ) where
         pub none : after.left ≡ 0
 
       -- One event leads to the next thread, and exactly its cost is taken from what was left.
-      pub record ComesOn (next : Option (State P)) (new : List (StackEntry P)) (after : MemoAndWorkBudget) : Type 0 where
-        pub stands : Stands b (front_of next) new after
+      pub record TakesOneEvent (next : Option (State P)) (new : List (StackEntry P)) (after : MemoAndWorkBudget) : Type 0 where
+        pub stands : AttemptHasState b (front_of next) new after
         pub cost : ℕ
         pub happens : MayHappen cost stands.now (front_of next ++ stands.row)
         pub spent : IsTakenFromBudget cost c.left after.left
@@ -205,94 +205,94 @@ module _ {P : Type 0} (offset : P → ℕ) where
       -- next event costs more than is left.
       abbrev pub MayStop : AttemptAbortReason → MemoAndWorkBudget → Type 0
       MayStop Memory after = Unit {0}
-      MayStop Work after = IsShort after
+      MayStop Work after = WorkIsTooLittle after
 
       -- The result of a part of an attempt: it continues with the next thread, or is given up.
-      abbrev pub GoesOn : Result (Option (State P)) AttemptAbortReason → List (StackEntry P) → MemoAndWorkBudget → Type 0
-      GoesOn (Ok next) new after = ComesOn next new after
-      GoesOn (Err e) new after = MayStop e after
+      abbrev pub ContinuesOrStops : Result (Option (State P)) AttemptAbortReason → List (StackEntry P) → MemoAndWorkBudget → Type 0
+      ContinuesOrStops (Ok next) new after = TakesOneEvent next new after
+      ContinuesOrStops (Err e) new after = MayStop e after
 
-    -- `GoesOn` for each attempt that was in this state.
-    abbrev pub GoesFrom : (front : List Entry) (old : List (StackEntry P)) → MemoAndWorkBudget → Result (Option (State P)) AttemptAbortReason
+    -- `ContinuesOrStops` for each attempt that was in this state.
+    abbrev pub PartResultFrom : (front : List Entry) (old : List (StackEntry P)) → MemoAndWorkBudget → Result (Option (State P)) AttemptAbortReason
         → (new : List (StackEntry P)) → MemoAndWorkBudget → Type 0
-    GoesFrom front old c r new after = (b : BoundedAttempt) (h : Stands b front old c) → GoesOn b h r new after
+    PartResultFrom front old c r new after = (b : BoundedAttempt) (h : AttemptHasState b front old c) → ContinuesOrStops b h r new after
 
     -- The step of the current thread ends the search.
-    pub record EndsAt (b : BoundedAttempt) (end : State P) (c : MemoAndWorkBudget) : Type 0 where
+    pub record AttemptEndsAt (b : BoundedAttempt) (end : State P) (c : MemoAndWorkBudget) : Type 0 where
       pub stack : List (StackEntry P)
       pub from : machine.State
-      pub stands : Stands b (tried (running from) ∷ []) stack c
+      pub stands : AttemptHasState b (tried (running from) ∷ []) stack c
       pub ends : act program text rightwards from ≡ ends (state_of offset end)
 
     -- The result of a step: the search continues, ends, or is given up.
-    abbrev pub Turns : (b : BoundedAttempt) {front : List Entry} {stack : List (StackEntry P)} {c : MemoAndWorkBudget} → Stands b front stack c
+    abbrev pub StepResultIs : (b : BoundedAttempt) {front : List Entry} {stack : List (StackEntry P)} {c : MemoAndWorkBudget} → AttemptHasState b front stack c
         → Result (StepResult P) AttemptAbortReason → List (StackEntry P) → MemoAndWorkBudget → Type 0
-    Turns b h (Ok (On next)) new after = ComesOn b h next new after
-    Turns b h (Ok (End s)) new after = EndsAt b s after
-    Turns b h (Err e) new after = MayStop b h e after
+    StepResultIs b h (Ok (On next)) new after = TakesOneEvent b h next new after
+    StepResultIs b h (Ok (End s)) new after = AttemptEndsAt b s after
+    StepResultIs b h (Err e) new after = MayStop b h e after
 
-    -- `Turns` for each attempt that was in this state.
-    abbrev pub TurnsFrom : (front : List Entry) (old : List (StackEntry P)) → MemoAndWorkBudget → Result (StepResult P) AttemptAbortReason
+    -- `StepResultIs` for each attempt that was in this state.
+    abbrev pub StepResultFrom : (front : List Entry) (old : List (StackEntry P)) → MemoAndWorkBudget → Result (StepResult P) AttemptAbortReason
         → (new : List (StackEntry P)) → MemoAndWorkBudget → Type 0
-    TurnsFrom front old c r new after = (b : BoundedAttempt) (h : Stands b front old c) → Turns b h r new after
+    StepResultFrom front old c r new after = (b : BoundedAttempt) (h : AttemptHasState b front old c) → StepResultIs b h r new after
 
     -- The attempt was given up before an event that costs more than was left. Now nothing is left.
-    pub record IsOver (b : BoundedAttempt) (c : MemoAndWorkBudget) : Type 0 where
+    pub record StoppedForWork (b : BoundedAttempt) (c : MemoAndWorkBudget) : Type 0 where
       pub front : List Entry
       pub stack : List (StackEntry P)
       pub before : MemoAndWorkBudget
-      pub stands : Stands b front stack before
+      pub stands : AttemptHasState b front stack before
       pub same : c.memo.memo_analysis ≡ before.memo.memo_analysis
-      pub short : IsShort b stands c
+      pub short : WorkIsTooLittle b stands c
 
     -- The result of an attempt: no entry is left, it found an end, or it was given up.
-    abbrev pub Runs : BoundedAttempt → Result (Option (State P)) AttemptAbortReason → MemoAndWorkBudget → Type 0
-    Runs b (Ok None) c = Stands b [] [] c
-    Runs b (Ok (Some s)) c = EndsAt b s c
-    Runs b (Err Memory) c = Unit {0}
-    Runs b (Err Work) c = IsOver b c
+    abbrev pub AttemptResultIs : BoundedAttempt → Result (Option (State P)) AttemptAbortReason → MemoAndWorkBudget → Type 0
+    AttemptResultIs b (Ok None) c = AttemptHasState b [] [] c
+    AttemptResultIs b (Ok (Some s)) c = AttemptEndsAt b s c
+    AttemptResultIs b (Err Memory) c = Unit {0}
+    AttemptResultIs b (Err Work) c = StoppedForWork b c
 
     -- ---- Char loops without a maximum
 
     -- The loop of a state and the instruction that reads its characters.
-    pub record IsRunHere (run : UnboundedCharLoop) (greedy : Bool) (s : machine.State) : Type 0 where
+    pub record IsAtCharLoop (run : UnboundedCharLoop) (greedy : Bool) (s : machine.State) : Type 0 where
       pub insn : slice_get program.insns s.ip ≡ Some (Loop1CharBody run.least unlimited greedy)
       pub body : slice_get program.insns (s.ip + 1) ≡ Some (insn_as_spec_insn run.body)
 
     module _ (t : MemoAnalysis) (known : Key → Bool) (test : ℕ → Bool) (place : ℕ) (s : machine.State) (least : ℕ) where
       -- The key of the loop after `n` characters.
       abbrev pub key_of_place : (n : ℕ) → Key
-      key_of_place n = key_on program text t rightwards test place s n
+      key_of_place n = key_after_chars program text t rightwards test place s n
 
       -- The exits after `least` characters up to fewer than `n` are pending with their records.
-      pub record PlacesWait (old new : List (StackEntry P)) (n : ℕ) : Type 0 where
+      pub record ExitsArePending (old new : List (StackEntry P)) (n : ℕ) : Type 0 where
         pub enough : least ≤ n
         pub pass : n ≤ passing text test rightwards place
         pub unknown : (m : ℕ) → least ≤ m → m < n → known (key_of_place m) ≡ false
-        pub rows : (row : List Entry) → IsRow old row
-            → IsRow new (row_of_places program text t rightwards test place s least (n - least) ++ row)
+        pub rows : (row : List Entry) → IsStackOf old row
+            → IsStackOf new (row_of_places program text t rightwards test place s least (n - least) ++ row)
 
       -- All exits up to the furthest one are recorded, and the thread at the furthest exit is
       -- current.
-      pub record AllWait (old new : List (StackEntry P)) (here : State P) (n : ℕ) : Type 0 where
+      pub record AllExitsArePending (old new : List (StackEntry P)) (here : State P) (n : ℕ) : Type 0 where
         pub enough : least ≤ n
         pub all : n ≡ passing text test rightwards place
         pub unknown : (m : ℕ) → least ≤ m → m < n + 1 → known (key_of_place m) ≡ false
         pub is_here : state_of offset here ≡ behind text rightwards place s n
-        pub rows : (row : List Entry) → IsRow old row
-            → IsRow new (noted (key_of_place n) (row_on program text t rightwards test place s n)
+        pub rows : (row : List Entry) → IsStackOf old row
+            → IsStackOf new (noted (key_of_place n) (threads_after_chars program text t rightwards test place s n)
             ∷ row_of_places program text t rightwards test place s least (n - least) ++ row)
 
       -- After `n` characters the loop is known to fail or the work left does not suffice, or else it
       -- was scanned up to its end.
       abbrev pub ScansWithMemo : (left : ℕ) (old new : List (StackEntry P)) → Option (State P) × ℕ → Type 0
-      ScansWithMemo left old new (None, n) = PlacesWait old new n × ((known (key_of_place n) ≡ true) ⊎ (left < n + 2))
-      ScansWithMemo left old new (Some here, n) = AllWait old new here n
+      ScansWithMemo left old new (None, n) = ExitsArePending old new n × ((known (key_of_place n) ≡ true) ⊎ (left < n + 2))
+      ScansWithMemo left old new (Some here, n) = AllExitsArePending old new here n
 
   -- ---- Characters read
 
   -- A position is `count` characters after a place, all of which pass the test.
-  pub record IsPast (text : Text) (test : ℕ → Bool) (place count : ℕ) (pos : P) : Type 0 where
+  pub record IsAfterChars (text : Text) (test : ℕ → Bool) (place count : ℕ) (pos : P) : Type 0 where
     pub at : offset pos ≡ text_offset text (moved text rightwards count place)
     pub within : moved text rightwards count place ≤ last_place text
     pub sum : passing text test rightwards place ≡ count + passing text test rightwards (moved text rightwards count place)
@@ -300,11 +300,11 @@ module _ {P : Type 0} (offset : P → ℕ) where
   -- `count` characters pass the test, at most `least`; fewer only if the next one does not pass.
   pub record HasPassedOver (text : Text) (test : ℕ → Bool) (least place count : ℕ) (pos : P) : Type 0 where
     pub few : count ≤ least
-    pub past : IsPast text test place count pos
+    pub past : IsAfterChars text test place count pos
     pub all : count < least → passing text test rightwards (moved text rightwards count place) ≡ 0
 
   -- The pending entry of a lazy loop, which continues after the next character.
-  pub record Others (text : Text) (place : ℕ) (s : State P) (old new : List (StackEntry P)) : Type 0 where
+  pub record LaterExitsPend (text : Text) (place : ℕ) (s : State P) (old new : List (StackEntry P)) : Type 0 where
     pub next : State P
     pub is : state_of offset next ≡ record (state_of offset s) { pos = text_offset text (moved text rightwards 1 place) }
     pub waits : new ≡ old ++ AsRun next ∷ []
@@ -313,7 +313,7 @@ module _ {P : Type 0} (offset : P → ℕ) where
   pub record IsNearest (text : Text) (test : ℕ → Bool) (place : ℕ) (at : P) (s here : State P) (old new : List (StackEntry P)) : Type 0 where
     pub is_here : state_of offset here ≡ state_after_char_loop_to_offset (offset at) (state_of offset s)
     pub alone : passing text test rightwards place ≡ 0 → new ≡ old
-    pub others : 1 ≤ passing text test rightwards place → Others text place s old new
+    pub others : 1 ≤ passing text test rightwards place → LaterExitsPend text place s old new
 
   -- The last state is taken, and the others are pushed.
   pub record TakesLast (states : List (State P)) (old : List (StackEntry P)) (s : State P) (new : List (StackEntry P)) : Type 0 where

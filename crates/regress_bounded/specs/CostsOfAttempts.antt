@@ -8,7 +8,7 @@ use Rattle.regress_machine.specs.Machine.{State, running, ends, act}
 use Rattle.regress_memo.specs.MemoSearch.{Key, Entry, tried, tries}
 use Rattle.regress_memo.specs.declared.analysis_result.MemoAnalysis.{MemoAnalysis}
 use Rattle.regress_memo.specs.CheckedAnalysis.{IsAnalysisOf}
-use Rattle.regress_memo.specs.WorkBound.{first_row}
+use Rattle.regress_memo.specs.WorkBound.{initial_threads}
 use Rattle.regress_memo.specs.Laws.{ListsExactlyKnownKeys}
 use Rattle.regress_memo.specs.MemoContents.{has_failure}
 use Rattle.regress_memo.specs.MemoContractView.{MemoView}
@@ -43,7 +43,7 @@ pub record EventsOfAttempt (tree : Tree) (text : Text) (before : Failures) (at c
   pub lists : ListsFailures before memory
   pub now : List Key
   pub row : List Entry
-  pub costs : Costs (compiled tree) text memo_analysis rightwards memory (tries (first_row (compiled tree) at)) cost now row
+  pub costs : Costs (compiled tree) text memo_analysis rightwards memory (tries (initial_threads (compiled tree) at)) cost now row
   pub over : IfSome after (λ failures. HasFinished (compiled tree) text row × ListsFailures failures now)
 
 -- The attempt, or a part of it from its beginning on, costs this (a proposition).

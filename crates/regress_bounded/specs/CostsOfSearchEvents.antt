@@ -16,7 +16,7 @@ use Rattle.regress_memo.specs.declared.analysis_result.MemoAnalysis.{MemoAnalysi
 use Rattle.regress_memo.specs.AnalysisChecks.{unlimited}
 use Rattle.regress_memo.specs.Laws.{KeyFails}
 use Rattle.regress_memo.specs.MemoContents.{memo_key_at}
-use Rattle.regress_bounded.specs.WorkOfCharLoopsAndAttempts.{IsEndless, key_on, row_on, row_of_places}
+use Rattle.regress_bounded.specs.WorkOfCharLoopsAndAttempts.{IsUnboundedCharLoop, key_after_chars, threads_after_chars, row_of_places}
 
 -- ---- Steps of the machine
 
@@ -81,43 +81,43 @@ module _ (program : Program) (text : Text) (t : MemoAnalysis) (d : Direction) wh
         → Happens memory (n + 1) (tried (running s) ∷ rest) memory (tries ts ++ with_record_of s key rest)
     -- It executes a char loop without a maximum. Fewer characters are accepted than are required.
     too_few : (s : State) (test : ℕ → Bool) (least place : ℕ) (greedy : Bool) (rest : List Entry)
-        → IsEndless program s test least greedy → place_at text s.pos ≡ Some place
+        → IsUnboundedCharLoop program s test least greedy → place_at text s.pos ≡ Some place
         → passing text test d place < least
         → Happens memory (passing text test d place + 2) (tried (running s) ∷ rest) memory rest
     -- A greedy loop is known to fail from the `n`th character on. It costs as much as if the next
     -- character were tried.
     fails_from : (s : State) (test : ℕ → Bool) (least place n : ℕ) (rest : List Entry)
-        → IsEndless program s test least true → place_at text s.pos ≡ Some place
+        → IsUnboundedCharLoop program s test least true → place_at text s.pos ≡ Some place
         → least ≤ n → n ≤ passing text test d place
-        → ((m : ℕ) → least ≤ m → m < n → IsNew (key_on program text t d test place s m) memory)
-        → IsKnownToFail (key_on program text t d test place s n) memory
+        → ((m : ℕ) → least ≤ m → m < n → IsNew (key_after_chars program text t d test place s m) memory)
+        → IsKnownToFail (key_after_chars program text t d test place s n) memory
         → Happens memory (n + 2) (tried (running s) ∷ rest) memory
         (row_of_places program text t d test place s least (n - least) ++ rest)
     -- A greedy loop goes to its furthest exit: `n` characters are accepted, and one more is tried.
     takes_furthest : (s : State) (test : ℕ → Bool) (least place n : ℕ) (rest : List Entry)
-        → IsEndless program s test least true → place_at text s.pos ≡ Some place
+        → IsUnboundedCharLoop program s test least true → place_at text s.pos ≡ Some place
         → n ≡ passing text test d place → least ≤ n
-        → ((m : ℕ) → least ≤ m → m < n + 1 → IsNew (key_on program text t d test place s m) memory)
+        → ((m : ℕ) → least ≤ m → m < n + 1 → IsNew (key_after_chars program text t d test place s m) memory)
         → Happens memory (n + 2) (tried (running s) ∷ rest) memory (tried (running (behind text d place s n))
-        ∷ noted (key_on program text t d test place s n) (row_on program text t d test place s n)
+        ∷ noted (key_after_chars program text t d test place s n) (threads_after_chars program text t d test place s n)
         ∷ row_of_places program text t d test place s least (n - least) ++ rest)
     -- A lazy loop goes to its nearest exit, and tries one more character.
     takes_nearest : (s : State) (test : ℕ → Bool) (least place : ℕ) (rest row : List Entry)
-        → IsEndless program s test least false → place_at text s.pos ≡ Some place → least ≤ passing text test d place
+        → IsUnboundedCharLoop program s test least false → place_at text s.pos ≡ Some place → least ≤ passing text test d place
         → WaitAbove (pending_loop_threads text test d (least + 1) place s) rest row
         → Happens memory (least + 2) (tried (running s) ∷ rest) memory
         (tried (running (behind text d place s least)) ∷ row)
     -- A lazy loop that waits is known to fail from there on, and is dropped.
     drops_loop : (s : State) (test : ℕ → Bool) (least place : ℕ) (rest : List Entry)
-        → IsEndless program s test least false → place_at text s.pos ≡ Some place
-        → IsKnownToFail (key_on program text t d test place s 0) memory
+        → IsUnboundedCharLoop program s test least false → place_at text s.pos ≡ Some place
+        → IsKnownToFail (key_after_chars program text t d test place s 0) memory
         → Happens memory 1 (kept (pending_loop_threads text test d 0 place s) ∷ rest) memory rest
     -- A lazy loop that waits goes to its next exit, and tries one more character.
     resumes_loop : (s : State) (test : ℕ → Bool) (least place : ℕ) (rest row : List Entry)
-        → IsEndless program s test least false → place_at text s.pos ≡ Some place
-        → IsNew (key_on program text t d test place s 0) memory
+        → IsUnboundedCharLoop program s test least false → place_at text s.pos ≡ Some place
+        → IsNew (key_after_chars program text t d test place s 0) memory
         → WaitAbove (pending_loop_threads text test d 1 place s)
-        (noted (key_on program text t d test place s 0) (pending_loop_threads text test d 0 place s) ∷ rest) row
+        (noted (key_after_chars program text t d test place s 0) (pending_loop_threads text test d 0 place s) ∷ rest) row
         → Happens memory 2 (kept (pending_loop_threads text test d 0 place s) ∷ rest) memory
         (tried (running (behind text d place s 0)) ∷ row)
     -- A thread that waits is resumed.

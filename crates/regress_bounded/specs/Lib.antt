@@ -1,5 +1,6 @@
 pub mod CostsOfSearchEvents
 pub mod WorkBoundForAllMatches
+pub mod Unboundedness
 pub mod BoundedState
 pub mod WorkOfCharLoopsAndAttempts
 pub mod BudgetSpending

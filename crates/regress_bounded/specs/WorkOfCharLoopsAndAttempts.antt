@@ -12,7 +12,7 @@ use Rattle.regress_memo.specs.CharLoopExitThreadLists.{greedy_loop_threads}
 use Rattle.regress_memo.specs.SuccessiveMatches.{Attempted}
 use Rattle.regress_memo.specs.MemoSearch.{Key, Entry, tried, noted, tries, IsMemory}
 use Rattle.regress_memo.specs.declared.analysis_result.MemoAnalysis.{MemoAnalysis}
-use Rattle.regress_memo.specs.WorkBound.{first_row}
+use Rattle.regress_memo.specs.WorkBound.{initial_threads}
 use Rattle.regress_memo.specs.AnalysisChecks.{unlimited}
 use Rattle.regress_memo.specs.AnalysisAsPotentials.{analysis_as_liveness, key_code_questions_of, recorded, potentials_of, key_cost_of, insn_direction}
 use Rattle.regress_memo.specs.Laws.{analysis_keys, ListsExactlyKnownKeys}
@@ -21,20 +21,20 @@ use Rattle.regress_memo.specs.AmortizedMemoSearchSteps.{HasCome}
 -- ---- Char loops
 
 -- A state at a char loop without a maximum, whose body tests characters with `test`.
-pub record IsEndless (program : Program) (s : State) (test : ℕ → Bool) (least : ℕ) (greedy : Bool) : Type 0 where
+pub record IsUnboundedCharLoop (program : Program) (s : State) (test : ℕ → Bool) (least : ℕ) (greedy : Bool) : Type 0 where
   pub run : slice_get program.insns s.ip ≡ Some (Loop1CharBody least unlimited greedy)
   pub body : test_of program (slice_get program.insns (s.ip + 1)) ≡ Some test
 
 module _ (program : Program) (text : Text) (t : MemoAnalysis) (d : Direction) (test : ℕ → Bool) (place : ℕ) (s : State) where
   -- The key of what the loop leaves from `n` characters after a place on.
-  abbrev pub key_on : (n : ℕ) → Key
-  key_on n =
+  abbrev pub key_after_chars : (n : ℕ) → Key
+  key_after_chars n =
       key_behind program text (analysis_as_liveness t) (key_code_questions_of t) (insn_direction t) (recorded t) (plan_taken program)
       d test s place n
 
   -- The threads that a greedy loop leaves from there.
-  abbrev pub row_on : (n : ℕ) → List Thread
-  row_on n = greedy_loop_threads text test d 0 (moved text d n place) s
+  abbrev pub threads_after_chars : (n : ℕ) → List Thread
+  threads_after_chars n = greedy_loop_threads text test d 0 (moved text d n place) s
 
   -- The exits after `least` to `least + count - 1` characters, the furthest first, each above the
   -- record of the loop from it on.
@@ -42,7 +42,7 @@ module _ (program : Program) (text : Text) (t : MemoAnalysis) (d : Direction) (t
   row_of_places least zero = []
   row_of_places least (suc count) =
       tried (waiting (behind text d place s (least + count)))
-      ∷ noted (key_on (least + count)) (row_on (least + count))
+      ∷ noted (key_after_chars (least + count)) (threads_after_chars (least + count))
       ∷ row_of_places least count
 
 -- ---- Attempts
@@ -56,7 +56,7 @@ module _ (program : Program) (text : Text) (t : MemoAnalysis) where
     pub looks : ℕ
     pub starts : List ℕ
     pub attempted : Attempted program text (analysis_as_liveness t) (analysis_keys program text t) (λ k. key_cost_of t k.ip)
-        (potential_by program (potentials_of t) (key_cost_of t) (recorded t)) (first_row program)
+        (potential_by program (potentials_of t) (key_cost_of t) (recorded t)) (initial_threads program)
         from ahead looks done memory starts
     pub order : from ≤ ahead
     pub is : IsMemory program text (analysis_as_liveness t) (analysis_keys program text t) memory
@@ -73,5 +73,5 @@ module _ (program : Program) (text : Text) (t : MemoAnalysis) where
     pub memory : List Key
     pub now : List Key
     pub has : HasWalked at done memory
-    pub comes : HasCome program text t rightwards memory (tries (first_row program at)) work now row
+    pub comes : HasCome program text t rightwards memory (tries (initial_threads program at)) work now row
     pub holds : ListsExactlyKnownKeys known now

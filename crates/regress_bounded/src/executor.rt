@@ -12,8 +12,8 @@ ghost use Rattle.regress_program.specs.CompilationOfTreesAsFunction.{compiled};
 ghost use Rattle.regress_pikevm.specs.{InsnEffects.{end_and_groups}, States.{groups_of}};
 ghost use Rattle.regress_bounded.specs.WorkBoundForAllMatches.{TreeHasWorkBound, HasMadeNoAttempt};
 ghost use Rattle.regress_bounded.specs.WorkBoundForAllMatches.{YieldsMatchesIfWorkSuffices, is_work_enough_for_text};
-ghost use Rattle.regress_bounded.specs.BoundedState.{BoundedAttempt, BoundedAttemptBegins, IsMemoRightForRegex, Stands};
-ghost use Rattle.regress_bounded.specs.BoundedState.{IsStanding, Runs, front_of};
+ghost use Rattle.regress_bounded.specs.BoundedState.{BoundedAttempt, BoundedAttemptBegins, IsMemoRightForRegex, AttemptHasState};
+ghost use Rattle.regress_bounded.specs.BoundedState.{HasAttemptState, AttemptResultIs, front_of};
 ghost use Rattle.regress_bounded.specs.WorkOfSuccessiveAttempts.{HasWalked};
 ghost use Rattle.regress_bounded.specs.CostsOfAttempts.{AreNone, AttemptCosts, IteratorBeginsSearches, failures_of};
 
@@ -66,15 +66,15 @@ fn run<Input: InputIndexer>(
     progress: &mut MemoAndWorkBudget,
 ) -> Result<Option<State<Input::Position>>, AttemptAbortReason>
     requires stands { let s = searched.now in
-        IsStanding Input.Position.offset (compiled (tree_of s.program.now)) (Input.text s.input)
+        HasAttemptState Input.Position.offset (compiled (tree_of s.program.now)) (Input.text s.input)
         (front_of Input.Position.offset (Some start)) [] progress.old }
-    ensures right { let s = searched.now in IsMemoRightForRegex s.program.now (Input.text s.input) progress.new.memo }
+    ensures sound { let s = searched.now in IsMemoRightForRegex s.program.now (Input.text s.input) progress.new.memo }
     ensures memo_analysis { progress.new.memo.memo_analysis ≡ progress.old.memo.memo_analysis }
     ensures left { progress.new.left ≤ progress.old.left }
     ensures runs { let at = Input.Position.offset in let s = searched.now in
         let program = compiled (tree_of s.program.now) in let text = Input.text s.input in
-        (b : BoundedAttempt) → Stands at program text b (front_of at (Some start)) [] progress.old
-        → Runs at program text b result progress.new }
+        (b : BoundedAttempt) → AttemptHasState at program text b (front_of at (Some start)) [] progress.old
+        → AttemptResultIs at program text b result progress.new }
 {
     stack.clear();
     let insns = searched.program.insns();
@@ -102,15 +102,15 @@ fn preferred_final_state<Input: InputIndexer>(
     pos: Input::Position,
 ) -> Result<Option<State<Input::Position>>, AttemptAbortReason>
     requires at { IsBoundary (Input.text searched.now.input) (Input.Position.offset pos) }
-    requires right { let s = searched.now in IsMemoRightForRegex s.program.now (Input.text s.input) progress.old.memo }
-    ensures right { let s = searched.now in IsMemoRightForRegex s.program.now (Input.text s.input) progress.new.memo }
+    requires sound { let s = searched.now in IsMemoRightForRegex s.program.now (Input.text s.input) progress.old.memo }
+    ensures sound { let s = searched.now in IsMemoRightForRegex s.program.now (Input.text s.input) progress.new.memo }
     ensures found { let s = searched.now in IfOk result (λ end. end_and_groups Input.Position.offset end
         ≡ match_end_and_groups_at (tree_of s.program.now) (Input.text s.input) (Input.Position.offset pos)) }
     ensures memo_analysis { progress.new.memo.memo_analysis ≡ progress.old.memo.memo_analysis }
     ensures left { progress.new.left ≤ progress.old.left }
     ensures runs { let at = Input.Position.offset in let s = searched.now in
         let program = compiled (tree_of s.program.now) in let text = Input.text s.input in
-        (b : BoundedAttempt) → BoundedAttemptBegins program text (at pos) progress.old b → Runs
+        (b : BoundedAttempt) → BoundedAttemptBegins program text (at pos) progress.old b → AttemptResultIs
         at program text b result progress.new }
 {
     let start = initial_state(searched.program, pos)?;

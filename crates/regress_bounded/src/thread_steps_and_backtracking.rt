@@ -11,7 +11,7 @@ ghost use Rattle.regress_memo.specs.CheckedAnalysis.{IsRecordableMemoKey};
 ghost use Rattle.regress_bounded.specs.CostsOfSearchEvents.{LeavesThreads, threads_left, work_of};
 ghost use Rattle.regress_bounded.specs.BoundedState.{IsMemoRightForRegex, IsUnfailedStateKeyIfAny, char_loop_max, is_goal_insn};
 ghost use Rattle.regress_bounded.specs.BoundedState.{IsNotUnboundedCharLoop, is_known_key, min_and_greed_of_loop};
-ghost use Rattle.regress_bounded.specs.BoundedState.{IsStanding, GoesFrom, TurnsFrom, HasTaken, HasTakenThreads, stack_with_record};
+ghost use Rattle.regress_bounded.specs.BoundedState.{HasAttemptState, PartResultFrom, StepResultFrom, HasTaken, HasTakenThreads, stack_with_record};
 ghost use Rattle.regress_bounded.specs.BudgetSpending.{IsTakenFromBudget, IsWorkOrMoreThanLeft, WorkExceedsBudget};
 ghost use Rattle.regress_bounded.specs.declared.memo_and_work_budget.AttemptAbortReason.TheVariants.{Work};
 ghost use Rattle.regress_pikevm.specs.States.{state_of};
@@ -48,12 +48,12 @@ pub(crate) fn execute_thread_step<Input: InputIndexer>(
 ) -> Result<StepResult<Input::Position>, AttemptAbortReason>
     requires code { map insn_as_spec_insn insns.now ≡ (compiled (tree_of searched.now.program.now)).insns }
     requires stands { let s = searched.now in
-        IsStanding Input.Position.offset (compiled (tree_of s.program.now)) (Input.text s.input)
+        HasAttemptState Input.Position.offset (compiled (tree_of s.program.now)) (Input.text s.input)
         (tried (running (state_of Input.Position.offset state)) ∷ []) stack.old.items progress.old }
     ensures memo { progress.new.memo ≡ progress.old.memo }
     ensures left { progress.new.left ≤ progress.old.left }
     ensures continues { let at = Input.Position.offset in let s = searched.now in
-        TurnsFrom at (compiled (tree_of s.program.now)) (Input.text s.input) (tried (running (state_of at state)) ∷ [])
+        StepResultFrom at (compiled (tree_of s.program.now)) (Input.text s.input) (tried (running (state_of at state)) ∷ [])
         stack.old.items progress.old result stack.new.items progress.new }
 {
     let key = progress.key_at(state.ip, state.pos, &state);
@@ -61,8 +61,8 @@ pub(crate) fn execute_thread_step<Input: InputIndexer>(
         progress.spend(1)?;
         return Ok(StepResult::On(None));
     }
-    let Some((least, greedy)) = endless(insns[state.ip]) else {
-        return turn_above(searched, insns, key, state, stack, progress);
+    let Some((least, greedy)) = unbounded_loop(insns[state.ip]) else {
+        return execute_with_record(searched, insns, key, state, stack, progress);
     };
     let run = UnboundedCharLoop {
         body: insns[state.ip + 1],
@@ -76,7 +76,7 @@ pub(crate) fn execute_thread_step<Input: InputIndexer>(
 // Returns the minimum number of characters of a char loop without a maximum, and whether it is
 // greedy. Returns `None` for any other instruction.
 #[inline(always)]
-fn endless(insn: Insn) -> Option<(usize, bool)>
+fn unbounded_loop(insn: Insn) -> Option<(usize, bool)>
     ensures { result ≡ min_and_greed_of_loop (insn_as_spec_insn insn) }
 {
     let Insn::Loop1CharBody {
@@ -109,7 +109,7 @@ fn is_known(key: Option<ThreadMemoKey>, progress: &MemoAndWorkBudget) -> bool
 
 // Executes one instruction whose work is spent first. If there is a key, its record is pushed before
 // the threads that the instruction leaves.
-fn turn_above<Input: InputIndexer>(
+fn execute_with_record<Input: InputIndexer>(
     searched: &ProgramAndInput<'_, Input>,
     insns: &[Insn],
     key: Option<ThreadMemoKey>,
@@ -119,7 +119,7 @@ fn turn_above<Input: InputIndexer>(
 ) -> Result<StepResult<Input::Position>, AttemptAbortReason>
     requires code { map insn_as_spec_insn insns.now ≡ (compiled (tree_of searched.now.program.now)).insns }
     requires stands { let s = searched.now in
-        IsStanding Input.Position.offset (compiled (tree_of s.program.now)) (Input.text s.input)
+        HasAttemptState Input.Position.offset (compiled (tree_of s.program.now)) (Input.text s.input)
         (tried (running (state_of Input.Position.offset state)) ∷ []) stack.old.items progress.old }
     requires key { IsUnfailedStateKeyIfAny progress.old.memo (state_of Input.Position.offset state) key }
     requires limited { IsNotUnboundedCharLoop (compiled (tree_of searched.now.program.now)) state.ip }
@@ -127,7 +127,7 @@ fn turn_above<Input: InputIndexer>(
     ensures left { progress.new.left ≤ progress.old.left }
     ensures refused { IfErr result (λ e. e ≡ Work → stack.new.items ≡ stack.old.items) }
     ensures continues { let at = Input.Position.offset in let s = searched.now in
-        TurnsFrom at (compiled (tree_of s.program.now)) (Input.text s.input) (tried (running (state_of at state)) ∷ [])
+        StepResultFrom at (compiled (tree_of s.program.now)) (Input.text s.input) (tried (running (state_of at state)) ∷ [])
         stack.old.items progress.old result stack.new.items progress.new }
 {
     if is_goal(insns[state.ip]) {
@@ -259,14 +259,14 @@ pub(crate) fn resume_or_record<Input: InputIndexer>(
 ) -> Result<Option<State<Input::Position>>, AttemptAbortReason>
     requires code { map insn_as_spec_insn insns.now ≡ (compiled (tree_of searched.now.program.now)).insns }
     requires stands { let s = searched.now in
-        IsStanding Input.Position.offset (compiled (tree_of s.program.now)) (Input.text s.input)
+        HasAttemptState Input.Position.offset (compiled (tree_of s.program.now)) (Input.text s.input)
         [] (stack.old.items ++ waiting ∷ []) progress.old }
-    ensures right { let s = searched.now in IsMemoRightForRegex s.program.now (Input.text s.input) progress.new.memo }
+    ensures sound { let s = searched.now in IsMemoRightForRegex s.program.now (Input.text s.input) progress.new.memo }
     ensures memo_analysis { progress.new.memo.memo_analysis ≡ progress.old.memo.memo_analysis }
     ensures left { progress.new.left ≤ progress.old.left }
     ensures refused { IfErr result (λ e. e ≡ Work → stack.new.items ≡ stack.old.items) }
     ensures continues { let at = Input.Position.offset in let s = searched.now in
-        GoesFrom at (compiled (tree_of s.program.now)) (Input.text s.input) []
+        PartResultFrom at (compiled (tree_of s.program.now)) (Input.text s.input) []
         (stack.old.items ++ waiting ∷ []) progress.old result stack.new.items progress.new }
 {
     match waiting {

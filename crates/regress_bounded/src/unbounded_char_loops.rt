@@ -8,7 +8,7 @@ ghost use Rattle.regress_machine.specs.Machine.{running};
 ghost use Rattle.regress_memo.specs.MemoContents.{has_failure};
 ghost use Rattle.regress_program.specs.{CompilationOfTreesAsFunction.{compiled}, InsnsAsSpec.{insn_as_spec_insn}};
 ghost use Rattle.regress_search.specs.OffsetsAfterMatchedInsns.{ByteInsnHasByteText, char_test_of_insn};
-ghost use Rattle.regress_bounded.specs.BoundedState.{IsMemoRightForRegex, IsRunHere, IsStanding, GoesFrom, ScansWithMemo, HasPassedOver, IsPast};
+ghost use Rattle.regress_bounded.specs.BoundedState.{IsMemoRightForRegex, IsAtCharLoop, HasAttemptState, PartResultFrom, ScansWithMemo, HasPassedOver, IsAfterChars};
 ghost use Rattle.regress_bounded.specs.BoundedState.{IsNearest};
 ghost use Rattle.regress_bounded.specs.declared.memo_and_work_budget.AttemptAbortReason.TheVariants.{Work};
 ghost use Rattle.regress_bounded.specs.declared.pending_stack.StackEntry.TheVariants.{Run as AsRun};
@@ -70,18 +70,18 @@ pub(crate) fn unbounded_char_loop_with_memo<Input: InputIndexer>(
     stack: &mut Vec<StackEntry<Input::Position>>,
     progress: &mut MemoAndWorkBudget,
 ) -> Result<Option<State<Input::Position>>, AttemptAbortReason>
-    requires run { let s = searched.now in IsRunHere Input.Position.offset (compiled (tree_of s.program.now))
+    requires run { let s = searched.now in IsAtCharLoop Input.Position.offset (compiled (tree_of s.program.now))
         (Input.text s.input) run run.greedy (state_of Input.Position.offset state) }
     requires bytes { ByteInsnHasByteText run.body (Input.text searched.now.input) Input.Units.ARE_BYTES }
     requires within { state.ip + 2 < 2 ^ 64 }
     requires stands { let s = searched.now in
-        IsStanding Input.Position.offset (compiled (tree_of s.program.now)) (Input.text s.input)
+        HasAttemptState Input.Position.offset (compiled (tree_of s.program.now)) (Input.text s.input)
         (tried (running (state_of Input.Position.offset state)) ∷ []) stack.old.items progress.old }
     ensures memo { progress.new.memo ≡ progress.old.memo }
     ensures left { progress.new.left ≤ progress.old.left }
     ensures refused { IfErr result (λ e. e ≡ Work → run.greedy ≡ false → stack.new.items ≡ stack.old.items) }
     ensures continues { let at = Input.Position.offset in let s = searched.now in
-        GoesFrom at (compiled (tree_of s.program.now)) (Input.text s.input) (tried (running (state_of at state)) ∷ [])
+        PartResultFrom at (compiled (tree_of s.program.now)) (Input.text s.input) (tried (running (state_of at state)) ∷ [])
         stack.old.items progress.old result stack.new.items progress.new }
 {
     let mut at = state.pos;
@@ -111,8 +111,8 @@ fn scan_with_memo<Input: InputIndexer>(
     stack: &mut Vec<StackEntry<Input::Position>>,
     progress: &MemoAndWorkBudget,
 ) -> Result<(Option<State<Input::Position>>, usize), AllocError>
-    requires right { let s = searched.now in IsMemoRightForRegex s.program.now (Input.text s.input) progress.now.memo }
-    requires run { let s = searched.now in IsRunHere Input.Position.offset (compiled (tree_of s.program.now))
+    requires sound { let s = searched.now in IsMemoRightForRegex s.program.now (Input.text s.input) progress.now.memo }
+    requires run { let s = searched.now in IsAtCharLoop Input.Position.offset (compiled (tree_of s.program.now))
         (Input.text s.input) run true (state_of Input.Position.offset state.now) }
     requires bytes { ByteInsnHasByteText run.body (Input.text searched.now.input) Input.Units.ARE_BYTES }
     requires within { state.now.ip + 2 < 2 ^ 64 }
@@ -123,7 +123,7 @@ fn scan_with_memo<Input: InputIndexer>(
     ensures paid { IfOk result (λ r. r.1 ≤ progress.now.left) }
     ensures scans { let at = Input.Position.offset in let s = searched.now in let text = Input.text s.input in
         (test : ℕ → Bool) (place : ℕ) → char_test_of_insn s.program.now run.body ≡ Some test
-        → IsPast at text test place run.least from
+        → IsAfterChars at text test place run.least from
         → IfOk result (ScansWithMemo at (compiled (tree_of s.program.now)) text progress.now.memo.memo_analysis
         (has_failure progress.now.memo) test place (state_of at state.now) run.least progress.now.left
         stack.old.items stack.new.items) }
@@ -187,13 +187,13 @@ pub(crate) fn resume_lazy_char_loop<Input: InputIndexer>(
 ) -> Result<Option<State<Input::Position>>, AttemptAbortReason>
     requires code { map insn_as_spec_insn insns.now ≡ (compiled (tree_of searched.now.program.now)).insns }
     requires stands { let s = searched.now in
-        IsStanding Input.Position.offset (compiled (tree_of s.program.now)) (Input.text s.input)
+        HasAttemptState Input.Position.offset (compiled (tree_of s.program.now)) (Input.text s.input)
         [] (stack.old.items ++ AsRun state ∷ []) progress.old }
     ensures memo { progress.new.memo ≡ progress.old.memo }
     ensures left { progress.new.left ≤ progress.old.left }
     ensures refused { IfErr result (λ e. e ≡ Work → stack.new.items ≡ stack.old.items) }
     ensures continues { let at = Input.Position.offset in let s = searched.now in
-        GoesFrom at (compiled (tree_of s.program.now)) (Input.text s.input) []
+        PartResultFrom at (compiled (tree_of s.program.now)) (Input.text s.input) []
         (stack.old.items ++ AsRun state ∷ []) progress.old result stack.new.items progress.new }
 {
     let at = state.pos;

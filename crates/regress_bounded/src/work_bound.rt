@@ -1,24 +1,76 @@
 //! How much work is enough for all matches of a text.
 
 ghost use Rattle.std.specs.Arc.{arc_value};
-ghost use Rattle.std.specs.Prelude.{◌≡◌, ◌+◌, ◌-◌, ◌/◌, ◌*◌, ◌≤◌, ◌^◌, ℕ, IfOk, IfSome, MatchOption, None, Some, false, map, min, nat_le, slice_get};
-ghost use Rattle.std.specs.List.{sum_by};
+ghost use Rattle.std.specs.Prelude.{◌≡◌, ◌+◌, ◌-◌, ◌/◌, ◌*◌, ◌≤◌, ◌^◌, IfErr, IfOk, IfSome, MatchOption, OnOk, false, map, min, nat_le, true};
+ghost use Rattle.std.specs.List.{list_any, sum_by};
 ghost use Rattle.regex_pattern_front.specs.AstToSpecTree.{tree_of};
 ghost use Rattle.regress_memo.specs.CheckedAnalysis.{HasDisjointCodes};
-ghost use Rattle.regress_memo.specs.SkippedLookarounds.{lookaround_at};
 ghost use Rattle.regress_memo.specs.MemoContents.{IsEmptyMemo};
 ghost use Rattle.regress_program.specs.InsnsAsSpec.{insn_as_spec_insn};
+ghost use Rattle.regress_bounded.specs.Unboundedness.{IsPlain, IsUnboundedBy, is_sought_insn};
 ghost use Rattle.regress_bounded.specs.WorkBoundForAllMatches.{TreeHasWorkBound, most_memo_codes_per_insn, size_of_insn};
 
 use regress_memo::analysis_result::MemoAnalysis;
+use regress_memo::loop_data_key_codes::MOST_CODES;
 use regress_memo::memo::MemoTable;
 use regress_program::insn::{CompiledRegex, CompiledRegexFor16BitUnits, Insn, Program};
-use std::alloc::{AllocError, Global};
+use std::alloc::{AllocError, AllocFailed, Global};
 use std::sync::Arc;
+use thiserror::Error;
 
 // The largest bound that is accepted, per unit of program size and per code. With a larger one, no
 // bound is known.
 const PER_SIZE: u64 = 64;
+
+// A loop over one character with this maximum has no memo analysis.
+const LARGE_MAX: usize = 0x1_0000;
+
+// A minimum of a loop over one character from which on its costs alone may be too large.
+const LARGE_MIN: usize = 0x4000_0000;
+
+/// Why no work bound of a pattern is known.
+#[derive(Clone, Copy, Debug, PartialEq, Eq, Error)]
+pub enum Unbounded {
+    /// An allocation failed. The pattern may have a bound.
+    #[error("out of memory")]
+    Memory,
+    /// The pattern has a lookahead or a lookbehind.
+    #[error("no work bound is known: the pattern has a lookaround")]
+    Lookaround,
+    /// The pattern has a backreference.
+    #[error("no work bound is known: the pattern has a backreference")]
+    Backreference,
+    /// The counts of loops are too large, or loops are nested too deeply: an instruction needs more than
+    /// 64 key codes, or a loop over one character has a maximum of 65,536 or more, or a minimum of some
+    /// 2^31 (`docs/LINEAR.md`).
+    #[error("no work bound is known: counts are too large, or loops are nested too deeply")]
+    Count,
+    /// The bound does not fit in 64 bits, or is more than 64 times the program's size times its largest
+    /// number of key codes, or the cost of an instruction does not fit in 31 bits. Many lazy loops in
+    /// sequence are a cause.
+    #[error("no work bound is known: the bound of the pattern is too large")]
+    Price,
+}
+
+impl From<AllocError> for Unbounded {
+    ghost use Rattle.regress_bounded.specs.declared.work_bound.Unbounded.TheVariants.{Memory};
+
+    ghost from_gives = { λ _ e. e ≡ Memory };
+
+    fn from(_: AllocError) -> Unbounded {
+        Unbounded::Memory
+    }
+}
+
+impl<T: Drop> From<AllocFailed<T>> for Unbounded {
+    ghost use Rattle.regress_bounded.specs.declared.work_bound.Unbounded.TheVariants.{Memory};
+
+    ghost from_gives = { λ _ e. e ≡ Memory };
+
+    fn from(_: AllocFailed<T>) -> Unbounded {
+        Unbounded::Memory
+    }
+}
 
 /// How much work is enough for all matches of a text together, with the memo analysis that proves
 /// it.
@@ -29,14 +81,15 @@ pub struct WorkBound {
 }
 
 impl WorkBound {
-    /// Computes the bound of searches of byte texts. Returns `None` if none is known, as for
-    /// lookarounds and backreferences.
+    /// Computes the bound of searches of byte texts.
     ///
     /// # Errors
     ///
-    /// `AllocError` if memory for the analysis cannot be allocated.
-    pub fn bound_for_bytes(re: &CompiledRegex) -> Result<Option<WorkBound>, AllocError>
-        ensures { IfOk result (λ bound. IfSome bound (TreeHasWorkBound (tree_of re.now))) }
+    /// Why no bound is known. Lookarounds are looked for first, then backreferences.
+    pub fn bound_for_bytes(re: &CompiledRegex) -> Result<WorkBound, Unbounded>
+        ensures bound { IfOk result (TreeHasWorkBound (tree_of re.now)) }
+        ensures plain { OnOk result (IsPlain (tree_of re.now)) }
+        ensures refused { IfErr result (IsUnboundedBy (tree_of re.now)) }
     {
         WorkBound::bound_of_program(re.common_program())
     }
@@ -45,43 +98,53 @@ impl WorkBound {
     ///
     /// # Errors
     ///
-    /// `AllocError` if memory for the analysis cannot be allocated.
-    pub fn bound_for_units(re: &CompiledRegexFor16BitUnits) -> Result<Option<WorkBound>, AllocError>
-        ensures { IfOk result (λ bound. IfSome bound (TreeHasWorkBound (tree_of re.now))) }
+    /// The same as `bound_for_bytes`.
+    pub fn bound_for_units(re: &CompiledRegexFor16BitUnits) -> Result<WorkBound, Unbounded>
+        ensures bound { IfOk result (TreeHasWorkBound (tree_of re.now)) }
+        ensures plain { OnOk result (IsPlain (tree_of re.now)) }
+        ensures refused { IfErr result (IsUnboundedBy (tree_of re.now)) }
     {
         WorkBound::bound_of_program(re.common_program())
     }
 
     // Computes the bound of a program.
-    fn bound_of_program(program: &Program) -> Result<Option<WorkBound>, AllocError>
-        ensures { IfOk result (λ bound. IfSome bound (TreeHasWorkBound (tree_of program.now))) }
+    fn bound_of_program(program: &Program) -> Result<WorkBound, Unbounded>
+        ensures bound { IfOk result (TreeHasWorkBound (tree_of program.now)) }
+        ensures plain { OnOk result (IsPlain (tree_of program.now)) }
+        ensures refused { IfErr result (IsUnboundedBy (tree_of program.now)) }
     {
         let alloc = program.allocator();
         let insns = program.insns();
-        if looks_aside(insns) {
-            return Ok(None);
+        if has_lookaround(insns) {
+            return Err(Unbounded::Lookaround);
+        }
+        if has_backreference(insns) {
+            return Err(Unbounded::Backreference);
         }
         let Some(memo_analysis) = MemoAnalysis::new(alloc, insns, program.loops() as usize)? else {
-            return Ok(None);
+            if may_exceed_counts(insns) {
+                return Err(Unbounded::Count);
+            }
+            return Err(Unbounded::Price);
         };
         let Some(work) = memo_analysis.work_per_position(insns) else {
-            return Ok(None);
+            return Err(Unbounded::Price);
         };
         let Some(per_unit) = with_one_more(work) else {
-            return Ok(None);
+            return Err(Unbounded::Price);
         };
         if !is_few(
             per_unit,
             program_size(insns),
             most_memo_codes_per_insn(&memo_analysis),
         ) {
-            return Ok(None);
+            return Err(Unbounded::Price);
         }
         let memo_analysis = Arc::new(alloc, memo_analysis)?;
-        Ok(Some(WorkBound {
+        Ok(WorkBound {
             memo_analysis,
             per_unit,
-        }))
+        })
     }
 
     /// Returns the bound per code unit: this much work for each unit of a text, and once more, is
@@ -166,20 +229,90 @@ fn most_memo_codes_per_insn(memo_analysis: &MemoAnalysis) -> u64
 }
 
 // Checks whether a program has a lookaround.
-fn looks_aside(insns: &[Insn]) -> bool
-    ensures { result ≡ false → (ip : ℕ) → lookaround_at (slice_get (map insn_as_spec_insn insns.now) ip) ≡ None }
+fn has_lookaround(insns: &[Insn]) -> bool
+    ensures { result ≡ list_any (λ insn. is_sought_insn true (insn_as_spec_insn insn)) insns.now }
 {
+    insns.iter().any(|insn| is_lookaround(insn))
+}
+
+// Checks whether an instruction is a lookaround.
+fn is_lookaround(insn: &Insn) -> bool
+    ensures { result ≡ is_sought_insn true (insn_as_spec_insn insn.now) }
+{
+    matches!(insn, Insn::Lookahead { .. } | Insn::Lookbehind { .. })
+}
+
+// Checks whether a program has a backreference.
+fn has_backreference(insns: &[Insn]) -> bool
+    ensures { result ≡ list_any (λ insn. is_sought_insn false (insn_as_spec_insn insn)) insns.now }
+{
+    insns.iter().any(|insn| is_backreference(insn))
+}
+
+// Checks whether an instruction is a backreference.
+fn is_backreference(insn: &Insn) -> bool
+    ensures { result ≡ is_sought_insn false (insn_as_spec_insn insn.now) }
+{
+    matches!(insn, Insn::BackRef { .. })
+}
+
+// Checks whether counts or the nesting of loops may be why a program without lookarounds and
+// backreferences has no memo analysis. If not, its costs are too large. No clause says so.
+fn may_exceed_counts(insns: &[Insn]) -> bool {
+    let mut codes = 1usize;
     for insn in insns {
-        if is_look(insn) {
+        match *insn {
+            Insn::EnterLoop { .. } => codes = codes.saturating_mul(most_codes_of_loop(insn)),
+            Insn::LoopAgain { begin } => codes /= most_codes_of_loop_at(insns, begin as usize),
+            _ => {}
+        }
+        if codes > MOST_CODES || has_large_count(insn) {
             return true;
         }
     }
     false
 }
 
-// Checks whether an instruction is a lookaround.
-fn is_look(insn: &Insn) -> bool
-    ensures { result ≡ false → lookaround_at (Some (insn_as_spec_insn insn.now)) ≡ None }
+// Returns the largest number by which the loop at `begin` multiplies the number of codes.
+fn most_codes_of_loop_at(insns: &[Insn], begin: usize) -> usize
+    ensures { 1 ≤ result }
 {
-    matches!(insn, Insn::Lookahead { .. } | Insn::Lookbehind { .. })
+    match insns.get(begin) {
+        Some(insn) => most_codes_of_loop(insn),
+        None => 1,
+    }
+}
+
+// Returns the largest number by which a loop with this head multiplies the number of codes: the
+// number of counts that keys distinguish, and twice that if they distinguish empty iterations.
+fn most_codes_of_loop(insn: &Insn) -> usize
+    ensures { 1 ≤ result }
+{
+    let Insn::EnterLoop {
+        min_iters,
+        max_iters,
+        ..
+    } = *insn
+    else {
+        return 1;
+    };
+    let counts = if max_iters == usize::MAX {
+        min_iters.saturating_add(1)
+    } else {
+        max_iters.max(1)
+    };
+    counts.saturating_mul(2)
+}
+
+// Checks whether an instruction is a loop over one character whose count no memo analysis allows.
+fn has_large_count(insn: &Insn) -> bool {
+    let Insn::Loop1CharBody {
+        min_iters,
+        max_iters,
+        ..
+    } = *insn
+    else {
+        return false;
+    };
+    min_iters >= LARGE_MIN || (max_iters >= LARGE_MAX && max_iters != usize::MAX)
 }

@@ -1,6 +1,6 @@
 -- What a search in so much work finds first, of a text and a start that are tested.
-use Rattle.std.proofs.Common.{◌≡◌, ◌≤◌, ◌<◌, ◌⊎◌, ◌∙◌, ℕ, List, true, false, inl, inr, ap, sym, subst, nat_le}
-use Rattle.std.specs.Prelude.{Option, Some, None, Result, Ok, Err, IfSome, IsErrAnd, IsUtf8, slice_get}
+use Rattle.std.proofs.Common.{◌≡◌, ◌≤◌, ◌<◌, ◌⊎◌, ◌∙◌, ℕ, List, true, false, inl, inr, ap, refl, sym, subst, nat_le}
+use Rattle.std.specs.Prelude.{Option, Some, None, Result, Ok, Err, IsErrAnd, IsUtf8, slice_get}
 use Rattle.std.specs.Borrow.{Bor}
 use Rattle.std.specs.Option.{option_transpose}
 use Rattle.std.proofs.lemmas.Bool.Decides.{leb_tells}
@@ -8,45 +8,47 @@ use Rattle.regress_search.specs.MatchesWithinWork.{NextYieldsWithinWork, Remaini
 use Rattle.regress_search.specs.declared.exec.Match.{Match}
 use Rattle.regress_search.specs.declared.exec.work_matches.WorkError.{WorkError}
 use Rattle.regress_search.specs.declared.exec.work_matches.WorkError.TheVariants as worked
+use Rattle.regress_bounded.specs.declared.work_bound.Unbounded as unbounded
 use Rattle.regress_match.specs.ProgramTreesAndAnswers.{bytes_as_utf8_text, tree_for_byte_units}
-use Rattle.regress_match.specs.WorkBounds.{BoundedView, IsHigherOfProgramWorkBounds, YieldsMatchesIfWorkSuffices, enough_work_for_text}
+use Rattle.regress_match.specs.WorkBounds.{BoundedView, IsHigherOfProgramWorkBounds, IsPatternUnboundedBy, YieldsMatchesIfWorkSuffices, enough_work_for_text}
 use Rattle.regress_match.specs.declared.api.regex.Regex.{Regex}
 use Rattle.regress_c.specs.Codes.{of_work}
 use Rattle.regress_c.specs.InWork.{FindsInWork, IsFirstInWork, Reckons}
 use Rattle.regress_c.specs.Searching.{Starts, can_start_utf8}
 use Rattle.regress_c.specs.declared.refusal.Refusal.{Refusal}
-use Rattle.regress_c.specs.declared.refusal.Refusal.TheVariants.{Memory, NoBound, WorkLimit}
+use Rattle.regress_c.specs.declared.refusal.Refusal.TheVariants.{Memory, Unbounded, WorkLimit}
 
 module _ (re : Regex) (text : List ℕ) (start work left : ℕ) where
   pub started : (found : Result (Option Match) Refusal) → IsUtf8 text → can_start_utf8 text start → IsFirstInWork re text start work found left
       → FindsInWork re text start work found left
   started (Ok m) is can first = (is, can, first)
   started (Err Memory) is can first = (is, can, first)
-  started (Err NoBound) is can first = (is, can, first)
+  started (Err (Unbounded reason)) is can first = (is, can, first)
   started (Err WorkLimit) is can first = (is, can, first)
   started (Err _) is can first = absurd first
 
 -- of the pattern that a bound was reckoned for, and the text of these bytes
-pub found-by : (re : Regex) (bytes : List ℕ) (start work left : ℕ) (text : Bor (List ℕ)) (bounds : Option BoundedView) (bounded : BoundedView) (found : Result (Option Match) Refusal)
-    → Starts bytes start (Ok text) → IfSome bounds (λ b. b.re ≡ re) → bounds ≡ Some bounded
+pub found-by : (re : Regex) (bytes : List ℕ) (start work left : ℕ) (text : Bor (List ℕ)) (bounded : BoundedView) (found : Result (Option Match) Refusal)
+    → Starts bytes start (Ok text) → bounded.re ≡ re
     → IsFirstInWork bounded.re text.now start work found left → FindsInWork re bytes start work found left
-found-by re bytes start work left text bounds bounded found starts same is first =
-    let of_re : bounded.re ≡ re = subst (λ o. IfSome o (λ b. b.re ≡ re)) is same in
+found-by re bytes start work left text bounded found starts of_re first =
     started re bytes start work left found starts.1 starts.2
     (subst (λ r. IsFirstInWork r bytes start work found left) of_re (subst (λ t. IsFirstInWork bounded.re t start work found left) starts.0 first))
 
 -- and its number is that of bounds
-pub enough-by : (re : Regex) (bounds : Option BoundedView) (bounded : BoundedView) → IfSome bounds (λ b. b.re ≡ re) → IfSome bounds (λ b. IsHigherOfProgramWorkBounds re b.per_unit) → bounds ≡ Some bounded
+pub enough-by : (re : Regex) (bounded : BoundedView) → bounded.re ≡ re → IsHigherOfProgramWorkBounds re bounded.per_unit
     → IsHigherOfProgramWorkBounds bounded.re bounded.per_unit
-enough-by re bounds bounded same each is =
-    let of_re : bounded.re ≡ re = subst (λ o. IfSome o (λ b. b.re ≡ re)) is same in
-    subst (λ r. IsHigherOfProgramWorkBounds r bounded.per_unit) (sym of_re) (subst (λ o. IfSome o (λ b. IsHigherOfProgramWorkBounds re b.per_unit)) is each)
+enough-by re bounded of_re each = subst (λ r. IsHigherOfProgramWorkBounds r bounded.per_unit) (sym of_re) each
+
+-- a pattern without a bound
+pub unbounded-by : (re : Regex) (bytes : List ℕ) (start work : ℕ) (text : Bor (List ℕ)) (reason : unbounded.Unbounded)
+    → Starts bytes start (Ok text) → IsPatternUnboundedBy re reason → FindsInWork re bytes start work (Err (Unbounded reason)) work
+unbounded-by re bytes start work text reason starts refused = (starts.1, starts.2, (refl, refused))
 
 -- what was reckoned by the pattern of a handle
-pub reckoned-by : (held : Option Regex) (re at : Regex) (found : Option ℕ) (number : ℕ) → Some re ≡ held → at ≡ re → IfSome found (IsHigherOfProgramWorkBounds at) → found ≡ Some number
-    → Reckons held (Ok number)
-reckoned-by held re at found number taken same each is =
-    subst (λ h. Reckons h (Ok number)) taken (subst (λ r. IsHigherOfProgramWorkBounds r number) same (subst (λ o. IfSome o (IsHigherOfProgramWorkBounds at)) is each))
+pub reckoned-by : (held : Option Regex) (re at : Regex) (result : Result ℕ Refusal) → Some re ≡ held → at ≡ re → Reckons (Some at) result → Reckons held result
+reckoned-by held re at result taken same is =
+    subst (λ h. Reckons h result) taken (subst (λ r. Reckons (Some r) result) same is)
 
 -- what a refusal is handed on as
 pub handed-on : {X : Type 0} (P : Result X Refusal → Type 0) (r : Result X Refusal) (e : Refusal) → IsErrAnd r (λ f. f ≡ e) → P (Err e) → P r

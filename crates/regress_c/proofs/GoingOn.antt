@@ -3,7 +3,7 @@ use Rattle.std.proofs.Common.{◌≡◌, ℕ, ◌<◌, List, Option, Some, None,
 use Rattle.regress_match.specs.ProgramTreesAndAnswers.{units_as_utf16_text, tree_for_16_bit_units}
 use Rattle.regress_match.specs.declared.api.regex.Regex.{Regex}
 use Rattle.regress_c.specs.Codes.{code_of}
-use Rattle.regress_c.specs.Going.{FillsFrom, FillsIn, Goes, GoesBy, GoesIn, HasSameText, RefusesSearch, RepliesNext, Went, code_of_stop, ran}
+use Rattle.regress_c.specs.Going.{FillsFrom, FillsIn, OutcomeOfHandle, OutcomeIfOpen, OutcomeInEncoding, HasSameText, RefusesSearch, RepliesNext, CallOutcome, code_of_stop, ran}
 use Rattle.regress_c.specs.Going.{ranges_of, refused, short, tree_by}
 use Rattle.regress_c.specs.Opening.{encoding_of}
 use Rattle.regress_c.specs.Searching.{can_start_utf16}
@@ -35,7 +35,7 @@ pub not-held : (held : Option Regex) (s : Search) (steps left : Option ℕ) (bef
     → reply ≡ record { code = code_of Empty; count = 0 } → left ≡ steps → RepliesNext held s s steps left before before reply
 not-held held s steps left before reply none r l = record {
   went = refused Empty;
-  goes = subst (λ h. Goes h s steps (length before) (refused Empty)) none refl;
+  goes = subst (λ h. OutcomeOfHandle h s steps (length before) (refused Empty)) none refl;
   reply_is = r;
   same_text = not-moved s;
   next = refl;
@@ -48,7 +48,7 @@ module _ (re : Regex) (s : Search) (steps : Option ℕ) (before : List Span) whe
       → RepliesNext (Some re) s s steps left before before reply
   not-open left reply none r l = record {
     went = refused NotOpen;
-    goes = subst (λ e. GoesBy re s e steps (length before) (refused NotOpen)) (sym none) refl;
+    goes = subst (λ e. OutcomeIfOpen re s e steps (length before) (refused NotOpen)) (sym none) refl;
     reply_is = r;
     same_text = not-moved s;
     next = refl;
@@ -57,8 +57,8 @@ module _ (re : Regex) (s : Search) (steps : Option ℕ) (before : List Span) whe
   }
 
   module _ (e : Encoding) (open' : encoding_of s.encoding ≡ Some e) where
-    by-encoding : (went : Went) → GoesIn re s e steps (length before) went → GoesBy re s (encoding_of s.encoding) steps (length before) went
-    by-encoding went g = subst (λ o. GoesBy re s o steps (length before) went) (sym open') g
+    by-encoding : (went : CallOutcome) → OutcomeInEncoding re s e steps (length before) went → OutcomeIfOpen re s (encoding_of s.encoding) steps (length before) went
+    by-encoding went g = subst (λ o. OutcomeIfOpen re s o steps (length before) went) (sym open') g
 
     pub too-short : (ranges : ℕ) (reply : Reply) → ranges ≡ ranges_of (tree_by re e) → length before < ranges → reply ≡ record { code = code_of ShortBuffer; count = ranges }
         → RepliesNext (Some re) s s steps steps before before reply

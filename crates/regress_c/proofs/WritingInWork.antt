@@ -3,7 +3,7 @@ use Rattle.std.proofs.Common.{◌≡◌, ℕ, ◌+◌, ◌-◌, ◌*◌, ◌<◌
 use Rattle.std.proofs.Common.{refl, sym, ap, ◌∙◌, subst, arith}
 use native.Mathlib.Nat.{zero-mul}
 use Rattle.std.proofs.lemmas.List.{length-append}
-use Rattle.std.specs.Prelude.{Option, Some, None, Ok, Err, IfSome, IsUtf8, flat_map}
+use Rattle.std.specs.Prelude.{Option, Some, None, Ok, Err, IsUtf8, flat_map}
 use Rattle.std.specs.Borrow.{Bor}
 use Rattle.regex_meaning.specs.Laws.{Each, IsAnswerOf}
 use Rattle.regex_meaning.specs.MatchGroupsByNumberAndName.{Answer}
@@ -172,15 +172,15 @@ module _ (re : Regex) (text : List ℕ) (start : ℕ) where
 
 -- ---- Refusals
 
-module _ (bytes : List ℕ) (start : ℕ) where
+module _ (re : Regex) (bytes : List ℕ) (start : ℕ) where
   -- a text or a start that is refused
-  pub starts-refused : (r : Refusal) → Starts bytes start (Err r) → RefusesAllInWork bytes start r
+  pub starts-refused : (r : Refusal) → Starts bytes start (Err r) → RefusesAllInWork re bytes start r
   starts-refused NotUtf8 h = h
   starts-refused NotBoundary h = h
   starts-refused _ h = absurd h
 
-  module _ (re : Regex) (work left : ℕ) (before after : List Span) (reply : Reply) where
-    pub is-refused : (r : Refusal) → RefusesAllInWork bytes start r × (left ≡ work) × (after ≡ before) → reply ≡ record { code = code_of r; count = 0 }
+  module _ (work left : ℕ) (before after : List Span) (reply : Reply) where
+    pub is-refused : (r : Refusal) → RefusesAllInWork re bytes start r × (left ≡ work) × (after ≡ before) → reply ≡ record { code = code_of r; count = 0 }
         → RepliesOutcome re bytes start work left before after reply
     is-refused r h is = (refused r, (h.0, h.1), is, h.2)
 
@@ -198,12 +198,9 @@ not-held held bytes start work before reply none r =
 -- ---- By a bounded pattern
 
 -- The text of these bytes, and the pattern that a bound was computed for.
-module _ (re : Regex) (bytes : List ℕ) (start work : ℕ) (text : Bor (List ℕ)) (bounds : Option BoundedView) (bounded : BoundedView) (it : RemainingAnswersAndWork) (ranges : ℕ)
-    (starts : Starts bytes start (Ok text)) (same : IfSome bounds (λ b. b.re ≡ re)) (each : IfSome bounds (λ b. IsHigherOfProgramWorkBounds re b.per_unit)) (is : bounds ≡ Some bounded)
+module _ (re : Regex) (bytes : List ℕ) (start work : ℕ) (text : Bor (List ℕ)) (bounded : BoundedView) (it : RemainingAnswersAndWork) (ranges : ℕ)
+    (starts : Starts bytes start (Ok text)) (of_re : bounded.re ≡ re) (each : IsHigherOfProgramWorkBounds re bounded.per_unit)
     (yields : YieldsMatchesIfWorkSuffices (tree_for_byte_units bounded.re) (bytes_as_utf8_text bounded.re text.now) start bounded.per_unit work it) (ranges_is : ranges ≡ range_count re) where
-  of_re : bounded.re ≡ re
-  of_re = subst (λ o. IfSome o (λ b. b.re ≡ re)) is same
-
   by_re : YieldsMatchesIfWorkSuffices (tree_for_byte_units re) (bytes_as_utf8_text re bytes) start bounded.per_unit work it
   by_re =
       subst (λ r. YieldsMatchesIfWorkSuffices (tree_for_byte_units r) (bytes_as_utf8_text r bytes) start bounded.per_unit work it) of_re
@@ -216,4 +213,4 @@ module _ (re : Regex) (bytes : List ℕ) (start work : ℕ) (text : Bor (List �
       → WritesInWork ranges it behind before after reply → RepliesOutcome re bytes start work left before after reply
   writes left behind before after reply room left_is w =
       has-written re bytes start bounded.per_unit work left it behind before after reply starts.1 starts.2 (subst (λ n. n ≤ length before) ranges_is room)
-      (subst (λ o. IfSome o (λ b. IsHigherOfProgramWorkBounds re b.per_unit)) is each) by_re left_is (subst (λ n. WritesInWork n it behind before after reply) ranges_is w)
+      each by_re left_is (subst (λ n. WritesInWork n it behind before after reply) ranges_is w)

@@ -6,6 +6,7 @@ use Rattle.regress_search.specs.MatchesWithinWork.{RemainingAnswersAndWork}
 use Rattle.regress_search.specs.declared.exec.work_matches.WorkError.{WorkError}
 use Rattle.regress_search.specs.declared.exec.work_matches.WorkError.TheVariants as worked
 use Rattle.regress_match.specs.ProgramTreesAndAnswers.{utf8_answers}
+use Rattle.regress_match.specs.WorkBounds.{IsPatternUnboundedBy}
 use Rattle.regress_match.specs.declared.api.regex.Regex.{Regex}
 use Rattle.regress_c.specs.Codes.{code_of, done, no_match, of_work}
 use Rattle.regress_c.specs.InWork.{IsUsedUp}
@@ -13,7 +14,7 @@ use Rattle.regress_c.specs.Replies.{spans_of, written_over}
 use Rattle.regress_c.specs.Searching.{can_start_utf8}
 use Rattle.regress_c.specs.Texts.{range_count}
 use Rattle.regress_c.specs.declared.refusal.Refusal.{Refusal}
-use Rattle.regress_c.specs.declared.refusal.Refusal.TheVariants.{Empty, NotUtf8, NotBoundary, ShortBuffer, Memory, NoBound}
+use Rattle.regress_c.specs.declared.refusal.Refusal.TheVariants.{Empty, NotUtf8, NotBoundary, ShortBuffer, Memory, Unbounded}
 use Rattle.regress_c.specs.declared.reply.Reply.{Reply}
 use Rattle.regress_c.specs.declared.reply.Span.{Span}
 
@@ -90,12 +91,12 @@ module _ (re : Regex) (text : List ℕ) (work left room : ℕ) where
     pub ends : EndsInWork w w.ending
 
 -- When a call is refused before it searches. It takes no work then.
-abbrev pub RefusesAllInWork : (text : List ℕ) → (start : ℕ) → Refusal → Type 0
-RefusesAllInWork text start NotUtf8 = ¬ IsUtf8 text
-RefusesAllInWork text start NotBoundary = IsUtf8 text × ¬ can_start_utf8 text start
-RefusesAllInWork text start NoBound = IsUtf8 text × can_start_utf8 text start
-RefusesAllInWork text start Memory = IsUtf8 text × can_start_utf8 text start
-RefusesAllInWork text start _ = ⊥
+abbrev pub RefusesAllInWork : Regex → (text : List ℕ) → (start : ℕ) → Refusal → Type 0
+RefusesAllInWork re text start NotUtf8 = ¬ IsUtf8 text
+RefusesAllInWork re text start NotBoundary = IsUtf8 text × ¬ can_start_utf8 text start
+RefusesAllInWork re text start (Unbounded reason) = IsUtf8 text × can_start_utf8 text start × IsPatternUnboundedBy re reason
+RefusesAllInWork re text start Memory = IsUtf8 text × can_start_utf8 text start
+RefusesAllInWork re text start _ = ⊥
 
 -- The outcome of a call: it wrote matches, had less room than the ranges of one match, or was
 -- refused.
@@ -108,7 +109,7 @@ pub data Outcome : Type 0 where
 abbrev pub ComesOf : Regex → (text : List ℕ) → (start work left room : ℕ) → Outcome → Type 0
 ComesOf re text start work left room (ran w) = IsUtf8 text × can_start_utf8 text start × RunsInWork re text work left room start w
 ComesOf re text start work left room short = IsUtf8 text × can_start_utf8 text start × (room < range_count re) × (left ≡ work)
-ComesOf re text start work left room (refused refusal) = RefusesAllInWork text start refusal × (left ≡ work)
+ComesOf re text start work left room (refused refusal) = RefusesAllInWork re text start refusal × (left ≡ work)
 
 -- The reply for an outcome.
 abbrev pub outcome_reply : Regex → Outcome → Reply
@@ -130,7 +131,7 @@ RepliesOutcome re text start work left before after reply = (o : Outcome)
 -- The reply, or why the call is refused, and then neither the work nor the buffer changes.
 abbrev pub FillsInWork : Regex → (text : List ℕ) → (start work left : ℕ) → (before after : List Span) → Result Reply Refusal → Type 0
 FillsInWork re text start work left before after (Ok reply) = RepliesOutcome re text start work left before after reply
-FillsInWork re text start work left before after (Err refusal) = RefusesAllInWork text start refusal × (left ≡ work) × (after ≡ before)
+FillsInWork re text start work left before after (Err refusal) = RefusesAllInWork re text start refusal × (left ≡ work) × (after ≡ before)
 
 -- The reply, the work that is left and the buffer afterwards with the handle's pattern. The call is
 -- refused if the handle is empty.

@@ -6,12 +6,14 @@ use Rattle.regress_search.specs.declared.exec.SearchError.{SearchError}
 use Rattle.regress_search.specs.declared.exec.SearchError.TheVariants as search
 use Rattle.regress_search.specs.declared.exec.work_matches.WorkError.{WorkError}
 use Rattle.regress_search.specs.declared.exec.work_matches.WorkError.TheVariants as worked
+use Rattle.regress_bounded.specs.declared.work_bound.Unbounded as unbounded
+use Rattle.regress_bounded.specs.declared.work_bound.Unbounded.TheVariants as cause
 use Rattle.regress_match.specs.declared.api.compile_and_replace_errors.Error.{Error}
 use Rattle.regress_match.specs.declared.api.compile_and_replace_errors.Error.TheVariants as error
 use Rattle.regress_c.specs.declared.refusal.Refusal.{Refusal}
 use Rattle.regress_c.specs.declared.refusal.Refusal.TheVariants.{Empty, Full, NotUtf8, NotBoundary, ShortBuffer, Memory, StepLimit, Syntax}
 use Rattle.regress_c.specs.declared.refusal.Refusal.TheVariants.{TooManyGroups, TooManyLoops, TooManyInstructions, UnknownFlag, TooLong, TooDeep}
-use Rattle.regress_c.specs.declared.refusal.Refusal.TheVariants.{NoGroup, NotOpen, NotCounted, NoBound, WorkLimit, UnknownSyntax}
+use Rattle.regress_c.specs.declared.refusal.Refusal.TheVariants.{NoGroup, NotOpen, NotCounted, Unbounded, WorkLimit, UnknownSyntax}
 
 -- The code of a call that succeeded.
 abbrev pub done : ℕ
@@ -20,6 +22,14 @@ done = 0
 -- The code of a search without a match.
 abbrev pub no_match : ℕ
 no_match = 1
+
+-- The code of each reason for which no work bound is known.
+abbrev pub code_of_reason : unbounded.Unbounded → ℕ
+code_of_reason cause.Memory = 7
+code_of_reason cause.Lookaround = 19
+code_of_reason cause.Backreference = 22
+code_of_reason cause.Count = 23
+code_of_reason cause.Price = 24
 
 -- The code of each refusal.
 abbrev pub code_of : Refusal → ℕ
@@ -40,7 +50,7 @@ code_of TooDeep = 15
 code_of NoGroup = 16
 code_of NotOpen = 17
 code_of NotCounted = 18
-code_of NoBound = 19
+code_of (Unbounded reason) = code_of_reason reason
 code_of WorkLimit = 20
 code_of UnknownSyntax = 21
 

@@ -133,47 +133,47 @@ FillsFrom tree text can_start steps start before after (Err refusal.Memory) = af
 FillsFrom tree text can_start steps start before after (Err _) = ⊥
 
 -- The outcome of a call: it ran, had less room than the `ranges` of one match, or was refused.
-pub data Went : Type 0 where
-  ran : Run → Went
-  short : (ranges : ℕ) → Went
-  refused : Refusal → Went
+pub data CallOutcome : Type 0 where
+  ran : Run → CallOutcome
+  short : (ranges : ℕ) → CallOutcome
+  refused : Refusal → CallOutcome
 
 -- The outcome for a search with this pattern in this encoding.
-abbrev pub GoesIn : Regex → Search → Encoding → (steps : Option ℕ) → (room : ℕ) → Went → Type 0
-GoesIn re s e steps room (ran run) = IsRun (tree_by re e) (text_by re s e) steps s.next room run × IsCounted steps e
-GoesIn re s e steps room (short ranges) = (ranges ≡ ranges_of (tree_by re e)) × (room < ranges)
-GoesIn re s e steps room (refused r) = RefusesSearch s e steps r
+abbrev pub OutcomeInEncoding : Regex → Search → Encoding → (steps : Option ℕ) → (room : ℕ) → CallOutcome → Type 0
+OutcomeInEncoding re s e steps room (ran run) = IsRun (tree_by re e) (text_by re s e) steps s.next room run × IsCounted steps e
+OutcomeInEncoding re s e steps room (short ranges) = (ranges ≡ ranges_of (tree_by re e)) × (room < ranges)
+OutcomeInEncoding re s e steps room (refused r) = RefusesSearch s e steps r
 
 -- The outcome for a search with this pattern, which is refused if it is not open.
-abbrev pub GoesBy : Regex → Search → Option Encoding → (steps : Option ℕ) → (room : ℕ) → Went → Type 0
-GoesBy re s None steps room went = went ≡ refused refusal.NotOpen
-GoesBy re s (Some e) steps room went = GoesIn re s e steps room went
+abbrev pub OutcomeIfOpen : Regex → Search → Option Encoding → (steps : Option ℕ) → (room : ℕ) → CallOutcome → Type 0
+OutcomeIfOpen re s None steps room went = went ≡ refused refusal.NotOpen
+OutcomeIfOpen re s (Some e) steps room went = OutcomeInEncoding re s e steps room went
 
 -- The outcome for a search with the handle's pattern, which is refused if the handle is empty.
-abbrev pub Goes : (held : Option Regex) → Search → (steps : Option ℕ) → (room : ℕ) → Went → Type 0
-Goes None s steps room went = went ≡ refused refusal.Empty
-Goes (Some re) s steps room went = GoesBy re s (encoding_of s.encoding) steps room went
+abbrev pub OutcomeOfHandle : (held : Option Regex) → Search → (steps : Option ℕ) → (room : ℕ) → CallOutcome → Type 0
+OutcomeOfHandle None s steps room went = went ≡ refused refusal.Empty
+OutcomeOfHandle (Some re) s steps room went = OutcomeIfOpen re s (encoding_of s.encoding) steps room went
 
 -- The reply for an outcome.
-abbrev pub went_reply : Went → Reply
+abbrev pub went_reply : CallOutcome → Reply
 went_reply (ran run) = record { code = code_of_stop run.stop; count = length run.found }
 went_reply (short ranges) = record { code = code_of refusal.ShortBuffer; count = ranges }
 went_reply (refused r) = record { code = code_of r; count = 0 }
 
 -- The offset from which the search continues after an outcome.
-abbrev pub next_after : Went → (next : ℕ) → ℕ
+abbrev pub next_after : CallOutcome → (next : ℕ) → ℕ
 next_after (ran run) next = run.next
 next_after (short ranges) next = next
 next_after (refused r) next = next
 
 -- The step budget after an outcome.
-abbrev pub left_after : Went → (steps : Option ℕ) → Option ℕ
+abbrev pub left_after : CallOutcome → (steps : Option ℕ) → Option ℕ
 left_after (ran run) steps = run.left
 left_after (short ranges) steps = steps
 left_after (refused r) steps = steps
 
 -- The buffer after an outcome.
-abbrev pub spans_after : Went → (before : List Span) → List Span
+abbrev pub spans_after : CallOutcome → (before : List Span) → List Span
 spans_after (ran run) before = written_over (flat_map spans_of run.found) before
 spans_after (short ranges) before = before
 spans_after (refused r) before = before
@@ -186,8 +186,8 @@ pub record HasSameText (s s' : Search) : Type 0 where
 
 -- The reply, the search, the step budget and the buffer afterwards are those of an outcome.
 pub record RepliesNext (held : Option Regex) (s s' : Search) (steps left : Option ℕ) (before after : List Span) (reply : Reply) : Type 0 where
-  pub went : Went
-  pub goes : Goes held s steps (length before) went
+  pub went : CallOutcome
+  pub goes : OutcomeOfHandle held s steps (length before) went
   pub reply_is : reply ≡ went_reply went
   pub same_text : HasSameText s s'
   pub next : s'.next ≡ next_after went s.next

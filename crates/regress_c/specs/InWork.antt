@@ -4,13 +4,13 @@ use Rattle.regex_meaning.specs.MatchGroupsByNumberAndName.{Answer}
 use Rattle.regress_search.specs.MatchesAsSpecAnswers.{answer_of}
 use Rattle.regress_search.specs.declared.exec.Match.{Match}
 use Rattle.regress_match.specs.ProgramTreesAndAnswers.{bytes_as_utf8_text, utf8_answers}
-use Rattle.regress_match.specs.WorkBounds.{IsHigherOfProgramWorkBounds, enough_work_for_text}
+use Rattle.regress_match.specs.WorkBounds.{IsHigherOfProgramWorkBounds, IsPatternUnboundedBy, enough_work_for_text}
 use Rattle.regress_match.specs.declared.api.regex.Regex.{Regex}
 use Rattle.regress_c.specs.Codes.{code_of, done}
 use Rattle.regress_c.specs.Replies.{left_by, reply_to}
 use Rattle.regress_c.specs.Searching.{can_start_utf8}
 use Rattle.regress_c.specs.declared.refusal.Refusal.{Refusal}
-use Rattle.regress_c.specs.declared.refusal.Refusal.TheVariants.{Empty, NotUtf8, NotBoundary, Memory, NoBound, WorkLimit}
+use Rattle.regress_c.specs.declared.refusal.Refusal.TheVariants.{Empty, NotUtf8, NotBoundary, Memory, Unbounded, WorkLimit}
 use Rattle.regress_c.specs.declared.reply.Reply.{Reply}
 use Rattle.regress_c.specs.declared.reply.Span.{Span}
 
@@ -22,7 +22,7 @@ IsUsedUp re text work left = (left ≡ 0) × ((per_unit : ℕ) × IsHigherOfProg
 abbrev pub IsFirstInWork : Regex → (text : List ℕ) → (start work : ℕ) → Result (Option Match) Refusal → (left : ℕ) → Type 0
 IsFirstInWork re text start work (Ok m) left = (option_map answer_of m ≡ slice_get (utf8_answers re text start) 0) × (left ≤ work)
 IsFirstInWork re text start work (Err Memory) left = left ≤ work
-IsFirstInWork re text start work (Err NoBound) left = left ≡ work
+IsFirstInWork re text start work (Err (Unbounded reason)) left = (left ≡ work) × IsPatternUnboundedBy re reason
 IsFirstInWork re text start work (Err WorkLimit) left = IsUsedUp re text work left
 IsFirstInWork re text start work (Err _) left = ⊥
 
@@ -46,8 +46,7 @@ RepliesInWork held text start work left before after reply = (found : Result (Op
 abbrev pub Reckons : (held : Option Regex) → Result ℕ Refusal → Type 0
 Reckons None result = result ≡ Err Empty
 Reckons (Some re) (Ok per_unit) = IsHigherOfProgramWorkBounds re per_unit
-Reckons (Some re) (Err NoBound) = Unit {0}
-Reckons (Some re) (Err Memory) = Unit {0}
+Reckons (Some re) (Err (Unbounded reason)) = IsPatternUnboundedBy re reason
 Reckons (Some re) (Err _) = ⊥
 
 -- The code of a result.

@@ -3,7 +3,7 @@ use Rattle.std.specs.Prelude.{ℕ, List, [], ◌∷◌, Option, Some, None, fals
 use Rattle.regex_meaning.specs.MatchGroupsByNumberAndName.{Answer}
 use Rattle.regress_match.specs.ProgramTreesAndAnswers.{ucs2_answer_beginning_at, utf16_answer_beginning_at, utf8_answer_beginning_at}
 use Rattle.regress_match.specs.declared.api.regex.Regex.{Regex}
-use Rattle.regress_c.specs.Searching.{Coming}
+use Rattle.regress_c.specs.Searching.{MatchesToCome}
 
 -- The list of this match, if there is one.
 abbrev pub at_most_one : Option Answer → List Answer
@@ -11,13 +11,13 @@ at_most_one None = []
 at_most_one (Some m) = m ∷ []
 
 -- The match that begins at `at` in a UTF-8 text.
-abbrev pub utf8_coming_at : (text : List ℕ) → Regex → (at : ℕ) → Coming
+abbrev pub utf8_coming_at : (text : List ℕ) → Regex → (at : ℕ) → MatchesToCome
 utf8_coming_at text re at = record { answers = at_most_one (utf8_answer_beginning_at re text at); limited = false }
 
 -- The match that begins at `at` in a UTF-16 text.
-abbrev pub utf16_coming_at : (text : List ℕ) → Regex → (at : ℕ) → Coming
+abbrev pub utf16_coming_at : (text : List ℕ) → Regex → (at : ℕ) → MatchesToCome
 utf16_coming_at text re at = record { answers = at_most_one (utf16_answer_beginning_at re text at); limited = false }
 
 -- The match that begins at `at` in a UCS-2 text.
-abbrev pub ucs2_coming_at : (text : List ℕ) → Regex → (at : ℕ) → Coming
+abbrev pub ucs2_coming_at : (text : List ℕ) → Regex → (at : ℕ) → MatchesToCome
 ucs2_coming_at text re at = record { answers = at_most_one (ucs2_answer_beginning_at re text at); limited = false }

@@ -16,20 +16,20 @@ use Rattle.regress_c.specs.declared.reply.Reply.{Reply}
 use Rattle.regress_c.specs.declared.reply.Span.{Span}
 
 -- The remaining matches, and whether a step limit follows them in place of the end.
-pub record Coming : Type 0 where
+pub record MatchesToCome : Type 0 where
   pub answers : List Answer
   pub limited : Bool
 
 -- The matches in a UTF-8 text from `start` on.
-abbrev pub utf8_coming : (text : List ℕ) → Regex → (start : ℕ) → Coming
+abbrev pub utf8_coming : (text : List ℕ) → Regex → (start : ℕ) → MatchesToCome
 utf8_coming text re start = record { answers = utf8_answers re text start; limited = false }
 
 -- The matches in a UTF-16 text from `start` on.
-abbrev pub utf16_coming : (text : List ℕ) → Regex → (start : ℕ) → Coming
+abbrev pub utf16_coming : (text : List ℕ) → Regex → (start : ℕ) → MatchesToCome
 utf16_coming text re start = record { answers = utf16_answers re text start; limited = false }
 
 -- The matches in a UCS-2 text from `start` on.
-abbrev pub ucs2_coming : (text : List ℕ) → Regex → (start : ℕ) → Coming
+abbrev pub ucs2_coming : (text : List ℕ) → Regex → (start : ℕ) → MatchesToCome
 ucs2_coming text re start = record { answers = ucs2_answers re text start; limited = false }
 
 -- A start in a UTF-8 text splits no character, or is past the end.
@@ -42,14 +42,14 @@ can_start_utf16 text start = IsTrue (is_unit_boundary text start) ⊎ (length te
 
 -- The result is the first of the remaining matches, or `None` exactly if there is none and no step
 -- limit; or the search is refused, at the step limit or because an allocation failed.
-abbrev pub IsFirst : Coming → Result (Option Match) Refusal → Type 0
+abbrev pub IsFirst : MatchesToCome → Result (Option Match) Refusal → Type 0
 IsFirst coming (Ok m) = (option_map answer_of m ≡ slice_get coming.answers 0) × IfNone m (coming.limited ≡ false)
 IsFirst coming (Err Memory) = Unit {0}
 IsFirst coming (Err StepLimit) = (coming.answers ≡ []) × (coming.limited ≡ true)
 IsFirst coming (Err _) = ⊥
 
 -- The result for a text and a start that are checked first.
-abbrev pub Finds : (is_text can_start : Type 0) → Coming → Result (Option Match) Refusal → Type 0
+abbrev pub Finds : (is_text can_start : Type 0) → MatchesToCome → Result (Option Match) Refusal → Type 0
 Finds is_text can_start coming (Err NotUtf8) = ¬ is_text
 Finds is_text can_start coming (Err NotBoundary) = is_text × ¬ can_start
 Finds is_text can_start coming found = is_text × can_start × IsFirst coming found
@@ -62,11 +62,11 @@ Starts bytes start (Err NotBoundary) = IsUtf8 bytes × ¬ can_start_utf8 bytes s
 Starts bytes start (Err _) = ⊥
 
 -- The result with the handle's pattern, which is refused if the handle is empty.
-abbrev pub FindsBy : (held : Option Regex) → (is_text can_start : Type 0) → (Regex → Coming) → Result (Option Match) Refusal → Type 0
+abbrev pub FindsBy : (held : Option Regex) → (is_text can_start : Type 0) → (Regex → MatchesToCome) → Result (Option Match) Refusal → Type 0
 FindsBy None is_text can_start coming found = found ≡ Err Empty
 FindsBy (Some re) is_text can_start coming found = Finds is_text can_start (coming re) found
 
 -- The reply and the buffer afterwards are those of a result.
-abbrev pub Replies : (held : Option Regex) → (is_text can_start : Type 0) → (Regex → Coming) → (before after : List Span) → Reply → Type 0
+abbrev pub Replies : (held : Option Regex) → (is_text can_start : Type 0) → (Regex → MatchesToCome) → (before after : List Span) → Reply → Type 0
 Replies held is_text can_start coming before after reply = (found : Result (Option Match) Refusal)
     × FindsBy held is_text can_start coming found × (reply ≡ reply_to found (length before)) × (after ≡ left_by found before)

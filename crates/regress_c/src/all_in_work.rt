@@ -65,9 +65,7 @@ fn fill_by(
             count: ranges,
         });
     }
-    let Some(bounded) = re.bounded()? else {
-        return Err(Refusal::NoBound);
-    };
+    let bounded = re.bounded()?;
     let mut matches = bounded.find_from(text, start, *work)?;
     let reply = write_all(&mut matches, ranges, spans);
     *work = matches.work_left();

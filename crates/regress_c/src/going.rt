@@ -55,7 +55,7 @@ pub(crate) struct Filled {
 
 /// The reply of a call, and how many steps are left, if they are counted.
 #[derive(Clone, Copy)]
-pub(crate) struct Went {
+pub(crate) struct CallOutcome {
     pub(crate) reply: Reply,
     pub(crate) left: Option<u64>,
 }
@@ -68,7 +68,7 @@ pub(crate) fn go_on(
     search: &mut Search<'_>,
     steps: Option<u64>,
     spans: &mut [Span],
-) -> Went
+) -> CallOutcome
     ensures replies { RepliesNext pattern.old.held search.old search.new steps result.left spans.old
         spans.new result.reply }
     ensures kept { pattern.new.held ≡ pattern.old.held }
@@ -82,7 +82,12 @@ pub(crate) fn go_on(
 }
 
 // Writes the next matches of a search with this pattern.
-fn go_on_by(re: &Regex, search: &mut Search<'_>, steps: Option<u64>, spans: &mut [Span]) -> Went
+fn go_on_by(
+    re: &Regex,
+    search: &mut Search<'_>,
+    steps: Option<u64>,
+    spans: &mut [Span],
+) -> CallOutcome
     ensures { RepliesNext (Some re.now) search.old search.new steps result.left spans.old spans.new result.reply }
 {
     let Some(encoding) = search.encoding() else {
@@ -95,7 +100,7 @@ fn go_on_by(re: &Regex, search: &mut Search<'_>, steps: Option<u64>, spans: &mut
             code,
             count: ranges,
         };
-        return Went { reply, left: steps };
+        return CallOutcome { reply, left: steps };
     }
     match filled_in(re, search, encoding, steps, spans) {
         Ok(filled) => {
@@ -104,7 +109,7 @@ fn go_on_by(re: &Regex, search: &mut Search<'_>, steps: Option<u64>, spans: &mut
                 code: filled.stop.code(),
                 count: filled.matches,
             };
-            Went {
+            CallOutcome {
                 reply,
                 left: filled.left,
             }
@@ -114,11 +119,11 @@ fn go_on_by(re: &Regex, search: &mut Search<'_>, steps: Option<u64>, spans: &mut
 }
 
 // Returns the result of a refused call, which uses no steps.
-fn refused(refusal: Refusal, steps: Option<u64>) -> Went
+fn refused(refusal: Refusal, steps: Option<u64>) -> CallOutcome
     ensures { result ≡ record { reply = record { code = number_of refusal; count = 0 }; left = steps } }
 {
     let reply = refusal.reply();
-    Went { reply, left: steps }
+    CallOutcome { reply, left: steps }
 }
 
 // Returns the number of ranges of a match.

@@ -27,9 +27,12 @@ pub(crate) fn message_of(code: u32) -> &'static str
         16 => "no such group",
         17 => "the search is not open",
         18 => "steps are counted in UTF-8 only",
-        19 => "no work bound is known",
+        19 => "no work bound is known: the pattern has a lookaround",
         20 => "the work limit is reached",
         21 => "unknown syntax",
+        22 => "no work bound is known: the pattern has a backreference",
+        23 => "no work bound is known: counts are too large, or loops are nested too deeply",
+        24 => "no work bound is known: the bound of the pattern is too large",
         _ => "unknown code",
     }
 }

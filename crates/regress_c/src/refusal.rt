@@ -1,11 +1,11 @@
 //! Why a call is refused, and the codes that are returned to C.
 
 ghost use Rattle.std.specs.Prelude.{◌≡◌};
-ghost use Rattle.regress_c.specs.Codes.{code_of, refused_as};
+ghost use Rattle.regress_c.specs.Codes.{code_of, code_of_reason, refused_as};
 
 use crate::reply::Reply;
 use regex_parser::parse::ParseError;
-use regress_match::{Error, SearchError, WorkError};
+use regress_match::{Error, SearchError, Unbounded, WorkError};
 use regress_program::emit::EmitError;
 use std::alloc::{AllocError, AllocFailed};
 use std::str::Utf8Error;
@@ -53,8 +53,8 @@ pub(crate) enum Refusal {
     NotOpen,
     /// Steps are not counted in this encoding.
     NotCounted,
-    /// No work bound of the pattern is known.
-    NoBound,
+    /// No work bound of the pattern is known, for this reason.
+    Unbounded(Unbounded),
     /// The work budget is used up.
     WorkLimit,
     /// No syntax has this number.
@@ -84,7 +84,7 @@ impl Refusal {
             Refusal::NoGroup => 16,
             Refusal::NotOpen => 17,
             Refusal::NotCounted => 18,
-            Refusal::NoBound => 19,
+            Refusal::Unbounded(reason) => code_of_reason(reason),
             Refusal::WorkLimit => 20,
             Refusal::UnknownSyntax => 21,
         }
@@ -111,6 +111,29 @@ impl Refusal {
             Error::Emit(EmitError::TooManyInstructions) => Refusal::TooManyInstructions,
             _ => Refusal::Memory,
         }
+    }
+}
+
+// Returns the code of a reason for which no work bound is known.
+fn code_of_reason(reason: Unbounded) -> u32
+    ensures { result ≡ code_of_reason reason }
+{
+    match reason {
+        Unbounded::Memory => 7,
+        Unbounded::Lookaround => 19,
+        Unbounded::Backreference => 22,
+        Unbounded::Count => 23,
+        Unbounded::Price => 24,
+    }
+}
+
+impl From<Unbounded> for Refusal {
+    ghost use Rattle.regress_c.specs.declared.refusal.Refusal.TheVariants as refusal;
+
+    ghost from_gives = { λ reason refused. refused ≡ refusal.Unbounded reason };
+
+    fn from(reason: Unbounded) -> Refusal {
+        Refusal::Unbounded(reason)
     }
 }
 

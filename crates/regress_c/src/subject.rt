@@ -2,7 +2,7 @@
 
 ghost use Rattle.std.specs.Prelude.{◌≡◌, ◌<◌, ◌↔◌, ◌⊎◌, ℕ, IsTrue, IsUtf8, length};
 ghost use Rattle.regex_meaning.specs.Text.{is_unit_boundary as is_boundary_of};
-ghost use Rattle.regress_c.specs.Searching.{Coming, Finds, IsFirst, Starts, can_start_utf16, can_start_utf8, ucs2_coming, utf16_coming, utf8_coming};
+ghost use Rattle.regress_c.specs.Searching.{MatchesToCome, Finds, IsFirst, Starts, can_start_utf16, can_start_utf8, ucs2_coming, utf16_coming, utf8_coming};
 ghost use Rattle.regress_match.specs.declared.api.regex.Regex.{Regex as Compiled};
 
 use crate::refusal::Refusal;
@@ -16,7 +16,7 @@ pub(crate) trait Subject {
 
     ghost can_start: { Self → ℕ → Type 0 };
 
-    ghost coming: { Self → Compiled → ℕ → Coming };
+    ghost coming: { Self → Compiled → ℕ → MatchesToCome };
 
     /// Returns the first match from an offset in units on. Refuses a text that is not valid, and a
     /// start that splits a character.

@@ -35,9 +35,7 @@ fn find_by(re: &Regex, bytes: &[u8], start: usize, work: &mut u64) -> Result<Opt
     ensures { FindsInWork re.now bytes.now start work.old result work.new }
 {
     let text = text_from(bytes, start)?;
-    let Some(bounded) = re.bounded()? else {
-        return Err(Refusal::NoBound);
-    };
+    let bounded = re.bounded()?;
     first_in_work(&bounded, text, start, work)
 }
 
@@ -83,8 +81,5 @@ fn reckoned(alloc: Global, pattern: &mut Pattern) -> Result<u64, Refusal>
     };
     let found = re.work_per_unit();
     pattern.put(re);
-    match found? {
-        Some(number) => Ok(number),
-        None => Err(Refusal::NoBound),
-    }
+    Ok(found?)
 }

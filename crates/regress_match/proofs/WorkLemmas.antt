@@ -3,7 +3,7 @@ use Rattle.std.proofs.Common.{◌≡◌, ◌≤◌, ◌<◌, ◌⊎◌, ◌+◌,
 use Rattle.std.proofs.Common.{if◌then◌else◌, arith}
 use Rattle.std.specs.Arc.{arc_value}
 use Rattle.std.specs.List.{fold}
-use Rattle.std.specs.Prelude.{Option, Some, None, Ok, Err, IfSome, slice_get, unwrap_or}
+use Rattle.std.specs.Prelude.{Option, Some, None, Result, Ok, Err, IfErr, IsErrAnd, slice_get, unwrap_or}
 use Rattle.std.proofs.Math.Logic.{∥∥₁_elim}
 use Rattle.std.proofs.Math.Nat.{mul-le-mul_left, mul-le-mul_right}
 use Rattle.std.proofs.Props.{props}
@@ -23,11 +23,13 @@ use Rattle.regress_memo.specs.CheckedAnalysis.{HasDisjointCodes}
 use Rattle.regress_memo.specs.declared.analysis_result.InsnAnalysis.{InsnAnalysis}
 use Rattle.regress_memo.specs.declared.analysis_result.MemoAnalysis.{MemoAnalysis}
 use Rattle.regress_program.specs.CompilationOfTreesAsFunction.{compiled}
+use Rattle.regress_bounded.specs.Unboundedness.{IsPlain, IsUnboundedBy}
+use Rattle.regress_bounded.specs.declared.work_bound.Unbounded.{Unbounded}
 use Rattle.regress_bounded.specs.WorkBoundForAllMatches.{TreeHasWorkBound, IsWorkBoundOfTree, most_memo_codes_per_insn, program_size}
 use Rattle.regress_bounded.specs.declared.work_bound.WorkBound.{WorkBound}
 use Rattle.regress_match.specs.WorkBounds.{WorkMatchesNextResultType, AnswerInWork, BoundedView, NextCallsYieldWithinWork, SearchesAnswerInWork, WorkPerUnitLimitSuffices}
 use Rattle.regress_match.specs.WorkBounds.{CallsCost, IsNoAllocationFailure, NextCallsYieldAtCost, SearchesCostInWork}
-use Rattle.regress_match.specs.WorkBounds.{YieldsMatchesIfWorkSuffices, enough_work_for_text, higher, work_per_unit_limit}
+use Rattle.regress_match.specs.WorkBounds.{IsPatternUnboundedBy, YieldsMatchesIfWorkSuffices, enough_work_for_text, higher, work_per_unit_limit}
 use Rattle.regress_match.specs.ProgramTreesAndAnswers.{tree_for_byte_units, tree_for_16_bit_units}
 use Rattle.regress_match.specs.declared.api.regex.Regex.{Regex}
 
@@ -93,9 +95,27 @@ module _ {P : Type 0} (attempt_costs : Tree → Text → (before : Failures) →
 -- ---- What is enough
 
 -- a bound that was reckoned of a program, which is a pattern's
-pub bound-came : {X : Type 0} (of : X → Tree) (program own : X) (found : Option WorkBound) (bound : WorkBound) → IfSome found (TreeHasWorkBound (of program)) → found ≡ Some bound → program ≡ own
-    → TreeHasWorkBound (of own) bound
-bound-came of program own found bound each is same = subst (λ p. TreeHasWorkBound (of p) bound) same (subst (λ o. IfSome o (TreeHasWorkBound (of program))) is each)
+pub bound-came : {X : Type 0} (of : X → Tree) (program own : X) (bound : WorkBound) → TreeHasWorkBound (of program) bound → program ≡ own → TreeHasWorkBound (of own) bound
+bound-came of program own bound is same = subst (λ p. TreeHasWorkBound (of p) bound) same is
+
+-- such a program without lookarounds and backreferences
+pub plain-came : {X : Type 0} (of : X → Tree) (program own : X) → IsPlain (of program) → program ≡ own → IsPlain (of own)
+plain-came of program own is same = subst (λ p. IsPlain (of p)) same is
+
+-- why the program for 16-bit units has none, or that for bytes where the former has one
+module _ {X : Type 0} (re : Regex) (r : Result X Unbounded) (e : Unbounded) (is : IsErrAnd r (λ f. f ≡ e)) where
+  handed-on : (P : Unbounded → Type 0) → P e → IfErr r P
+  handed-on P p = by r is
+    where
+      by : (r : Result X Unbounded) → IsErrAnd r (λ f. f ≡ e) → IfErr r P
+      by (Ok x) h = absurd h
+      by (Err f) h = subst P (sym h) p
+
+  pub units-unbounded : (tree : Tree) → tree ≡ tree_for_16_bit_units re → IsUnboundedBy tree e → IfErr r (IsPatternUnboundedBy re)
+  units-unbounded tree same refused = handed-on (IsPatternUnboundedBy re) (inl (subst (λ t. IsUnboundedBy t e) same refused))
+
+  pub bytes-unbounded : (tree : Tree) → tree ≡ tree_for_byte_units re → IsPlain (tree_for_16_bit_units re) → IsUnboundedBy tree e → IfErr r (IsPatternUnboundedBy re)
+  bytes-unbounded tree same plain refused = handed-on (IsPatternUnboundedBy re) (inr (plain, subst (λ t. IsUnboundedBy t e) same refused))
 
 -- either number is at most the higher one
 pub higher-left : (a b : ℕ) → a ≤ higher a b

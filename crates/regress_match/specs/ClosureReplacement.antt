@@ -17,7 +17,7 @@ IsClosureErrorOrOutOfMemory answer (Closure e) = answer ≡ Err e
 
 -- `says` relates a match to the results that the closure may return for it.
 module _ {T E : Type 0} (says : Bor Match → Result T E → Type 0) where
-  -- The closure was called with a match equal to `m`, and returned this result.
+  -- The closure may return this result for a match equal to `m`.
   abbrev pub Answered : Answer → Result T E → Type 0
   Answered m result = (found : Bor Match) × (answer_of found.now ≡ m) × says found result
 

@@ -1,5 +1,5 @@
 -- Work bounds of patterns, and what a search within a work budget yields.
-use Rattle.std.specs.Prelude.{◌≡◌, ◌≤◌, ◌<◌, ◌+◌, ◌*◌, ℕ, List, [], ◌∷◌, Option, Some, None, Result, Ok, Err, if◌then◌else◌, nat_lt}
+use Rattle.std.specs.Prelude.{◌≡◌, ◌≤◌, ◌<◌, ◌+◌, ◌*◌, ◌⊎◌, ℕ, List, [], ◌∷◌, Option, Some, None, Result, Ok, Err, if◌then◌else◌, nat_lt}
 use Rattle.regex_meaning.specs.Laws.{Each}
 use Rattle.regex_meaning.specs.MatchGroupsByNumberAndName.{Answer, answers_from}
 use Rattle.regex_meaning.specs.Text.{Text}
@@ -14,6 +14,8 @@ use Rattle.regress_search.specs.declared.exec.work_matches.WorkError.TheVariants
 use Rattle.regress_program.specs.CompilationOfTreesAsFunction.{compiled}
 use Rattle.regress_bounded.specs.WorkBoundForAllMatches.{TreeHasWorkBound, program_size}
 pub use Rattle.regress_bounded.specs.WorkBoundForAllMatches.{YieldsMatchesIfWorkSuffices, enough_work_for_text}
+use Rattle.regress_bounded.specs.Unboundedness.{IsPlain, IsUnboundedBy}
+use Rattle.regress_bounded.specs.declared.work_bound.Unbounded.{Unbounded}
 use Rattle.regress_bounded.specs.declared.work_bound.WorkBound.{WorkBound}
 use Rattle.regress_match.specs.declared.api.regex.Regex.{Regex}
 use Rattle.regress_match.specs.SearchResults.{AllNone}
@@ -43,6 +45,17 @@ pub record AreBoundsOf (re : Regex) (bytes units : WorkBound) : Type 0 where
 -- The number is the higher of the bounds of the pattern's two programs.
 abbrev pub IsHigherOfProgramWorkBounds : Regex → ℕ → Type 0
 IsHigherOfProgramWorkBounds re per_unit = (bytes : WorkBound) × (units : WorkBound) × AreBoundsOf re bytes units × (per_unit ≡ higher_of bytes units)
+
+-- Neither tree of the pattern has a lookaround or a backreference.
+pub record IsPatternPlain (re : Regex) : Type 0 where
+  pub units : IsPlain (tree_for_16_bit_units re)
+  pub bytes : IsPlain (tree_for_byte_units re)
+
+-- When a pattern is refused with this reason: if its tree for 16-bit units, which is that of the
+-- pattern as it is written, is, or if that has a bound and the tree for bytes is refused.
+abbrev pub IsPatternUnboundedBy : Regex → Unbounded → Type 0
+IsPatternUnboundedBy re reason = IsUnboundedBy (tree_for_16_bit_units re) reason
+    ⊎ (IsPlain (tree_for_16_bit_units re) × IsUnboundedBy (tree_for_byte_units re) reason)
 
 -- A number that no bound of the pattern exceeds, by its two programs alone: 64 for each unit of the
 -- greater program's size, for each of the 64 codes that an instruction may have.

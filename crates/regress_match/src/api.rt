@@ -26,6 +26,7 @@ pub use self::searches_resumed_at_offsets::{Step, next_from};
 pub use self::work_budget_searches::{BoundedRegex, MatchesInWork};
 pub use regex_parser::diagnosis::{CaretDiagnosis, Cause, Diagnosis};
 pub use regex_parser::syntax::Syntax;
+pub use regress_bounded::work_bound::Unbounded;
 pub use regress_input::indexing::is_unit_boundary;
 pub use regress_search::exec::{Groups, Match, NamedGroups, SearchError, WorkError};
 pub use std::ops::Range;

@@ -31,7 +31,7 @@ use Rattle.regress_memo.specs.CheckedAnalysis.{HasDisjointCodes}
 use Rattle.regress_memo.specs.AnalysisChecks.{unlimited}
 use Rattle.regress_memo.specs.Successors.{AreInsnsOfProgram, successors_of_insn_if_any}
 use Rattle.regress_memo.specs.WorkBound.{LookIsBounded, InsnIsBounded, IsStepWorkBounded, insn_keys_cost_per_position, all_keys_cost_per_position}
-use Rattle.regress_memo.specs.WorkBound.{work_per_position, first_row}
+use Rattle.regress_memo.specs.WorkBound.{work_per_position, initial_threads}
 use Rattle.regress_memo.specs.WorkBound.{AnalysesBoundTotalWork}
 use Rattle.regress_memo.proofs.WholeLemmas.{ledgers-serve}
 
@@ -86,7 +86,7 @@ pub ledgers-bound : AnalysesBoundTotalWork
 ledgers-bound program t of text is_text bytes less at_first work stages =
     let plan = (ledgers-serve program t of text is_text bytes less).plan in
     let enough = budgets-enough program text (analysis_as_liveness t) (key_code_questions_of t) (insn_direction t) (recorded t) (plan_taken program) (key_cost_of t)
-    (potential_by program (potentials_of t) (key_cost_of t) (recorded t)) (first_row program) plan at_first (insn_analysis_of t 0).ready work
+    (potential_by program (potentials_of t) (key_cost_of t) (recorded t)) (initial_threads program) plan at_first (insn_analysis_of t 0).ready work
     (λ at. let x = one-weighs program (potentials_of t) (key_cost_of t) (recorded t) (tried (running (state_before_first_insn program at))) in omega (arith, x)) stages in
     let same = prices-of-all t of.coded in
     let number : enough_for_one at_first (insn_analysis_of t 0).ready (price_at_one (key_code_questions_of t) (recorded t) (key_cost_of t)) ≡ at_first + 1 + work_per_position t =

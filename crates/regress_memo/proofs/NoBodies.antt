@@ -17,7 +17,7 @@ use Rattle.regress_memo.specs.ThreadPotentials.{Potentials, potential_of, Covers
 use Rattle.regress_memo.proofs.Weights.{turns-weighed}
 use Rattle.regress_memo.specs.declared.analysis_result.MemoAnalysis.{MemoAnalysis}
 use Rattle.regress_memo.specs.declared.successors.Successors.{Successors}
-use Rattle.regress_memo.specs.declared.successors.Successors.TheVariants.{Ends, One, Two, Enter, Again, Run, LookaroundDirectionNegationAndContinuation, Same}
+use Rattle.regress_memo.specs.declared.successors.Successors.TheVariants.{Ends, One, Two, Enter, Again, Run, LookaroundSuccessor, Same}
 use Rattle.regress_memo.specs.UnreachedCharLoopBodies.{are_char_loop_successors, IsNotLoopBody, EntersPastBodies, FlowsPastBodies, CharLoopBodiesAreUnreached}
 use Rattle.regress_memo.specs.Successors.{AreInsnsOfProgram, successors_of_insn_if_any}
 use Rattle.regress_memo.specs.AnalysisChecks.{IsConsistentAt}
@@ -86,7 +86,7 @@ module _ (program : Program) where
     enough-by (Enter f) ip r h = two ip (ip + 1) f.exit h.0 h.1
     enough-by (Again begin) ip r h = repeated (slice_get program.insns begin) ip begin h
     enough-by (Run b) ip r h = tt
-    enough-by (LookaroundDirectionNegationAndContinuation l) ip r h = one ip l.past h.1
+    enough-by (LookaroundSuccessor l) ip r h = one ip l.past h.1
     enough-by Same ip r h = absurd r
 
     all-enough : IsAnalysisOf program t → ((ip : ℕ) → FlowsPastBodies program (successors_of_insn_if_any ip (slice_get program.insns ip)) ip)

@@ -26,7 +26,7 @@ use Rattle.regress_memo.proofs.Plans.{plans-take}
 use Rattle.regress_memo.proofs.Turns.{threads-tries, threads-joined, turns-right}
 use Rattle.regress_memo.specs.declared.analysis_result.MemoAnalysis.{MemoAnalysis}
 use Rattle.regress_memo.specs.UnreachedCharLoopBodies.{IsNotLoopBody}
-use Rattle.regress_memo.specs.WorkBound.{IsWorkBounded, first_row}
+use Rattle.regress_memo.specs.WorkBound.{IsWorkBounded, initial_threads}
 use Rattle.regress_memo.specs.AnalysisAsPotentials.{insn_analysis_of, analysis_as_liveness, key_code_questions_of, recorded, potentials_of}
 use Rattle.regress_memo.specs.AnalysisAsPotentials.{key_cost_of}
 use Rattle.regress_memo.specs.AnalysisAsPotentials.{insn_direction}

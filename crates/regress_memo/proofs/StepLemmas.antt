@@ -13,9 +13,9 @@ use Rattle.regress_memo.specs.GroupPreservingInsns.{IsSilentAt, IsSilentAgain}
 use Rattle.regress_memo.specs.ThreadPotentials.{Potentials, CoversOne, CoversTwo, CoversRepeat, CoversInsn}
 use Rattle.regress_memo.specs.declared.analysis_result.MemoAnalysis.{MemoAnalysis}
 use Rattle.regress_memo.specs.declared.analysis_result.LoopProgressFact.TheVariants.{Inside}
-use Rattle.regress_memo.specs.declared.successors.LookaroundDirectionNegationAndContinuation as look
+use Rattle.regress_memo.specs.declared.successors.LookaroundSuccessor as look
 use Rattle.regress_memo.specs.declared.successors.Successors.{Successors}
-use Rattle.regress_memo.specs.declared.successors.Successors.TheVariants.{Ends, One, Two, Enter, Again, Run, LookaroundDirectionNegationAndContinuation, Same}
+use Rattle.regress_memo.specs.declared.successors.Successors.TheVariants.{Ends, One, Two, Enter, Again, Run, LookaroundSuccessor, Same}
 use Rattle.regress_memo.specs.AnalysisAsPotentials.{insn_analysis_of, enclosing_loops_of, states_loop_fact, analysis_as_liveness, potentials_of}
 use Rattle.regress_memo.specs.AnalysisAsPotentials.{groups_stay_unchanged_from}
 use Rattle.regress_memo.specs.AnalysisAsPotentials.{insn_direction}
@@ -50,7 +50,7 @@ module _ (t : MemoAnalysis) (program : Program) where
     }
     repeated _ ip begin h = tt
 
-    looks : (l : look.LookaroundDirectionNegationAndContinuation) (ip : ℕ) → IsolatesLookaround t l ip → IsConsistentLookaround (analysis_as_liveness t) ip l.past
+    looks : (l : look.LookaroundSuccessor) (ip : ℕ) → IsolatesLookaround t l ip → IsConsistentLookaround (analysis_as_liveness t) ip l.past
     looks l ip h = record {
       on = h.on.account;
       start = λ id e. cc;
@@ -96,7 +96,7 @@ EnoughBy w program (Two other) ip = CoversTwo w ip (ip + 1) other
 EnoughBy w program (Enter f) ip = CoversTwo w ip (ip + 1) f.exit
 EnoughBy w program (Again begin) ip = CoversRepeat w (slice_get program.insns begin) ip begin
 EnoughBy w program (Run b) ip = Unit {0}
-EnoughBy w program (LookaroundDirectionNegationAndContinuation l) ip = CoversOne w ip l.past
+EnoughBy w program (LookaroundSuccessor l) ip = CoversOne w ip l.past
 EnoughBy w program Same ip = CoversOne w ip (ip + 1)
 
 module _ (w : Potentials) (program : Program) where
@@ -114,7 +114,7 @@ module _ (t : MemoAnalysis) (program : Program) where
   enough-by (Two other) ip h = h
   enough-by (Enter f) ip h = h
   enough-by (Again begin) ip h = h
-  enough-by (LookaroundDirectionNegationAndContinuation l) ip h = h
+  enough-by (LookaroundSuccessor l) ip h = h
   enough-by Same ip h = h
 
   pub enough-at : (x : Option Insn) (ip : ℕ) → IsCoveredAt t program (successors_of_insn_if_any ip x) ip → CoversInsn (potentials_of t) program x ip

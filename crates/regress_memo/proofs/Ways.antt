@@ -11,7 +11,7 @@ use Rattle.regress_memo.specs.ThreadPotentials.{Potentials, potential_of, Covers
 use Rattle.regress_memo.proofs.Weights.{turns-weighed}
 use Rattle.regress_memo.specs.declared.analysis_result.MemoAnalysis.{MemoAnalysis}
 use Rattle.regress_memo.specs.declared.successors.Successors.{Successors}
-use Rattle.regress_memo.specs.declared.successors.Successors.TheVariants.{Ends, One, Two, Enter, Again, Run, LookaroundDirectionNegationAndContinuation, Same}
+use Rattle.regress_memo.specs.declared.successors.Successors.TheVariants.{Ends, One, Two, Enter, Again, Run, LookaroundSuccessor, Same}
 use Rattle.regress_memo.specs.AnalysisAsPotentials.{insn_direction}
 use Rattle.regress_memo.specs.Successors.{successors_of_insn_if_any}
 use Rattle.regress_memo.specs.AnalysisChecks.{MayRepeatLoopAt, IsConsistentAt}
@@ -67,7 +67,7 @@ module _ (t : MemoAnalysis) (d : Direction) (program : Program) where
   enough-by (Enter f) ip h = two ip (ip + 1) f.exit h.again.way h.leave.way
   enough-by (Again begin) ip h = repeated (slice_get program.insns begin) ip begin h
   enough-by (Run b) ip h = tt
-  enough-by (LookaroundDirectionNegationAndContinuation l) ip h = one ip l.past h.on.way
+  enough-by (LookaroundSuccessor l) ip h = one ip l.past h.on.way
   enough-by Same ip h = absurd h
 
   all-enough : IsAnalysisOf program t → AreCovering (ways-weigh t d) program

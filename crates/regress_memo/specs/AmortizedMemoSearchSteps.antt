@@ -14,7 +14,7 @@ use Rattle.regress_memo.specs.AmortizedStepCosts.{potential_by}
 use Rattle.regress_memo.specs.MemoSearch.{Key, Entry, tried, noted, tries, threads_in, ReachesBySteps}
 use Rattle.regress_memo.specs.declared.analysis_result.MemoAnalysis.{MemoAnalysis}
 use Rattle.regress_memo.specs.UnreachedCharLoopBodies.{IsNotLoopBody}
-use Rattle.regress_memo.specs.WorkBound.{IsWorkBounded, first_row}
+use Rattle.regress_memo.specs.WorkBound.{IsWorkBounded, initial_threads}
 use Rattle.regress_memo.specs.AnalysisAsPotentials.{analysis_as_liveness, recorded, potentials_of, key_cost_of, insn_direction}
 use Rattle.regress_memo.specs.CheckedAnalysis.{IsAnalysisOf}
 use Rattle.regress_memo.specs.Laws.{analysis_keys, KeyFails}
@@ -68,7 +68,7 @@ pub record WorkIsCoveredByKeyCosts : Type 0 where
   pub begins : (program : Program) (t : MemoAnalysis) → IsAnalysisOf program t
       → (text : Text) → HasRisingPlaceOffsets text → ReadsAsBytes program text → units text < 2 ^ 63
       → (at : ℕ) → at ≤ units text → (memory : List Key)
-      → HasCome program text t rightwards memory (tries (first_row program at)) 0 memory (tries (first_row program at))
+      → HasCome program text t rightwards memory (tries (initial_threads program at)) 0 memory (tries (initial_threads program at))
   pub comes_on : (program : Program) (t : MemoAnalysis) → IsAnalysisOf program t → IsWorkBounded t program
       → (text : Text) → HasRisingPlaceOffsets text → ReadsAsBytes program text → units text < 2 ^ 63
       → (d : Direction) (memory : List Key) (first : List Entry) (work : ℕ) (now : List Key) (rest : List Entry)

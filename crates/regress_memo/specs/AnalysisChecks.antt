@@ -13,8 +13,8 @@ use Rattle.regress_memo.specs.declared.analysis_result.EnclosingLoop.{EnclosingL
 use Rattle.regress_memo.specs.declared.analysis_result.MemoAnalysis.{MemoAnalysis}
 use Rattle.regress_memo.specs.declared.analysis_result.LoopProgressFact.TheVariants.{Inside, Moved}
 use Rattle.regress_memo.specs.declared.successors.Successors.{Successors}
-use Rattle.regress_memo.specs.declared.successors.Successors.TheVariants.{Ends, One, Two, Enter, Again, Run, LookaroundDirectionNegationAndContinuation, Same}
-use Rattle.regress_memo.specs.declared.successors.LookaroundDirectionNegationAndContinuation as look
+use Rattle.regress_memo.specs.declared.successors.Successors.TheVariants.{Ends, One, Two, Enter, Again, Run, LookaroundSuccessor, Same}
+use Rattle.regress_memo.specs.declared.successors.LookaroundSuccessor as look
 use Rattle.regress_memo.specs.declared.successors.CharLoopMinMaxAndGreed as bounds
 use Rattle.regress_memo.specs.AnalysisAsPotentials.{insn_analysis_of, enclosing_loops_of, states_loop_fact}
 use Rattle.regress_memo.specs.AnalysisAsPotentials.{knows_iteration_reads}
@@ -95,7 +95,7 @@ module _ (t : MemoAnalysis) where
 
   -- The contents of a lookaround are isolated: they are in no loop around it and write none of
   -- them, and those of a positive lookaround leave groups unchanged.
-  pub record IsolatesLookaround (l : look.LookaroundDirectionNegationAndContinuation) (ip : ℕ) : Type 0 where
+  pub record IsolatesLookaround (l : look.LookaroundSuccessor) (ip : ℕ) : Type 0 where
     pub on : IsConsistentFlow false None ip l.past
     pub apart : enclosing_loops_of t (ip + 1) ≡ []
     pub left : LoopsAreBefore l.past (insn_analysis_of t (ip + 1)).from
@@ -153,7 +153,7 @@ module _ (t : MemoAnalysis) where
     IsConsistentAt (Enter f) ip = MayBeginIteration (loop_fields_as_spec f) ip ip
     IsConsistentAt (Again begin) ip = MayRepeatLoopAt (slice_get program.insns begin) ip begin
     IsConsistentAt (Run b) ip = IsConsistentFlow (nat_lt 0 b.least) None ip (ip + 2)
-    IsConsistentAt (LookaroundDirectionNegationAndContinuation l) ip = IsolatesLookaround l ip
+    IsConsistentAt (LookaroundSuccessor l) ip = IsolatesLookaround l ip
     IsConsistentAt Same ip = ⊥
 
     -- The potential covers the successors of an instruction.
@@ -164,7 +164,7 @@ module _ (t : MemoAnalysis) where
     IsCoveredAt (Enter f) ip = CoversTwo (potentials_of t) ip (ip + 1) f.exit
     IsCoveredAt (Again begin) ip = CoversRepeat (potentials_of t) (slice_get program.insns begin) ip begin
     IsCoveredAt (Run b) ip = IsCharLoopChecked program b ip
-    IsCoveredAt (LookaroundDirectionNegationAndContinuation l) ip = CoversOne (potentials_of t) ip l.past
+    IsCoveredAt (LookaroundSuccessor l) ip = CoversOne (potentials_of t) ip l.past
     IsCoveredAt Same ip = CoversOne (potentials_of t) ip (ip + 1)
 
     -- All checks of an instruction succeed.

@@ -6,7 +6,7 @@ use Rattle.regex_meaning.specs.CompilationRelation.{BeginCaptureGroup, EndCaptur
 use Rattle.regress_program.specs.InsnsAsSpecInsns.{insn_as_spec_insn}
 use Rattle.regress_program.specs.declared.instructions.Insn as declared
 use Rattle.regress_memo.specs.declared.successors.Successors.{Successors}
-use Rattle.regress_memo.specs.declared.successors.Successors.TheVariants.{Ends, One, Two, Enter, Again, Run, LookaroundDirectionNegationAndContinuation, Same}
+use Rattle.regress_memo.specs.declared.successors.Successors.TheVariants.{Ends, One, Two, Enter, Again, Run, LookaroundSuccessor, Same}
 
 -- The program has these instructions.
 abbrev pub AreInsnsOfProgram : Program → List declared.Insn → Type 0
@@ -40,9 +40,9 @@ successors_of ip (BeginCaptureGroup id) = fall_through ip false false
 successors_of ip (EndCaptureGroup id) = fall_through ip false false
 successors_of ip (BackRef group sameness) = Same
 successors_of ip (Lookahead negate start_group end_group continuation) =
-    LookaroundDirectionNegationAndContinuation (record { forward = true; negate = negate; past = continuation })
+    LookaroundSuccessor (record { forward = true; negate = negate; past = continuation })
 successors_of ip (Lookbehind negate start_group end_group continuation) =
-    LookaroundDirectionNegationAndContinuation (record { forward = false; negate = negate; past = continuation })
+    LookaroundSuccessor (record { forward = false; negate = negate; past = continuation })
 successors_of ip _ = fall_through ip false true
 
 -- The instruction has no bytes and is neither an end nor a jump, an alternation or a loop.

@@ -7,7 +7,7 @@ use Rattle.regress_machine.specs.Machine.{State, Thread, goes, act}
 use Rattle.regress_memo.specs.UnboundedCharLoopMemoKeys.{char_loop_greediness_at, insn_before}
 use Rattle.regress_memo.specs.declared.analysis_result.MemoAnalysis.{MemoAnalysis}
 use Rattle.regress_memo.specs.declared.successors.Successors.{Successors}
-use Rattle.regress_memo.specs.declared.successors.Successors.TheVariants.{Ends, One, Two, Enter, Again, Run, LookaroundDirectionNegationAndContinuation, Same}
+use Rattle.regress_memo.specs.declared.successors.Successors.TheVariants.{Ends, One, Two, Enter, Again, Run, LookaroundSuccessor, Same}
 use Rattle.regress_memo.specs.Successors.{successors_of_insn_if_any}
 use Rattle.regress_memo.specs.CheckedAnalysis.{IsAnalysisOf, ip_of}
 
@@ -37,7 +37,7 @@ module _ (program : Program) where
   FlowsPastBodies (Enter f) ip = IsNotLoopBody (ip + 1) × IsNotLoopBody f.exit
   FlowsPastBodies (Again begin) ip = EntersPastBodies (slice_get program.insns begin) begin
   FlowsPastBodies (Run b) ip = IsNotLoopBody (ip + 2)
-  FlowsPastBodies (LookaroundDirectionNegationAndContinuation l) ip = IsNotLoopBody (ip + 1) × IsNotLoopBody l.past
+  FlowsPastBodies (LookaroundSuccessor l) ip = IsNotLoopBody (ip + 1) × IsNotLoopBody l.past
   FlowsPastBodies Same ip = Unit {0}
 
 -- ---- Laws

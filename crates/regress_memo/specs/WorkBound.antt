@@ -14,7 +14,7 @@ use Rattle.regress_memo.specs.MemoPlanChecksAndGuarantees.{plan_taken}
 use Rattle.regress_memo.specs.declared.analysis_result.MemoAnalysis.{MemoAnalysis}
 use Rattle.regress_memo.specs.declared.analysis_result.InsnAnalysis.{InsnAnalysis}
 use Rattle.regress_memo.specs.declared.successors.Successors.{Successors}
-use Rattle.regress_memo.specs.declared.successors.Successors.TheVariants.{Run as AsRun, LookaroundDirectionNegationAndContinuation as AsLook}
+use Rattle.regress_memo.specs.declared.successors.Successors.TheVariants.{Run as AsRun, LookaroundSuccessor as AsLook}
 use Rattle.regress_memo.specs.UnreachedCharLoopBodies.{FlowsPastBodies}
 use Rattle.regress_memo.specs.AnalysisChecks.{unlimited}
 use Rattle.regress_memo.specs.AnalysisAsPotentials.{insn_analysis_of, analysis_as_liveness, key_code_questions_of, recorded, potentials_of}
@@ -68,8 +68,8 @@ module _ (t : MemoAnalysis) where
 -- ---- Laws
 
 -- The threads with which an attempt begins at an offset.
-abbrev pub first_row : Program → ℕ → List Thread
-first_row program at = running (state_before_first_insn program at) ∷ []
+abbrev pub initial_threads : Program → ℕ → List Thread
+initial_threads program at = running (state_before_first_insn program at) ∷ []
 
 -- Searches covered by an analysis, in two stages, do no more work per position than it states, plus
 -- the work allowed at first and one more step.
@@ -77,5 +77,5 @@ abbrev pub AnalysesBoundTotalWork : Type 0
 AnalysesBoundTotalWork = (program : Program) (t : MemoAnalysis) → IsAnalysisOf program t
     → (text : Text) → HasRisingPlaceOffsets text → ReadsAsBytes program text → units text < 2 ^ 63 → (at_first work : ℕ)
     → AreInTwoStages program text (analysis_as_liveness t) (key_code_questions_of t) (insn_direction t) (recorded t) (plan_taken program) (key_cost_of t)
-    (potential_by program (potentials_of t) (key_cost_of t) (recorded t)) (first_row program) at_first work
+    (potential_by program (potentials_of t) (key_cost_of t) (recorded t)) (initial_threads program) at_first work
     → work ≤ (at_first + 1 + work_per_position t) * (units text + 1)

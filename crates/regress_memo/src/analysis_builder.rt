@@ -25,7 +25,7 @@ const DEEPEST: usize = 64;
 enum EnclosingLoopOrLookaround {
     Loop(LoopID),
     /// The analysis of the first instruction of the lookaround's contents.
-    LookaroundDirectionNegationAndContinuation(InsnAnalysis),
+    LookaroundSuccessor(InsnAnalysis),
 }
 
 /// An open scope, which ends at instruction `end`.
@@ -102,15 +102,13 @@ impl MemoAnalysis {
                         end: fields.exit as usize,
                     })?;
                 }
-                Successors::LookaroundDirectionNegationAndContinuation(look) => {
+                Successors::LookaroundSuccessor(look) => {
                     let mut line = self.insn_analysis_at(ip);
                     line.from = from;
                     line.forward = look.forward;
                     line.silent |= !look.negate;
                     levels.push(EnclosingScopeWithEnd {
-                        open: EnclosingLoopOrLookaround::LookaroundDirectionNegationAndContinuation(
-                            line,
-                        ),
+                        open: EnclosingLoopOrLookaround::LookaroundSuccessor(line),
                         end: look.past,
                     })?;
                 }
@@ -136,11 +134,10 @@ impl MemoAnalysis {
                         moved: true,
                         empty: false,
                     })?,
-                    EnclosingLoopOrLookaround::LookaroundDirectionNegationAndContinuation(inner) =>
-                        {
-                            self.rows.truncate(first);
-                            line = inner;
-                        }
+                    EnclosingLoopOrLookaround::LookaroundSuccessor(inner) => {
+                        self.rows.truncate(first);
+                        line = inner;
+                    }
                 }
             }
         }

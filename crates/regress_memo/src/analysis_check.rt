@@ -16,10 +16,7 @@ ghost use Rattle.regress_memo.specs.CheckedAnalysis.{IsAnalysisOf, HasDisjointCo
 
 use crate::analysis_result::{EnclosingLoop, InsnAnalysis, LoopProgressFact, MemoAnalysis};
 use crate::flow_edges::{FlowEdge, edge_enters_loop};
-use crate::successors::{
-    LookaroundDirectionNegationAndContinuation, SingleSuccessorReadAndCaptureEffects, Successors,
-    successors_at,
-};
+use crate::successors::{LookaroundSuccessor, PlainSuccessor, Successors, successors_at};
 use regex_pattern_front::types::LoopID;
 use regress_program::instructions::{Insn, LoopFields};
 
@@ -90,17 +87,13 @@ impl MemoAnalysis {
                 reads: bounds.least > 0,
                 entered: None,
             }),
-            Successors::LookaroundDirectionNegationAndContinuation(look) => self.looks_on(look, ip),
+            Successors::LookaroundSuccessor(look) => self.looks_on(look, ip),
             Successors::Same => false,
         }
     }
 
     // Checks consistency with the only successor.
-    fn agrees_with_only_successor(
-        &self,
-        ip: usize,
-        next: SingleSuccessorReadAndCaptureEffects,
-    ) -> bool
+    fn agrees_with_only_successor(&self, ip: usize, next: PlainSuccessor) -> bool
         ensures next { result ≡ true → IsConsistentFlow self.now next.reads None ip next.to }
         ensures silent { result ≡ true → groups_stay_unchanged_from self.now ip ≡ true → next.silent ≡ true }
     {
@@ -249,7 +242,7 @@ impl MemoAnalysis {
     // ---- Lookarounds
 
     // Checks that the contents of a lookaround are isolated from the code around it.
-    fn looks_on(&self, look: LookaroundDirectionNegationAndContinuation, ip: usize) -> bool
+    fn looks_on(&self, look: LookaroundSuccessor, ip: usize) -> bool
         requires { ip + 1 < 2 ^ 64 }
         ensures { result ≡ true → IsolatesLookaround self.now look ip }
     {

@@ -28,9 +28,7 @@ impl MemoAnalysis {
             Successors::Enter(fields) => self.has_two(ip, ip + 1, fields.exit as usize),
             Successors::Again(begin) => self.has_repeated(insns, ip, begin),
             Successors::Run(bounds) => self.run_is_written(bounds, ip),
-            Successors::LookaroundDirectionNegationAndContinuation(look) => self.has_one(
-                ip, look.past,
-            ),
+            Successors::LookaroundSuccessor(look) => self.has_one(ip, look.past),
             Successors::Same => self.has_one(ip, ip + 1),
         }
     }

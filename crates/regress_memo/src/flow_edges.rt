@@ -40,10 +40,7 @@ pub(crate) fn edges_past_lookarounds(insns: &[Insn], ip: usize) -> [Option<FlowE
             _ => [None, None],
         },
         Successors::Run(bounds) => [plain(ip, ip + 2, bounds.least > 0), None],
-        Successors::LookaroundDirectionNegationAndContinuation(look) => [
-            plain(ip, look.past, false),
-            None,
-        ],
+        Successors::LookaroundSuccessor(look) => [plain(ip, look.past, false), None],
     }
 }
 

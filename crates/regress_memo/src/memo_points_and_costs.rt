@@ -28,9 +28,10 @@ impl MemoAnalysis {
                 Successors::Run(bounds) if bounds.most == usize::MAX => self.mark_as_recording(
                     ip + 1,
                 ),
-                Successors::LookaroundDirectionNegationAndContinuation(look) if merges =>
-                    count_flow_edge(&mut ways, look.past),
-                Successors::Ends | Successors::LookaroundDirectionNegationAndContinuation(_) => {}
+                Successors::LookaroundSuccessor(look) if merges => count_flow_edge(
+                    &mut ways, look.past,
+                ),
+                Successors::Ends | Successors::LookaroundSuccessor(_) => {}
                 _ if merges => self.mark_as_recording(ip),
                 _ => {}
             }
@@ -98,8 +99,7 @@ impl MemoAnalysis {
                 }
                 None => 0,
             },
-            Successors::LookaroundDirectionNegationAndContinuation(look) => self.ready(ip + 1)
-                + self.ready(look.past),
+            Successors::LookaroundSuccessor(look) => self.ready(ip + 1) + self.ready(look.past),
             _ => match edges_past_lookarounds(insns, ip) {
                 [Some(next), Some(other)] => self.ready_for_two(next.to, other.to),
                 [Some(next), None] => self.ready(next.to),

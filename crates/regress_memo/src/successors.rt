@@ -9,7 +9,7 @@ use regress_program::instructions::{Insn, LoopFields};
 /// A single successor; whether the instruction reads a character, and whether it leaves groups
 /// unchanged.
 #[derive(Clone, Copy)]
-pub struct SingleSuccessorReadAndCaptureEffects {
+pub struct PlainSuccessor {
     pub to: usize,
     pub reads: bool,
     pub silent: bool,
@@ -25,7 +25,7 @@ pub struct CharLoopMinMaxAndGreed {
 
 /// A lookaround: its direction, whether it is negative, and the instruction after it.
 #[derive(Clone, Copy)]
-pub struct LookaroundDirectionNegationAndContinuation {
+pub struct LookaroundSuccessor {
     pub forward: bool,
     pub negate: bool,
     pub past: usize,
@@ -37,7 +37,7 @@ pub enum Successors {
     /// No successor.
     Ends,
     /// One successor.
-    One(SingleSuccessorReadAndCaptureEffects),
+    One(PlainSuccessor),
     /// The next instruction or this one.
     Two(usize),
     /// The instruction after this loop head, or the loop's exit.
@@ -47,7 +47,7 @@ pub enum Successors {
     /// The instruction after a char loop.
     Run(CharLoopMinMaxAndGreed),
     /// The instruction after a lookaround, whose contents follow directly.
-    LookaroundDirectionNegationAndContinuation(LookaroundDirectionNegationAndContinuation),
+    LookaroundSuccessor(LookaroundSuccessor),
     /// The instruction after a backreference.
     Same,
 }
@@ -82,7 +82,7 @@ fn other_step(insn: &Insn, ip: usize) -> Successors
     match insn {
         Insn::Goal | Insn::JustFail => Successors::Ends,
         Insn::Alt { secondary } => Successors::Two(*secondary as usize),
-        Insn::Jump { target } => Successors::One(SingleSuccessorReadAndCaptureEffects {
+        Insn::Jump { target } => Successors::One(PlainSuccessor {
             to: *target as usize,
             reads: false,
             silent: true,
@@ -133,23 +133,21 @@ fn plain_step(insn: &Insn, ip: usize) -> Successors
 }
 
 fn around(forward: bool, negate: bool, continuation: u32) -> Successors
-    ensures { result ≡ Successors.LookaroundDirectionNegationAndContinuation
+    ensures { result ≡ Successors.LookaroundSuccessor
         (record { forward = forward; negate = negate; past = continuation }) }
 {
-    Successors::LookaroundDirectionNegationAndContinuation(
-        LookaroundDirectionNegationAndContinuation {
-            forward,
-            negate,
-            past: continuation as usize,
-        },
-    )
+    Successors::LookaroundSuccessor(LookaroundSuccessor {
+        forward,
+        negate,
+        past: continuation as usize,
+    })
 }
 
 fn to_next(ip: usize, reads: bool, silent: bool) -> Successors
     requires { ip + 2 < 2 ^ 64 }
     ensures { result ≡ next_at ip reads silent }
 {
-    Successors::One(SingleSuccessorReadAndCaptureEffects {
+    Successors::One(PlainSuccessor {
         to: ip + 1,
         reads,
         silent,

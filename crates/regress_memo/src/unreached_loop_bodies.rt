@@ -34,11 +34,7 @@ fn leads_past(insns: &[Insn], ip: usize) -> bool
         Successors::Enter(fields) => are_no_bodies(insns, ip + 1, fields.exit as usize),
         Successors::Again(begin) => enters_past(insns, begin),
         Successors::Run(_) => is_no_body(insns, ip + 2),
-        Successors::LookaroundDirectionNegationAndContinuation(look) => are_no_bodies(
-            insns,
-            ip + 1,
-            look.past,
-        ),
+        Successors::LookaroundSuccessor(look) => are_no_bodies(insns, ip + 1, look.past),
     }
 }
 
@@ -78,8 +74,6 @@ fn runs(step: Successors) -> bool
     match step {
         Successors::Run(_) => true,
         Successors::Ends | Successors::One(_) | Successors::Two(_) | Successors::Enter(_) => false,
-        Successors::Again(_)
-        | Successors::LookaroundDirectionNegationAndContinuation(_)
-        | Successors::Same => false,
+        Successors::Again(_) | Successors::LookaroundSuccessor(_) | Successors::Same => false,
     }
 }

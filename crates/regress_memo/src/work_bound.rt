@@ -8,7 +8,7 @@ ghost use Rattle.regress_memo.specs.AnalysisAsPotentials.{insn_analysis_of};
 ghost use Rattle.regress_memo.specs.Successors.{AreInsnsOfProgram, successors_of_insn_if_any};
 
 use crate::analysis_result::{InsnAnalysis, MemoAnalysis};
-use crate::successors::{LookaroundDirectionNegationAndContinuation, Successors, successors_at};
+use crate::successors::{LookaroundSuccessor, Successors, successors_at};
 use crate::unreached_loop_bodies::no_char_loop_body_is_reached;
 use regress_program::instructions::Insn;
 
@@ -77,9 +77,8 @@ impl MemoAnalysis {
             (successors_of_insn_if_any ip (slice_get (map insn_as_spec_insn insns.now) ip)) ip }
     {
         match successors_at(insns, ip) {
-            Successors::LookaroundDirectionNegationAndContinuation(look) => self.has_both(
-                ip, look.past,
-            ) && !self.records_within(look, ip),
+            Successors::LookaroundSuccessor(look) => self.has_both(ip, look.past)
+                && !self.records_within(look, ip),
             Successors::Run(bounds) => {
                 bounds.greedy || bounds.most != usize::MAX || self.insn_analysis_at(ip).forward
             }
@@ -99,7 +98,7 @@ impl MemoAnalysis {
     }
 
     // Checks whether a lookaround or an instruction of its contents records.
-    fn records_within(&self, look: LookaroundDirectionNegationAndContinuation, ip: usize) -> bool
+    fn records_within(&self, look: LookaroundSuccessor, ip: usize) -> bool
         ensures { result ≡ false → (inner : ℕ) → ip ≤ inner → inner < look.past
             → (insn_analysis_of self.now inner).records ≡ false }
     {

@@ -26,9 +26,9 @@ use Rattle.regress_program.specs.TableKeysOfUnits.{key, is_16_bit_encoding, is_r
 use Rattle.regress_program.specs.Plans.{IsClass, IsOpOf, reads_class_char, span_bytes, IsCharLoopOf, HasCountedLoop}
 use Rattle.regress_program.specs.PrefixesAndPrefilters.{PrefixAt}
 use Rattle.regress_program.specs.RequiredPrefixAnalysis.{allows_only_key, units_allowed_by_first_set, AreOpsOfProgram, FollowsFromSuccessors}
-use Rattle.regress_program.specs.LeapCertificates.{AcceptsOver, ReadsBytesOver, RepeatsLoop, LeadsOn, CertifiesLeap}
+use Rattle.regress_program.specs.LeapCertificates.{AcceptsOver, ReadsBytesOver, RepeatsLoop, InsnReachesGoal, CertifiesLeap}
 use Rattle.regress_program.specs.Leaps.{is_goal_key, is_passed_key, leap_to_goal, AreHighKeysAlike}
-use Rattle.regress_program.specs.LeapOps.{AreGoals, PassesUnits, PassesReadLengths, PassesClass, ArrivesAtGoal, LoopLeads, OpLeads, AllLead}
+use Rattle.regress_program.specs.LeapOps.{AreGoals, PassesUnits, PassesReadLengths, PassesClass, ArrivesAtGoal, LoopLeads, OpReachesGoal, AllLead}
 use Rattle.regress_program.proofs.KeyLemmas.{key_of_first, first-key-at, first-key-below, key-low}
 use Rattle.regress_program.proofs.ClosingLemmas.{told-some}
 use Rattle.regress_program.proofs.RowLemmas.{get-below}
@@ -210,7 +210,7 @@ module _ (e : Encoding) (wide : Bool) (is_wide : is_16_bit_encoding e ≡ wide) 
   over = is_passed_key leap
 
   abbrev Leads : Insn → (ip : ℕ) → Type 0
-  Leads insn ip = LeadsOn e (key wide) program over way (Some insn) ip
+  Leads insn ip = InsnReachesGoal e (key wide) program over way (Some insn) ip
 
   abbrev Accepts : Option (ℕ → Bool) → Type 0
   Accepts o = AcceptsOver e (key wide) program over way o
@@ -285,7 +285,7 @@ module _ (e : Encoding) (wide : Bool) (is_wide : is_16_bit_encoding e ≡ wide) 
   edges true invert ip h = h
   edges false invert ip h = h
 
-  op-leads : (o : Op) (ip : ℕ) (insn : Insn) → IsOpOf program plan o ip insn → OpLeads wide plan leap way o ip → Leads insn ip
+  op-leads : (o : Op) (ip : ℕ) (insn : Insn) → IsOpOf program plan o ip insn → OpReachesGoal wide plan leap way o ip → Leads insn ip
   op-leads op.Goal ip insn is h = absurd h
   op-leads op.Fail ip insn is h = as_form insn layout.JustFail ip is tt
   op-leads (op.UnitChar c) ip insn is h = as_form insn (layout.Char c) ip is (char c ip h.0 h.1)
@@ -321,7 +321,7 @@ pub certified : (wide : Bool) (program : Program) (plan : Plan) (leap : Leap) (w
 certified wide program plan leap way ops alike first all = record { first = first; lead = λ ip member. by ip member (slice_get plan.ops.items ip) refl }
   where
     past : (ip : ℕ) → slice_get plan.ops.items ip ≡ None → (insn : Option Insn) → slice_get program.insns ip ≡ insn → (e : Encoding)
-        → LeadsOn e (key wide) program (is_passed_key leap) way insn ip
+        → InsnReachesGoal e (key wide) program (is_passed_key leap) way insn ip
     past ip none None at e = tt
     past ip none (Some insn) at e =
         let same = ops.as_many in
@@ -331,13 +331,13 @@ certified wide program plan leap way ops alike first all = record { first = firs
 
     by : (ip : ℕ) → way ip ≡ true → (o : Option Op) → slice_get plan.ops.items ip ≡ o
         → PrefixAt wide program ip 1 (λ ahead. (leap_to_goal leap).goal)
-        ⊎ ((e : Encoding) → is_16_bit_encoding e ≡ wide → LeadsOn e (key wide) program (is_passed_key leap) way (slice_get program.insns ip) ip)
+        ⊎ ((e : Encoding) → is_16_bit_encoding e ≡ wide → InsnReachesGoal e (key wide) program (is_passed_key leap) way (slice_get program.insns ip) ip)
     by ip member None at = inr (λ e w. past ip at (slice_get program.insns ip) refl e)
     by ip member (Some o) at = elim (all ip o at member) [
       | inl arrives ↦ inl (arrives wide program ops)
       | inr leads ↦
           let i = insn-of plan program ops o ip at in
           inr (λ e w.
-          let P : Option Insn → Type 0 = λ x. LeadsOn e (key wide) program (is_passed_key leap) way x ip in
+          let P : Option Insn → Type 0 = λ x. InsnReachesGoal e (key wide) program (is_passed_key leap) way x ip in
           subst P (sym i.1) (op-leads e wide w program plan leap way ops alike o ip i.0 i.2 leads))
     ]

@@ -36,7 +36,7 @@ use Rattle.regress_program.specs.PrefixesAndPrefilters.{PrefixAt}
 use Rattle.regress_program.specs.TableKeysOfUnits.{key, is_16_bit_encoding}
 use Rattle.regress_program.specs.LeapsToGoals.{LeapToGoal, may_read_before_goal, goal_occurs_at, ReachesGoalAt, ReachesNoGoal, GoalIsAbsentBetween, GoalIsAbsentFrom}
 use Rattle.regress_program.specs.LeapsToGoals.{HasBarrierBetween, IsSoundLeap}
-use Rattle.regress_program.specs.LeapCertificates.{AcceptsOver, ReadsBytesOver, RepeatsLoop, LooksAhead, LeadsOn, CertifiesLeap}
+use Rattle.regress_program.specs.LeapCertificates.{AcceptsOver, ReadsBytesOver, RepeatsLoop, LooksAhead, InsnReachesGoal, CertifiesLeap}
 use Rattle.regress_program.proofs.LeapUnits.{place-behind, char-over, run-to, bytes-over}
 
 -- ---- One turn
@@ -223,7 +223,7 @@ module _ (e : Encoding) (program : Program) (text : Text) (has : HasUnitsForTabl
 
     -- ---- Every instruction
 
-    leads-nowhere : (i : Option Insn) → slice_get program.insns s.ip ≡ i → LeadsOn e k program leap.over way i s.ip → Gone
+    leads-nowhere : (i : Option Insn) → slice_get program.insns s.ip ≡ i → InsnReachesGoal e k program leap.over way i s.ip → Gone
     leads-nowhere None is leads = moves None is tt
     leads-nowhere (Some Goal) is leads = absurd leads
     leads-nowhere (Some JustFail) is leads = stays (Some JustFail) is refl

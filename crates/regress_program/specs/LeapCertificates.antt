@@ -52,34 +52,34 @@ module _ (e : Encoding) (key : ℕ → ℕ) (program : Program) (over way : ℕ 
 
   -- The instruction leads only to members, and reads only units with keys in `over`. The successor
   -- of the remaining instructions is the next one.
-  abbrev pub LeadsOn : Option Insn → (ip : ℕ) → Type 0
-  LeadsOn None ip = Unit {0}
-  LeadsOn (Some Goal) ip = ⊥
-  LeadsOn (Some JustFail) ip = Unit {0}
-  LeadsOn (Some (Char c)) ip = ReadsOver (Char c) ip
-  LeadsOn (Some (CharSet members)) ip = ReadsOver (CharSet members) ip
-  LeadsOn (Some (ByteSet members)) ip = ReadsOver (ByteSet members) ip
-  LeadsOn (Some (ByteSeq bytes)) ip = ReadsBytesOver e bytes ip
-  LeadsOn (Some (AsciiBracket members)) ip = ReadsOver (AsciiBracket members) ip
-  LeadsOn (Some (Bracket index)) ip = ReadsOver (Bracket index) ip
-  LeadsOn (Some MatchAny) ip = ReadsOver MatchAny ip
-  LeadsOn (Some MatchAnyExceptLineTerminator) ip = ReadsOver MatchAnyExceptLineTerminator ip
-  LeadsOn (Some (Alt secondary)) ip = (way (ip + 1) ≡ true) × (way secondary ≡ true)
-  LeadsOn (Some (Jump target)) ip = way target ≡ true
-  LeadsOn (Some (EnterLoop f)) ip = EntersLoop f ip
-  LeadsOn (Some (LoopAgain begin)) ip = RepeatsLoop (slice_get program.insns begin) begin
-  LeadsOn (Some (Loop1CharBody min_iters max_iters greedy)) ip = LoopsOver ip
-  LeadsOn (Some (BackRef group sameness)) ip = ⊥
-  LeadsOn (Some (Lookahead negate start_group end_group continuation)) ip = LooksAhead negate ip continuation
-  LeadsOn (Some (Lookbehind negate start_group end_group continuation)) ip = way continuation ≡ true
-  LeadsOn (Some _) ip = way (ip + 1) ≡ true
+  abbrev pub InsnReachesGoal : Option Insn → (ip : ℕ) → Type 0
+  InsnReachesGoal None ip = Unit {0}
+  InsnReachesGoal (Some Goal) ip = ⊥
+  InsnReachesGoal (Some JustFail) ip = Unit {0}
+  InsnReachesGoal (Some (Char c)) ip = ReadsOver (Char c) ip
+  InsnReachesGoal (Some (CharSet members)) ip = ReadsOver (CharSet members) ip
+  InsnReachesGoal (Some (ByteSet members)) ip = ReadsOver (ByteSet members) ip
+  InsnReachesGoal (Some (ByteSeq bytes)) ip = ReadsBytesOver e bytes ip
+  InsnReachesGoal (Some (AsciiBracket members)) ip = ReadsOver (AsciiBracket members) ip
+  InsnReachesGoal (Some (Bracket index)) ip = ReadsOver (Bracket index) ip
+  InsnReachesGoal (Some MatchAny) ip = ReadsOver MatchAny ip
+  InsnReachesGoal (Some MatchAnyExceptLineTerminator) ip = ReadsOver MatchAnyExceptLineTerminator ip
+  InsnReachesGoal (Some (Alt secondary)) ip = (way (ip + 1) ≡ true) × (way secondary ≡ true)
+  InsnReachesGoal (Some (Jump target)) ip = way target ≡ true
+  InsnReachesGoal (Some (EnterLoop f)) ip = EntersLoop f ip
+  InsnReachesGoal (Some (LoopAgain begin)) ip = RepeatsLoop (slice_get program.insns begin) begin
+  InsnReachesGoal (Some (Loop1CharBody min_iters max_iters greedy)) ip = LoopsOver ip
+  InsnReachesGoal (Some (BackRef group sameness)) ip = ⊥
+  InsnReachesGoal (Some (Lookahead negate start_group end_group continuation)) ip = LooksAhead negate ip continuation
+  InsnReachesGoal (Some (Lookbehind negate start_group end_group continuation)) ip = way continuation ≡ true
+  InsnReachesGoal (Some _) ip = way (ip + 1) ≡ true
 
 module _ (wide : Bool) (program : Program) (leap : LeapToGoal) (way : ℕ → Bool) where
   -- Each member requires the goal, or leads only to members.
   abbrev pub MembersLeadToGoal : Type 0
   MembersLeadToGoal = (ip : ℕ) → way ip ≡ true
       → PrefixAt wide program ip 1 (λ ahead. leap.goal)
-      ⊎ ((e : Encoding) → is_16_bit_encoding e ≡ wide → LeadsOn e (key wide) program leap.over way (slice_get program.insns ip) ip)
+      ⊎ ((e : Encoding) → is_16_bit_encoding e ≡ wide → InsnReachesGoal e (key wide) program leap.over way (slice_get program.insns ip) ip)
 
   -- The instructions certify the leap.
   pub record CertifiesLeap : Type 0 where

@@ -57,30 +57,30 @@ LookaroundLeads way l ip = (way l.past ≡ true) ⊎ ((l.forward ≡ true) × (l
 
 module _ (wide : Bool) (plan : Plan) (leap : Leap) (way : ℕ → Bool) where
   -- The operation reads only units that may be passed, and leads only to operations on the way.
-  abbrev pub OpLeads : Op → (ip : ℕ) → Type 0
-  OpLeads Goal ip = ⊥
-  OpLeads Fail ip = ⊤
-  OpLeads (UnitChar c) ip = (is_passed_key leap (min c 128) ≡ true) × (way (ip + 1) ≡ true)
-  OpLeads (Char c) ip = (is_passed_key leap (min c 128) ≡ true) × (way (ip + 1) ≡ true)
-  OpLeads (Bytes number) ip = (wide ≡ false) × PassesByteSeq plan leap number × (way (ip + 1) ≡ true)
-  OpLeads (One number) ip = PassesClass plan leap number × (way (ip + 1) ≡ true)
-  OpLeads (LineStart multiline) ip = way (ip + 1) ≡ true
-  OpLeads (LineEnd multiline) ip = way (ip + 1) ≡ true
-  OpLeads (WordEdge edge) ip = way (ip + 1) ≡ true
-  OpLeads (Goto target) ip = way target ≡ true
-  OpLeads (Either secondary) ip = (way (ip + 1) ≡ true) × (way secondary ≡ true)
-  OpLeads (Enter number) ip = LoopLeads plan way number (λ c. c.min)
-  OpLeads (LoopEnd number) ip = LoopLeads plan way number (λ c. 0)
-  OpLeads (OpenGroup slot) ip = way (ip + 1) ≡ true
-  OpLeads (CloseGroup slot) ip = way (ip + 1) ≡ true
-  OpLeads (ResetGroup slot) ip = way (ip + 1) ≡ true
-  OpLeads (MatchBackref again) ip = ⊥
-  OpLeads (Look l) ip = LookaroundLeads way l ip
-  OpLeads op ip = IsSomeAnd (op_as_char_loop op) (λ r. PassesClass plan leap r.class × (way (ip + 2) ≡ true))
+  abbrev pub OpReachesGoal : Op → (ip : ℕ) → Type 0
+  OpReachesGoal Goal ip = ⊥
+  OpReachesGoal Fail ip = ⊤
+  OpReachesGoal (UnitChar c) ip = (is_passed_key leap (min c 128) ≡ true) × (way (ip + 1) ≡ true)
+  OpReachesGoal (Char c) ip = (is_passed_key leap (min c 128) ≡ true) × (way (ip + 1) ≡ true)
+  OpReachesGoal (Bytes number) ip = (wide ≡ false) × PassesByteSeq plan leap number × (way (ip + 1) ≡ true)
+  OpReachesGoal (One number) ip = PassesClass plan leap number × (way (ip + 1) ≡ true)
+  OpReachesGoal (LineStart multiline) ip = way (ip + 1) ≡ true
+  OpReachesGoal (LineEnd multiline) ip = way (ip + 1) ≡ true
+  OpReachesGoal (WordEdge edge) ip = way (ip + 1) ≡ true
+  OpReachesGoal (Goto target) ip = way target ≡ true
+  OpReachesGoal (Either secondary) ip = (way (ip + 1) ≡ true) × (way secondary ≡ true)
+  OpReachesGoal (Enter number) ip = LoopLeads plan way number (λ c. c.min)
+  OpReachesGoal (LoopEnd number) ip = LoopLeads plan way number (λ c. 0)
+  OpReachesGoal (OpenGroup slot) ip = way (ip + 1) ≡ true
+  OpReachesGoal (CloseGroup slot) ip = way (ip + 1) ≡ true
+  OpReachesGoal (ResetGroup slot) ip = way (ip + 1) ≡ true
+  OpReachesGoal (MatchBackref again) ip = ⊥
+  OpReachesGoal (Look l) ip = LookaroundLeads way l ip
+  OpReachesGoal op ip = IsSomeAnd (op_as_char_loop op) (λ r. PassesClass plan leap r.class × (way (ip + 2) ≡ true))
 
   -- If the operation is on the way, it reads the goal first, or leads only to operations on the way.
   abbrev pub LeadsIfOnWay : Op → (ip : ℕ) → Type 0
-  LeadsIfOnWay op ip = way ip ≡ true → ArrivesAtGoal plan leap ip ⊎ OpLeads op ip
+  LeadsIfOnWay op ip = way ip ≡ true → ArrivesAtGoal plan leap ip ⊎ OpReachesGoal op ip
 
   -- Each operation on the way reads the goal first, or leads only to such.
   abbrev pub AllLead : Type 0

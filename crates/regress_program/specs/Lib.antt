@@ -21,6 +21,7 @@ pub mod InsnsAsSpecInsns
 pub mod TableKeysOfUnits
 pub mod ClassReadLengths
 pub mod Plans
+pub mod LeadingCharLoops
 pub mod AddedOps
 pub mod ClosedFirstSets
 pub mod FollowSetAndStartPlanning

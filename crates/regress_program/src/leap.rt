@@ -9,7 +9,7 @@ ghost use Rattle.regress_program.specs.RequiredPrefixAnalysis.{AreOpsOfProgram};
 ghost use Rattle.regress_program.specs.TableKeysOfUnits.{is_16_bit_width, unit_table_of_set};
 ghost use Rattle.regress_program.specs.Leaps.{is_goal_key, is_passed_key, AreHighKeysAlike, AreGoalsFewAscii, IsLeap};
 ghost use Rattle.regress_program.specs.LeapOps.{is_on_way, AreGoals, PassesUnits, PassesReadLengths, ArrivesAtGoal, PassesByteSeq};
-ghost use Rattle.regress_program.specs.LeapOps.{PassesClass, LoopLeads, LookaroundLeads, OpLeads, LeadsIfOnWay, AllLead};
+ghost use Rattle.regress_program.specs.LeapOps.{PassesClass, LoopLeads, LookaroundLeads, OpReachesGoal, LeadsIfOnWay, AllLead};
 
 use crate::char_class_tables::Class;
 use crate::first_set_type::FirstSet;
@@ -239,7 +239,7 @@ impl LeapCheck<'_> {
     fn leads(self, ip: usize) -> bool
         requires { ip < length self.plan.now.ops.items }
         ensures { (op : Op) → slice_get self.entry.plan.now.ops.items ip ≡ Some op → result ≡ true
-            → OpLeads (is_16_bit_width self.entry.units) self.entry.plan.now self.entry.leap.now
+            → OpReachesGoal (is_16_bit_width self.entry.units) self.entry.plan.now self.entry.leap.now
             (is_on_way self.entry.on_way.now) op ip }
     {
         let op = self.plan.ops[ip];

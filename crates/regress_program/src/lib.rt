@@ -14,6 +14,7 @@ mod ghost_source_tree;
 pub mod insn;
 pub mod insn_to_op_lowering;
 pub mod instructions;
+pub mod leading_char_loop;
 pub mod leap;
 mod long_group_reset_op_spans;
 pub mod lookahead_and_exit_tables;

@@ -26,6 +26,7 @@ pub mod Barred
 pub mod Behind
 pub mod FurtherPlaces
 pub mod LazyClass
+pub mod FreeOfGroups
 pub mod LeadingLoops
 pub mod LeadingRuns
 pub mod LeavingOut

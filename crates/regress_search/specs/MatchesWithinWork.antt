@@ -70,7 +70,7 @@ MayRefuse Memory before behind = Unit {0}
 MayRefuse WorkLimit before behind = (before.enough ≡ false) × (behind.left ≡ 0)
 
 -- The effect of one call. It returns the head of the list and leaves its tail. It returns none
--- exactly if the list is empty. It returns an error only if the list had not ended, and then the
+-- only if the list is empty. It returns an error only if the list had not ended, and then the
 -- list ends. Work that is enough stays enough unless an error occurs.
 abbrev pub Yields : RemainingAnswersAndWork → Option (Result Match WorkError) → RemainingAnswersAndWork → Type 0
 Yields s None t = (s.remaining.answers ≡ []) × HasEnded t.remaining × (s.enough ≡ true → t.enough ≡ true)

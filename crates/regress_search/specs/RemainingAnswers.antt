@@ -43,7 +43,7 @@ MayRefuse Memory s = Unit {0}
 MayRefuse StepLimit s = (s.answers ≡ []) × (s.limited ≡ true)
 
 -- The effect of one call. It returns the head of the list and leaves its tail, and the list ends if
--- the match begins at the end of the text. It returns none exactly if the list is empty and no
+-- the match begins at the end of the text. It returns none only if the list is empty and no
 -- limit follows. It returns an error only if the list had not ended, and then the list ends.
 abbrev pub NextYields : RemainingView → Option (Result Match SearchError) → RemainingView → Type 0
 NextYields s None t = (s.answers ≡ []) × (s.limited ≡ false) × HasEnded t

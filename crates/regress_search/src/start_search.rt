@@ -93,7 +93,7 @@ fn past_unit<W: SearchContext>(context: &W, at: usize) -> usize
 
 // Returns the first offset from `from` on that the set allows.
 #[inline(always)]
-fn first_place<W: SearchContext, Set: StartSet>(
+fn first_allowed_offset<W: SearchContext, Set: StartSet>(
     context: &W,
     set: &Set,
     from: usize,
@@ -115,14 +115,14 @@ fn first_place<W: SearchContext, Set: StartSet>(
 
 // Returns the first offset from `from` on that the set with this number allows.
 #[inline(always)]
-fn next_among<W: SearchContext>(context: &W, number: u32, from: usize) -> Option<usize>
+fn next_in_set<W: SearchContext>(context: &W, number: u32, from: usize) -> Option<usize>
     requires { IsBoundary (W.searching context.now).text from }
     ensures { let w = W.searching context.now in IsFirstAllowedBoundary w (unit_table_of_set_number w.plan number)
         from result }
 {
     context.lemma_plan_fits_program();
     match context.first_set_with_number(number) {
-        Some(set) => first_place(context, set, from),
+        Some(set) => first_allowed_offset(context, set, from),
         None => Some(from),
     }
 }
@@ -177,7 +177,7 @@ fn next_of_few_wide_units<W: SearchContext>(
     if are_told_by_bits(few) {
         next_wide(context, few, from)
     } else {
-        first_place(context, &few, from)
+        first_allowed_offset(context, &few, from)
     }
 }
 
@@ -304,7 +304,7 @@ fn first_filtered<W: SearchContext>(
 // Returns the offset past the first character from `from` on that begins with one of a few code
 // units.
 #[inline(always)]
-fn next_past<W: SearchContext>(context: &W, few: FewUnitsFinder, from: usize) -> Option<usize>
+fn next_after_unit<W: SearchContext>(context: &W, few: FewUnitsFinder, from: usize) -> Option<usize>
     requires at { IsBoundary (W.searching context.now).text from }
     requires leads { let wide = is_16_bit_encoding (W.searching context.now).encoding in
         AllowsOnlyLeadBytes wide (table_of_listed_units few.units few.len) }
@@ -337,12 +337,12 @@ fn next_by_lookbehind<W: SearchContext>(
         .input()
         .next_left_pos(position_in_searched_text(context, from))
     {
-        Some(start) => next_past(context, few, offset_in_searched_text(context, start)),
+        Some(start) => next_after_unit(context, few, offset_in_searched_text(context, start)),
         None => {
             if edge {
                 Some(from)
             } else {
-                next_past(context, few, from)
+                next_after_unit(context, few, from)
             }
         }
     }
@@ -403,7 +403,7 @@ pub fn first_candidate<W: SearchContext>(context: &W, from: usize) -> Option<usi
     context.lemma_plan_fits_program();
     match context.start_filter_of_plan() {
         CandidateStarts::Anywhere => Some(from),
-        CandidateStarts::InSet { set } => next_among(context, *set, from),
+        CandidateStarts::InSet { set } => next_in_set(context, *set, from),
         CandidateStarts::FewUnits { units, len } => {
             let few = FewUnitsFinder {
                 units: *units,

@@ -18,8 +18,8 @@ pub(crate) const CAUSES: &str = r":é😀(a|b → unclosed group at 2
 :b(?i:a) → modifiers are not supported at 1
 :(?-i:a) → modifiers are not supported at 0
 u:a(?ms-i:b) → modifiers are not supported at 1
-:é(?P<n>a) → (?P is not supported, write (?<n> or \k<n> at 1
-:(?<n>a)(?P=n) → (?P is not supported, write (?<n> or \k<n> at 7
+:é(?P<n>a) → (?P is not supported, write (?<name>..) or \k<name> at 1
+:(?<n>a)(?P=n) → (?P is not supported, write (?<name>..) or \k<name> at 7
 :* → nothing to repeat at 0
 :é|+a → nothing to repeat at 2
 :(?:?) → nothing to repeat at 3
@@ -97,8 +97,8 @@ u:(?<😀>a) → names beyond ASCII are supported only in EcmaScript2018 at 3
 :(?<n>a)|(?<n>b) → duplicate name at 11
 :(?<n>a)(?<m>b)(?<n>c)\1{ → duplicate name at 17
 :*(?<n>a)(?<n>b) → nothing to repeat at 0
-u:é] → lone bracket at 1
-u:} → lone bracket at 0
+u:é] → unmatched bracket at 1
+u:} → unmatched bracket at 0
 u:é{}} → incomplete quantifier at 1
 u:a{ → incomplete quantifier at 1
 u:a{1 → incomplete quantifier at 1
@@ -136,7 +136,7 @@ u:[ab-\s] → a class escape cannot be the end of a range at 2
 u:(?=a)* → an assertion cannot be repeated at 5
 :^* → an assertion cannot be repeated at 1
 u:a{ → incomplete quantifier at 1
-u:} → lone bracket at 0
+u:} → unmatched bracket at 0
 u:\u{110000} → code point past U+10FFFF at 0
 u:\u → incomplete Unicode escape at 0
 u:\x → incomplete hexadecimal escape at 0

@@ -6,6 +6,7 @@ use regex_pattern_front::codepointset::Interval;
 use regex_pattern_front::ir::Regex;
 use regress_program::emit::{emit, emit_units};
 use regress_program::first_set_type::FirstSet;
+use regress_program::leading_char_loop::LeadingCharLoop;
 use regress_program::lookbehind_filter::PrecedingCharFilter;
 use regress_program::ops::Op;
 use regress_program::plan::{ANYTHING, CandidateStarts, Plan};
@@ -34,6 +35,26 @@ pub(crate) fn write_unit_plan(
         Ok(program) => write_sets(text, program.plan()),
         Err(_) => Ok(()),
     }
+}
+
+// The units of a character after which the leading char loop is scanned again, and how many groups
+// are opened before it.
+pub(crate) fn write_leading_loop(
+    alloc: Global,
+    text: &mut String,
+    tree: &Regex,
+) -> Result<(), AllocError> {
+    let Ok(program) = emit(alloc, tree) else {
+        return Ok(());
+    };
+    let LeadingCharLoop {
+        max_char_units,
+        opens,
+    } = LeadingCharLoop::of(program.plan());
+    if max_char_units == 0 {
+        return text.push_str("none");
+    }
+    write!(text, "{max_char_units} behind {opens}")
 }
 
 // Where a search has to try, and what may stand behind each run.

@@ -8,7 +8,7 @@ use crate::memo_analyses::{write_codes, write_memo_analysis};
 use crate::memo_tables::write_memo;
 use crate::must_iterate_tables::{write_must_iterate, write_unit_must_iterate};
 use crate::parts::{write_parts, write_shown_names, write_unit_parts};
-use crate::plans::{write_plan, write_unit_plan};
+use crate::plans::{write_leading_loop, write_plan, write_unit_plan};
 use crate::predicates::write_predicate;
 use crate::table::ROWS;
 use regex_parser::parse::try_parse;
@@ -40,6 +40,7 @@ fn write_answer(
         "names" => write_shown_names(alloc, text, tree),
         "plan" => write_plan(alloc, text, tree),
         "unit_plan" => write_unit_plan(alloc, text, tree),
+        "leading_loop" => write_leading_loop(alloc, text, tree),
         "arms" => write_arms_by_key(alloc, text, tree),
         "unit_arms" => write_unit_arms_by_key(alloc, text, tree),
         "lookaheads" => write_lookaheads(alloc, text, tree),

@@ -12,6 +12,8 @@
 // - `plan`: where a search tries to match (anywhere, at one of a few keys, at the keys of a table, behind keys, at a
 //   required prefix with its prefilters); for each loop over one character, the first key of each run of keys that
 //   may follow.
+// - `leading_loop`: after how many units of a character the char loop that begins each match is scanned again, and how
+//   many groups are opened before it.
 // - `arms`: the instruction of each alternation and, for the first key of each run and the end of the text, the
 //   instructions of the arms that may match there.
 // - `lookaheads`: the same for lookaheads, with whether a thread continues: `yes`, `no`, or `ask` if the contents
@@ -204,6 +206,18 @@ unit_plan /\\w+@/ → among 48 58 65 91 95 96 97 123, apart 64 65, leap 1 [64, 0
 unit_plan /\\w+(?!,)/ → among 48 58 65 91 95 96 97 123, run anything
 unit_plan /[^]+@|z{2}/ → among 0, run 64 65, run anything, leap 2 [122, 64, 0] over 0
 unit_plan /a*?b/ → few 2 [97, 98, 0], lazy 98 99
+leading_loop /a*b/ → 1 behind 0
+leading_loop /(a+?)b/ → 1 behind 1
+leading_loop /((\\w+)@)\\w/ → 1 behind 2
+leading_loop /(.*)b/ → 4 behind 1
+leading_loop /([а-я]+)b/ → 1 behind 1
+leading_loop /(a+)b\\1/ → none
+leading_loop /((a+)b)c\\2/ → none
+leading_loop /(a+)(?:b|(c)\\2)/ → none
+leading_loop /a+(b)\\1/ → 1 behind 0
+leading_loop /(a{2,9})b/ → none
+leading_loop /(b)a*/ → none
+leading_loop /(a+){2}/ → none
 arms cat:2 alt a alt b c goal → at 0 0: 97:1 98:4 99:6 100:
 arms cat:2 alt a cat:2 a b goal → at 0 0: 97:1,3 98:
 arms cat:2 alt alt a b c goal → at 0 0: 97:1 99:6 100:; at 1 0: 97:2 98:4 99:

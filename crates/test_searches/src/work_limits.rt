@@ -5,13 +5,13 @@ ghost use Rattle.std.specs.Prelude.{IsAscii};
 use crate::lines::write_found;
 use crate::rows::{Row, compare};
 use crate::starts::is_start;
-use regress_match::{BoundedRegex, Regex, WorkError, is_unit_boundary};
+use regress_match::{BoundedRegex, Regex, Unbounded, WorkError, is_unit_boundary};
 use regress_pikevm::exec::{SearchError, WorkLimitedProducer, WorkMatches};
 use std::alloc::Global;
 
 // Rows of six fields: a pattern, `bytes` or `units` for the texts to search, an ASCII text, a start, the work
 // budget, and the matches with the work that is left. `limit` follows the matches if the budget is used up, and the
-// answer is `no bound` if no bound is known. The costs of the rows up to `(a|b)*c` were calculated by hand,
+// answer is the reason if no bound is known. The costs of the rows up to `(a|b)*c` were calculated by hand,
 // operation by operation: an instruction whose failure is recorded costs one more where it fails.
 pub const WORK_LIMITS: &str = r"a~bytes~ba~0~0~limit, 0 left
 a~bytes~ba~0~1~limit, 0 left
@@ -70,10 +70,19 @@ a??b~bytes~ab~0~10~0..2, 0 left
 (?:a|a)*b~units~aa~0~40~limit, 0 left
 (?:a|a)*b~units~aa~0~41~, 0 left
 (?:a|a)*b~units~aa~0~18446744073709551615~, 18446744073709551574 left
-(?=a)b~bytes~b~0~9~no bound
-(?<!a)b~units~b~0~9~no bound
-(\w)\1~bytes~aa~0~9~no bound
-(?:(?:a{0,9}){0,9}b){0,9}~units~aa~0~9~no bound
+(?=a)b~bytes~b~0~9~no work bound is known: the pattern has a lookaround
+(?<!a)b~units~b~0~9~no work bound is known: the pattern has a lookaround
+(a)\1(?=b)~bytes~aab~0~9~no work bound is known: the pattern has a lookaround
+(\w)\1~bytes~aa~0~9~no work bound is known: the pattern has a backreference
+(?:(\w)\1){0,65}~units~aa~0~9~no work bound is known: the pattern has a backreference
+(?:(?:a{0,9}){0,9}b){0,9}~units~aa~0~9~no work bound is known: counts are too large, or loops are nested too deeply
+(?:a|a){0,65}~bytes~aa~0~9~no work bound is known: counts are too large, or loops are nested too deeply
+(?:(?:(?:(?:(?:a|b)+)+)+)+)+~bytes~aa~0~9~no work bound is known: counts are too large, or loops are nested too deeply
+a{0,65536}b~bytes~aa~0~9~no work bound is known: counts are too large, or loops are nested too deeply
+a{2147483648,}b~units~aa~0~9~no work bound is known: counts are too large, or loops are nested too deeply
+.+?.+?.+?.+?.+?.+?.+?.+?.+?.+?.+?.+?~bytes~aa~0~9~no work bound is known: the bound of the pattern is too large
+.+?.+?.+?.+?.+?.+?.+?.+?.+?.+?.+?.+?.+?.+?.+?.+?.+?.+?.+?.+?.+?.+?.+?.+?.+?.+?.+?.+?.+?.+?.+?.+?.+?.+?.+?.+?.+?.+?.+?.+?~units~aa~0~9~no work bound is known: the bound of the pattern is too large
+(?:a|b)*.+?.+?.+?.+?.+?.+?.+?.+?.+?.+?.+?.+?.+?.+?.+?.+?.+?.+?.+?.+?.+?.+?.+?.+?.+?.+?.+?.+?.+?.+?.+?.+?.+?.+?.+?.+?.+?.+?.+?.+?~bytes~aa~0~9~no work bound is known: the bound of the pattern is too large
 ";
 
 // A search, and its work budget.
@@ -149,6 +158,25 @@ fn check_units(
     Ok(compare(differing, row, &found, "in UCS-2")?)
 }
 
+// Checks why no bound is known. The number has the same reason, unless an allocation fails.
+fn check_reason(
+    alloc: Global,
+    differing: &mut String,
+    row: Row<'_>,
+    reason: Unbounded,
+    number: Result<u64, Unbounded>,
+) -> Result<(), SearchError> {
+    if reason == Unbounded::Memory || number == Err(Unbounded::Memory) {
+        return Err(SearchError::Memory);
+    }
+    if number != Err(reason) {
+        return Ok(compare(differing, row, "another reason for the number", "")?);
+    }
+    let mut found = String::new(alloc);
+    write!(found, "{reason}")?;
+    Ok(compare(differing, row, &found, "")?)
+}
+
 pub fn check_work_limit(
     alloc: Global,
     differing: &mut String,
@@ -161,16 +189,15 @@ pub fn check_work_limit(
     let Ok(re) = Regex::new(alloc, pattern) else {
         return Ok(compare(differing, row, "no pattern", "")?);
     };
-    let number = re.work_per_unit()?;
-    let Some(bounded) = re.bounded()? else {
-        let found = if number.is_none() {
-            "no bound"
-        } else {
-            "a number without a bound"
-        };
-        return Ok(compare(differing, row, found, "")?);
+    let number = re.work_per_unit();
+    let bounded = match re.bounded() {
+        Ok(bounded) => bounded,
+        Err(reason) => return check_reason(alloc, differing, row, reason, number),
     };
-    if number != Some(bounded.work_per_unit()) {
+    if number == Err(Unbounded::Memory) {
+        return Err(SearchError::Memory);
+    }
+    if number != Ok(bounded.work_per_unit()) {
         return Ok(compare(differing, row, "another number", "")?);
     }
     let search = Search {

@@ -2,7 +2,7 @@
 
 use crate::fault::ParseFault;
 use crate::lists::{are_same, are_same_places};
-use regress_match::{BoundedRegex, Match, Regex, WorkError};
+use regress_match::{BoundedRegex, Match, Regex, Unbounded, WorkError};
 use regress_pikevm::exec::{WorkLimitedProducer, WorkMatches};
 use std::alloc::{AllocError, Global};
 
@@ -149,8 +149,10 @@ pub fn is_bounded(
     text: &str,
     list: &[Match],
 ) -> Result<Option<bool>, ParseFault> {
-    let Some(bounded) = re.bounded()? else {
-        return Ok(None);
+    let bounded = match re.bounded() {
+        Ok(bounded) => bounded,
+        Err(Unbounded::Memory) => return Err(ParseFault::Refused),
+        Err(_) => return Ok(None),
     };
     let known = Known { text, list };
     let holds = is_found(alloc, &bounded, known)?

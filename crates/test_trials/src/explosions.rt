@@ -65,9 +65,7 @@ impl Explosion {
     /// How often the work of a search through a text of so many characters goes into what its bound allows, rounded up.
     pub fn factor(self, alloc: Global, size: usize) -> Result<u64, ParseFault> {
         let re = Regex::new(alloc, self.pattern)?;
-        let Some(bounded) = re.bounded()? else {
-            return Err(ParseFault::Unbounded);
-        };
+        let bounded = re.bounded()?;
         let text = self.text(alloc, size)?;
         factor_of(&bounded, &text)
     }

@@ -1,6 +1,6 @@
 //! What may not hold of a case.
 
-use regress_match::{Error, SearchError, WorkError};
+use regress_match::{Error, SearchError, Unbounded, WorkError};
 use regress_program::emit::EmitError;
 use std::alloc::AllocError;
 
@@ -67,6 +67,15 @@ impl From<EmitError> for ParseFault {
         match error {
             EmitError::Memory => ParseFault::Refused,
             _ => ParseFault::Wrong,
+        }
+    }
+}
+
+impl From<Unbounded> for ParseFault {
+    fn from(reason: Unbounded) -> ParseFault {
+        match reason {
+            Unbounded::Memory => ParseFault::Refused,
+            _ => ParseFault::Unbounded,
         }
     }
 }

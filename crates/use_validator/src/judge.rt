@@ -4,7 +4,7 @@ ghost use Rattle.std.specs.Prelude.{◌≡◌, ◌≤◌, ◌<◌, ◌^◌, IfOk
 ghost use Rattle.regress_match.specs.{ProgramTreesAndAnswers.{bytes_as_utf8_text, utf8_answers}, WorkBounds.{enough_work_for_text}};
 ghost use Rattle.use_validator.specs.Judge.{IsToldOf, by_matches, verdict_of};
 
-use regress_match::{BoundedRegex, Regex, SearchError, WorkError};
+use regress_match::{BoundedRegex, Regex, SearchError, Unbounded, WorkError};
 use std::alloc::AllocError;
 
 /// What a search in a limit of steps says of a text.
@@ -50,12 +50,13 @@ pub fn decide(re: &Regex, text: &str, steps: u64) -> Result<Verdict, AllocError>
     if verdict != Verdict::OutOfSteps {
         return Ok(verdict);
     }
-    let Some(bounded) = re.bounded()? else {
-        return Ok(verdict);
-    };
-    match enough(&bounded, text) {
-        Some(work) => judge_in_work(&bounded, text, work),
-        None => Ok(verdict),
+    match re.bounded() {
+        Ok(bounded) => match enough(&bounded, text) {
+            Some(work) => judge_in_work(&bounded, text, work),
+            None => Ok(verdict),
+        },
+        Err(Unbounded::Memory) => Err(AllocError),
+        Err(_) => Ok(verdict),
     }
 }
 

@@ -7,14 +7,14 @@ ghost use Rattle.regress_match.specs.WorkBounds.{SearchesAnswerInWork, SearchesC
 use regress_search::exec::WorkLimitedProducer;
 
 /// States that a search yields the matches of the list one after another, and then `None` for good.
-/// It ends earlier only if an allocation fails.
+/// It ends earlier only with the error `Memory`.
 pub fn searches_answer_in_turn()
     ensures { SearchesAnswerInTurn }
 {}
 
 /// States that a search within a work budget yields the matches of the list one after another, and
-/// then `None` for good. It ends earlier only if an allocation fails or the budget is used up,
-/// which never happens if the budget is at least what the pattern's bound requires. The work that
+/// then `None` for good. It ends earlier only with `Memory`, or with `WorkLimit`, which
+/// never happens if the budget is at least what the pattern's bound requires. The work that
 /// is left never exceeds the budget.
 pub fn searches_answer_in_work()
     ensures { SearchesAnswerInWork }

@@ -1,7 +1,7 @@
 //! Searches within a work budget, for patterns with a known work bound.
 
 ghost use Rattle.regex_meaning.specs.CodeUnitOffsets.{is_past};
-ghost use Rattle.std.specs.Prelude.{◌≡◌, ◌<◌, ◌⊎◌, IfErr, IfOk, IfSome, IsAscii, IsCharBoundary, IsTrue, length, nat_le, not};
+ghost use Rattle.std.specs.Prelude.{◌≡◌, ◌<◌, ◌⊎◌, IfErr, IfOk, IsAscii, IsCharBoundary, IsTrue, OnOk, length, nat_le, not};
 ghost use Rattle.regex_meaning.specs.Text.{is_unit_boundary as is_boundary_of};
 ghost use Rattle.regress_match.specs.ProgramTreesAndAnswers.{bytes_as_ascii_text, units_as_ucs2_text, bytes_as_utf8_text, units_as_utf16_text, tree_for_byte_units};
 ghost use Rattle.regress_match.specs.ProgramTreesAndAnswers.{tree_for_16_bit_units};
@@ -9,14 +9,13 @@ ghost use Rattle.regress_match.specs.CompileErrors.{IsOutOfMemory};
 ghost use Rattle.regress_match.specs.ExpansionsAndMatchRanges.{MatchesFitTextInOrderFrom};
 ghost use Rattle.regress_bounded.specs.CostsOfAttempts.{IteratorBeginsSearches};
 ghost use Rattle.regress_search.specs.CostsOfCalls.{without_costs};
-ghost use Rattle.regress_match.specs.WorkBounds.{IsHigherOfProgramWorkBounds, YieldsMatchesIfWorkSuffices, higher};
+ghost use Rattle.regress_match.specs.WorkBounds.{IsHigherOfProgramWorkBounds, IsPatternPlain, IsPatternUnboundedBy, YieldsMatchesIfWorkSuffices, higher};
 
 use crate::api::{Regex, SearchError};
 use regress_bounded::executor::BoundedExecutor;
-use regress_bounded::work_bound::WorkBound;
+use regress_bounded::work_bound::{Unbounded, WorkBound};
 use regress_input::indexing::{AsciiInput, Ucs2Input, Utf8Input, Utf16Input};
 use regress_search::exec::{MatchProducer, WorkMatches};
-use std::alloc::AllocError;
 use std::marker::Model;
 
 /// An iterator over the matches of a pattern in a text, within a work budget. Contracts see the
@@ -29,8 +28,7 @@ pub type MatchesInWork<'r, Input> = WorkMatches<BoundedExecutor<'r, Input>>;
 /// A unit of work is one step of a thread, one backtrack to a pending thread, one thread that is
 /// dropped because it is known to fail, one character that a char loop examines, or one record of a
 /// failure that is reached. Each call of `next` takes exactly what its search costs (`CostsInWork`).
-/// Copies of states and the positions that are passed are not counted. The work therefore bounds the
-/// time, up to a factor that depends on the pattern. On most texts these searches take longer than
+/// Copies of states and the positions that are passed are not counted. On most texts these searches take longer than
 /// those of `Regex` (`docs/LINEAR.md`). They remember failures in one bit for each position, each
 /// instruction that records, and each state of the loops around it.
 ///
@@ -59,47 +57,45 @@ impl<'r> Model for BoundedRegex<'r> {
 impl Regex {
     /// Returns the pattern with its work bound, for searches within a work budget.
     ///
-    /// Returns `None` if no bound is known, for example with a lookaround or a backreference, a
-    /// loop over one character with a maximum of 65,536 or more, more than 64 states of the loops
-    /// around one instruction, or loops nested deeper than 64. `docs/LINEAR.md` has the full list.
-    ///
     /// # Errors
     ///
-    /// `AllocError` if an allocation for computing the bound fails.
-    pub fn bounded(&self) -> Result<Option<BoundedRegex<'_>>, AllocError>
-        ensures pattern { IfOk result (λ found. IfSome found (λ bounded. bounded.re ≡ self.now)) }
-        ensures enough { IfOk result (λ found. IfSome found (λ bounded. IsHigherOfProgramWorkBounds self.now
-            bounded.per_unit)) }
+    /// Why no bound is known: the first of these whose cause holds, except that `Memory` may replace
+    /// the last two. `docs/LINEAR.md` has the full list of causes.
+    ///
+    /// - `Lookaround`, `Backreference` if the pattern has one.
+    /// - `Count` if the counts of its loops are too large, or its loops are nested too deeply.
+    /// - `Price` if the bound is too large.
+    /// - `Memory` if an allocation for computing the bound fails.
+    pub fn bounded(&self) -> Result<BoundedRegex<'_>, Unbounded>
+        ensures pattern { IfOk result (λ bounded. bounded.re ≡ self.now) }
+        ensures enough { IfOk result (λ bounded. IsHigherOfProgramWorkBounds self.now bounded.per_unit) }
+        ensures plain { OnOk result (IsPatternPlain self.now) }
+        ensures refused { IfErr result (IsPatternUnboundedBy self.now) }
     {
-        let Some(bytes) = WorkBound::bound_for_bytes(self.byte_program())? else {
-            return Ok(None);
-        };
-        let Some(units) = WorkBound::bound_for_units(self.unit_program())? else {
-            return Ok(None);
-        };
-        Ok(Some(BoundedRegex {
+        let units = WorkBound::bound_for_units(self.unit_program())?;
+        let bytes = WorkBound::bound_for_bytes(self.byte_program())?;
+        Ok(BoundedRegex {
             re: self,
             bytes,
             units,
-        }))
+        })
     }
 
     /// Returns the `work_per_unit` of the pattern: on a text of n units, `work_per_unit` × (n + 1)
-    /// work is enough. Returns `None` if no bound is known (see `bounded`).
+    /// work is enough.
     ///
     /// Contracts tie a search to the number of its own `BoundedRegex`. A caller who searches takes
     /// the number from there.
     ///
     /// # Errors
     ///
-    /// `AllocError` if an allocation for computing the bound fails.
-    pub fn work_per_unit(&self) -> Result<Option<u64>, AllocError>
-        ensures { IfOk result (λ found. IfSome found (IsHigherOfProgramWorkBounds self.now)) }
+    /// Why no bound is known, as `bounded`.
+    pub fn work_per_unit(&self) -> Result<u64, Unbounded>
+        ensures enough { IfOk result (IsHigherOfProgramWorkBounds self.now) }
+        ensures refused { IfErr result (IsPatternUnboundedBy self.now) }
     {
-        match self.bounded()? {
-            Some(bounded) => Ok(Some(bounded.work_per_unit())),
-            None => Ok(None),
-        }
+        let bounded = self.bounded()?;
+        Ok(bounded.work_per_unit())
     }
 }
 

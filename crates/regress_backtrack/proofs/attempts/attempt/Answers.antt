@@ -8,7 +8,7 @@ use Rattle.regress_search.specs.AttemptsAndStarts.{ticks_of_attempt_at}
 use Rattle.regress_search.specs.SearchEffects.{SpendsNeedOrReachesLimit, AllocFailureCostsAStep}
 use Rattle.regress_search.specs.declared.exec.SearchError.TheVariants.{Memory}
 use Rattle.regress_search.proofs.Budget.{handed}
-use Rattle.regress_backtrack.specs.State.{StateModel, current_thread_state_of, last_mark_log}
+use Rattle.regress_backtrack.specs.State.{StateModel, current_thread_state_of, log_len_at_choice_point}
 use Rattle.regress_search.specs.TreePlanAndText.{program_of}
 use Rattle.regress_backtrack.specs.AttemptResults.{HasSlots}
 use Rattle.regress_backtrack.specs.SearchProgress.{found_from_state, NeedStepsAtLeast}
@@ -47,7 +47,7 @@ run_thread-requires-clause-inside g c =
     (boundary_inside text (g.met.W.SearchContext.is_text c.args.context.now) (g.W.Input.Position.PositionType.offset c.args.pos) c.requires.executable.1)
 
 pub run_thread-requires-clause-noted : goal.run_thread-requires-clause-noted
-run_thread-requires-clause-noted g c = subst (λ (h : StateModel). length h.log ≤ last_mark_log h.choice_points) (sym c.in_ok-begin.ensures.begun) (omega arith)
+run_thread-requires-clause-noted g c = subst (λ (h : StateModel). length h.log ≤ log_len_at_choice_point h.choice_points) (sym c.in_ok-begin.ensures.begun) (omega arith)
 
 pub run_thread-requires-clause-terminates : goal.run_thread-requires-clause-terminates
 run_thread-requires-clause-terminates g c =

@@ -16,8 +16,8 @@ returns-in-Some-clause-none g c = λ yes.
     let leads = leap-excludes w (g.met.W.SearchContext.has_units c.args.context.now) c.requires.executable c.args.leap.now c.requires.leap c.args.at (Some c.in-Some.target) c.in-Some.ensures in
     leads.2 c.args.at c.requires.at (omega arith) (ltb-true c.args.at c.in-Some.target.to yes)
 
-pub returns-in-Some-clause-right : goal.returns-in-Some-clause-right
-returns-in-Some-clause-right g c =
+pub returns-in-Some-clause-sound : goal.returns-in-Some-clause-sound
+returns-in-Some-clause-sound g c =
     let w = g.W.SearchContext.searching c.args.context.now in
     rw (c.schedule.ensures.from, c.schedule.ensures.to)
     (leap-right w.tree w.text (g.met.W.SearchContext.is_text c.args.context.now) c.args.at (Some c.in-Some.target.to)
@@ -30,8 +30,8 @@ returns-in-None-clause-none g c = λ yes.
     let inside = boundary_inside w.text (g.met.W.SearchContext.is_text c.args.context.now) c.args.at c.requires.at in
     leads c.args.at c.requires.at (omega arith) (omega (arith, inside))
 
-pub returns-in-None-clause-right : goal.returns-in-None-clause-right
-returns-in-None-clause-right g c =
+pub returns-in-None-clause-sound : goal.returns-in-None-clause-sound
+returns-in-None-clause-sound g c =
     let w = g.W.SearchContext.searching c.args.context.now in
     leap-right w.tree w.text (g.met.W.SearchContext.is_text c.args.context.now) c.args.at None
     (leap-excludes w (g.met.W.SearchContext.has_units c.args.context.now) c.requires.executable c.args.leap.now c.requires.leap c.args.at None c.in-None.ensures)

@@ -4,8 +4,8 @@ use Rattle.regress_backtrack.proofs.Courses.{knows-on, ends-on}
 use Rattle.regress_backtrack.proofs.KnownEnds.{if-some, was-true}
 use Rattle.regress_backtrack.proofs.memoized_ends.known_end.Goals as goal
 
-pub known_end_of_thread-requires-clause-right : goal.known_end_of_thread-requires-clause-right
-known_end_of_thread-requires-clause-right g c =
+pub known_end_of_thread-requires-clause-sound : goal.known_end_of_thread-requires-clause-sound
+known_end_of_thread-requires-clause-sound g c =
     knows-on g.S.StepCounter g.M.FailureMemo (g.W.SearchContext.searching c.args.context.now) c.args.progress.now.memo (cc (c.memoizes.ensures, c.if-not-memoizes.false)) c.requires.sound
 
 pub known_end_of_thread-requires-clause-ends : goal.known_end_of_thread-requires-clause-ends

@@ -10,7 +10,7 @@ run-requires g c =
     let searched = c.args.searched.now in
     let is = g.met.Input.InputIndexer.is_text searched.input in
     let can = can-search (tree_of searched.program.now) (g.Input.InputIndexer.text searched.input) searched.well_formed is searched.unicode (λ reads. (searched.bytes reads).reads) in
-    record { stands = attempt-stands g.Input.Position.PositionType.offset can (g.Input.Position.PositionType.offset c.args.pos) c.requires.at c.args.progress.now is c.requires.right c.in_ok-start.start c.in_ok-start.ensures }
+    record { stands = attempt-stands g.Input.Position.PositionType.offset can (g.Input.Position.PositionType.offset c.args.pos) c.requires.at c.args.progress.now is c.requires.sound c.in_ok-start.start c.in_ok-start.ensures }
 
 pub returns-in_err-end-clause-runs : goal.returns-in_err-end-clause-runs
 returns-in_err-end-clause-runs g c = λ b h.
@@ -26,5 +26,5 @@ returns-clause-found g c =
     let searched = c.args.searched.now in
     let is = g.met.Input.InputIndexer.is_text searched.input in
     let can = can-search (tree_of searched.program.now) (g.Input.InputIndexer.text searched.input) searched.well_formed is searched.unicode (λ reads. (searched.bytes reads).reads) in
-    found-all g.Input.Position.PositionType.offset can (g.Input.Position.PositionType.offset c.args.pos) c.requires.at c.args.progress.now c.run.new.progress c.in_ok-end.end c.requires.right
+    found-all g.Input.Position.PositionType.offset can (g.Input.Position.PositionType.offset c.args.pos) c.requires.at c.args.progress.now c.run.new.progress c.in_ok-end.end c.requires.sound
     (λ b h. c.in_ok-end.ensures.runs b (begins-stands c.in_ok-start.start is c.requires.at c.in_ok-start.ensures h))

@@ -1,7 +1,7 @@
 use Rattle.std.proofs.Common.{Some, ap, sym, refl, ◌∙◌, arith}
 use Rattle.regress_memo.specs.MemoContractView.{MemoView}
 use Rattle.regress_pikevm.proofs.Remains.{popped-none}
-use Rattle.regress_bounded.proofs.Standing.{knows, still-knows, standing-on, less-on, stands-as, standing-as}
+use Rattle.regress_bounded.proofs.AttemptState.{knows, still-knows, standing-on, less-on, stands-as, standing-as}
 use Rattle.regress_bounded.proofs.Stopping.{runs-stopped, comes-less, came-on, came-end}
 use Rattle.regress_bounded.proofs.executor.run.Goals as goal
 
@@ -18,8 +18,8 @@ search-init g c = record {
 pub execute_thread_step-requires-clause-stands : goal.execute_thread_step-requires-clause-stands
 execute_thread_step-requires-clause-stands g c = standing-as c.in-Some.is refl c.search.invariant.stands
 
-pub returns-in_err-next-in-Some-clause-right : goal.returns-in_err-next-in-Some-clause-right
-returns-in_err-next-in-Some-clause-right g c = still-knows c.search.invariant.stands c.execute_thread_step.ensures.memo
+pub returns-in_err-next-in-Some-clause-sound : goal.returns-in_err-next-in-Some-clause-sound
+returns-in_err-next-in-Some-clause-sound g c = still-knows c.search.invariant.stands c.execute_thread_step.ensures.memo
 
 pub returns-in_err-next-in-Some-clause-memo_analysis : goal.returns-in_err-next-in-Some-clause-memo_analysis
 returns-in_err-next-in-Some-clause-memo_analysis g c = ap (λ (m : MemoView). m.memo_analysis) c.execute_thread_step.ensures.memo ∙ c.search.invariant.memo_analysis
@@ -30,8 +30,8 @@ returns-in_err-next-in-Some-clause-runs g c = λ b h.
     runs-stopped (stands-as c.in-Some.is refl (c.search.invariant.from b h)) c.execute_thread_step.new.progress (ap (λ (m : MemoView). m.memo_analysis) c.execute_thread_step.ensures.memo)
     c.from_residual.result c.in_err-next-in-Some.field-0.0 c.from_residual.ensures.1 stops
 
-pub returns-in-End-clause-right : goal.returns-in-End-clause-right
-returns-in-End-clause-right g c = still-knows c.search.invariant.stands c.execute_thread_step.ensures.memo
+pub returns-in-End-clause-sound : goal.returns-in-End-clause-sound
+returns-in-End-clause-sound g c = still-knows c.search.invariant.stands c.execute_thread_step.ensures.memo
 
 pub returns-in-End-clause-memo_analysis : goal.returns-in-End-clause-memo_analysis
 returns-in-End-clause-memo_analysis g c = ap (λ (m : MemoView). m.memo_analysis) c.execute_thread_step.ensures.memo ∙ c.search.invariant.memo_analysis
@@ -85,8 +85,8 @@ search-preserved g c = record {
 
 -- ---- None
 
-pub returns-in-None-pop-clause-right : goal.returns-in-None-pop-clause-right
-returns-in-None-pop-clause-right g c = knows c.search.invariant.stands
+pub returns-in-None-pop-clause-sound : goal.returns-in-None-pop-clause-sound
+returns-in-None-pop-clause-sound g c = knows c.search.invariant.stands
 
 pub returns-in-None-pop-clause-memo_analysis : goal.returns-in-None-pop-clause-memo_analysis
 returns-in-None-pop-clause-memo_analysis g c = c.search.invariant.memo_analysis

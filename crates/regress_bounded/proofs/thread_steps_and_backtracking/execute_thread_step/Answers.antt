@@ -40,7 +40,7 @@ there : (g : Over) (c : In-Some g)
     (state_of g.Input.Position.PositionType.offset c.args.state) c.in-Some.greedy c.in-Some.least
 there g c =
     run-at c.args.searched.now.program.now c.args.insns.now c.requires.code c.requires.stands c.index-insns-state.result c.index-insns-state.is c.in-Some.greedy c.in-Some.least
-    (sym c.in-Some.is ∙ c.endless.ensures)
+    (sym c.in-Some.is ∙ c.unbounded_loop.ensures)
 
 fits : (g : Over) (c : In-Some g) → c.args.state.ip + 2 < 2 ^ 64
 fits g c =
@@ -74,8 +74,8 @@ returns-in_err-next-clause-continues g c = λ b h.
 
 -- ---- None
 
-pub turn_above-requires-clause-limited : goal.turn_above-requires-clause-limited
-turn_above-requires-clause-limited g c = λ least most greedy run.
+pub execute_with_record-requires-clause-limited : goal.execute_with_record-requires-clause-limited
+execute_with_record-requires-clause-limited g c = λ least most greedy run.
     let here = here-insn c.args.searched.now.program.now c.args.insns.now c.requires.code c.requires.stands c.index-insns-state.result c.index-insns-state.is in
     let is : insn_as_spec_insn c.index-insns-state.result ≡ Loop1CharBody least most greedy = some-key (sym here ∙ run) in
-    has-maximum greedy least most (sym c.in_default.is ∙ c.endless.ensures ∙ ap min_and_greed_of_loop is)
+    has-maximum greedy least most (sym c.in_default.is ∙ c.unbounded_loop.ensures ∙ ap min_and_greed_of_loop is)

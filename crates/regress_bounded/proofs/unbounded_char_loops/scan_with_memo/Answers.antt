@@ -16,7 +16,7 @@ places-init g c =
       few = c.requires.few;
       paid = c.requires.paid;
       going = λ test place e h.
-          furthest-none c.args.state.now c.requires.run c.requires.right test place c.args.stack.now.items c.args.from h;
+          furthest-none c.args.state.now c.requires.run c.requires.sound test place c.args.stack.now.items c.args.from h;
     }
 
 pub overflow_add-count : goal.overflow_add-count
@@ -40,7 +40,7 @@ unreachable-requires g c =
     let is = g.met.Input.InputIndexer.is_text c.args.searched.now.input in
     let offset = g.Input.Position.PositionType.offset in
     let t = some-of (char_test_of_insn c.args.searched.now.program.now c.args.run.body) c.requires.test in
-    key-some c.args.state.now c.requires.run c.requires.right t.0 t.1 is (offset c.places.at) c.places.invariant.boundary
+    key-some c.args.state.now c.requires.run c.requires.sound t.0 t.1 is (offset c.places.at) c.places.invariant.boundary
     c.key_at.result c.in_default.is c.key_at.ensures.key
 
 pub fails-requires : goal.fails-requires
@@ -51,11 +51,11 @@ fails-requires g c =
     let m = c.args.progress.now.memo in
     let inside = boundary_inside text is (offset c.places.at) c.places.invariant.boundary in
     subst (λ found. IfSome found (λ k. IsRecordableMemoKey m.memo_analysis m.places (memo_key_as_spec k))) c.in-Some.is
-    (c.key_at.ensures.bit (place-kept c.args.state.now c.requires.run c.requires.right (offset c.places.at) inside))
+    (c.key_at.ensures.bit (place-kept c.args.state.now c.requires.run c.requires.sound (offset c.places.at) inside))
 
 pub returns-then-fails-clause-scans : goal.returns-then-fails-clause-scans
 returns-then-fails-clause-scans g c = λ test place e h.
-    furthest-known c.args.state.now c.requires.run c.requires.right test e place c.args.stack.now.items c.places.stack.items c.places.at
+    furthest-known c.args.state.now c.requires.run c.requires.sound test e place c.args.stack.now.items c.places.stack.items c.places.at
     c.places.count c.key_at.result c.in-Some.key c.in-Some.is c.key_at.ensures.key (c.places.invariant.going test place e h) (sym c.fails.ensures ∙ c.if-fails.true) c.args.progress.now.left
 
 pub insn_accepts_next_char-requires-clause-at : goal.insn_accepts_next_char-requires-clause-at
@@ -64,7 +64,7 @@ insn_accepts_next_char-requires-clause-at g c = c.places.invariant.boundary
 pub returns-then-not-insn_accepts_next_char-clause-scans : goal.returns-then-not-insn_accepts_next_char-clause-scans
 returns-then-not-insn_accepts_next_char-clause-scans g c = λ test place e h.
     let is = g.met.Input.InputIndexer.is_text c.args.searched.now.input in
-    furthest-all c.args.state.now c.requires.run c.requires.right test e place c.args.stack.now.items c.places.stack.items c.places.at
+    furthest-all c.args.state.now c.requires.run c.requires.sound test e place c.args.stack.now.items c.places.stack.items c.places.at
     c.places.count c.key_at.result c.in-Some.key c.in-Some.is c.key_at.ensures.key (c.places.invariant.going test place e h) (sym c.fails.ensures ∙ c.if-fails.false)
     c.in_ok-here.here c.in_ok-here.ensures c.insn_accepts_next_char.new.pos c.insn_accepts_next_char.result is c.if-not-insn_accepts_next_char.true (c.insn_accepts_next_char.ensures test e) c.push_entry.new.stack.items
     c.in_ok-push_entry.ensures c.args.progress.now.left
@@ -100,7 +100,7 @@ places-preserved g c =
       few = omega (arith, few, more);
       paid = (let enough = c.if-progress-count.false in omega (arith, enough));
       going = λ test place e h.
-          furthest-more c.args.state.now c.requires.run c.requires.right test e place c.args.stack.now.items c.places.stack.items c.places.at
+          furthest-more c.args.state.now c.requires.run c.requires.sound test e place c.args.stack.now.items c.places.stack.items c.places.at
           c.places.count c.key_at.result c.in-Some.key c.in-Some.is c.key_at.ensures.key (c.places.invariant.going test place e h) (sym c.fails.ensures ∙ c.if-fails.false)
           c.in_ok-here.here c.in_ok-here.ensures c.insn_accepts_next_char.new.pos c.insn_accepts_next_char.result is c.if-not-insn_accepts_next_char.false (c.insn_accepts_next_char.ensures test e) c.push_entry-in-places.new.stack.items
           (c.in_ok-push_entry-2.ensures ∙ ap (λ xs. xs ++ AsThread c.in_ok-here.here ∷ []) c.in_ok-push_entry.ensures);

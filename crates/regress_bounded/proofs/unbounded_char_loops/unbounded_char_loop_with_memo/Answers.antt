@@ -5,7 +5,7 @@ use Rattle.regex_pattern_front.specs.AstToSpecTree.{tree_of}
 use Rattle.regress_bounded.proofs.Furthest.{past-few}
 use Rattle.regress_bounded.proofs.GreedyMet.{all-passed, met-few, met-over, met-goes}
 use Rattle.regress_bounded.proofs.Lazily.{PassesOver, reads-here, passes-over, passed-fits, run-which, at-least, short-goes, lazy-goes}
-use Rattle.regress_bounded.proofs.Standing.{knows, falls-short}
+use Rattle.regress_bounded.proofs.AttemptState.{knows, falls-short}
 use Rattle.regress_bounded.proofs.Stopping.{goes-short}
 use Rattle.regress_bounded.proofs.unbounded_char_loops.unbounded_char_loop_with_memo.Goals.{After-read_chars_within_budget-passed}
 use Rattle.regress_bounded.proofs.unbounded_char_loops.unbounded_char_loop_with_memo.Given.{Over}
@@ -50,8 +50,8 @@ returns-then-passed-run-clause-continues g c = λ b h.
 
 -- ---- A greedy one
 
-pub scan_with_memo-requires-clause-right : goal.scan_with_memo-requires-clause-right
-scan_with_memo-requires-clause-right g c = knows c.requires.stands
+pub scan_with_memo-requires-clause-sound : goal.scan_with_memo-requires-clause-sound
+scan_with_memo-requires-clause-sound g c = knows c.requires.stands
 
 pub scan_with_memo-requires-clause-run : goal.scan_with_memo-requires-clause-run
 scan_with_memo-requires-clause-run g c = run-which c.requires.run c.if-run.true

@@ -1,12 +1,12 @@
 use Rattle.std.proofs.Common.{refl, sym, ap, ◌∙◌}
-use Rattle.regress_c.specs.declared.going.Went.{Went}
+use Rattle.regress_c.specs.declared.going.CallOutcome.{CallOutcome}
 use Rattle.regress_c.proofs.GoingOn.{is-filled, is-refused, not-open, too-short}
 use Rattle.regress_c.proofs.going.go_on_by.Goals as goal
 
 pub returns-in_default : goal.returns-in_default
 returns-in_default c =
     not-open c.args.re.now c.args.search.now c.args.steps c.args.spans.now c.refused.result.left c.refused.result.reply
-    (sym c.encoding.ensures ∙ c.in_default.is) (ap (λ (w : Went). w.reply) c.refused.ensures) (ap (λ (w : Went). w.left) c.refused.ensures)
+    (sym c.encoding.ensures ∙ c.in_default.is) (ap (λ (w : CallOutcome). w.reply) c.refused.ensures) (ap (λ (w : CallOutcome). w.left) c.refused.ensures)
 
 pub returns-then-spans-ranges : goal.returns-then-spans-ranges
 returns-then-spans-ranges c =
@@ -22,4 +22,4 @@ pub returns-in-Err : goal.returns-in-Err
 returns-in-Err c =
     is-refused c.args.re.now c.args.search.now c.args.steps c.args.spans.now c.in-Some.encoding (sym c.encoding.ensures ∙ c.in-Some.is)
     c.filled_in.new.spans c.refused-in-Err.result.left c.in-Err.refusal c.refused-in-Err.result.reply c.in-Err.ensures
-    (ap (λ (w : Went). w.reply) c.refused-in-Err.ensures) (ap (λ (w : Went). w.left) c.refused-in-Err.ensures)
+    (ap (λ (w : CallOutcome). w.reply) c.refused-in-Err.ensures) (ap (λ (w : CallOutcome). w.left) c.refused-in-Err.ensures)

@@ -4,23 +4,27 @@ use Rattle.regress_search.proofs.leading_char_loop.past_run.Goals as goal
 
 pub char_loop_bounds_with_number-requires : goal.char_loop_bounds_with_number-requires
 char_loop_bounds_with_number-requires g c =
-    leads-bounded (g.W.SearchContext.searching c.args.context.now) (g.met.W.SearchContext.has_units c.args.context.now) c.lemma_plan_fits_program.ensures c.args.run c.requires.run c.requires.executable c.args.from c.requires.at
+    leads-bounded (g.W.SearchContext.searching c.args.context.now) (g.met.W.SearchContext.has_units c.args.context.now) c.lemma_plan_fits_program.ensures c.args.opens c.requires.opens c.args.run c.requires.run
 
 pub class_with_number-class-requires : goal.class_with_number-class-requires
 class_with_number-class-requires g c =
-    leads-inside (g.W.SearchContext.searching c.args.context.now) (g.met.W.SearchContext.has_units c.args.context.now) c.lemma_plan_fits_program.ensures c.args.run c.requires.run c.requires.executable c.args.from c.requires.at
+    leads-inside (g.W.SearchContext.searching c.args.context.now) (g.met.W.SearchContext.has_units c.args.context.now) c.lemma_plan_fits_program.ensures c.args.opens c.requires.opens c.args.run c.requires.run
+    c.requires.executable c.char_loop_bounds_with_number.result.now c.char_loop_bounds_with_number.ensures (omega (arith, c.if-most-end.false, c.text_end-end.ensures))
 
 pub far_end-requires-clause-class : goal.far_end-requires-clause-class
 far_end-requires-clause-class g c =
-    leads-readable (g.W.SearchContext.searching c.args.context.now) (g.met.W.SearchContext.has_units c.args.context.now) c.lemma_plan_fits_program.ensures c.args.run c.requires.run c.requires.executable c.args.from c.requires.at
+    leads-readable (g.W.SearchContext.searching c.args.context.now) (g.met.W.SearchContext.has_units c.args.context.now) c.lemma_plan_fits_program.ensures c.args.opens c.requires.opens c.args.run c.requires.run
+    c.requires.executable c.char_loop_bounds_with_number.result.now c.char_loop_bounds_with_number.ensures (omega (arith, c.if-most-end.false, c.text_end-end.ensures))
     c.class_with_number-class.result.now c.class_with_number-class.ensures.there c.class_with_number-class.ensures.class (g.met.W.SearchContext.literals c.args.context.now)
 
 pub returns-clause-at : goal.returns-clause-at
 returns-clause-at g c =
-    leads-boundary (g.W.SearchContext.searching c.args.context.now) (g.met.W.SearchContext.has_units c.args.context.now) c.lemma_plan_fits_program.ensures c.args.run c.requires.run c.requires.executable c.args.from c.requires.at
-    c.class_with_number-class.result.now c.class_with_number-class.ensures.there c.char_loop_bounds_with_number.result.now c.char_loop_bounds_with_number.ensures (omega (arith, c.if-most-end.false, c.text_end-end.ensures)) c.far_end.result c.far_end.ensures
+    leads-boundary (g.W.SearchContext.searching c.args.context.now) (g.met.W.SearchContext.has_units c.args.context.now) c.lemma_plan_fits_program.ensures c.args.opens c.requires.opens c.args.run c.requires.run
+    c.requires.executable c.char_loop_bounds_with_number.result.now c.char_loop_bounds_with_number.ensures (omega (arith, c.if-most-end.false, c.text_end-end.ensures))
+    c.class_with_number-class.result.now c.class_with_number-class.ensures.there c.args.from c.requires.at c.far_end.result c.far_end.ensures
 
 pub returns-clause-no_match : goal.returns-clause-no_match
 returns-clause-no_match g c =
-    leads-vain (g.W.SearchContext.searching c.args.context.now) (g.met.W.SearchContext.has_units c.args.context.now) c.lemma_plan_fits_program.ensures c.args.run c.requires.run c.requires.executable c.args.from c.requires.at
-    c.class_with_number-class.result.now c.class_with_number-class.ensures.there c.char_loop_bounds_with_number.result.now c.char_loop_bounds_with_number.ensures (omega (arith, c.if-most-end.false, c.text_end-end.ensures)) c.far_end.result c.far_end.ensures
+    leads-vain (g.W.SearchContext.searching c.args.context.now) (g.met.W.SearchContext.has_units c.args.context.now) c.lemma_plan_fits_program.ensures c.args.opens c.requires.opens c.args.run c.requires.run
+    c.requires.executable c.char_loop_bounds_with_number.result.now c.char_loop_bounds_with_number.ensures (omega (arith, c.if-most-end.false, c.text_end-end.ensures))
+    c.class_with_number-class.result.now c.class_with_number-class.ensures.there c.args.from c.requires.at c.far_end.result c.far_end.ensures

@@ -12,7 +12,7 @@ returns-in-Anywhere g c =
     try-as w Anywhere (sym c.start_filter_of_plan.ensures ∙ c.in-Anywhere.is) from (Some from) (try-anywhere w from c.requires)
 
 pub returns-in-InSet : goal.returns-in-InSet
-returns-in-InSet g c = try-as (g.W.SearchContext.searching c.args.context.now) (InSet c.in-InSet.set) (sym c.start_filter_of_plan.ensures ∙ c.in-InSet.is) c.args.from c.next_among.result c.next_among.ensures
+returns-in-InSet g c = try-as (g.W.SearchContext.searching c.args.context.now) (InSet c.in-InSet.set) (sym c.start_filter_of_plan.ensures ∙ c.in-InSet.is) c.args.from c.next_in_set.result c.next_in_set.ensures
 
 pub next_of_few_units-requires-clause-leads : goal.next_of_few_units-requires-clause-leads
 next_of_few_units-requires-clause-leads g c =

@@ -4,12 +4,12 @@ use Rattle.regress_search.proofs.Behind.{first-behind}
 use Rattle.regress_search.proofs.Starting.{few-leads}
 use Rattle.regress_search.proofs.start_search.next_by_lookbehind.Goals as goal
 
-pub next_past-requires-clause-leads : goal.next_past-requires-clause-leads
-next_past-requires-clause-leads g c = λ single_unit.
+pub next_after_unit-requires-clause-leads : goal.next_after_unit-requires-clause-leads
+next_after_unit-requires-clause-leads g c = λ single_unit.
     few-leads c.args.before.keys c.args.before.len (is_16_bit_encoding (g.W.SearchContext.searching c.args.context.now).encoding) (c.requires.leads single_unit) single_unit
 
-pub next_past-requires-else-edge-clause-leads : goal.next_past-requires-else-edge-clause-leads
-next_past-requires-else-edge-clause-leads g c = λ single_unit.
+pub next_after_unit-requires-else-edge-clause-leads : goal.next_after_unit-requires-else-edge-clause-leads
+next_after_unit-requires-else-edge-clause-leads g c = λ single_unit.
     few-leads c.args.before.keys c.args.before.len (is_16_bit_encoding (g.W.SearchContext.searching c.args.context.now).encoding) (c.requires.leads single_unit) single_unit
 
 pub returns-in-Some : goal.returns-in-Some
@@ -17,11 +17,11 @@ returns-in-Some g c =
     let w = g.W.SearchContext.searching c.args.context.now in
     first-behind w (g.met.W.SearchContext.has_units c.args.context.now) c.args.before c.args.from c.offset_in_searched_text.result c.requires.at
     (inl (rw (← c.input.ensures.text, ← c.position_in_searched_text.ensures, c.offset_in_searched_text.ensures) (sym c.in-Some.ensures.read)))
-    c.next_past.result c.next_past.ensures
+    c.next_after_unit.result c.next_after_unit.ensures
 
 pub returns-else-edge : goal.returns-else-edge
 returns-else-edge g c =
     let w = g.W.SearchContext.searching c.args.context.now in
     first-behind w (g.met.W.SearchContext.has_units c.args.context.now) c.args.before c.args.from c.args.from c.requires.at
     (inr (rw (← c.input.ensures.text, ← c.position_in_searched_text.ensures) (sym c.in-None.ensures.read), refl, c.if-edge.false))
-    c.next_past-else-edge.result c.next_past-else-edge.ensures
+    c.next_after_unit-else-edge.result c.next_after_unit-else-edge.ensures

@@ -17,5 +17,5 @@ returns-then-are_told_by_bits g c =
     (λ k listed. all-listed is_told_by_bits c.args.few.units c.args.few.len k (sym c.are_told_by_bits.ensures ∙ c.if-are_told_by_bits.true) listed)
     c.args.from c.next_wide.result c.next_wide.ensures
 
-pub first_place-requires-clause-leads : goal.first_place-requires-clause-leads
-first_place-requires-clause-leads g c = wide-leads (g.W.SearchContext.searching c.args.context.now).encoding c.requires.wide c.args.few.units c.args.few.len
+pub first_allowed_offset-requires-clause-leads : goal.first_allowed_offset-requires-clause-leads
+first_allowed_offset-requires-clause-leads g c = wide-leads (g.W.SearchContext.searching c.args.context.now).encoding c.requires.wide c.args.few.units c.args.few.len

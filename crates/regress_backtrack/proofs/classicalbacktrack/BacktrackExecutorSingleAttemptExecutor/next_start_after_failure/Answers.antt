@@ -14,6 +14,9 @@ next_candidate_past_leap-requires-clause-executable g c =
     let s = c.args.self.now.search in
     search-run s.program.wide s.same s.searched.well_formed s.searched.unicode s.searched.bytes (g.met.Input.InputIndexer.is_text s.searched.input)
 
+pub next_start_past_loop-requires-clause-opens : goal.next_start_past_loop-requires-clause-opens
+next_start_past_loop-requires-clause-opens g c = c.args.self.now.opened
+
 pub next_start_past_loop-requires-clause-at : goal.next_start_past_loop-requires-clause-at
 next_start_past_loop-requires-clause-at g c = c.in_ok-to.ensures.0
 

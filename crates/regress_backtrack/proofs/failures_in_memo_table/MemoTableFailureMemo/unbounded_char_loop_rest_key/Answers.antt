@@ -29,6 +29,6 @@ returns g c =
     (subst (λ top. IsSoundState (analysis_as_liveness c.memo_analysis-3.result.now) top (insn_direction c.memo_analysis-3.result.now s.ip) s) c.text_end-end.ensures
     ((c.is_reachable_loop_state.ensures s refl refl refl).0 c.if-not-is_reachable_loop_state.false)) in
     stored-rest w (scheme_of t) c.args.run.forward from h _ c.record_key_of.result c.record_key_of.ensures
-    (rest-tells w is t (λ k. has_failure c.args.self.now k) c.requires.right c.args.run.forward from h _
+    (rest-tells w is t (λ k. has_failure c.args.self.now k) c.requires.sound c.args.run.forward from h _
     (sym (c.in_ok-key.ensures.key (current_thread_state_of h (from.ip + 1) from.at) refl refl refl)) records goes on
     (c.has_all_slots.ensures c.if-not-has_all_slots.false from.ip from.at) sound)

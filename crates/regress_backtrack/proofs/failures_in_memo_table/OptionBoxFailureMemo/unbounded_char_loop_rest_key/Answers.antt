@@ -9,10 +9,10 @@ pub unbounded_char_loop_rest_key-requires : goal.unbounded_char_loop_rest_key-re
 unbounded_char_loop_rest_key-requires g c =
     let w = g.W.SearchContext.searching c.args.context.now in
     record {
-      right =
+      sound =
           subst (λ m. AreFailuresRightIn (program_of w) w.text (g.M.FailureMemo.terms m) (g.M.FailureMemo.failed m)) (sym c.deref.ensures)
           (subst (λ o. AreFailuresRightIn (program_of w) w.text (scheme_in (λ memo. g.M.FailureMemo.terms memo.value) o) (failed_in (λ memo. g.M.FailureMemo.failed memo.value) o))
-          c.in-Some.is c.requires.right);
+          c.in-Some.is c.requires.sound);
     }
 
 pub returns-in-Some : goal.returns-in-Some

@@ -34,7 +34,7 @@ least_offset_after_match-self-requires g c =
 
 pub invariant_of-self : goal.invariant_of-self
 invariant_of-self g c = record {
-  right = c.preferred_final_state.ensures.right;
+  right = c.preferred_final_state.ensures.sound;
   walked = λ on.
       let turn : (c.args.self.now.enough ≡ true) × (c.args.self.now.ahead ≤ g.Input.Position.PositionType.offset c.args.pos) = elim c.if-self.branch [
         | then-self w ↦ (
@@ -63,7 +63,7 @@ overflow_add-self g c =
 
 pub invariant_of-self-in-Ok-None : goal.invariant_of-self-in-Ok-None
 invariant_of-self-in-Ok-None g c = record {
-  right = c.preferred_final_state.ensures.right;
+  right = c.preferred_final_state.ensures.sound;
   walked = λ on.
       let turn : (c.args.self.now.enough ≡ true) × (c.args.self.now.ahead ≤ g.Input.Position.PositionType.offset c.args.pos) = elim c.if-self.branch [
         | then-self w ↦ (
@@ -85,7 +85,7 @@ pub invariant_of-self-in-Err : goal.invariant_of-self-in-Err
 invariant_of-self-in-Err g c =
     let self = c.args.self.now in
     record {
-      right = c.preferred_final_state.ensures.right;
+      right = c.preferred_final_state.ensures.sound;
       walked = λ e. absurd (let no : ⊥ = cc in no);
       spent = λ e. elim c.match-matches.branch [
         | in-Work w ↦ none-left g.Input.Position.PositionType.offset (can g (goal.at.invariant_of-self-in-Err g c).Start) (g.Input.Position.PositionType.offset c.args.pos) c.requires self.progress c.preferred_final_state.new.progress c.in-Err.refusal self.right c.in-Err.ensures.runs w.in-Work.is

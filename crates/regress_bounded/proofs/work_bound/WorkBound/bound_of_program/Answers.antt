@@ -1,4 +1,4 @@
-use Rattle.std.proofs.Common.{◌≡◌, ◌≤◌, ◌^◌, ℕ, ◌+◌, ◌-◌, ◌*◌, ◌/◌, ap, min, sum_by, sym, subst, refl, ◌∙◌}
+use Rattle.std.proofs.Common.{◌≡◌, ◌≤◌, ◌^◌, ℕ, ◌+◌, ◌-◌, ◌*◌, ◌/◌, ap, true, false, min, sum_by, sym, subst, refl, ◌∙◌}
 use Rattle.std.specs.Prelude.{IfSome, IsSome, slice_get, None}
 use Rattle.regex_meaning.specs.CompilationRelation.{Program}
 use Rattle.regex_pattern_front.specs.AstToSpecTree.{tree_of}
@@ -8,11 +8,12 @@ use Rattle.regress_memo.specs.WorkBound.{IsWorkBounded, work_per_position}
 use Rattle.regress_memo.specs.Successors.{AreInsnsOfProgram}
 use Rattle.regress_memo.specs.CheckedAnalysis.{IsAnalysisOf}
 use Rattle.regress_bounded.specs.WorkBoundForAllMatches.{HasBound, most_memo_codes_per_insn, program_size, size_of_insn, work_per_unit}
+use Rattle.regress_bounded.proofs.Looks.{code-has-none, memory-refused, no-looks, plain-by, tree-has}
 use Rattle.regress_bounded.proofs.Sizes.{few-by}
 use Rattle.regress_bounded.proofs.work_bound.WorkBound.bound_of_program.Goals as goal
 
-pub returns : goal.returns
-returns c =
+pub returns-clause-bound : goal.returns-clause-bound
+returns-clause-bound c =
     let program = compiled (tree_of c.args.program.now) in
     let insns = c.insns-insns.result.now in
     let t = c.in-Some.memo_analysis in
@@ -23,8 +24,8 @@ returns c =
     let work : c.in-Some-work_per_position.work ≡ work_per_position t = subst (λ o. IfSome o (λ work. work ≡ work_per_position t)) c.in-Some-work_per_position.is c.work_per_position.ensures.work in
     let all : c.in-Some-with_one_more.per_unit ≡ 1 + (c.in-Some-work_per_position.work + c.in-Some-work_per_position.work / 3) =
     subst (λ o. IfSome o (λ all. all ≡ 1 + (c.in-Some-work_per_position.work + c.in-Some-work_per_position.work / 3))) c.in-Some-with_one_more.is c.with_one_more.ensures in
-    let none : (ip : ℕ) → lookaround_at (slice_get program.insns ip) ≡ None =
-    λ ip. subst (λ xs. lookaround_at (slice_get xs ip) ≡ None) c.insns-insns.ensures.code (c.looks_aside.ensures c.if-looks_aside.false ip) in
+    let plain = tree-has true insns (tree_of c.args.program.now) _ c.insns-insns.ensures.code c.has_lookaround.ensures ∙ c.if-has_lookaround.false in
+    let none : (ip : ℕ) → lookaround_at (slice_get program.insns ip) ≡ None = no-looks program.insns (code-has-none (tree_of c.args.program.now) plain) in
     let per_unit = c.in-Some-with_one_more.per_unit in
     let large : c.program_size.result ≡ min (program_size program) (2 ^ 64 - 1) = c.program_size.ensures ∙ ap (λ xs. min (sum_by size_of_insn xs) (2 ^ 64 - 1)) c.insns-insns.ensures.code in
     let few = few-by per_unit (program_size program) c.program_size.result c.most_memo_codes_per_insn.result large (sym c.is_few.ensures ∙ c.if-not-is_few.false) in
@@ -33,3 +34,55 @@ returns c =
       per_unit = all ∙ ap (λ w. 1 + (w + w / 3)) work ∙ ap work_per_unit (sym c.in_ok-memo_analysis-2.ensures.ok);
       few = subst (λ n. per_unit ≤ 64 * (program_size program * n)) (c.most_memo_codes_per_insn.ensures ∙ ap most_memo_codes_per_insn (sym c.in_ok-memo_analysis-2.ensures.ok)) few;
     } ∣₁
+
+pub returns-then-has_lookaround-clause-refused : goal.returns-then-has_lookaround-clause-refused
+returns-then-has_lookaround-clause-refused c =
+    tree-has true c.insns-insns.result.now (tree_of c.args.program.now) _ c.insns-insns.ensures.code c.has_lookaround.ensures ∙ c.if-has_lookaround.true
+
+pub returns-then-has_backreference-clause-refused : goal.returns-then-has_backreference-clause-refused
+returns-then-has_backreference-clause-refused c = record {
+  no_lookaround = tree-has true c.insns-insns.result.now (tree_of c.args.program.now) _ c.insns-insns.ensures.code c.has_lookaround.ensures ∙ c.if-has_lookaround.false;
+  backreference = tree-has false c.insns-insns.result.now (tree_of c.args.program.now) _ c.insns-insns.ensures.code c.has_backreference.ensures ∙ c.if-has_backreference.true;
+}
+
+pub returns-in_err-memo_analysis-clause-refused : goal.returns-in_err-memo_analysis-clause-refused
+returns-in_err-memo_analysis-clause-refused c =
+    memory-refused (tree_of c.args.program.now) c.from_residual.result c.from_residual.ensures.1
+    (plain-by c.insns-insns.result.now (tree_of c.args.program.now) _ _ c.insns-insns.ensures.code
+    c.has_lookaround.ensures c.if-has_lookaround.false c.has_backreference.ensures c.if-has_backreference.false)
+
+pub returns-in_err-memo_analysis-2-clause-refused : goal.returns-in_err-memo_analysis-2-clause-refused
+returns-in_err-memo_analysis-2-clause-refused c =
+    memory-refused (tree_of c.args.program.now) c.from_residual-in_err-memo_analysis-2.result c.from_residual-in_err-memo_analysis-2.ensures.1
+    (plain-by c.insns-insns.result.now (tree_of c.args.program.now) _ _ c.insns-insns.ensures.code
+    c.has_lookaround.ensures c.if-has_lookaround.false c.has_backreference.ensures c.if-has_backreference.false)
+
+pub returns-then-may_exceed_counts-clause-refused : goal.returns-then-may_exceed_counts-clause-refused
+returns-then-may_exceed_counts-clause-refused c =
+    plain-by c.insns-insns.result.now (tree_of c.args.program.now) _ _ c.insns-insns.ensures.code
+    c.has_lookaround.ensures c.if-has_lookaround.false c.has_backreference.ensures c.if-has_backreference.false
+
+pub returns-in_default-clause-refused : goal.returns-in_default-clause-refused
+returns-in_default-clause-refused c =
+    plain-by c.insns-insns.result.now (tree_of c.args.program.now) _ _ c.insns-insns.ensures.code
+    c.has_lookaround.ensures c.if-has_lookaround.false c.has_backreference.ensures c.if-has_backreference.false
+
+pub returns-in_default-work_per_position-clause-refused : goal.returns-in_default-work_per_position-clause-refused
+returns-in_default-work_per_position-clause-refused c =
+    plain-by c.insns-insns.result.now (tree_of c.args.program.now) _ _ c.insns-insns.ensures.code
+    c.has_lookaround.ensures c.if-has_lookaround.false c.has_backreference.ensures c.if-has_backreference.false
+
+pub returns-in_default-with_one_more-clause-refused : goal.returns-in_default-with_one_more-clause-refused
+returns-in_default-with_one_more-clause-refused c =
+    plain-by c.insns-insns.result.now (tree_of c.args.program.now) _ _ c.insns-insns.ensures.code
+    c.has_lookaround.ensures c.if-has_lookaround.false c.has_backreference.ensures c.if-has_backreference.false
+
+pub returns-then-not-is_few-clause-refused : goal.returns-then-not-is_few-clause-refused
+returns-then-not-is_few-clause-refused c =
+    plain-by c.insns-insns.result.now (tree_of c.args.program.now) _ _ c.insns-insns.ensures.code
+    c.has_lookaround.ensures c.if-has_lookaround.false c.has_backreference.ensures c.if-has_backreference.false
+
+pub returns-clause-plain : goal.returns-clause-plain
+returns-clause-plain c =
+    plain-by c.insns-insns.result.now (tree_of c.args.program.now) _ _ c.insns-insns.ensures.code
+    c.has_lookaround.ensures c.if-has_lookaround.false c.has_backreference.ensures c.if-has_backreference.false

@@ -1,0 +1,27 @@
+-- Openings of groups before the char loop with which each match begins.
+use Rattle.std.specs.Prelude.{◌≡◌, ◌<◌, ℕ, Bool, true, false, List, slice_get}
+use Rattle.std.specs.Option.{option_map_or}
+use Rattle.regress_program.specs.declared.ops.Op.{Op}
+use Rattle.regress_program.specs.declared.ops.Op.TheVariants.{OpenGroup, MatchBackref}
+use Rattle.regress_program.specs.declared.plan.Plan.{Plan}
+
+-- Whether an operation opens a group, or is a backreference.
+abbrev pub opens_group : Op → Bool
+opens_group (OpenGroup slot) = true
+opens_group _ = false
+
+abbrev pub is_backref : Op → Bool
+is_backref (MatchBackref again) = true
+is_backref _ = false
+
+abbrev pub opens_group_at : List Op → (ip : ℕ) → Bool
+opens_group_at ops ip = option_map_or opens_group (slice_get ops ip) false
+
+abbrev pub refers_back_at : List Op → (ip : ℕ) → Bool
+refers_back_at ops ip = option_map_or is_backref (slice_get ops ip) false
+
+-- The first `opens` operations open groups. If there are any, no operation is a backreference, so
+-- no match depends on where the groups begin.
+pub record OnlyOpensGroups (plan : Plan) (opens : ℕ) : Type 0 where
+  pub opened : (ip : ℕ) → ip < opens → opens_group_at plan.ops.items ip ≡ true
+  pub unasked : 0 < opens → (ip : ℕ) → refers_back_at plan.ops.items ip ≡ false

@@ -83,7 +83,7 @@ set-there (y ∷ xs) zero (suc j) x n = refl
 set-there (y ∷ xs) (suc i) zero x n = refl
 set-there (y ∷ xs) (suc i) (suc j) x n = set-there xs i j x (λ e. n (ap suc e))
 
-by-slots : {X : Type 0} (xs ys : List X) → length xs ≡ length ys → ((i : ℕ) → slice_get xs i ≡ slice_get ys i) → xs ≡ ys
+pub by-slots : {X : Type 0} (xs ys : List X) → length xs ≡ length ys → ((i : ℕ) → slice_get xs i ≡ slice_get ys i) → xs ≡ ys
 by-slots [] [] l h = refl
 by-slots [] (y ∷ ys) l h = absurd (omega (arith, l))
 by-slots (x ∷ xs) [] l h = absurd (omega (arith, l))

@@ -54,5 +54,6 @@ pub mod Striding
 mod Waits
 pub mod MemoKeys
 pub mod RunKeys
+mod KeptStates
 pub mod Rightness
 pub mod LeapStarts

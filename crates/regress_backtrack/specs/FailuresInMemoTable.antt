@@ -1,14 +1,21 @@
 -- What a memo table records, by the memo analysis of a program.
-use Rattle.std.specs.Prelude.{Option}
+use Rattle.std.specs.Prelude.{ℕ, Bool, ◌&&◌, ◌==◌, Option, nat_le}
 use Rattle.regress_memo.specs.declared.analysis_result.MemoAnalysis.{MemoAnalysis}
-use Rattle.regress_memo.specs.AnalysisAsPotentials.{analysis_as_liveness, key_code_questions_of, insn_direction, insn_analysis_of}
+use Rattle.regress_memo.specs.AnalysisAsPotentials.{analysis_as_liveness, key_code_questions_of, insn_direction, insn_analysis_of, groups_stay_unchanged_from}
 use Rattle.regress_memo.specs.Laws.{analysis_keys}
 use Rattle.regress_memo.specs.MemoContents.{has_failure, has_success}
 use Rattle.regress_memo.specs.MemoContractView.{MemoView}
 use Rattle.regress_search.specs.TreePlanAndText.{SearchInput}
 use Rattle.regress_backtrack.specs.FailureMemo.{MemoScheme, AreFailuresRight, AreEndsRight, scheme_in, failed_in}
 
--- The scheme of a memo analysis: its liveness and its keys.
+-- From this instruction on, groups stay unchanged, and only loops with number `loops` or a greater
+-- one may be written. The instruction is in no loop whose data are live.
+abbrev pub keeps_state_from : MemoAnalysis → (ip loops : ℕ) → Bool
+keeps_state_from t ip loops =
+    groups_stay_unchanged_from t ip
+    && (((insn_analysis_of t ip).first == (insn_analysis_of t ip).end) && nat_le loops (insn_analysis_of t ip).from)
+
+-- The scheme of a memo analysis: its liveness, its keys, and what leaves the state unchanged.
 abbrev pub scheme_of : MemoAnalysis → MemoScheme
 scheme_of t = record {
   account = analysis_as_liveness t;
@@ -16,6 +23,7 @@ scheme_of t = record {
   questions = key_code_questions_of t;
   way = insn_direction t;
   records = λ ip. (insn_analysis_of t ip).records;
+  keeps_state = keeps_state_from t;
 }
 
 -- The failures and the ends in the memo are right, if there is a memo.

@@ -6,6 +6,7 @@ ghost use Rattle.regress_memo.specs.MemoSearch.{Key as KeyOf};
 ghost use Rattle.regress_machine.specs.Machine.{running};
 ghost use Rattle.regress_backtrack.specs.{State.{current_thread_state_of}, MemoizedCharLoops.{DecidesLoopRest}};
 ghost use Rattle.regress_backtrack.specs.FailureMemo.{MemoScheme, AreFailuresRight, IsKeyOf, memo_key_as_spec, no_scheme};
+ghost use Rattle.regress_backtrack.specs.FailureMemo.{ContentsKeepState};
 
 use crate::position_and_result::DirectedThreadPos;
 use crate::state::BacktrackState;
@@ -62,6 +63,11 @@ pub trait FailureMemo {
         requires sound { AreFailuresRight (W.searching context.now) (terms self.now) (failed self.now) }
         ensures { IfSome result (λ k. DecidesLoopRest (W.searching context.now) (terms self.now) run.forward run.here
             (memo_key_as_spec k) memory.now) };
+
+    /// Returns whether a search from an instruction is known to change neither groups nor loop data.
+    fn keeps_state<W: SearchContext>(&self, context: &W, ip: usize, memory: &BacktrackState) -> bool
+        requires sound { AreFailuresRight (W.searching context.now) (terms self.now) (failed self.now) }
+        ensures { result ≡ true → ContentsKeepState (W.searching context.now) ip memory.now };
 
     /// Returns whether a key is known to fail.
     fn is_known_to_fail(&self, key: RecordKey) -> bool
@@ -141,6 +147,11 @@ impl FailureMemo for NoMemo {
         _: &BacktrackState,
     ) -> Option<RecordKey> {
         None
+    }
+
+    #[inline(always)]
+    fn keeps_state<W: SearchContext>(&self, _: &W, _ip: usize, _: &BacktrackState) -> bool {
+        false
     }
 
     #[inline(always)]

@@ -7,6 +7,7 @@ ghost use Rattle.regress_memo.specs.MemoContents.{has_failure, has_success, memo
 ghost use Rattle.regress_program.specs.{InsnsAsSpecInsns.{insn_as_spec_insn}, Plans.{op_as_char_loop}};
 ghost use Rattle.regress_search.specs.TreePlanAndText.{program_of};
 ghost use Rattle.regress_backtrack.specs.{State.{current_thread_state_of}, FailuresInMemoTable.{scheme_of, IsMemoRight}};
+ghost use Rattle.regress_backtrack.specs.FailuresInMemoTable.{keeps_state_from as spec_keeps_state_from};
 ghost use Rattle.regress_backtrack.specs.FailureMemo.{memo_key_as_spec, scheme_in, failed_in, has_key_in};
 
 use crate::failure_memo::{FailureMemo, RecordKey, StepsAndMemo};
@@ -64,6 +65,15 @@ fn has_all_slots<W: SearchContext>(context: &W, memory: &BacktrackState) -> bool
 {
     memory.group_count() == context.program().groups() as usize
         && memory.number_of_loops() == context.number_of_loops() as usize
+}
+
+// Checks whether a search from an instruction changes neither groups nor the first `loops` loops.
+#[inline(always)]
+fn keeps_state_from(memo_analysis: &MemoAnalysis, ip: usize, loops: usize) -> bool
+    ensures { result ≡ spec_keeps_state_from memo_analysis.now ip loops }
+{
+    let line = memo_analysis.insn_analysis_at(ip);
+    line.silent && line.first == line.end && loops <= line.from as usize
 }
 
 impl FailureMemo for MemoTable {
@@ -135,6 +145,16 @@ impl FailureMemo for MemoTable {
         }
         let key = MemoTable::key_at(self, body, from.at, memory)?;
         record_key_of(key)
+    }
+
+    #[inline(always)]
+    fn keeps_state<W: SearchContext>(
+        &self,
+        _context: &W,
+        ip: usize,
+        memory: &BacktrackState,
+    ) -> bool {
+        keeps_state_from(self.memo_analysis(), ip, memory.number_of_loops())
     }
 
     #[inline(always)]
@@ -234,6 +254,19 @@ impl<M: FailureMemo> FailureMemo for Option<Box<M>> {
     }
 
     #[inline(always)]
+    fn keeps_state<W: SearchContext>(
+        &self,
+        context: &W,
+        ip: usize,
+        memory: &BacktrackState,
+    ) -> bool {
+        match self {
+            Some(memo) => memo.keeps_state(context, ip, memory),
+            None => false,
+        }
+    }
+
+    #[inline(always)]
     fn is_known_to_fail(&self, key: RecordKey) -> bool {
         match self {
             Some(memo) => memo.is_known_to_fail(key),
@@ -296,14 +329,14 @@ pub(crate) fn enable_memo<W: SearchContext>(
     }
 }
 
-// Checks whether a program has a negative lookaround. Only their contents read the ends that are recorded.
-fn has_negative_lookaround(insns: &[Insn]) -> bool {
-    for insn in insns {
-        if matches!(
-            insn,
-            Insn::Lookahead { negate: true, .. } | Insn::Lookbehind { negate: true, .. }
-        ) {
-            return true;
+// Checks whether a program has a lookaround of which only matters whether its contents find an end.
+// Only such contents read the ends that are recorded.
+fn reads_ends(memo_analysis: &MemoAnalysis, insns: &[Insn], loops: usize) -> bool {
+    for ip in 0..insns.len() {
+        if let Insn::Lookahead { negate, .. } | Insn::Lookbehind { negate, .. } = insns[ip] {
+            if negate || keeps_state_from(memo_analysis, ip + 1, loops) {
+                return true;
+            }
         }
     }
     false
@@ -319,13 +352,13 @@ fn new_memo<W: SearchContext>(
     requires { map insn_as_spec_insn insns.now ≡ (program_of (W.searching context.now)).insns }
     ensures { IfOk result (IsMemoRight (λ memo. memo.value) (W.searching context.now)) }
 {
-    let Some(memo_analysis) = MemoAnalysis::new(alloc, insns, context.number_of_loops() as usize)?
-    else {
+    let loops = context.number_of_loops() as usize;
+    let Some(memo_analysis) = MemoAnalysis::new(alloc, insns, loops)? else {
         return Ok(None);
     };
     let places = text_end(context) + 1;
-    let Some(memo) = MemoTable::new(alloc, memo_analysis, places, has_negative_lookaround(insns))?
-    else {
+    let records_ends = reads_ends(&memo_analysis, insns, loops);
+    let Some(memo) = MemoTable::new(alloc, memo_analysis, places, records_ends)? else {
         return Ok(None);
     };
     let memo = Box::new(alloc, memo)?;

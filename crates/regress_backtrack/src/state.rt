@@ -95,7 +95,8 @@ impl Model for BacktrackState {
       choice_points = take m.choice_point_len m.choice_points.items;
     } };
 
-    ghost invariant = { λ m. IsStateInvariant m.groups m.slots.items m.log_len m.free m.log.items m.choice_point_len m.choice_points.items };
+    ghost invariant = { λ m. IsStateInvariant m.groups m.slots.items m.log_len m.free m.log.items
+        m.choice_point_len m.choice_points.items };
 }
 
 // Fills the elements of a vector that are not used yet. If a vector were extended with the value to
@@ -443,7 +444,8 @@ impl BacktrackState {
     /// Pushes a choice point. On allocation failure nothing is changed.
     #[inline(always)]
     pub fn append_choice_point(&mut self, mark: ChoicePoint) -> Result<(), AllocError>
-        ensures pushed { OnOk result (self.new ≡ with_choice_point_list (self.old.choice_points ++ mark ∷ []) self.old) }
+        ensures pushed { OnOk result
+            (self.new ≡ with_choice_point_list (self.old.choice_points ++ mark ∷ []) self.old) }
         ensures refused { OnErr result (self.new ≡ self.old) }
     {
         if self.choice_point_len >= self.choice_points.len() {

@@ -53,8 +53,8 @@ pub(crate) fn execute_thread_step<Input: InputIndexer>(
     ensures memo { progress.new.memo ≡ progress.old.memo }
     ensures left { progress.new.left ≤ progress.old.left }
     ensures continues { let at = Input.Position.offset in let s = searched.now in
-        StepResultFrom at (compiled (tree_of s.program.now)) (Input.text s.input) (tried (running (state_of at state)) ∷ [])
-        stack.old.items progress.old result stack.new.items progress.new }
+        StepResultFrom at (compiled (tree_of s.program.now)) (Input.text s.input)
+        (tried (running (state_of at state)) ∷ []) stack.old.items progress.old result stack.new.items progress.new }
 {
     let key = progress.key_at(state.ip, state.pos, &state);
     if is_known(key, progress) {
@@ -127,8 +127,8 @@ fn execute_with_record<Input: InputIndexer>(
     ensures left { progress.new.left ≤ progress.old.left }
     ensures refused { IfErr result (λ e. e ≡ Work → stack.new.items ≡ stack.old.items) }
     ensures continues { let at = Input.Position.offset in let s = searched.now in
-        StepResultFrom at (compiled (tree_of s.program.now)) (Input.text s.input) (tried (running (state_of at state)) ∷ [])
-        stack.old.items progress.old result stack.new.items progress.new }
+        StepResultFrom at (compiled (tree_of s.program.now)) (Input.text s.input)
+        (tried (running (state_of at state)) ∷ []) stack.old.items progress.old result stack.new.items progress.new }
 {
     if is_goal(insns[state.ip]) {
         return Ok(StepResult::End(state));
@@ -156,8 +156,8 @@ fn work_of_step<Input: InputIndexer>(
     progress: &MemoAndWorkBudget,
 ) -> u64
     requires code { map insn_as_spec_insn insns.now ≡ (compiled (tree_of searched.now.program.now)).insns }
-    requires executable { let s = searched.now in IsNotStuck (act (compiled (tree_of s.program.now)) (Input.text s.input)
-        rightwards (state_of Input.Position.offset state.now)) }
+    requires executable { let s = searched.now in IsNotStuck (act (compiled (tree_of s.program.now))
+        (Input.text s.input) rightwards (state_of Input.Position.offset state.now)) }
     ensures { let s = searched.now in IsWorkOrMoreThanLeft progress.now.left (work_of (act
         (compiled (tree_of s.program.now)) (Input.text s.input) rightwards
         (state_of Input.Position.offset state.now))) result }

@@ -81,8 +81,8 @@ pub(crate) fn unbounded_char_loop_with_memo<Input: InputIndexer>(
     ensures left { progress.new.left ≤ progress.old.left }
     ensures refused { IfErr result (λ e. e ≡ Work → run.greedy ≡ false → stack.new.items ≡ stack.old.items) }
     ensures continues { let at = Input.Position.offset in let s = searched.now in
-        PartResultFrom at (compiled (tree_of s.program.now)) (Input.text s.input) (tried (running (state_of at state)) ∷ [])
-        stack.old.items progress.old result stack.new.items progress.new }
+        PartResultFrom at (compiled (tree_of s.program.now)) (Input.text s.input)
+        (tried (running (state_of at state)) ∷ []) stack.old.items progress.old result stack.new.items progress.new }
 {
     let mut at = state.pos;
     let passed = read_chars_within_budget(searched, run.body, run.least, progress, &mut at);

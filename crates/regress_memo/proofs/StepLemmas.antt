@@ -145,18 +145,14 @@ module _ (t : MemoAnalysis) (program : Program) where
 
   -- ---- Lookarounds
 
-  pub record LookIsRight (l : behind.LookaroundInsn) (ip : ℕ) : Type 0 where
-    pub way : insn_direction t (ip + 1) ≡ l.inner
-    pub quiet : l.negate ≡ false → groups_stay_unchanged_from t (ip + 1) ≡ true
-
-  pub look-right : (x : Option Insn) (l : behind.LookaroundInsn) (ip : ℕ) → lookaround_at x ≡ Some l → IsConsistentAt t program (successors_of_insn_if_any ip x) ip → LookIsRight l ip
+  pub look-right : (x : Option Insn) (l : behind.LookaroundInsn) (ip : ℕ) → lookaround_at x ≡ Some l → IsConsistentAt t program (successors_of_insn_if_any ip x) ip → insn_direction t (ip + 1) ≡ l.inner
   look-right (Some (Lookahead negate start_group end_group continuation)) l ip e h =
-      subst (λ l. LookIsRight l ip) (some-is _ _ e) (record { way = h.way; quiet = h.quiet })
+      subst (λ (l : behind.LookaroundInsn). insn_direction t (ip + 1) ≡ l.inner) (some-is _ _ e) h.way
     where
       some-is : (a b : behind.LookaroundInsn) → Some a ≡ Some b → a ≡ b
       some-is a b e = cc
   look-right (Some (Lookbehind negate start_group end_group continuation)) l ip e h =
-      subst (λ l. LookIsRight l ip) (some-is _ _ e) (record { way = h.way; quiet = h.quiet })
+      subst (λ (l : behind.LookaroundInsn). insn_direction t (ip + 1) ≡ l.inner) (some-is _ _ e) h.way
     where
       some-is : (a b : behind.LookaroundInsn) → Some a ≡ Some b → a ≡ b
       some-is a b e = cc

@@ -259,8 +259,7 @@ module _ (t : MemoAnalysis) (program : Program) (insns : List declared.Insn) (st
     };
     runs = λ ip least most greedy e. subst (λ o. IsCoveredAt t program (successors_of_insn_if_any ip o) ip) e (have-enough ip);
     silent = record { silent_at = λ ip s. silent-at t program (slice_get program.insns ip) ip (steps ip) s };
-    quiet = λ ip look e n. (look-right t program (slice_get program.insns ip) look ip e (steps ip)).quiet n;
-    ways = λ ip look e. (look-right t program (slice_get program.insns ip) look ip e (steps ip)).way;
+    ways = λ ip look e. look-right t program (slice_get program.insns ip) look ip e (steps ip);
   }
 
 -- some program has these instructions, so what is said of all that have them and names none is so

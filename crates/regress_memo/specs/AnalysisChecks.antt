@@ -94,7 +94,7 @@ module _ (t : MemoAnalysis) where
   LoopsAreBefore ip from = (k : ℕ) (row : EnclosingLoop) → slice_get (enclosing_loops_of t ip) k ≡ Some row → row.id < from
 
   -- The contents of a lookaround are isolated: they are in no loop around it and write none of
-  -- them, and those of a positive lookaround leave groups unchanged.
+  -- them.
   pub record IsolatesLookaround (l : look.LookaroundSuccessor) (ip : ℕ) : Type 0 where
     pub on : IsConsistentFlow false None ip l.past
     pub apart : enclosing_loops_of t (ip + 1) ≡ []
@@ -102,7 +102,6 @@ module _ (t : MemoAnalysis) where
     pub from : (insn_analysis_of t ip).from ≤ (insn_analysis_of t (ip + 1)).from
     pub way : insn_direction t (ip + 1) ≡ (if l.forward then rightwards else leftwards)
     pub silent : groups_stay_unchanged_from t ip ≡ true → groups_stay_unchanged_from t (ip + 1) ≡ true
-    pub quiet : l.negate ≡ false → groups_stay_unchanged_from t (ip + 1) ≡ true
 
   -- ---- Char loops
 

@@ -36,8 +36,8 @@ pub record FirstInsnForwardOutsideLoops (t : MemoAnalysis) : Type 0 where
   pub forward : insn_direction t 0 ≡ rightwards
 
 module _ (program : Program) (t : MemoAnalysis) where
-  -- The analysis of the program is correct: its facts are sound, codes are few, records cover
-  -- costs, and positive lookarounds contain no capture groups.
+  -- The analysis of the program is correct: its facts are sound, codes are few, and records cover
+  -- costs.
   pub record IsAnalysisOf : Type 0 where
     pub starts : FirstInsnForwardOutsideLoops t
     pub steps : (ip : ℕ) → IsConsistentAt t program (successors_of_insn_if_any ip (slice_get program.insns ip)) ip
@@ -47,8 +47,6 @@ module _ (program : Program) (t : MemoAnalysis) where
     pub runs : (ip least most : ℕ) (greedy : Bool) → slice_get program.insns ip ≡ Some (Loop1CharBody least most greedy)
         → IsCharLoopChecked t program (record { least = least; most = most; greedy = greedy }) ip
     pub silent : AreGroupPreserving (groups_stay_unchanged_from t) program
-    pub quiet : (ip : ℕ) (look : LookaroundInsn) → lookaround_at (slice_get program.insns ip) ≡ Some look → look.negate ≡ false
-        → groups_stay_unchanged_from t (ip + 1) ≡ true
     pub ways : (ip : ℕ) (look : LookaroundInsn) → lookaround_at (slice_get program.insns ip) ≡ Some look
         → insn_direction t (ip + 1) ≡ look.inner
 

@@ -35,12 +35,20 @@ struct EnclosingScopeWithEnd {
     end: usize,
 }
 
+/// What the instructions before one may write.
+#[derive(Clone, Copy)]
+struct LoopsAndGroupsWritten {
+    /// A number that exceeds those of the loops that are entered.
+    loops: u32,
+    /// The number of instructions that change a group.
+    group_changes: usize,
+}
+
 impl MemoAnalysis {
     /// Analyses a program with these instructions and `loops` loops.
     ///
-    /// Returns `None` if the program has a backreference, if a positive lookaround contains capture
-    /// groups, if an instruction would need more than 64 codes, or if loops and lookarounds are
-    /// nested too deeply.
+    /// Returns `None` if the program has a backreference, if an instruction would need more than 64
+    /// codes, or if loops and lookarounds are nested too deeply.
     ///
     /// # Errors
     ///
@@ -90,13 +98,12 @@ impl MemoAnalysis {
     // Adds the analysis of each instruction, with an entry for each enclosing loop.
     fn open_all(&mut self, alloc: Global, insns: &[Insn]) -> Result<(), AllocError> {
         let mut levels = Vec::new(alloc);
-        let mut from = 0u32;
+        let before = writes_before_each(alloc, insns)?;
         for ip in 0..insns.len() {
             close_ended_scopes(&mut levels, ip);
             self.add_line(&levels)?;
             match successors_at(insns, ip) {
                 Successors::Enter(fields) => {
-                    from = from.max(u32::from(fields.loop_id) + 1);
                     levels.push(EnclosingScopeWithEnd {
                         open: EnclosingLoopOrLookaround::Loop(fields.loop_id),
                         end: fields.exit as usize,
@@ -104,9 +111,8 @@ impl MemoAnalysis {
                 }
                 Successors::LookaroundSuccessor(look) => {
                     let mut line = self.insn_analysis_at(ip);
-                    line.from = from;
                     line.forward = look.forward;
-                    line.silent |= !look.negate;
+                    set_contents_writes(&mut line, before.get(ip), before.get(look.past));
                     levels.push(EnclosingScopeWithEnd {
                         open: EnclosingLoopOrLookaround::LookaroundSuccessor(line),
                         end: look.past,
@@ -283,6 +289,49 @@ impl MemoAnalysis {
         }
         self.codes = base;
     }
+}
+
+// Returns what the instructions before each one write.
+fn writes_before_each(
+    alloc: Global,
+    insns: &[Insn],
+) -> Result<Vec<LoopsAndGroupsWritten>, AllocError> {
+    let mut before = Vec::with_capacity(alloc, insns.len())?;
+    let mut written = LoopsAndGroupsWritten {
+        loops: 0,
+        group_changes: 0,
+    };
+    for ip in 0..insns.len() {
+        before.push(written)?;
+        match successors_at(insns, ip) {
+            Successors::Enter(fields) => {
+                written.loops = written.loops.max(u32::from(fields.loop_id) + 1);
+            }
+            Successors::One(next) if !next.silent => {
+                written.group_changes = written.group_changes.saturating_add(1);
+            }
+            _ => {}
+        }
+    }
+    Ok(before)
+}
+
+// Sets what the contents of a lookaround may write, by what is written before them and before what
+// follows them.
+fn set_contents_writes(
+    line: &mut InsnAnalysis,
+    before: Option<&LoopsAndGroupsWritten>,
+    behind: Option<&LoopsAndGroupsWritten>,
+) {
+    let (Some(before), Some(behind)) = (before, behind) else {
+        return;
+    };
+    line.from = if before.loops == behind.loops {
+        default_insn_analysis().from
+    } else {
+        before.loops
+    };
+    line.silent |= before.group_changes == behind.group_changes;
 }
 
 // Closes the scopes that end at an instruction or before it.

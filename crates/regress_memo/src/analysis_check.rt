@@ -250,7 +250,7 @@ impl MemoAnalysis {
         let inner = self.insn_analysis_at(ip + 1);
         here.from <= inner.from
             && inner.forward == look.forward
-            && (inner.silent || !here.silent && look.negate)
+            && (inner.silent || !here.silent)
             && self.enclosing_loops(ip + 1).is_empty()
             && self.are_left(look.past, inner.from)
             && self.agrees_with_successor(ip, look.past)

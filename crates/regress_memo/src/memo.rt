@@ -45,7 +45,8 @@ impl Model for MemoTable {
       ends = m.ends.words.items;
     } };
 
-    ghost invariant = { λ m. HasRoom (arc_value m.memo_analysis) m.places m.records_successes m.failures.words.items m.ends.words.items };
+    ghost invariant = { λ m. HasRoom (arc_value m.memo_analysis) m.places m.records_successes
+        m.failures.words.items m.ends.words.items };
 }
 
 impl MemoTable {

@@ -5,20 +5,21 @@ use Rattle.regress_program.specs.declared.ops.Op.{Op}
 use Rattle.regress_program.specs.declared.ops.Op.TheVariants.{OpenGroup, MatchBackref}
 use Rattle.regress_program.specs.declared.plan.Plan.{Plan}
 
--- Whether an operation opens a group, or is a backreference.
+-- Whether an operation opens a group.
 abbrev pub opens_group : Op → Bool
 opens_group (OpenGroup slot) = true
 opens_group _ = false
 
-abbrev pub is_backref : Op → Bool
-is_backref (MatchBackref again) = true
-is_backref _ = false
+-- Whether an operation is a backreference.
+abbrev pub is_backreference_op : Op → Bool
+is_backreference_op (MatchBackref again) = true
+is_backreference_op _ = false
 
 abbrev pub opens_group_at : List Op → (ip : ℕ) → Bool
 opens_group_at ops ip = option_map_or opens_group (slice_get ops ip) false
 
 abbrev pub refers_back_at : List Op → (ip : ℕ) → Bool
-refers_back_at ops ip = option_map_or is_backref (slice_get ops ip) false
+refers_back_at ops ip = option_map_or is_backreference_op (slice_get ops ip) false
 
 -- The first `opens` operations open groups. If there are any, no operation is a backreference, so
 -- no match depends on where the groups begin.

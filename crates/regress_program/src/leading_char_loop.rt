@@ -1,7 +1,7 @@
 //! The char loop with which each match begins, if there is one.
 
 ghost use Rattle.std.specs.Prelude.{◌≡◌, ◌<◌, ℕ, true, false};
-ghost use Rattle.regress_program.specs.LeadingCharLoops.{OnlyOpensGroups, opens_group, opens_group_at, is_backref, refers_back_at};
+ghost use Rattle.regress_program.specs.LeadingCharLoops.{OnlyOpensGroups, opens_group, opens_group_at, refers_back_at};
 
 use crate::ops::{CharLoop, Op};
 use crate::plan::Plan;
@@ -58,13 +58,6 @@ fn is_group_opening(op: &Op) -> bool
     matches!(op, Op::OpenGroup(_))
 }
 
-// Checks whether an operation is a backreference.
-fn is_backreference(op: &Op) -> bool
-    ensures { result ≡ is_backref op.now }
-{
-    matches!(op, Op::MatchBackref(_))
-}
-
 // Returns the number of operations that open groups before any other operation.
 fn leading_opens(ops: &[Op]) -> usize
     ensures { (ip : ℕ) → ip < result → opens_group_at ops.now ip ≡ true }
@@ -85,7 +78,7 @@ fn may_refer_back(ops: &[Op]) -> bool
         return true;
     }
     for ip in 0..ops.len() {
-        if is_backreference(&ops[ip]) {
+        if ops[ip].is_backreference() {
             return true;
         }
     }

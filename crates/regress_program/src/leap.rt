@@ -214,7 +214,8 @@ impl LeapCheck<'_> {
     // it has to iterate, the operation after it.
     fn loop_leads(self, number: u32, entered: bool) -> bool
         ensures { result ≡ true
-            → LoopLeads self.entry.plan.now (is_on_way self.entry.on_way.now) number (λ c. if entered then c.min else 0) }
+            → LoopLeads self.entry.plan.now (is_on_way self.entry.on_way.now) number
+            (λ c. if entered then c.min else 0) }
     {
         match self.plan.counted.get(number as usize) {
             Some(counted) => {

@@ -33,7 +33,7 @@ use Rattle.regress_program.proofs.RowLemmas.{runs-of}
 use Rattle.regress_search.specs.DeadThreads.{MatchFailureExtendsUntil}
 use Rattle.regress_search.specs.CharLoopExits.{ClassFitsText, IsClassTest, HasAdvancedTo, accepted_run_len}
 use Rattle.regress_search.specs.TreePlanAndText.{SearchInput, program_of, insn_at}
-use Rattle.regress_program.specs.LeadingCharLoops.{opens_group, is_backref, OnlyOpensGroups}
+use Rattle.regress_program.specs.LeadingCharLoops.{opens_group, is_backreference_op, OnlyOpensGroups}
 use Rattle.regress_search.proofs.FreeOfGroups.{HasNoBackrefs}
 use Rattle.regress_search.proofs.LeadingLoops.{GroupsMatter, Along, test_in, none-along}
 use Rattle.regress_search.proofs.Reach.{some-of}
@@ -48,7 +48,7 @@ at-index xs i less = elim ((slice_get_cases xs i).1) [
 
 -- ---- Operations and backreferences
 
-abbrev is_backref_insn : Insn → Bool
+abbrev pub is_backref_insn : Insn → Bool
 is_backref_insn (BackRef group same) = true
 is_backref_insn _ = false
 
@@ -67,7 +67,7 @@ module _ (program : Program) (plan : Plan) (ip : ℕ) where
   look-refers-not l first end false = refl
 
   -- the operation of an instruction that is no backreference is none, and conversely
-  op-refers : (op : Op) (insn : Insn) → IsOpOf program plan op ip insn → is_backref_insn insn ≡ is_backref op
+  pub op-refers : (op : Op) (insn : Insn) → IsOpOf program plan op ip insn → is_backref_insn insn ≡ is_backreference_op op
   op-refers variant.Goal insn is = ap is_backref_insn is
   op-refers variant.Fail insn is = ap is_backref_insn is
   op-refers (variant.UnitChar c) insn is = ap is_backref_insn is
@@ -125,8 +125,8 @@ module _ (w : SearchInput) (has : HasUnitsForTables w.encoding w.text) (plan : I
       none : 0 < opens → HasNoBackrefs (program_of w)
       none some ip group same is =
           let op = op-of ip (BackRef group same) is in
-          let no : false ≡ is_backref op.0 = sym (only.unasked some ip) ∙ ap (λ o. option_map_or is_backref o false) op.1 in
-          let yes : true ≡ is_backref op.0 = op-refers (program_of w) w.plan ip op.0 (BackRef group same) op.2 in
+          let no : false ≡ is_backreference_op op.0 = sym (only.unasked some ip) ∙ ap (λ o. option_map_or is_backreference_op o false) op.1 in
+          let yes : true ≡ is_backreference_op op.0 = op-refers (program_of w) w.plan ip op.0 (BackRef group same) op.2 in
           let both : false ≡ true = no ∙ sym yes in cc
 
   -- the run

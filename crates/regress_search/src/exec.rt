@@ -227,8 +227,10 @@ impl<P: MatchProducer> Matches<P> {
     /// end. Past the end there are none.
     pub fn new(producer: P, start: usize) -> Self
         requires { IsBoundaryOrPastEnd (P.text producer) start }
-        ensures answers { result.answers ≡ answers_within (P.tree producer) (P.text producer) (P.budget producer) start }
-        ensures limited { result.limited ≡ not (finishes_within (P.tree producer) (P.text producer) (P.budget producer) start) }
+        ensures answers { result.answers
+            ≡ answers_within (P.tree producer) (P.text producer) (P.budget producer) start }
+        ensures limited { result.limited
+            ≡ not (finishes_within (P.tree producer) (P.text producer) (P.budget producer) start) }
         ensures ended { result.ended ≡ is_past start (units (P.text producer)) }
         ensures text_end { result.text_end ≡ units (P.text producer) }
     {
@@ -260,10 +262,10 @@ fn advance_matches<P: MatchProducer>(
     requires at { ForSome position.old (λ p. IsBoundary (P.text producer.old) (P.Position.offset p)) }
     ensures at { ForSome position.new (λ p. IsBoundary (P.text producer.new) (P.Position.offset p)) }
     ensures gives { let offset = option_map P.Position.offset in
-        let before = remaining_answers_from (P.tree producer.old) (P.text producer.old) (P.budget producer.old) (offset position.old)
-        (P.out_of_steps producer.old) in
-        let behind = remaining_answers_from (P.tree producer.new) (P.text producer.new) (P.budget producer.new) (offset position.new)
-        (P.out_of_steps producer.new) in
+        let before = remaining_answers_from (P.tree producer.old) (P.text producer.old) (P.budget producer.old)
+        (offset position.old) (P.out_of_steps producer.old) in
+        let behind = remaining_answers_from (P.tree producer.new) (P.text producer.new) (P.budget producer.new)
+        (offset position.new) (P.out_of_steps producer.new) in
         NextYields before result behind }
     ensures work { let offset = option_map P.Position.offset in
         let before = is_work_enough (P.enough producer.old) (P.ahead producer.old) (offset position.old) in
@@ -275,8 +277,8 @@ fn advance_matches<P: MatchProducer>(
         (offset position.old) in
         IfCounted P.counts_work (CallSpendsExactCost costs (P.left producer.old) result (P.out_of_work producer.new)
         (P.left producer.new) (P.failures producer.new)) }
-    ensures continues { let offset = option_map P.Position.offset in ContinuesAfterCall (P.tree producer.old) (P.text producer.old)
-        (offset position.old) result (offset position.new) }
+    ensures continues { let offset = option_map P.Position.offset in
+        ContinuesAfterCall (P.tree producer.old) (P.text producer.old) (offset position.old) result (offset position.new) }
     ensures same { (P.tree producer.new ≡ P.tree producer.old) × (P.text producer.new ≡ P.text producer.old) }
 {
     let pos = (*position)?;

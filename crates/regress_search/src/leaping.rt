@@ -45,7 +45,8 @@ pub fn leap_from<W: SearchContext>(context: &W, leap: &Leap, from: usize) -> Opt
 fn next_goal<W: SearchContext>(context: &W, leap: &Leap, from: usize) -> Option<usize>
     requires at { IsBoundary (W.searching context.now).text from }
     requires ascii { AreGoalsFewAscii leap.now }
-    ensures { IsFirstAllowedBoundary (W.searching context.now) (table_of_listed_units leap.now.units leap.now.len) from result }
+    ensures { IsFirstAllowedBoundary (W.searching context.now) (table_of_listed_units leap.now.units leap.now.len)
+        from result }
 {
     let few = FewUnitsFinder {
         units: leap.units,

@@ -25,7 +25,8 @@ pub(crate) struct PrefixAndItsRequiredUnit<'p> {
 impl ByteSearcher for PrefixAndItsRequiredUnit<'_> {
     ghost use Rattle.regress_program.specs.PrefixesAndPrefilters.{units_allowed_by_prefix, prefix_allows_units_at};
 
-    ghost stands_at = { λ f bytes index. prefix_allows_units_at (units_allowed_by_prefix f.prefix.now) bytes index f.prefix.now.len };
+    ghost stands_at = { λ f bytes index.
+        prefix_allows_units_at (units_allowed_by_prefix f.prefix.now) bytes index f.prefix.now.len };
 
     #[inline(always)]
     fn find_in(&self, bytes: &[u8]) -> Option<usize> {
@@ -49,7 +50,8 @@ pub(crate) struct PrefixAndLiteralFinder<'k, 'p> {
 impl ByteSearcher for PrefixAndLiteralFinder<'_, '_> {
     ghost use Rattle.regress_program.specs.PrefixesAndPrefilters.{units_allowed_by_prefix, prefix_allows_units_at};
 
-    ghost stands_at = { λ f bytes index. prefix_allows_units_at (units_allowed_by_prefix f.prefix.now) bytes index f.prefix.now.len };
+    ghost stands_at = { λ f bytes index.
+        prefix_allows_units_at (units_allowed_by_prefix f.prefix.now) bytes index f.prefix.now.len };
 
     #[inline(always)]
     fn find_in(&self, bytes: &[u8]) -> Option<usize> {

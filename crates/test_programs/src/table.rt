@@ -283,7 +283,7 @@ memo_analysis /(?:a*){2,}b/ → 2x6 3x6 4x1 for 70
 memo_analysis /(?:ab){2,4}/ → 1x4 for 32
 memo_analysis /(?:ab|cd){0,100}/ → none
 memo_analysis /(a)\\1/ → none
-memo_analysis /(?=(a))b/ → none
+memo_analysis /(?=(a))b/ → for 0
 memo_analysis /(?!(a))b/ → for 0
 memo_analysis /(?:(?=a)b)*d/ → 4x1 6x1 for 14
 memo_analysis /(x+x+)+y/ → 1x1 4x1 6x1 7x1 9x1 for 28

@@ -41,6 +41,23 @@ a(?:()()){4294967294,4294967295}?b~ab~0..2 1..1 1..1
 (?<!^a*)b~aabb~3..4
 (?:(?!(a*)b)a|b)*~aabaa~0..0 -; 1..1 -; 2..5 -; 5..5 -
 (?:(?!(?:ab)*c)ab|c)*~ababcab~0..0; 1..1; 2..2; 3..3; 4..7; 7..7
+(?<=^.*)b~aabb~2..3; 3..4
+(?=.*b)(?=.*c)(?=.*d).~bcdabc~0..1; 1..2; 2..3
+(?:(?=a*c)a)+?c~aaacaac~0..4; 4..7
+(?:(?=a*b)a|b)*~aabaa~0..3; 3..3; 4..4; 5..5
+(?:(?=a*b)(a)|b)*~aabaa~0..3 -; 3..3 -; 4..4 -; 5..5 -
+(?:(?=a*?b)a|(?=a*?c)a|b)*~aabaacaa~0..5; 5..5; 6..6; 7..7; 8..8
+(?:(?=(?:ab)*c)ab|c)*~ababcab~0..5; 5..5; 6..6; 7..7
+(?:(?=(?!a*c)a*b)a|b)*~aabaa~0..3; 3..3; 4..4; 5..5
+(?:ab)*(?:(?=a*b)a|b)+?c~ababcaac~0..5
+(?:a(?<=^a*))*b~aab~0..3
+(?:a(?=(.*)))*b~aab~0..3 2..3
+(?:(?=(a))a)*b~aaab~0..4 2..3
+(?:(?=(a))(?:a|a))*b~aaaaaaaaaaaaaaaaaaaaaaaaaaaaaaaaaaaaaaaaaaaaaaaaaaaaaaaaaaaa~
+(?:(?=(a*)b)a|b)*~aabaa~0..3 -; 3..3 -; 4..4 -; 5..5 -
+(?:(?=(a)*?c)a|c)*~aacaa~0..3 -; 3..3 -; 4..4 -; 5..5 -
+(?:(?=(?:(a)b)*c)ab|c)*~ababcab~0..5 -; 5..5 -; 6..6 -; 7..7 -
+(?=(a*))a(?=(b*))~aabb~0..1 0..2 1..1; 1..2 1..2 2..4
 (?:(a|aa)+?c|b)~aaaaaaaaaaaaaaaaaaaaaaaaaaaaaaaaaaaaaaaaaaaaaaaaaaaaaaaaaaaab~60..61 -
 ";
 

@@ -68,8 +68,10 @@ impl<P: WorkLimitedProducer> WorkMatches<P> {
     /// end. Past the end there are none.
     pub fn new(producer: P, start: usize) -> Self
         requires { IsBoundaryOrPastEnd (P.text producer) start }
-        ensures answers { result.remaining.answers ≡ answers_within (P.tree producer) (P.text producer) (P.budget producer) start }
-        ensures limited { result.remaining.limited ≡ not (finishes_within (P.tree producer) (P.text producer) (P.budget producer) start) }
+        ensures answers { result.remaining.answers
+            ≡ answers_within (P.tree producer) (P.text producer) (P.budget producer) start }
+        ensures limited { result.remaining.limited
+            ≡ not (finishes_within (P.tree producer) (P.text producer) (P.budget producer) start) }
         ensures ended { result.remaining.ended ≡ is_past start (units (P.text producer)) }
         ensures left { result.left ≡ P.left producer }
         ensures enough { result.enough ≡ is_work_enough (P.enough producer) (P.ahead producer)

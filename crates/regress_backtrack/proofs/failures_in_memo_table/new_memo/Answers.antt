@@ -19,7 +19,7 @@ returns g c =
     subst (λ o. IfSome o (λ memo_analysis. (program : Program) → AreInsnsOfProgram program c.args.insns.now → IsAnalysisOf program memo_analysis)) c.in-Some.is
     c.in_ok-memo_analysis.ensures.of (program_of w) (sym c.requires) in
     let places = c.text_end-places.result + 1 in
-    let wanted = c.has_negative_lookaround.result in
+    let wanted = c.reads_ends-records_ends.result in
     let begun = subst (λ o. MatchOption o (2 ^ 64 ≤ t.codes * places) (IsEmptyMemo t places wanted)) c.in-Some-2.is c.in_ok-memo.ensures in
     subst (λ m. AreFailuresRightIn (program_of w) w.text (scheme_of m.memo_analysis) (has_failure m) × AreEndsRightIn (program_of w) w.text (scheme_of m.memo_analysis) (has_success m))
     (sym c.in_ok-memo-2.ensures.ok)

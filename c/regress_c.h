@@ -188,7 +188,8 @@ uint32_t regress_c_compile_utf16_with_syntax(regress_c_pattern *pattern, const u
 /*
  * Says what is wrong with a pattern. For a syntax error or too many groups, returns SYNTAX, sets `at` to the offset in
  * units of the pattern at which the error begins, and writes the cause in words to `cause`: `count` bytes of UTF-8
- * without a terminating 0. If the buffer is too short, returns SHORT_BUFFER and sets `at` all the same.
+ * without a terminating 0. Which patterns give SYNTAX, the offset and the words are tested. It is proved that the offset
+ * is that of a character or of the end. If the buffer is too short, returns SHORT_BUFFER and sets `at` all the same.
  *
  * Returns DONE if there is no syntax error (also if the pattern has too many loops or instructions), or NOT_UTF8,
  * UNKNOWN_FLAG or MEMORY.
@@ -385,7 +386,7 @@ regress_c_reply regress_c_next(regress_c_pattern *pattern, regress_c_search *sea
 regress_c_reply regress_c_next_within(regress_c_pattern *pattern, regress_c_search *search, uint64_t *steps,
                                       regress_c_span *spans, size_t spans_len);
 
-/* Closes the search, which then refers to no text. */
+/* Closes the search: no call uses its text from then on. */
 void regress_c_close(regress_c_search *search);
 
 /* ---- Produced texts */

@@ -251,7 +251,7 @@ static void check_in_work(regress_c_pattern *pattern, text t, size_t start, matc
     uint32_t code = regress_c_work_per_unit(pattern, &each);
     if (code != REGRESS_C_DONE) {
         check(code == REGRESS_C_UNBOUNDED_LOOKAROUND || code == REGRESS_C_UNBOUNDED_BACKREFERENCE
-                  || code == REGRESS_C_UNBOUNDED_COUNT || code == REGRESS_C_UNBOUNDED_PRICE,
+                  || code == REGRESS_C_UNBOUNDED_COUNT || code == REGRESS_C_UNBOUNDED_BOUND_TOO_LARGE,
               "why there is no bound");
         return;
     }

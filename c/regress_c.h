@@ -103,7 +103,7 @@ enum regress_c_code {
     /* No bound is known, since counts are too large, or loops are nested too deeply. */
     REGRESS_C_UNBOUNDED_COUNT = 23,
     /* No bound is known, since it would be too large. */
-    REGRESS_C_UNBOUNDED_PRICE = 24
+    REGRESS_C_UNBOUNDED_BOUND_TOO_LARGE = 24
 };
 
 /* The language of a pattern. */
@@ -450,7 +450,7 @@ static inline const char *regress_c_message(uint32_t code)
     case REGRESS_C_UNBOUNDED_BACKREFERENCE: return "no work bound is known: the pattern has a backreference";
     case REGRESS_C_UNBOUNDED_COUNT:
         return "no work bound is known: counts are too large, or loops are nested too deeply";
-    case REGRESS_C_UNBOUNDED_PRICE: return "no work bound is known: the bound of the pattern is too large";
+    case REGRESS_C_UNBOUNDED_BOUND_TOO_LARGE: return "no work bound is known: the bound of the pattern is too large";
     default: return "unknown code";
     }
 }

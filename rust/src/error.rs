@@ -151,7 +151,7 @@ pub enum Unbounded {
     /// The counts of loops are too large, or loops are nested too deeply.
     Count,
     /// The bound would be too large, as with many lazy loops in sequence.
-    Price,
+    BoundTooLarge,
 }
 
 impl Unbounded {
@@ -161,7 +161,7 @@ impl Unbounded {
             code::UNBOUNDED_LOOKAROUND => Some(Unbounded::Lookaround),
             code::UNBOUNDED_BACKREFERENCE => Some(Unbounded::Backreference),
             code::UNBOUNDED_COUNT => Some(Unbounded::Count),
-            code::UNBOUNDED_PRICE => Some(Unbounded::Price),
+            code::UNBOUNDED_BOUND_TOO_LARGE => Some(Unbounded::BoundTooLarge),
             _ => None,
         }
     }
@@ -174,7 +174,7 @@ impl fmt::Display for Unbounded {
             Unbounded::Lookaround => "the pattern has a lookaround",
             Unbounded::Backreference => "the pattern has a backreference",
             Unbounded::Count => "counts are too large, or loops are nested too deeply",
-            Unbounded::Price => "the bound of the pattern is too large",
+            Unbounded::BoundTooLarge => "the bound of the pattern is too large",
         })
     }
 }

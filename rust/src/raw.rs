@@ -24,7 +24,7 @@ pub mod code {
     pub const WORK_LIMIT: u32 = 20;
     pub const UNBOUNDED_BACKREFERENCE: u32 = 22;
     pub const UNBOUNDED_COUNT: u32 = 23;
-    pub const UNBOUNDED_PRICE: u32 = 24;
+    pub const UNBOUNDED_BOUND_TOO_LARGE: u32 = 24;
 }
 
 /// The languages of patterns.

@@ -215,7 +215,7 @@ fn work_is_bounded() {
             Unbounded::Count,
             "counts are too large, or loops are nested too deeply",
         ),
-        (&lazy, Unbounded::Price, "the bound of the pattern is too large"),
+        (&lazy, Unbounded::BoundTooLarge, "the bound of the pattern is too large"),
     ] {
         let re = Regex::new(pattern).unwrap();
         assert_eq!(re.bounded().err(), Some(reason), "{pattern}");

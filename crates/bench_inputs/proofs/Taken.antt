@@ -4,7 +4,7 @@ use Rattle.std.proofs.Common.{subst, arith}
 use Rattle.regex_meaning.specs.Text.{Text, rightwards}
 use Rattle.regex_meaning.specs.CodeUnitOffsets.{HasRisingPlaceOffsets, IsBoundary, units, read}
 use Rattle.regress_input.specs.CharAndByteReadsFromOffset.{end_if_matched, past_if}
-use Rattle.regress_input.proofs.Places.{right_ahead, right_boundary, boundary_inside}
+use Rattle.regress_input.proofs.BoundaryPositions.{right_ahead, right_boundary, boundary_inside}
 
 pub record Onward (text : Text) (at to : ℕ) : Type 0 where
   pub boundary : IsBoundary text to

@@ -5,25 +5,31 @@ use Rattle.regex_meaning.specs.Canonical.{canonicalize, canonical_character, Are
 
 -- Two characters that match each other without `u` match each other with it.
 abbrev pub AlikeWithoutUnicodeIsAlikeWithUnicode : Type 0
-AlikeWithoutUnicodeIsAlikeWithUnicode = (c d : ℕ) → canonicalize false c ≡ canonicalize false d → canonicalize true c ≡ canonicalize true d
+AlikeWithoutUnicodeIsAlikeWithUnicode = (c d : ℕ) → canonicalize false c ≡ canonicalize false d
+    → canonicalize true c ≡ canonicalize true d
 
 -- Of the characters beyond ASCII, only U+017F and U+212A fold into ASCII, and only with `u`.
 abbrev pub OnlyTwoCharactersFoldIntoAscii : Type 0
-OnlyTwoCharactersFoldIntoAscii = (unicode : Bool) (c : ℕ) → 128 ≤ c → canonicalize unicode c < 128 → IsTrue (unicode && nonascii_folds_to_ascii_word_char c)
+OnlyTwoCharactersFoldIntoAscii = (unicode : Bool) (c : ℕ) → 128 ≤ c → canonicalize unicode c < 128
+    → IsTrue (unicode && nonascii_folds_to_ascii_word_char c)
 
 -- The profile folds the characters of its table as all of Unicode does.
 abbrev pub ProfileFoldsTableAsUnicodeDoes : Type 0
-ProfileFoldsTableAsUnicodeDoes = (unicode : Bool) (c : ℕ) → IsTrue (nat_lt c 128 || nonascii_folds_to_ascii_word_char c) → canonicalize unicode c ≡ fold_code_point unicode c
+ProfileFoldsTableAsUnicodeDoes = (unicode : Bool) (c : ℕ) → IsTrue (nat_lt c 128 || nonascii_folds_to_ascii_word_char c)
+    → canonicalize unicode c ≡ fold_code_point unicode c
 
 -- A character is a word character if and only if its canonical form is one of the 63 word characters of
 -- ASCII (21.2.2.6.1).
 abbrev pub WordCharacterIffAsciiWordFold : Type 0
-WordCharacterIffAsciiWordFold = (icase unicode : Bool) (c : ℕ) → is_word_char (icase && unicode) c ≡ is_word_char false (canonical_character icase unicode c)
+WordCharacterIffAsciiWordFold = (icase unicode : Bool) (c : ℕ)
+    → is_word_char (icase && unicode) c ≡ is_word_char false (canonical_character icase unicode c)
 
 -- Each character has a list of case variants.
 abbrev pub EachCharacterHasCaseVariants : Type 0
-EachCharacterHasCaseVariants = (icase unicode : Bool) (c : ℕ) → (members : List ℕ) × AreCaseVariants icase unicode c members
+EachCharacterHasCaseVariants = (icase unicode : Bool) (c : ℕ) → (members : List ℕ)
+    × AreCaseVariants icase unicode c members
 
 -- A character has at most four case variants.
 abbrev pub CaseVariantsAreFew : Type 0
-CaseVariantsAreFew = (icase unicode : Bool) (c : ℕ) (members : List ℕ) → AreCaseVariants icase unicode c members → length members ≤ 4
+CaseVariantsAreFew = (icase unicode : Bool) (c : ℕ) (members : List ℕ) → AreCaseVariants icase unicode c members
+    → length members ≤ 4

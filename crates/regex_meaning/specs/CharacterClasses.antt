@@ -30,7 +30,9 @@ word_class = (0x30, 0x39) ∷ (0x41, 0x5A) ∷ single_code_point_interval 0x5F �
 -- The set of `\s`: WhiteSpace and LineTerminator.
 abbrev pub space_class : Intervals
 space_class =
-    (0x09, 0x0D) ∷ single_code_point_interval 0x20 ∷ single_code_point_interval 0xA0 ∷ single_code_point_interval 0x1680 ∷ (0x2000, 0x200A) ∷ (0x2028, 0x2029) ∷ single_code_point_interval 0x202F ∷ single_code_point_interval 0x205F
+    (0x09, 0x0D) ∷ single_code_point_interval 0x20 ∷ single_code_point_interval 0xA0 ∷ single_code_point_interval
+    0x1680 ∷ (0x2000, 0x200A) ∷ (0x2028, 0x2029) ∷ single_code_point_interval 0x202F ∷ single_code_point_interval
+    0x205F
     ∷ single_code_point_interval 0x3000 ∷ single_code_point_interval 0xFEFF ∷ []
 
 -- CharacterClassEscape, by its letter; there is no `\p` and no `\P`
@@ -52,7 +54,8 @@ abbrev pub class_member_contains : Flags → ℕ → ClassMember → Bool
 class_member_contains flags c (character d) = c == d
 class_member_contains flags c (range first last) = is_in_range first last c
 class_member_contains flags c (class set invert) =
-    let test = closed_under_case_folding flags (in_intervals set) c in if invert then nat_le c 0x10_FFFF && not test else test
+    let test = closed_under_case_folding flags (in_intervals set) c in if invert then nat_le c 0x10_FFFF && not test
+    else test
 
 -- No interval is empty, they are in order, and between any two of them a number is left out.
 abbrev pub AreCanonicalIntervals : Intervals → Type 0
@@ -64,12 +67,14 @@ AreCanonicalIntervals (i ∷ j ∷ more) = (i.0 ≤ i.1) × (suc i.1 < j.0) × A
 -- as a member does.
 pub record IsSetOf (flags : Flags) (members : List ClassMember) (set : Intervals) : Type 0 where
   pub apart : AreCanonicalIntervals set
-  pub same : (c : ℕ) → in_intervals set c ≡ closed_under_case_folding flags (λ d. list_any (class_member_contains flags d) members) c
+  pub same : (c : ℕ) → in_intervals set c ≡ closed_under_case_folding flags
+      (λ d. list_any (class_member_contains flags d) members) c
 
 -- ---- ClassRanges
 
 -- ClassAtom, with the member that it denotes
-pub data ClassAtom (flags : Flags) (here : RemainingCodePoints) : (there : RemainingCodePoints) → ClassMember → Type 0 where
+pub data ClassAtom (flags : Flags) (here : RemainingCodePoints) : (there : RemainingCodePoints) → ClassMember
+    → Type 0 where
   -- SourceCharacter but not `\` or `]`; also `-`
   verbatim : {c : ℕ} {there : RemainingCodePoints}
       → here ≡ c ∷ there → c ∈ "\\]" ≡ false
@@ -94,7 +99,8 @@ abbrev pub IsRangeDash : RemainingCodePoints → Type 0
 IsRangeDash here = (c : ℕ) × (there : RemainingCodePoints) × (here ≡ codes "-" ++ c ∷ there) × (c ≢ 93)
 
 -- The members of one atom, or of two atoms with a `-` between them.
-pub data ClassMembers (flags : Flags) (here : RemainingCodePoints) : (there : RemainingCodePoints) → List ClassMember → Type 0 where
+pub data ClassMembers (flags : Flags) (here : RemainingCodePoints) : (there : RemainingCodePoints) → List ClassMember
+    → Type 0 where
   -- One ClassAtom.
   alone : {m : ClassMember} {there : RemainingCodePoints}
       → ClassAtom flags here there m → ¬ (IsRangeDash there)
@@ -129,7 +135,8 @@ has_set_operation (c ∷ d ∷ rest) =
     else has_set_operation (d ∷ rest)
 
 -- CharacterClass, after the `[`; with `v`, a class with a set operation is refused
-pub data CharacterClass (flags : Flags) (here : RemainingCodePoints) : (there : RemainingCodePoints) → BracketContents → Type 0 where
+pub data CharacterClass (flags : Flags) (here : RemainingCodePoints) : (there : RemainingCodePoints) → BracketContents
+    → Type 0 where
   plain : {there : RemainingCodePoints} {ms : List ClassMember} {set : Intervals}
       → begins_with_characters "^" here ≡ false → (flags.unicode_sets && has_set_operation here) ≡ false
       → ClassRanges flags here there ms → IsSetOf flags ms set

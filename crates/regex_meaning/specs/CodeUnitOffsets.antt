@@ -17,7 +17,7 @@ is_past start end = not (nat_le start end)
 pub record HasRisingPlaceOffsets (text : Text) : Type 0 where
   pub from_zero : slice_index text.offsets 0 ≡ 0
   pub rises : Rises text.offsets
-  pub each_place : length text.offsets ≡ length text.characters + 1
+  pub one_offset_per_place : length text.offsets ≡ length text.characters + 1
 
 module _ (text : Text) where
   -- The offset of a place, in code units.
@@ -46,7 +46,8 @@ module _ (text : Text) where
 
   -- The next character in the direction, and the offset past it.
   abbrev pub read_at : Direction → (place : ℕ) → Option (ℕ × ℕ)
-  read_at direction place = option_map (λ c. (c, offset (moved text direction 1 place))) (next_character text direction place)
+  read_at direction place =
+      option_map (λ c. (c, offset (moved text direction 1 place))) (next_character text direction place)
 
   -- The next character from an offset, and the offset past it; none if the offset is no boundary.
   abbrev pub read : Direction → (at : ℕ) → Option (ℕ × ℕ)

@@ -44,10 +44,13 @@ word_characters flags c = is_word_char (flags.icase && flags.unicode) c
 abbrev pub class_escape_set : Flags → (letter : ℕ) → Option InvertibleSet
 class_escape_set flags c =
     if c ∈ "d" then Some (in_intervals digit_class, false) else if c ∈ "D" then Some (in_intervals digit_class, true)
-    else if c ∈ "s" then Some (in_intervals space_class, false) else if c ∈ "S" then Some (in_intervals space_class, true)
-    else if c ∈ "w" then Some (word_characters flags, false) else if c ∈ "W" then Some (word_characters flags, true) else None
+    else if c ∈ "s" then Some (in_intervals space_class, false)
+    else if c ∈ "S" then Some (in_intervals space_class, true)
+    else if c ∈ "w" then Some (word_characters flags, false) else if c ∈ "W" then Some (word_characters flags, true)
+    else None
 
-pub data CharacterClassEscape (flags : Flags) (here : RemainingCodePoints) : (there : RemainingCodePoints) → (ℕ → Bool) → Type 0 where
+pub data CharacterClassEscape (flags : Flags) (here : RemainingCodePoints) : (there : RemainingCodePoints) → (ℕ → Bool)
+    → Type 0 where
   by_letter : {letter : ℕ} {s : InvertibleSet} {there : RemainingCodePoints}
       → here ≡ letter ∷ there → class_escape_set flags letter ≡ Some s
       → CharacterClassEscape flags here there (is_in_invertible_set s)
@@ -58,7 +61,8 @@ pub data CharacterClassEscape (flags : Flags) (here : RemainingCodePoints) : (th
 
 -- A CharacterClassEscape is here.
 abbrev pub BeginsCharacterClassEscape : Flags → RemainingCodePoints → Type 0
-BeginsCharacterClassEscape flags here = (there : RemainingCodePoints) × (test : ℕ → Bool) × CharacterClassEscape flags here there test
+BeginsCharacterClassEscape flags here = (there : RemainingCodePoints) × (test : ℕ → Bool)
+    × CharacterClassEscape flags here there test
 
 -- ---- Sets
 
@@ -81,11 +85,13 @@ abbrev pub is_class_control_letter : ℕ → Bool
 is_class_control_letter c = is_ascii_digit c || c ∈ "_"
 
 -- ClassEscape, after the backslash: its alternatives before CharacterClassEscape
-pub data SimpleClassEscape (flags : Flags) (here : RemainingCodePoints) : (there : RemainingCodePoints) (c : ℕ) → Type 0 where
+pub data SimpleClassEscape (flags : Flags) (here : RemainingCodePoints) : (there : RemainingCodePoints) (c : ℕ)
+    → Type 0 where
   -- `b`
   backspace : {there : RemainingCodePoints} → here ≡ codes "b" ++ there → SimpleClassEscape flags here there 8
   -- `-`, with `u`
-  dash : {there : RemainingCodePoints} → IsTrue flags.unicode → here ≡ codes "-" ++ there → SimpleClassEscape flags here there 45
+  dash : {there : RemainingCodePoints} → IsTrue flags.unicode → here ≡ codes "-" ++ there
+      → SimpleClassEscape flags here there 45
   -- `c ClassControlLetter`, without `u` (B.1.4)
   class_control_letter : {letter : ℕ} {there : RemainingCodePoints}
       → flags.unicode ≡ false → here ≡ codes "c" ++ letter ∷ there → IsTrue (is_class_control_letter letter)
@@ -96,7 +102,8 @@ abbrev pub BeginsSimpleClassEscape : Flags → RemainingCodePoints → Type 0
 BeginsSimpleClassEscape flags here = (there : RemainingCodePoints) × (c : ℕ) × SimpleClassEscape flags here there c
 
 -- ClassEscape, after the backslash, with the member that it denotes
-pub data ClassEscape (flags : Flags) (named_groups : Bool) (here : RemainingCodePoints) : (there : RemainingCodePoints) → ClassMember → Type 0 where
+pub data ClassEscape (flags : Flags) (named_groups : Bool) (here : RemainingCodePoints) : (there : RemainingCodePoints)
+    → ClassMember → Type 0 where
   simple_escape : {c : ℕ} {there : RemainingCodePoints}
       → SimpleClassEscape flags here there c
       → ClassEscape flags named_groups here there (character c)
@@ -112,10 +119,12 @@ pub data ClassEscape (flags : Flags) (named_groups : Bool) (here : RemainingCode
 
 -- A ClassEscape is here.
 abbrev pub BeginsClassEscape : Flags → (named_groups : Bool) → RemainingCodePoints → Type 0
-BeginsClassEscape flags named_groups here = (there : RemainingCodePoints) × (m : ClassMember) × ClassEscape flags named_groups here there m
+BeginsClassEscape flags named_groups here = (there : RemainingCodePoints) × (m : ClassMember)
+    × ClassEscape flags named_groups here there m
 
 -- ClassAtom, with the member that it denotes
-pub data ClassAtom (flags : Flags) (named_groups : Bool) (here : RemainingCodePoints) : (there : RemainingCodePoints) → ClassMember → Type 0 where
+pub data ClassAtom (flags : Flags) (named_groups : Bool) (here : RemainingCodePoints) : (there : RemainingCodePoints)
+    → ClassMember → Type 0 where
   -- SourceCharacter but not `\` or `]`; also `-`
   verbatim : {c : ℕ} {there : RemainingCodePoints}
       → here ≡ c ∷ there → c ∈ "\\]" ≡ false
@@ -126,7 +135,8 @@ pub data ClassAtom (flags : Flags) (named_groups : Bool) (here : RemainingCodePo
       → ClassAtom flags named_groups here there m
   -- `\` before a `c`, without `u` (B.1.4), the last alternative
   backslash : {a : RemainingCodePoints}
-      → flags.unicode ≡ false → here ≡ codes "\\" ++ a → IsTrue (begins_with_characters "c" a) → ¬ (BeginsClassEscape flags named_groups a)
+      → flags.unicode ≡ false → here ≡ codes "\\" ++ a → IsTrue (begins_with_characters "c" a)
+      → ¬ (BeginsClassEscape flags named_groups a)
       → ClassAtom flags named_groups here a (character 92)
 
 -- Both ends of a range are characters.
@@ -135,32 +145,38 @@ are_characters (character c) (character d) = true
 are_characters _ _ = false
 
 -- The members of one atom, or of two atoms with a `-` between them.
-pub data ClassMembers (flags : Flags) (named_groups : Bool) (here : RemainingCodePoints) : (there : RemainingCodePoints) → List ClassMember → Type 0 where
+pub data ClassMembers (flags : Flags) (named_groups : Bool) (here : RemainingCodePoints) : (there : RemainingCodePoints)
+    → List ClassMember → Type 0 where
   -- One ClassAtom.
   alone : {m : ClassMember} {there : RemainingCodePoints}
       → ClassAtom flags named_groups here there m → ¬ (IsRangeDash there)
       → ClassMembers flags named_groups here there (m ∷ [])
   -- `ClassAtom - ClassAtom`: a range, whose ends are in order (early error)
   from_to : {first last : ℕ} {a b there : RemainingCodePoints}
-      → ClassAtom flags named_groups here a (character first) → a ≡ codes "-" ++ b → ClassAtom flags named_groups b there (character last)
+      → ClassAtom flags named_groups here a (character first) → a ≡ codes "-" ++ b
+      → ClassAtom flags named_groups b there (character last)
       → first ≤ last
       → ClassMembers flags named_groups here there (range first last ∷ [])
   -- Without `u`, a `-` beside a class escape denotes itself (*CharacterRangeOrUnion*, B.1.4); with `u`
   -- it is an early error.
   no_range : {m n : ClassMember} {a b there : RemainingCodePoints}
-      → flags.unicode ≡ false → ClassAtom flags named_groups here a m → a ≡ codes "-" ++ b → ClassAtom flags named_groups b there n
+      → flags.unicode ≡ false → ClassAtom flags named_groups here a m → a ≡ codes "-" ++ b
+      → ClassAtom flags named_groups b there n
       → are_characters m n ≡ false
       → ClassMembers flags named_groups here there (m ∷ character 45 ∷ n ∷ [])
 
 -- ClassRanges, up to and including the `]`, with the members of all atoms
-pub data ClassRanges (flags : Flags) (named_groups : Bool) : (here there : RemainingCodePoints) → List ClassMember → Type 0 where
-  no_more : {here there : RemainingCodePoints} → here ≡ codes "]" ++ there → ClassRanges flags named_groups here there []
+pub data ClassRanges (flags : Flags) (named_groups : Bool) : (here there : RemainingCodePoints) → List ClassMember
+    → Type 0 where
+  no_more : {here there : RemainingCodePoints} → here ≡ codes "]" ++ there
+      → ClassRanges flags named_groups here there []
   more : {here a there : RemainingCodePoints} {ms others : List ClassMember}
       → ClassMembers flags named_groups here a ms → ClassRanges flags named_groups a there others
       → ClassRanges flags named_groups here there (ms ++ others)
 
 -- CharacterClass, after the `[`
-pub data CharacterClass (flags : Flags) (named_groups : Bool) (here : RemainingCodePoints) : (there : RemainingCodePoints) → BracketContents → Type 0 where
+pub data CharacterClass (flags : Flags) (named_groups : Bool)
+    (here : RemainingCodePoints) : (there : RemainingCodePoints) → BracketContents → Type 0 where
   plain : {there : RemainingCodePoints} {ms : List ClassMember} {set : Intervals}
       → begins_with_characters "^" here ≡ false → ClassRanges flags named_groups here there ms → IsSetOf flags ms set
       → CharacterClass flags named_groups here there (record { invert = false; intervals = set })

@@ -7,7 +7,7 @@ use Rattle.std.specs.Char.{digit_value, is_ascii_digit, is_ascii_alphabetic}
 use Rattle.std.specs.Int.{is_in_range}
 use Rattle.ucd_derived.specs.Binary.{is_id_start, is_id_continue}
 use Rattle.regex_meaning.specs.ReadingStatesAndDigits.{RemainingCodePoints, ◌∈◌}
-use Rattle.regex_meaning.specs.EscapesNamesQuantifiers.{FixedHexDigits, UnicodeEscape, control_escape_code_point, is_lead_surrogate, is_trail_surrogate}
+use Rattle.regex_meaning.specs.EscapesNamesQuantifiers.{FixedHexDigits, UnicodeEscape, control_escape_code_point, is_high_surrogate, is_low_surrogate}
 use Rattle.regex_meaning.specs.UnicodeProperties.{Property, property_named, property_with_value}
 
 -- The parameters of the grammar: U, the flag `u`; and N, that a group has a name.
@@ -42,7 +42,8 @@ pub data LegacyOctalEscape (here : RemainingCodePoints) : (there : RemainingCode
       → LegacyOctalEscape here there (digit_value d)
   -- ZeroToThree OctalDigit, where no OctalDigit follows
   two_digits : {d e : ℕ} {there : RemainingCodePoints}
-      → here ≡ d ∷ e ∷ there → IsTrue (is_zero_to_three d) → IsTrue (is_octal_digit e) → next_code_point_passes is_octal_digit there ≡ false
+      → here ≡ d ∷ e ∷ there → IsTrue (is_zero_to_three d) → IsTrue (is_octal_digit e)
+      → next_code_point_passes is_octal_digit there ≡ false
       → LegacyOctalEscape here there (8 * digit_value d + digit_value e)
   -- FourToSeven OctalDigit
   two_high_digits : {d e : ℕ} {there : RemainingCodePoints}
@@ -54,7 +55,8 @@ pub data LegacyOctalEscape (here : RemainingCodePoints) : (there : RemainingCode
       → LegacyOctalEscape here there (64 * digit_value d + 8 * digit_value e + digit_value f)
 
 -- CharacterEscape, but for its last alternative, and the code point that it denotes
-pub data NonIdentityEscape (g : GrammarParameters) (here : RemainingCodePoints) : (there : RemainingCodePoints) (c : ℕ) → Type 0 where
+pub data NonIdentityEscape (g : GrammarParameters) (here : RemainingCodePoints) : (there : RemainingCodePoints) (c : ℕ)
+    → Type 0 where
   -- ControlEscape
   control_escape : {letter c : ℕ} {there : RemainingCodePoints}
       → here ≡ letter ∷ there → control_escape_code_point letter ≡ Some c
@@ -90,8 +92,10 @@ abbrev pub is_identity_escape : GrammarParameters → ℕ → Bool
 is_identity_escape g c = if g.unicode then c ∈ "^$\\.*+?()[]{}|/" else not (c ∈ "c") && not (g.named_groups && c ∈ "k")
 
 -- CharacterEscape, and the code point that it denotes
-pub data CharacterEscape (g : GrammarParameters) (here : RemainingCodePoints) : (there : RemainingCodePoints) (c : ℕ) → Type 0 where
-  non_identity_escape : {there : RemainingCodePoints} {c : ℕ} → NonIdentityEscape g here there c → CharacterEscape g here there c
+pub data CharacterEscape (g : GrammarParameters) (here : RemainingCodePoints) : (there : RemainingCodePoints) (c : ℕ)
+    → Type 0 where
+  non_identity_escape : {there : RemainingCodePoints} {c : ℕ} → NonIdentityEscape g here there c
+      → CharacterEscape g here there c
   -- IdentityEscape, the last alternative
   identity_escape : {c : ℕ} {there : RemainingCodePoints}
       → here ≡ c ∷ there → IsTrue (is_identity_escape g c) → ¬ (BeginsNonIdentityEscape g here)
@@ -106,7 +110,8 @@ BeginsCharacterEscape g here = (there : RemainingCodePoints) × (c : ℕ) × Cha
 pub data PropertyExpression (here : RemainingCodePoints) : (there : RemainingCodePoints) → Property → Type 0 where
   -- `UnicodePropertyName = UnicodePropertyValue`
   with_value : {there : RemainingCodePoints} {p : Property} (property value : RemainingCodePoints)
-      → here ≡ codes "{" ++ (property ++ (codes "=" ++ (value ++ (codes "}" ++ there)))) → property_with_value property value ≡ Some p
+      → here ≡ codes "{" ++ (property ++ (codes "=" ++ (value ++ (codes "}" ++ there))))
+      → property_with_value property value ≡ Some p
       → PropertyExpression here there p
   -- LoneUnicodePropertyNameOrValue
   alone : {there : RemainingCodePoints} {p : Property} (name : RemainingCodePoints)
@@ -125,7 +130,8 @@ is_identifier_part c = is_id_continue c || c ∈ "$" || nat_eq c 0x200C || nat_e
 
 -- A character of a name, which passes the test. As in the 11th edition and later, escapes have the
 -- form that they have with `u`, and two surrogates are one character, with every flag.
-pub data NameCharacter (test : ℕ → Bool) (here : RemainingCodePoints) : (there : RemainingCodePoints) (c : ℕ) → Type 0 where
+pub data NameCharacter (test : ℕ → Bool) (here : RemainingCodePoints) : (there : RemainingCodePoints) (c : ℕ)
+    → Type 0 where
   verbatim : {c : ℕ} {there : RemainingCodePoints}
       → here ≡ c ∷ there → IsTrue (test c)
       → NameCharacter test here there c
@@ -135,7 +141,7 @@ pub data NameCharacter (test : ℕ → Bool) (here : RemainingCodePoints) : (the
       → NameCharacter test here there c
   -- UnicodeLeadSurrogate UnicodeTrailSurrogate (11th edition)
   surrogates : {lead trail : ℕ} {there : RemainingCodePoints}
-      → here ≡ lead ∷ trail ∷ there → IsTrue (is_lead_surrogate lead) → IsTrue (is_trail_surrogate trail)
+      → here ≡ lead ∷ trail ∷ there → IsTrue (is_high_surrogate lead) → IsTrue (is_low_surrogate trail)
       → IsTrue (test (0x1_0000 + (lead - 0xD800) * 0x400 + (trail - 0xDC00)))
       → NameCharacter test here there (0x1_0000 + (lead - 0xD800) * 0x400 + (trail - 0xDC00))
 

@@ -14,7 +14,8 @@ use Rattle.regex_meaning.specs.EcmaClasses.{InvertibleSet, class_escape_set}
 use Rattle.regex_meaning.specs.EcmaGrammarWithAnnexB.{ecmascript, ParsesEcmaScript}
 
 -- The text is read from its beginning to its end, and these groups open.
-abbrev pub IsPatternDisjunction : PatternContext → (pattern : RemainingCodePoints) → (groups : List RemainingCodePoints) → Node → Type 0
+abbrev pub IsPatternDisjunction : PatternContext → (pattern : RemainingCodePoints) → (groups : List RemainingCodePoints)
+    → Node → Type 0
 IsPatternDisjunction w pattern groups n =
     Disjunction ecmascript w false (record { text = pattern; opened = [] }) (record { text = []; opened = groups }) n
 
@@ -35,20 +36,23 @@ EcmaScriptGroupsIndependentOfContext =
 -- A pattern has at most one tree.
 abbrev pub EcmaScriptOneTree : Type 0
 EcmaScriptOneTree =
-    (flags : Flags) (pattern : RemainingCodePoints) (t u : Tree) → ParsesEcmaScript flags pattern t → ParsesEcmaScript flags pattern u → t ≡ u
+    (flags : Flags) (pattern : RemainingCodePoints) (t u : Tree) → ParsesEcmaScript flags pattern t
+    → ParsesEcmaScript flags pattern u → t ≡ u
 
 -- The tree of a pattern has its flags, is well formed, reads no bytes, and has no loop over one
 -- character.
 abbrev pub EcmaScriptTreesAreWellFormed : Type 0
 EcmaScriptTreesAreWellFormed =
     (flags : Flags) (pattern : RemainingCodePoints) (t : Tree) → ParsesEcmaScript flags pattern t
-    → (t.flags ≡ flags) × IsWellFormed t.root × (tree_contains_byte_nodes t.root ≡ false) × IsTrue (has_no_char_loops t.root)
+    → (t.flags ≡ flags) × IsWellFormed t.root × (tree_contains_byte_nodes t.root ≡ false)
+    × IsTrue (has_no_char_loops t.root)
 
 -- The tree of a pattern has as many groups as the scan finds, and each number below that is the id of
 -- exactly one. The names by id are those that the scan finds; the list is empty if no group has a name.
 abbrev pub EcmaScriptGroupsAgreeWithScan : Type 0
 EcmaScriptGroupsAgreeWithScan =
-    (flags : Flags) (pattern : RemainingCodePoints) (t : Tree) (names : List RemainingCodePoints) → ParsesEcmaScript flags pattern t
+    (flags : Flags) (pattern : RemainingCodePoints) (t : Tree) (names : List RemainingCodePoints)
+    → ParsesEcmaScript flags pattern t
     → OpensGroups ecmascript (texts_after_parentheses false pattern) names
     → (length (group_ids t.root) ≡ length names)
     × ((id : ℕ) → count_by (nat_eq id) (group_ids t.root) ≡ (if nat_lt id (length names) then 1 else 0))

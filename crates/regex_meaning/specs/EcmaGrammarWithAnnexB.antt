@@ -32,7 +32,8 @@ reference_node w n = back_ref n (by_canonical_case w.flags.icase w.flags.unicode
 
 -- DecimalEscape, after the backslash, if it is the number of a group: any other is an early error
 -- with `u`, and no DecimalEscape without it (B.1.4)
-pub data GroupNumber (w : PatternContext) (here : RemainingCodePoints) : (there : RemainingCodePoints) (n : ℕ) → Type 0 where
+pub data GroupNumber (w : PatternContext) (here : RemainingCodePoints) : (there : RemainingCodePoints) (n : ℕ)
+    → Type 0 where
   group_number : {there : RemainingCodePoints} {n : ℕ}
       → begins_with_characters "0" here ≡ false → Digits 10 here there n → n ≤ length w.groups
       → GroupNumber w here there n
@@ -42,7 +43,8 @@ abbrev pub BeginsGroupNumber : PatternContext → RemainingCodePoints → Type 0
 BeginsGroupNumber w here = (there : RemainingCodePoints) × (n : ℕ) × GroupNumber w here there n
 
 -- AtomEscape, after the backslash
-pub data AtomEscape (w : PatternContext) (here : RemainingCodePoints) : (there : RemainingCodePoints) → Node → Type 0 where
+pub data AtomEscape (w : PatternContext) (here : RemainingCodePoints) : (there : RemainingCodePoints) → Node
+    → Type 0 where
   -- DecimalEscape
   decimal_escape : {there : RemainingCodePoints} {n : ℕ}
       → GroupNumber w here there n
@@ -60,16 +62,19 @@ pub data AtomEscape (w : PatternContext) (here : RemainingCodePoints) : (there :
       → AtomEscape w here there (bracket (record { invert = false; intervals = set }))
   -- CharacterEscape
   character_escape : {there : RemainingCodePoints} {c : ℕ} {members : List ℕ}
-      → CharacterEscape (grammar_parameters_of w) here there c → ¬ (BeginsGroupNumber w here) → ¬ (BeginsCharacterClassEscape w.flags here)
+      → CharacterEscape (grammar_parameters_of w) here there c → ¬ (BeginsGroupNumber w here)
+      → ¬ (BeginsCharacterClassEscape w.flags here)
       → AreCaseVariants w.flags.icase w.flags.unicode c members
       → AtomEscape w here there (node_of_case_variants c members)
   -- `k GroupName`: there must be a group of this name (early error)
   named_reference : {a there name : RemainingCodePoints} {n : ℕ}
-      → IsTrue (has_named_groups w) → here ≡ codes "k<" ++ a → GroupName a there name → group_number_of name w.groups ≡ Some n
+      → IsTrue (has_named_groups w) → here ≡ codes "k<" ++ a → GroupName a there name
+      → group_number_of name w.groups ≡ Some n
       → AtomEscape w here there (reference_node w n)
 
 -- Atom with `u`, and ExtendedAtom (B.1.4) without it, as far as it contains no group
-pub data SimpleAtom (w : PatternContext) (here : RemainingCodePoints) : (there : RemainingCodePoints) → Node → Type 0 where
+pub data SimpleAtom (w : PatternContext) (here : RemainingCodePoints) : (there : RemainingCodePoints) → Node
+    → Type 0 where
   -- PatternCharacter: SourceCharacter but not SyntaxCharacter
   pattern_character : {c : ℕ} {there : RemainingCodePoints} {members : List ℕ}
       → here ≡ c ∷ there → c ∈ "^$\\.*+?()[]{}|" ≡ false → AreCaseVariants w.flags.icase w.flags.unicode c members
@@ -85,11 +90,13 @@ pub data SimpleAtom (w : PatternContext) (here : RemainingCodePoints) : (there :
       → SimpleAtom w here there (if w.flags.dot_all then match_any else match_any_except_line_terminator)
   -- `\ AtomEscape`; Assertion has `\b` and `\B`, and is an earlier alternative of Term
   atom_escape : {a there : RemainingCodePoints} {n : Node}
-      → here ≡ codes "\\" ++ a → begins_with_characters "b" a ≡ false → begins_with_characters "B" a ≡ false → AtomEscape w a there n
+      → here ≡ codes "\\" ++ a → begins_with_characters "b" a ≡ false → begins_with_characters "B" a ≡ false
+      → AtomEscape w a there n
       → SimpleAtom w here there n
   -- `\` before a `c`, without `u` (B.1.4), where no CharacterEscape is
   backslash : {a : RemainingCodePoints}
-      → w.flags.unicode ≡ false → here ≡ codes "\\" ++ a → IsTrue (begins_with_characters "c" a) → ¬ (BeginsCharacterEscape (grammar_parameters_of w) a)
+      → w.flags.unicode ≡ false → here ≡ codes "\\" ++ a → IsTrue (begins_with_characters "c" a)
+      → ¬ (BeginsCharacterEscape (grammar_parameters_of w) a)
       → SimpleAtom w here a (char 92)
   -- CharacterClass
   character_class : {a there : RemainingCodePoints} {contents : BracketContents}

@@ -4,42 +4,38 @@ use Rattle.std.specs.Prelude.{◌≡◌, ℕ, ◌+◌, ◌-◌, ◌*◌, ◌^◌
 use Rattle.std.specs.Prelude.{if◌then◌else◌, IsTrue}
 use Rattle.std.specs.List.{list_all}
 use Rattle.std.specs.Char.{is_digit, is_ascii_digit, is_ascii_alphabetic, is_ascii_alphanumeric}
-use Rattle.std.specs.Int.{is_in_range}
 use Rattle.regex_meaning.specs.Tree.{Quantifier}
 use Rattle.regex_meaning.specs.WellFormedTrees.{is_min_at_most_max}
+pub use Rattle.regex_meaning.specs.Text.{is_high_surrogate, is_low_surrogate}
 use Rattle.regex_meaning.specs.ReadingStatesAndDigits.{RemainingCodePoints, ◌∈◌, begins_with_characters, Digits, value_of_digits}
 
 -- ---- CharacterEscape, after the backslash
 
 -- A fixed number of hexadecimal digits and their value: Hex4Digits, or the two digits of
 -- HexEscapeSequence.
-pub data FixedHexDigits (saturated_count : ℕ) (here : RemainingCodePoints) : (there : RemainingCodePoints) (c : ℕ) → Type 0 where
+pub data FixedHexDigits (digits : ℕ) (here : RemainingCodePoints) : (there : RemainingCodePoints) (c : ℕ) → Type 0 where
   hex : {there : RemainingCodePoints} (ds : RemainingCodePoints)
-      → here ≡ ds ++ there → length ds ≡ saturated_count → IsTrue (list_all (λ d. is_digit d 16) ds)
-      → FixedHexDigits saturated_count here there (value_of_digits 16 ds)
-
--- The condition on LeadSurrogate.
-abbrev pub is_lead_surrogate : ℕ → Bool
-is_lead_surrogate c = is_in_range 0xD800 0xDBFF c
-
--- The condition on TrailSurrogate.
-abbrev pub is_trail_surrogate : ℕ → Bool
-is_trail_surrogate c = is_in_range 0xDC00 0xDFFF c
+      → here ≡ ds ++ there → length ds ≡ digits → IsTrue (list_all (λ d. is_digit d 16) ds)
+      → FixedHexDigits digits here there (value_of_digits 16 ds)
 
 -- `LeadSurrogate \u TrailSurrogate` and the code point of the pair
 pub data SurrogatePair (here : RemainingCodePoints) : (there : RemainingCodePoints) (c : ℕ) → Type 0 where
   pair : {a b there : RemainingCodePoints} {lead trail : ℕ}
-      → FixedHexDigits 4 here a lead → IsTrue (is_lead_surrogate lead) → a ≡ codes "\\u" ++ b → FixedHexDigits 4 b there trail
-      → IsTrue (is_trail_surrogate trail)
+      → FixedHexDigits 4 here a lead → IsTrue (is_high_surrogate lead) → a ≡ codes "\\u" ++ b
+      → FixedHexDigits 4 b there trail
+      → IsTrue (is_low_surrogate trail)
       → SurrogatePair here there (0x1_0000 + (lead - 0xD800) * 0x400 + (trail - 0xDC00))
 
 -- RegExpUnicodeEscapeSequence, after the `u`
-pub data UnicodeEscape (unicode : Bool) (here : RemainingCodePoints) : (there : RemainingCodePoints) (c : ℕ) → Type 0 where
+pub data UnicodeEscape (unicode : Bool) (here : RemainingCodePoints) : (there : RemainingCodePoints) (c : ℕ)
+    → Type 0 where
   -- With `u` two surrogates make one code point.
-  surrogates : {there : RemainingCodePoints} {c : ℕ} → IsTrue unicode → SurrogatePair here there c → UnicodeEscape unicode here there c
+  surrogates : {there : RemainingCodePoints} {c : ℕ} → IsTrue unicode → SurrogatePair here there c
+      → UnicodeEscape unicode here there c
   -- Four digits by themselves; with `u` only where they do not begin a pair.
   four_digits : {there : RemainingCodePoints} {c : ℕ}
-      → FixedHexDigits 4 here there c → ¬ (IsTrue unicode × ((end : RemainingCodePoints) × (d : ℕ) × SurrogatePair here end d))
+      → FixedHexDigits 4 here there c → ¬ (IsTrue unicode
+      × ((end : RemainingCodePoints) × (d : ℕ) × SurrogatePair here end d))
       → UnicodeEscape unicode here there c
   -- `u{ CodePoint }`, with `u`
   code_point : {a b there : RemainingCodePoints} {c : ℕ}
@@ -54,7 +50,8 @@ control_escape_code_point c =
     else if c ∈ "f" then Some 0x0C else if c ∈ "r" then Some 0x0D else None
 
 -- CharacterEscape, after the backslash, and the code point that it denotes; there is no `\c`
-pub data CharacterEscape (unicode : Bool) (here : RemainingCodePoints) : (there : RemainingCodePoints) (c : ℕ) → Type 0 where
+pub data CharacterEscape (unicode : Bool) (here : RemainingCodePoints) : (there : RemainingCodePoints) (c : ℕ)
+    → Type 0 where
   control_escape : {letter c : ℕ} {there : RemainingCodePoints}
       → here ≡ letter ∷ there → control_escape_code_point letter ≡ Some c
       → CharacterEscape unicode here there c
@@ -104,7 +101,8 @@ abbrev pub saturated_count : ℕ → ℕ
 saturated_count n = min n (2 ^ 64 - 1)
 
 -- QuantifierPrefix, with its minimum and its maximum (none if there is no limit)
-pub data QuantifierPrefix (here : RemainingCodePoints) : (there : RemainingCodePoints) (least : ℕ) (most : Option ℕ) → Type 0 where
+pub data QuantifierPrefix (here : RemainingCodePoints) : (there : RemainingCodePoints) (least : ℕ) (most : Option ℕ)
+    → Type 0 where
   star : {there : RemainingCodePoints} → here ≡ codes "*" ++ there → QuantifierPrefix here there 0 None
   plus : {there : RemainingCodePoints} → here ≡ codes "+" ++ there → QuantifierPrefix here there 1 None
   question : {there : RemainingCodePoints} → here ≡ codes "?" ++ there → QuantifierPrefix here there 0 (Some 1)
@@ -121,7 +119,8 @@ pub data QuantifierPrefix (here : RemainingCodePoints) : (there : RemainingCodeP
 
 -- A quantifier begins here.
 abbrev pub BeginsQuantifier : RemainingCodePoints → Type 0
-BeginsQuantifier here = (there : RemainingCodePoints) × (least : ℕ) × (most : Option ℕ) × QuantifierPrefix here there least most
+BeginsQuantifier here = (there : RemainingCodePoints) × (least : ℕ) × (most : Option ℕ)
+    × QuantifierPrefix here there least most
 
 -- Quantifier; the minimum is at most the maximum (early error)
 pub data ValidQuantifier (here : RemainingCodePoints) : (there : RemainingCodePoints) → Quantifier → Type 0 where

@@ -23,7 +23,8 @@ character_node flags c =
     if nat_lt 1 (length members) then char_set members else char c
 
 -- Atom, as far as it contains no group
-pub data SimpleAtom (w : PatternContext) (here : RemainingCodePoints) : (there : RemainingCodePoints) → Node → Type 0 where
+pub data SimpleAtom (w : PatternContext) (here : RemainingCodePoints) : (there : RemainingCodePoints) → Node
+    → Type 0 where
   -- PatternCharacter: SourceCharacter but not SyntaxCharacter
   pattern_character : {c : ℕ} {there : RemainingCodePoints}
       → here ≡ c ∷ there → c ∈ "^$\\.*+?()[]{}|" ≡ false
@@ -76,7 +77,8 @@ pub record PatternDialect : Type 1 where
 
 mutual
   -- Disjunction, from one state to another; the index says whether it is inside a lookbehind
-  pub data Disjunction (s : PatternDialect) (w : PatternContext) : (in_lookbehind : Bool) → ParseState → ParseState → Node → Type 0 where
+  pub data Disjunction (s : PatternDialect) (w : PatternContext) : (in_lookbehind : Bool) → ParseState → ParseState
+      → Node → Type 0 where
     last_alternative : {in_lookbehind : Bool} {p q : ParseState} {terms : List Node}
         → Alternative s w in_lookbehind p q terms
         → Disjunction s w in_lookbehind p q (arm in_lookbehind terms)
@@ -85,29 +87,35 @@ mutual
         → Disjunction s w in_lookbehind p t (alt (arm in_lookbehind terms) right)
 
   -- Alternative, with the nodes of its terms in the order of the text
-  pub data Alternative (s : PatternDialect) (w : PatternContext) : (in_lookbehind : Bool) → ParseState → ParseState → List Node → Type 0 where
+  pub data Alternative (s : PatternDialect) (w : PatternContext) : (in_lookbehind : Bool) → ParseState → ParseState
+      → List Node → Type 0 where
     no_terms : {in_lookbehind : Bool} {p : ParseState} → Alternative s w in_lookbehind p p []
     terms : {in_lookbehind : Bool} {p q r : ParseState} {n : Node} {ns : List Node}
         → Term s w in_lookbehind p q n → Alternative s w in_lookbehind q r ns
         → Alternative s w in_lookbehind p r (n ∷ ns)
 
   -- Term
-  pub data Term (s : PatternDialect) (w : PatternContext) : (in_lookbehind : Bool) → ParseState → ParseState → Node → Type 0 where
+  pub data Term (s : PatternDialect) (w : PatternContext) : (in_lookbehind : Bool) → ParseState → ParseState → Node
+      → Type 0 where
     -- Assertion, where no quantifier follows; the standard has this since no Term begins with a
     -- quantifier
     assertion : {in_lookbehind : Bool} {p q : ParseState} {n : Node}
         → Assertion s w p q n → ¬ (BeginsQuantifier q.text)
         → Term s w in_lookbehind p q n
     -- `QuantifiableAssertion Quantifier` (B.1.4): a lookaround, if the dialect allows it
-    repeated_assertion : {in_lookbehind : Bool} {p q : ParseState} {there : RemainingCodePoints} {l : Lookaround} {n : Node} {quantifier : Quantifier}
-        → Assertion s w p q (lookaround l n) → IsTrue (s.may_repeat w.flags l.backwards) → ValidQuantifier q.text there quantifier
-        → Term s w in_lookbehind p (state_with_text_left there q) (loop quantifier (groups_at p) (groups_at q) (lookaround l n))
+    repeated_assertion : {in_lookbehind : Bool} {p q : ParseState} {there : RemainingCodePoints} {l : Lookaround}
+        {n : Node} {quantifier : Quantifier}
+        → Assertion s w p q (lookaround l n) → IsTrue (s.may_repeat w.flags l.backwards)
+        → ValidQuantifier q.text there quantifier
+        → Term s w in_lookbehind p (state_with_text_left there q)
+        (loop quantifier (groups_at p) (groups_at q) (lookaround l n))
     -- Atom, where no quantifier follows
     atom : {in_lookbehind : Bool} {p q : ParseState} {n : Node}
         → Atom s w in_lookbehind p q n → ¬ (BeginsQuantifier q.text)
         → Term s w in_lookbehind p q n
     -- `Atom Quantifier`; the loop names the groups that open inside it
-    quantified : {in_lookbehind : Bool} {p q : ParseState} {there : RemainingCodePoints} {n : Node} {quantifier : Quantifier}
+    quantified : {in_lookbehind : Bool} {p q : ParseState} {there : RemainingCodePoints} {n : Node}
+        {quantifier : Quantifier}
         → Atom s w in_lookbehind p q n → ValidQuantifier q.text there quantifier
         → Term s w in_lookbehind p (state_with_text_left there q) (loop quantifier (groups_at p) (groups_at q) n)
 
@@ -125,7 +133,8 @@ mutual
         (record { negate = negate; backwards = backwards; start_group = groups_at p; end_group = groups_at t }) n)
 
   -- Atom
-  pub data Atom (s : PatternDialect) (w : PatternContext) : (in_lookbehind : Bool) → ParseState → ParseState → Node → Type 0 where
+  pub data Atom (s : PatternDialect) (w : PatternContext) : (in_lookbehind : Bool) → ParseState → ParseState → Node
+      → Type 0 where
     -- An atom that contains no group.
     leaf : {in_lookbehind : Bool} {p : ParseState} {there : RemainingCodePoints} {n : Node}
         → s.simple_atom w p.text there n
@@ -137,7 +146,8 @@ mutual
         → Atom s w in_lookbehind p t (capture_group (groups_at p) [] n)
     -- `( GroupSpecifier Disjunction )` with a name
     named_group : {in_lookbehind : Bool} {p q r t : ParseState} {there name : RemainingCodePoints} {n : Node}
-        → p ≡ "(?<" ▸ q → s.group_name q.text there name → Disjunction s w in_lookbehind (with_opened_group name (state_with_text_left there q)) r n
+        → p ≡ "(?<" ▸ q → s.group_name q.text there name
+        → Disjunction s w in_lookbehind (with_opened_group name (state_with_text_left there q)) r n
         → r ≡ ")" ▸ t
         → Atom s w in_lookbehind p t (capture_group (groups_at p) name n)
     -- `(?: Disjunction )`

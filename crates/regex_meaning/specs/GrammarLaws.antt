@@ -32,7 +32,8 @@ ExampleIsParsed =
 -- A pattern has at most one tree.
 abbrev pub OneTree : Type 0
 OneTree =
-    (flags : Flags) (pattern : RemainingCodePoints) (t u : Tree) → Parses flags pattern t → Parses flags pattern u → t ≡ u
+    (flags : Flags) (pattern : RemainingCodePoints) (t u : Tree) → Parses flags pattern t → Parses flags pattern u
+    → t ≡ u
 
 -- The names of the groups that have opened at the end of a pattern are those that the scan finds.
 abbrev pub ScanFindsOpenedGroupNames : Type 0
@@ -54,15 +55,18 @@ ScanCountsPatternGroups =
 abbrev pub TreesAreWellFormed : Type 0
 TreesAreWellFormed =
     (flags : Flags) (pattern : RemainingCodePoints) (t : Tree) → Parses flags pattern t
-    → (t.flags ≡ flags) × IsWellFormed t.root × (tree_contains_byte_nodes t.root ≡ false) × IsTrue (has_no_char_loops t.root)
+    → (t.flags ≡ flags) × IsWellFormed t.root × (tree_contains_byte_nodes t.root ≡ false)
+    × IsTrue (has_no_char_loops t.root)
 
 -- The tree of a sequence of characters.
 abbrev pub literal_tree : Flags → RemainingCodePoints → Tree
-literal_tree flags text = record { root = cat (sequence_node (map (character_node flags) text)) (cat goal end_of_cat); flags = flags }
+literal_tree flags text =
+    record { root = cat (sequence_node (map (character_node flags) text)) (cat goal end_of_cat); flags = flags }
 
 -- With every flag, an escaped text is a pattern whose tree is the sequence of its characters.
 abbrev pub EscapedTextsAreRead : Type 0
-EscapedTextsAreRead = (flags : Flags) (text : RemainingCodePoints) → Parses flags (escape text) (literal_tree flags text)
+EscapedTextsAreRead = (flags : Flags) (text : RemainingCodePoints)
+    → Parses flags (escape text) (literal_tree flags text)
 
 -- With every flag, a UTF-8 text whose bytes were escaped is a pattern whose tree is the sequence of
 -- its characters.

@@ -27,5 +27,6 @@ scanned_names_per_capturing_group in_class (c ∷ d ∷ rest) =
     if c ∈ "\\" then scanned_names_per_capturing_group in_class rest
     else if c ∈ "[" then scanned_names_per_capturing_group true (d ∷ rest)
     else if c ∈ "]" then scanned_names_per_capturing_group false (d ∷ rest)
-    else if c ∈ "(" && not in_class then name_of_opened_group (d ∷ rest) ++ scanned_names_per_capturing_group in_class (d ∷ rest)
+    else if c ∈ "(" && not in_class then name_of_opened_group (d ∷ rest) ++ scanned_names_per_capturing_group in_class
+    (d ∷ rest)
     else scanned_names_per_capturing_group in_class (d ∷ rest)

@@ -23,7 +23,8 @@ pub data OpensGroups (s : PatternDialect) : (texts names : List RemainingCodePoi
       → text ≡ codes "?:" ++ here → OpensGroups s texts names
       → OpensGroups s (text ∷ texts) names
   -- A lookaround.
-  opens_lookaround : {text : RemainingCodePoints} {texts names : List RemainingCodePoints} (negate backwards : Bool) (here : RemainingCodePoints)
+  opens_lookaround : {text : RemainingCodePoints} {texts names : List RemainingCodePoints} (negate backwards : Bool)
+      (here : RemainingCodePoints)
       → codes "(" ++ text ≡ codes (lookaround_opener negate backwards) ++ here → OpensGroups s texts names
       → OpensGroups s (text ∷ texts) names
   -- A group without a name.
@@ -31,6 +32,7 @@ pub data OpensGroups (s : PatternDialect) : (texts names : List RemainingCodePoi
       → begins_with_characters "?" text ≡ false → OpensGroups s texts names
       → OpensGroups s (text ∷ texts) ([] ∷ names)
   -- A group with a name.
-  opens_named_group : {text name : RemainingCodePoints} {texts names : List RemainingCodePoints} (here there : RemainingCodePoints)
+  opens_named_group : {text name : RemainingCodePoints} {texts names : List RemainingCodePoints}
+      (here there : RemainingCodePoints)
       → text ≡ codes "?<" ++ here → s.group_name here there name → OpensGroups s texts names
       → OpensGroups s (text ∷ texts) (name ∷ names)

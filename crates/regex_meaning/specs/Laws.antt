@@ -28,11 +28,13 @@ CountingTicksKeepsOutcomes = (text : Text) (node : Node) (d : Direction) (place 
 -- those of another iteration for each outcome that passes the empty check, and if k is at least the
 -- minimum, leaving the loop.
 abbrev pub LoopRepetitionUnfolds : Type 0
-LoopRepetitionUnfolds = (text : Text) (q : Quantifier) (loopee : Node) (change : Groups → Groups) (d : Direction) (k place : ℕ) (groups : Groups)
+LoopRepetitionUnfolds = (text : Text) (q : Quantifier) (loopee : Node) (change : Groups → Groups) (d : Direction)
+    (k place : ℕ) (groups : Groups)
     → let r = repetition q (λ p g. outcomes text loopee d p (change g)) in
     repeat text r d k place groups ≡
     preferred q.greedy
-    (if nat_lt k (max_iterations q) then flat_map (λ o. repeat text r d (k + 1) o.end o.groups) (filter (passes_empty_check r k place) (outcomes text loopee d place (change groups))) else [])
+    (if nat_lt k (max_iterations q) then flat_map (λ o. repeat text r d (k + 1) o.end o.groups)
+    (filter (passes_empty_check r k place) (outcomes text loopee d place (change groups))) else [])
     (if nat_le q.min k then record { end = place; groups = groups } ∷ [] else [])
 
 -- b is at a or past it in the direction, and within the text if a is
@@ -69,12 +71,13 @@ OutcomesStayInText = (text : Text) (node : Node) (d : Direction) (place : ℕ) (
 -- ---- Matches
 
 -- The matches from a place on; none if there is no place.
-abbrev pub list_from : Node → Text → Option ℕ → List Found
-list_from root text next = option_map_or (match_list root text) next []
+abbrev pub matches_from_optional : Node → Text → Option ℕ → List Found
+matches_from_optional root text next = option_map_or (match_list root text) next []
 
 -- A match, followed by the list from its resume place.
 abbrev pub match_then_list : Node → Text → Option Found → List Found
-match_then_list root text found = option_map_or (λ m. m ∷ list_from root text (place_after_match root text m)) found []
+match_then_list root text found =
+    option_map_or (λ m. m ∷ matches_from_optional root text (place_after_match root text m)) found []
 
 -- The list of matches from a place is the first match, followed by the list from its resume place.
 abbrev pub MatchListUnfolds : Type 0
@@ -85,7 +88,8 @@ MatchListUnfolds = (root : Node) (text : Text) (place : ℕ)
 -- is none past the end.
 abbrev pub FirstMatchUnfolds : Type 0
 FirstMatchUnfolds = (root : Node) (text : Text) (place : ℕ)
-    → (place ≤ last_place text → first_match root text place ≡ option_or (match_at root text place) (first_match root text (place + 1)))
+    → (place ≤ last_place text → first_match root text place ≡ option_or (match_at root text place)
+    (first_match root text (place + 1)))
     × (last_place text < place → first_match root text place ≡ None)
 
 -- ---- Offsets
@@ -103,7 +107,8 @@ PlacesCorrespondToBoundaries = (text : Text) → HasRisingPlaceOffsets text → 
 -- The texts of the four encodings satisfy `HasRisingPlaceOffsets`.
 abbrev pub EncodedTextsHaveRisingOffsets : Type 0
 EncodedTextsHaveRisingOffsets = (units : List ℕ) (unicode : Bool)
-    → HasRisingPlaceOffsets (utf8_text units unicode) × HasRisingPlaceOffsets (ascii_text units unicode) × HasRisingPlaceOffsets (utf16_text units unicode) × HasRisingPlaceOffsets (ucs2_text units unicode)
+    → HasRisingPlaceOffsets (utf8_text units unicode) × HasRisingPlaceOffsets (ascii_text units unicode)
+    × HasRisingPlaceOffsets (utf16_text units unicode) × HasRisingPlaceOffsets (ucs2_text units unicode)
 
 -- The unit before this offset is a high surrogate and the unit at it a low surrogate.
 abbrev pub is_within_pair : List ℕ → ℕ → Bool
@@ -121,7 +126,8 @@ Utf16BoundariesCutNoPair = (units : List ℕ) (unicode : Bool) (i : ℕ)
 -- The answers from an offset on are the first answer, followed by those from the next start.
 abbrev pub AnswersFromOffsetUnfold : Type 0
 AnswersFromOffsetUnfold = (root : Node) (text : Text) → HasRisingPlaceOffsets text → (start : ℕ)
-    → answers_from root text start ≡ answer_then_list root text (first_answer root text start) (next_start root text start)
+    → answers_from root text start ≡ answer_then_list root text (first_answer root text start)
+    (next_start root text start)
 
 -- The next start is a boundary after the start.
 abbrev pub NextStartIsAhead : Type 0
@@ -147,11 +153,13 @@ pub record IsAnswerOf (root : Node) (text : Text) (m : Answer) : Type 0 where
 -- The match at an offset is the first answer from there, if that answer begins there.
 abbrev pub MatchAtIsFirstAnswerIfThere : Type 0
 MatchAtIsFirstAnswerIfThere = (root : Node) (text : Text) → HasRisingPlaceOffsets text → (at : ℕ)
-    → answer_at root text at ≡ option_and_then (λ m. if m.range.0 == at then Some m else None) (first_answer root text at)
+    → answer_at root text at ≡ option_and_then (λ m. if m.range.0 == at then Some m else None)
+    (first_answer root text at)
 
 -- Every answer satisfies `IsAnswerOf`.
 abbrev pub AnswersSatisfyIsAnswerOf : Type 0
-AnswersSatisfyIsAnswerOf = (root : Node) (text : Text) → HasRisingPlaceOffsets text → (start : ℕ) → Each (IsAnswerOf root text) (answers_from root text start)
+AnswersSatisfyIsAnswerOf = (root : Node) (text : Text) → HasRisingPlaceOffsets text → (start : ℕ)
+    → Each (IsAnswerOf root text) (answers_from root text start)
 
 -- The first answer begins at `from` or after it, and each next one begins after the start of the
 -- one before and not before its end.
@@ -162,7 +170,8 @@ AreAscendingDisjointAnswersFrom from (m ∷ ms) =
 
 -- The starts of answers increase, and no two answers overlap.
 abbrev pub AnswersAreOrderedWithoutOverlap : Type 0
-AnswersAreOrderedWithoutOverlap = (root : Node) (text : Text) → HasRisingPlaceOffsets text → (start : ℕ) → AreAscendingDisjointAnswersFrom start (answers_from root text start)
+AnswersAreOrderedWithoutOverlap = (root : Node) (text : Text) → HasRisingPlaceOffsets text → (start : ℕ)
+    → AreAscendingDisjointAnswersFrom start (answers_from root text start)
 
 -- There is at most one answer more than there are characters from the start on.
 abbrev pub AnswerCountIsBounded : Type 0
@@ -171,14 +180,17 @@ AnswerCountIsBounded = (root : Node) (text : Text) → HasRisingPlaceOffsets tex
 
 -- A search from the end of a nonempty match yields the rest of the list.
 abbrev pub ResumingAfterNonemptyMatchYieldsRest : Type 0
-ResumingAfterNonemptyMatchYieldsRest = (root : Node) (text : Text) → HasRisingPlaceOffsets text → (start : ℕ) (before : List Answer) (m : Answer) (after : List Answer)
-    → answers_from root text start ≡ before ++ m ∷ after → m.range.0 < m.range.1 → answers_from root text m.range.1 ≡ after
+ResumingAfterNonemptyMatchYieldsRest = (root : Node) (text : Text) → HasRisingPlaceOffsets text
+    → (start : ℕ) (before : List Answer) (m : Answer) (after : List Answer)
+    → answers_from root text start ≡ before ++ m ∷ after → m.range.0 < m.range.1
+    → answers_from root text m.range.1 ≡ after
 
 -- ---- One text in two encodings
 
 -- A text has its matches at the same places in UTF-8 and in UTF-16.
 abbrev pub SameMatchesInUtf8AndUtf16 : Type 0
-SameMatchesInUtf8AndUtf16 = (root : Node) (bytes units : List ℕ) (unicode : Bool) (place : ℕ) → chars bytes ≡ utf16_characters units
+SameMatchesInUtf8AndUtf16 = (root : Node) (bytes units : List ℕ) (unicode : Bool) (place : ℕ)
+    → chars bytes ≡ utf16_characters units
     → match_list root (utf8_text bytes unicode) place ≡ match_list root (utf16_text units unicode) place
 
 -- An ASCII text has the same answers when read as ASCII and as UTF-8.
@@ -211,14 +223,16 @@ needs_on tree text spent (Some place) = needs_from tree text (last_place text + 
 
 -- The needs after a match; none if there was no match.
 abbrev pub needs_after_match : Tree → Text → (spent : ℕ) → Option Found → List ℕ
-needs_after_match tree text spent found = option_map_or (λ m. needs_on tree text spent (place_after_match tree.root text m)) found []
+needs_after_match tree text spent found =
+    option_map_or (λ m. needs_on tree text spent (place_after_match tree.root text m)) found []
 
 -- The first need is that of the first match or of there being none, and the others continue from
 -- there.
 abbrev pub NeededStepsUnfoldMatchByMatch : Type 0
 NeededStepsUnfoldMatchByMatch = (tree : Tree) (text : Text) (spent place : ℕ)
     → needs_on tree text spent (Some place)
-    ≡ (spent + need tree text place) ∷ needs_after_match tree text (spent + need tree text place) (first_match tree.root text place)
+    ≡ (spent + need tree text place) ∷ needs_after_match tree text (spent + need tree text place)
+    (first_match tree.root text place)
 
 -- ---- Names
 
@@ -230,4 +244,5 @@ NamedGroupAgreesWithNamedGroups = (m : Answer) → Each (λ named. named_group m
 
 -- The start predicate of a well-formed tree rules out no place that has an outcome.
 abbrev pub StartPredicateIsSound : Type 0
-StartPredicateIsSound = (tree : Tree) → IsWellFormed tree.root → IsSoundStartPredicateOf (start_predicate tree) tree.root
+StartPredicateIsSound = (tree : Tree) → IsWellFormed tree.root
+    → IsSoundStartPredicateOf (start_predicate tree) tree.root

@@ -58,7 +58,8 @@ group m (suc id) = group_range m.captures id
 -- The positions in the list of those names that pass the test, counted from `id`.
 abbrev pub ids_where : (List ℕ → Bool) → (id : ℕ) → List (List ℕ) → List ℕ
 ids_where test id [] = []
-ids_where test id (name ∷ names) = if test name then id ∷ ids_where test (id + 1) names else ids_where test (id + 1) names
+ids_where test id (name ∷ names) = if test name then id ∷ ids_where test (id + 1) names
+    else ids_where test (id + 1) names
 
 -- The ids of the groups with this name, in increasing order.
 abbrev pub ids_named : Answer → List ℕ → List ℕ

@@ -98,7 +98,8 @@ preferred false again leave = leave ++ again
 unfoldable pub bounded_repeat : Repetition Outcome → (turns k place : ℕ) → Groups → List Outcome
 bounded_repeat r zero k place groups = []
 bounded_repeat r (suc turns) k place groups =
-    let again = flat_map (λ o. bounded_repeat r turns (k + 1) o.end o.groups) (filter (passes_empty_check r k place) (r.body place groups)) in
+    let again = flat_map (λ o. bounded_repeat r turns (k + 1) o.end o.groups)
+    (filter (passes_empty_check r k place) (r.body place groups)) in
     let leave = record { end = place; groups = groups } ∷ [] in
     preferred r.greedy (if nat_lt k r.most then again else []) (if nat_le r.least k then leave else [])
 
@@ -211,7 +212,8 @@ module _ (text : Text) where
   outcomes (back_ref group same) direction place groups =
       backref_outcomes same (group_range groups (group - 1)) direction place groups
   -- 21.2.2.6
-  outcomes (anchor type multiline) direction place groups = empty_match_if (anchor_holds type multiline place) place groups
+  outcomes (anchor type multiline) direction place groups =
+      empty_match_if (anchor_holds type multiline place) place groups
   outcomes (word_boundary invert unicode_icase) direction place groups =
       empty_match_if (exclusive_or invert (is_at_word_boundary unicode_icase place)) place groups
   outcomes (lookaround l contents) direction place groups =

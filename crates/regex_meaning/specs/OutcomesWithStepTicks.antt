@@ -66,7 +66,8 @@ abbrev pub ticked_alt : (left right : List TickOrOutcome) → List TickOrOutcome
 ticked_alt left right = tick ∷ (ticks_before_outcomes left ++ (tick ∷ right))
 
 -- The two ways of a loop in order of priority, with a tick between them if both are allowed.
-abbrev pub ticked_preferred : (may_again may_leave greedy : Bool) → (again leave : List TickOrOutcome) → List TickOrOutcome
+abbrev pub ticked_preferred : (may_again may_leave greedy : Bool) → (again leave : List TickOrOutcome)
+    → List TickOrOutcome
 ticked_preferred false false greedy again leave = []
 ticked_preferred true false greedy again leave = again
 ticked_preferred false true greedy again leave = leave
@@ -105,20 +106,24 @@ module _ (text : Text) where
   nearest_first leftwards place = reverse (take place text.characters)
 
   -- The number of code points of a string that are compared.
-  abbrev pub string_tries : (icase : Bool) → List ℕ → Direction → ℕ → ℕ
-  string_tries icase string rightwards place = compared_count (is_case_variant text icase) string (nearest_first rightwards place)
-  string_tries icase string leftwards place = compared_count (is_case_variant text icase) (reverse string) (nearest_first leftwards place)
+  abbrev pub compared_code_point_count : (icase : Bool) → List ℕ → Direction → ℕ → ℕ
+  compared_code_point_count icase string rightwards place =
+      compared_count (is_case_variant text icase) string (nearest_first rightwards place)
+  compared_code_point_count icase string leftwards place =
+      compared_count (is_case_variant text icase) (reverse string) (nearest_first leftwards place)
 
   -- The number of chunks of a byte sequence that are compared.
-  abbrev pub byte_tries : List ℕ → Direction → ℕ → ℕ
-  byte_tries bytes rightwards place = compared_chunks (chunks bytes) (encode_utf8_all (drop place text.characters))
-  byte_tries bytes leftwards place =
+  abbrev pub compared_chunk_count : List ℕ → Direction → ℕ → ℕ
+  compared_chunk_count bytes rightwards place =
+      compared_chunks (chunks bytes) (encode_utf8_all (drop place text.characters))
+  compared_chunk_count bytes leftwards place =
       compared_chunks (map reverse (reverse (chunks bytes))) (reverse (encode_utf8_all (take place text.characters)))
 
   -- One string: a tick for each code point that is compared, and then its outcome if it has one.
   abbrev pub ticked_string : (icase : Bool) → List ℕ → Direction → ℕ → Groups → List TickOrOutcome
   ticked_string icase string direction place groups =
-      ticks (string_tries icase string direction place) ++ map pair (spelled text (is_case_variant text icase) string direction place groups)
+      ticks (compared_code_point_count icase string direction place) ++ map pair
+      (spelled text (is_case_variant text icase) string direction place groups)
 
   -- A string set: alternatives nested to the right; no string at all takes one tick.
   abbrev pub ticked_strings : (icase : Bool) → List (List ℕ) → Direction → ℕ → Groups → List TickOrOutcome
@@ -128,8 +133,9 @@ module _ (text : Text) where
       ticked_alt (ticked_string icase s direction place groups) (ticked_strings icase (t ∷ more) direction place groups)
 
   -- How often a loop over one character tries its body.
-  abbrev pub body_tries : Quantifier → Node → Direction → ℕ → ℕ
-  body_tries q loopee direction place = min (max_iterations q) (prefix_len (accepts loopee) (nearest_first direction place) + 1)
+  abbrev pub body_attempts : Quantifier → Node → Direction → ℕ → ℕ
+  body_attempts q loopee direction place =
+      min (max_iterations q) (prefix_len (accepts loopee) (nearest_first direction place) + 1)
 
   -- `repeat` with ticks
   abbrev pub ticked_repeat : Repetition TickOrOutcome → Direction → (k place : ℕ) → Groups → List TickOrOutcome
@@ -141,23 +147,26 @@ module _ (text : Text) where
   ticked empty direction place groups = map pair (outcomes text empty direction place groups)
   ticked end_of_cat direction place groups = map pair (outcomes text end_of_cat direction place groups)
   ticked (byte_sequence bytes) direction place groups =
-      ticks (byte_tries bytes direction place) ++ map pair (outcomes text (byte_sequence bytes) direction place groups)
+      ticks (compared_chunk_count bytes direction place) ++ map pair
+      (outcomes text (byte_sequence bytes) direction place groups)
   ticked (string_set strings icase) direction place groups = ticked_strings icase strings direction place groups
   ticked (cat first rest) direction place groups =
       outcomes_replaced_by_lists (ticked first direction place groups) (λ o. ticked rest direction o.end o.groups)
   ticked (alt left right) direction place groups =
       ticked_alt (ticked left direction place groups) (ticked right direction place groups)
   ticked (capture_group id name contents) direction place groups =
-      tick ∷ outcomes_replaced_by_lists (ticked contents direction place (cleared id 1 groups)) (λ o. tick ∷ pair (captured id place o) ∷ [])
+      tick ∷ outcomes_replaced_by_lists (ticked contents direction place (cleared id 1 groups))
+      (λ o. tick ∷ pair (captured id place o) ∷ [])
   ticked (lookaround l contents) direction place groups =
       let inside = ticks_before_outcomes (ticked contents (direction_of l) place groups) in
-      tick ∷ (ticks (ticks_to_first inside) ++ map pair (lookaround_outcomes l.negate (outcomes_without_ticks inside) place groups))
+      tick ∷ (ticks (ticks_to_first inside) ++ map pair
+      (lookaround_outcomes l.negate (outcomes_without_ticks inside) place groups))
   ticked (loop q start_group end_group loopee) direction place groups =
       tick ∷ ticked_repeat (repetition q (λ p g.
       ticks (end_group - start_group) ++ ticked loopee direction p (cleared start_group (end_group - start_group) g)))
       direction 0 place groups
   ticked (loop_1_char_body q loopee) direction place groups =
-      tick ∷ (ticks (body_tries q loopee direction place)
+      tick ∷ (ticks (body_attempts q loopee direction place)
       ++ with_ticks_between (outcomes text (loop_1_char_body q loopee) direction place groups))
   -- Nodes of one instruction take one tick.
   ticked node direction place groups = tick ∷ map pair (outcomes text node direction place groups)
@@ -194,7 +203,8 @@ module _ (tree : Tree) (text : Text) where
   needs_from (suc count) spent None = spent ∷ []
   needs_from (suc count) spent (Some place) =
       let next = first_match tree.root text place in
-      (spent + need place) ∷ option_map_or (λ m. needs_from count (spent + need place) (place_after_match tree.root text m)) next []
+      (spent + need place) ∷ option_map_or (λ m. needs_from count (spent + need place)
+      (place_after_match tree.root text m)) next []
 
   -- The needs of all matches from a place on and of the end.
   unfoldable pub needs : ℕ → List ℕ

@@ -62,12 +62,14 @@ value_of_digits base here = fold (λ n c. base * n + digit_value c) 0 here
 -- DecimalDigits or HexDigits and their value: at least one digit, and no digit follows
 pub data Digits (base : ℕ) (here : RemainingCodePoints) : (there : RemainingCodePoints) (n : ℕ) → Type 0 where
   digits_from : 0 < length (leading_digits base here)
-      → Digits base here (drop (length (leading_digits base here)) here) (value_of_digits base (leading_digits base here))
+      → Digits base here (drop (length (leading_digits base here)) here)
+      (value_of_digits base (leading_digits base here))
 
 -- The number of the first group with this name, counted from 1.
 abbrev pub group_number_of : (name : RemainingCodePoints) → List RemainingCodePoints → Option ℕ
 group_number_of name [] = None
-group_number_of name (other ∷ names) = if pointwise nat_eq name other then Some 1 else option_map suc (group_number_of name names)
+group_number_of name (other ∷ names) = if pointwise nat_eq name other then Some 1
+    else option_map suc (group_number_of name names)
 
 -- A sequence of nodes.
 abbrev pub sequence_node : List Node → Node

@@ -36,7 +36,8 @@ parse_digits_of_group_number value (b ∷ bytes) =
 -- Reads what follows `${`: a name up to `}`; if no `}` follows, everything stands for itself.
 abbrev pub parse_braced_name : List ℕ → ParsedPart
 parse_braced_name bytes =
-    let name = parsed_part_from_single_replacement_part (named_part (before_first is_brace bytes)) (after_first is_brace bytes) in
+    let name = parsed_part_from_single_replacement_part (named_part (before_first is_brace bytes))
+    (after_first is_brace bytes) in
     let unclosed : ParsedPart = record { parts = literal 36 ∷ literal 123 ∷ map literal bytes; rest = [] } in
     if list_any is_brace bytes then name else unclosed
   where
@@ -58,7 +59,8 @@ abbrev pub parse_replacement : (left : ℕ) → List ℕ → List ReplacementPar
 parse_replacement zero bytes = []
 parse_replacement (suc left) [] = []
 parse_replacement (suc left) (b ∷ bytes) =
-    let begun = if b == 36 then parse_after_dollar bytes else parsed_part_from_single_replacement_part (literal b) bytes in
+    let begun = if b == 36 then parse_after_dollar bytes
+    else parsed_part_from_single_replacement_part (literal b) bytes in
     begun.parts ++ parse_replacement left begun.rest
 
 module _ (text : List ℕ) (m : Answer) where

@@ -29,7 +29,8 @@ chars_with_first_byte b =
 
 -- Whether two lists of intervals have a number in common.
 abbrev pub intersects : Intervals → Intervals → Bool
-intersects xs ys = list_any (λ x. list_any (λ y. nat_le x.0 x.1 && nat_le y.0 y.1 && nat_le x.0 y.1 && nat_le y.0 x.1) ys) xs
+intersects xs ys =
+    list_any (λ x. list_any (λ y. nat_le x.0 x.1 && nat_le y.0 y.1 && nat_le x.0 y.1 && nat_le y.0 x.1) ys) xs
 
 -- The first UTF-8 bytes of these code points, up to U+10FFFF.
 abbrev pub first_bytes : Intervals → List ℕ
@@ -49,7 +50,8 @@ intervals_minus these (other ∷ others) = intervals_minus (flat_map (interval_m
 
 -- The code points that a class accepts.
 abbrev pub code_points_of_class : BracketContents → Intervals
-code_points_of_class contents = if contents.invert then intervals_minus ((0, 0x10_FFFF) ∷ []) contents.intervals else contents.intervals
+code_points_of_class contents = if contents.invert then intervals_minus ((0, 0x10_FFFF) ∷ []) contents.intervals
+    else contents.intervals
 
 -- ---- The predicate of a node
 
@@ -68,9 +70,9 @@ byte_sequence_predicate [] = arbitrary
 byte_sequence_predicate (b ∷ bs) = sequence (b ∷ bs)
 
 -- The predicate of the first child that is not open-ended.
-abbrev pub first_decided : AbstractStartPredicate → AbstractStartPredicate → AbstractStartPredicate
-first_decided open_ended rest = rest
-first_decided first rest = first
+abbrev pub first_not_open_ended : AbstractStartPredicate → AbstractStartPredicate → AbstractStartPredicate
+first_not_open_ended open_ended rest = rest
+first_not_open_ended first rest = first
 
 -- The longest common prefix of two lists.
 abbrev pub common_prefix : List ℕ → List ℕ → List ℕ
@@ -93,7 +95,8 @@ common_prefix_or_first_bytes (b ∷ bs) first_bytes = sequence (b ∷ bs)
 
 -- The predicate of two alternatives.
 abbrev pub join : AbstractStartPredicate → AbstractStartPredicate → AbstractStartPredicate
-join (sequence xs) (sequence ys) = common_prefix_or_first_bytes (common_prefix xs ys) (union_of_byte_sets (first_byte_as_set xs) (first_byte_as_set ys))
+join (sequence xs) (sequence ys) = common_prefix_or_first_bytes (common_prefix xs ys)
+    (union_of_byte_sets (first_byte_as_set xs) (first_byte_as_set ys))
 join (sequence xs) (one_of ys) = one_of (union_of_byte_sets (first_byte_as_set xs) ys)
 join (one_of xs) (sequence ys) = one_of (union_of_byte_sets xs (first_byte_as_set ys))
 join (one_of xs) (one_of ys) = one_of (union_of_byte_sets xs ys)
@@ -105,11 +108,14 @@ abstract_start_predicate (byte_sequence bytes) = byte_sequence_predicate bytes
 abstract_start_predicate (byte_set members) = one_of (bytes_that_pass (contains members))
 abstract_start_predicate (char_set members) = one_of (first_bytes (map (λ c. (c, c)) members))
 abstract_start_predicate (bracket contents) = one_of (first_bytes (code_points_of_class contents))
-abstract_start_predicate (cat first rest) = first_decided (abstract_start_predicate first) (abstract_start_predicate rest)
+abstract_start_predicate (cat first rest) =
+    first_not_open_ended (abstract_start_predicate first) (abstract_start_predicate rest)
 abstract_start_predicate end_of_cat = open_ended
 abstract_start_predicate (capture_group id name contents) = abstract_start_predicate contents
-abstract_start_predicate (loop q start_group end_group loopee) = if nat_lt 0 q.min then abstract_start_predicate loopee else arbitrary
-abstract_start_predicate (loop_1_char_body q loopee) = if nat_lt 0 q.min then abstract_start_predicate loopee else arbitrary
+abstract_start_predicate (loop q start_group end_group loopee) = if nat_lt 0 q.min then abstract_start_predicate loopee
+    else arbitrary
+abstract_start_predicate (loop_1_char_body q loopee) = if nat_lt 0 q.min then abstract_start_predicate loopee
+    else arbitrary
 abstract_start_predicate (alt left right) = join (abstract_start_predicate left) (abstract_start_predicate right)
 abstract_start_predicate (lookaround l contents) = open_ended
 abstract_start_predicate _ = arbitrary
@@ -145,7 +151,8 @@ resolved_start_predicate _ = start_arbitrary
 -- The start predicate of a tree.
 unfoldable pub start_predicate : Tree → StartPredicate
 start_predicate tree =
-    if not tree.flags.multiline && is_anchored tree.root then start_anchored else resolved_start_predicate (abstract_start_predicate tree.root)
+    if not tree.flags.multiline && is_anchored tree.root then start_anchored
+    else resolved_start_predicate (abstract_start_predicate tree.root)
 
 -- ---- Meaning of the predicate
 
@@ -172,15 +179,15 @@ begins_characters (start_byte_sequence bytes) = list_all (λ b. not (is_in_range
 begins_characters _ = true
 
 -- Whether the set or the sequence of the predicate is not empty.
-abbrev pub is_filled : StartPredicate → Bool
-is_filled (start_byte_set []) = false
-is_filled (start_byte_sequence []) = false
-is_filled _ = true
+abbrev pub has_nonempty_bytes : StartPredicate → Bool
+has_nonempty_bytes (start_byte_set []) = false
+has_nonempty_bytes (start_byte_sequence []) = false
+has_nonempty_bytes _ = true
 
 -- The predicate allows every place at which the tree has an outcome; besides, its bytes begin
 -- characters, and it is not empty.
 pub record IsSoundStartPredicateOf (p : StartPredicate) (root : Node) : Type 0 where
   pub holds : (text : Text) (place : ℕ) → IsTrue (list_all is_scalar text.characters) → place ≤ last_place text
       → outcomes text root rightwards place (no_groups root) ≢ [] → IsTrue (may_start p text place)
-  pub on_characters : IsTrue (begins_characters p)
-  pub filled : IsTrue (is_filled p)
+  pub bytes_begin_characters : IsTrue (begins_characters p)
+  pub filled : IsTrue (has_nonempty_bytes p)

@@ -29,9 +29,9 @@ IsBudgetAtMost _ _ = ⊥
 -- ---- A list and its needs
 
 -- The items whose need is at most `steps`, up to the first whose need is not.
-abbrev pub those_within : {X : Type 0} → (steps : ℕ) → (needs : List ℕ) → List X → List X
-those_within steps (n ∷ needs) (x ∷ xs) = if nat_le n steps then x ∷ those_within steps needs xs else []
-those_within steps _ _ = []
+abbrev pub items_within_steps : {X : Type 0} → (steps : ℕ) → (needs : List ℕ) → List X → List X
+items_within_steps steps (n ∷ needs) (x ∷ xs) = if nat_le n steps then x ∷ items_within_steps steps needs xs else []
+items_within_steps steps _ _ = []
 
 module _ (tree : Tree) (text : Text) where
   -- The need of the first match from an offset on, or of there being none; 0 if the offset is no
@@ -46,7 +46,8 @@ module _ (tree : Tree) (text : Text) where
   -- The answers from an offset on for which the budget suffices.
   abbrev pub answers_within : (budget : Option ℕ) → (start : ℕ) → List Answer
   answers_within None start = answers_from tree.root text start
-  answers_within (Some steps) start = those_within steps (needs_of_answers start) (answers_from tree.root text start)
+  answers_within (Some steps) start =
+      items_within_steps steps (needs_of_answers start) (answers_from tree.root text start)
 
   -- Whether the budget suffices for all answers and the end.
   abbrev pub finishes_within : (budget : Option ℕ) → (start : ℕ) → Bool
@@ -54,12 +55,12 @@ module _ (tree : Tree) (text : Text) where
   finishes_within (Some steps) start = list_all (λ n. nat_le n steps) (needs_of_answers start)
 
   -- The answers within the budget from where the list continues; none if it does not continue.
-  abbrev pub answers_next : (budget next : Option ℕ) → List Answer
-  answers_next budget None = []
-  answers_next budget (Some start) = answers_within budget start
+  abbrev pub answers_within_from_next : (budget next : Option ℕ) → List Answer
+  answers_within_from_next budget None = []
+  answers_within_from_next budget (Some start) = answers_within budget start
 
   -- Whether the budget suffices for all answers from where the list continues and the end; true if
   -- it does not continue.
-  abbrev pub end_next : (budget next : Option ℕ) → Bool
-  end_next budget None = true
-  end_next budget (Some start) = finishes_within budget start
+  abbrev pub finishes_from_next : (budget next : Option ℕ) → Bool
+  finishes_from_next budget None = true
+  finishes_from_next budget (Some start) = finishes_within budget start

@@ -1,42 +1,42 @@
 -- What is known of the tree of each part of a pattern; no part of the grammar.
 use Rattle.std.specs.Prelude.{◌≡◌, ℕ, ◌+◌, Bool, true, false, ◌&&◌, [], length, count_by, nat_eq, nat_le, nat_lt, if◌then◌else◌, IsTrue}
 use Rattle.regex_meaning.specs.Tree.{Node, byte_set, byte_sequence, loop_1_char_body, group_ids, every_node_passes}
-use Rattle.regex_meaning.specs.WellFormedTrees.{number_of_goal_nodes, names_the_groups_inside, refers_to_a_group, has_order_in_quantifier, has_one_character_body}
+use Rattle.regex_meaning.specs.WellFormedTrees.{number_of_goal_nodes, has_exact_group_range, refers_to_a_group, has_order_in_quantifier, has_one_character_body}
 use Rattle.regex_meaning.specs.WellFormedTrees.{set_sizes_and_characters_fit_instructions}
 
 -- The node can be written in a pattern: it is no set and no sequence of bytes, and no loop over one
 -- character.
-abbrev pub is_of_pattern : Node → Bool
-is_of_pattern (byte_set members) = false
-is_of_pattern (byte_sequence bytes) = false
-is_of_pattern (loop_1_char_body q loopee) = false
-is_of_pattern _ = true
+abbrev pub can_stand_in_pattern : Node → Bool
+can_stand_in_pattern (byte_set members) = false
+can_stand_in_pattern (byte_sequence bytes) = false
+can_stand_in_pattern (loop_1_char_body q loopee) = false
+can_stand_in_pattern _ = true
 
 -- The node satisfies the conditions of a well-formed tree, if references are to groups up to
 -- `greatest`.
-abbrev pub is_sound : (greatest : ℕ) → Node → Bool
-is_sound greatest n =
-    names_the_groups_inside n && refers_to_a_group greatest n && has_order_in_quantifier n && has_one_character_body n
-    && is_of_pattern n && set_sizes_and_characters_fit_instructions n
+abbrev pub is_well_formed_in_pattern : (greatest : ℕ) → Node → Bool
+is_well_formed_in_pattern greatest n =
+    has_exact_group_range n && refers_to_a_group greatest n && has_order_in_quantifier n && has_one_character_body n
+    && can_stand_in_pattern n && set_sizes_and_characters_fit_instructions n
 
 -- How often an id occurs in the tree.
 abbrev pub occurrences_of_id : (id : ℕ) → Node → ℕ
 occurrences_of_id id n = count_by (nat_eq id) (group_ids n)
 
 -- 1 for an id from `first` up to `end`, exclusive, and 0 for any other
-abbrev pub once_within : (first end id : ℕ) → ℕ
-once_within first end id = if nat_le first id && nat_lt id end then 1 else 0
+abbrev pub one_if_id_within : (first end id : ℕ) → ℕ
+one_if_id_within first end id = if nat_le first id && nat_lt id end then 1 else 0
 
 -- The group ids of the tree are those from `first` up to `end`, exclusive, each once; every node is
 -- sound, and there is no `Goal`.
 pub record IsSoundSubtreeWithGroupIds (first end greatest : ℕ) (n : Node) : Type 0 where
   pub goals : number_of_goal_nodes n ≡ 0
   pub count : first + length (group_ids n) ≡ end
-  pub ids : (id : ℕ) → occurrences_of_id id n ≡ once_within first end id
-  pub sound : IsTrue (every_node_passes (is_sound greatest) n)
+  pub ids : (id : ℕ) → occurrences_of_id id n ≡ one_if_id_within first end id
+  pub sound : IsTrue (every_node_passes (is_well_formed_in_pattern greatest) n)
 
 -- A sound tree without groups and without `Goal`.
 pub record IsWellFormedGrouplessSubtree (greatest : ℕ) (n : Node) : Type 0 where
   pub goals : number_of_goal_nodes n ≡ 0
   pub ids : group_ids n ≡ []
-  pub sound : IsTrue (every_node_passes (is_sound greatest) n)
+  pub sound : IsTrue (every_node_passes (is_well_formed_in_pattern greatest) n)

@@ -12,20 +12,20 @@ abbrev pub is_scalar : ℕ → Bool
 is_scalar c = is_in_range 0 0xD7FF c || is_in_range 0xE000 0x10_FFFF c
 
 -- `a` to `z`
-abbrev pub is_lowercase : ℕ → Bool
-is_lowercase c = is_in_range 97 122 c
+abbrev pub is_ascii_lowercase : ℕ → Bool
+is_ascii_lowercase c = is_in_range 97 122 c
 
 -- `A` to `Z`
-abbrev pub is_uppercase : ℕ → Bool
-is_uppercase c = is_in_range 65 90 c
+abbrev pub is_ascii_uppercase : ℕ → Bool
+is_ascii_uppercase c = is_in_range 65 90 c
 
 -- The lowercase letter of `A` to `Z`; any other number is itself.
 abbrev pub to_ascii_lowercase : ℕ → ℕ
-to_ascii_lowercase c = if is_uppercase c then c + 32 else c
+to_ascii_lowercase c = if is_ascii_uppercase c then c + 32 else c
 
 -- The uppercase letter of `a` to `z`; any other number is itself.
 abbrev pub to_ascii_uppercase : ℕ → ℕ
-to_ascii_uppercase c = if is_lowercase c then c - 32 else c
+to_ascii_uppercase c = if is_ascii_lowercase c then c - 32 else c
 
 -- *Canonicalize* (21.2.2.8.2) for these characters: with `unicode`, `A` to `Z` fold to lowercase,
 -- U+017F to `s` and U+212A to `k`; without it, `a` to `z` fold to uppercase. That no others fold is
@@ -63,7 +63,8 @@ nonascii_folds_to_ascii_word_char c = c == 0x017F || c == 0x212A
 -- and `_`, and with both flags `i` and `u` those that fold to one of them.
 abbrev pub is_word_char : (unicode_icase : Bool) → ℕ → Bool
 is_word_char unicode_icase c =
-    is_lowercase c || is_uppercase c || is_in_range 48 57 c || c == 95 || (unicode_icase && nonascii_folds_to_ascii_word_char c)
+    is_ascii_lowercase c || is_ascii_uppercase c || is_in_range 48 57 c || c ==
+    95 || (unicode_icase && nonascii_folds_to_ascii_word_char c)
 
 -- ---- Texts
 
@@ -112,11 +113,11 @@ ascii_text bytes unicode = record {
   fold = fold_ascii unicode;
 }
 
--- U+D800 to U+DBFF
+-- U+D800 to U+DBFF, the condition on LeadSurrogate
 abbrev pub is_high_surrogate : ℕ → Bool
 is_high_surrogate u = is_in_range 0xD800 0xDBFF u
 
--- U+DC00 to U+DFFF
+-- U+DC00 to U+DFFF, the condition on TrailSurrogate
 abbrev pub is_low_surrogate : ℕ → Bool
 is_low_surrogate u = is_in_range 0xDC00 0xDFFF u
 

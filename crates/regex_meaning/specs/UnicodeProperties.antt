@@ -126,6 +126,8 @@ property_named name = option_or (general_category_named name) (binary_property_n
 abbrev pub property_with_value : (property value : List ℕ) → Option Property
 property_with_value property value =
     if is_word "General_Category" property || is_word "gc" property then general_category_named value
-    else if is_word "Script" property || is_word "sc" property then option_map (λ s. in_database (set.Script s)) (value_named script_names value)
-    else if is_word "Script_Extensions" property || is_word "scx" property then option_map (λ s. in_database (set.ScriptExtension s)) (value_named script_names value)
+    else if is_word "Script" property || is_word "sc" property then option_map (λ s. in_database (set.Script s))
+    (value_named script_names value)
+    else if is_word "Script_Extensions" property || is_word "scx" property then option_map
+    (λ s. in_database (set.ScriptExtension s)) (value_named script_names value)
     else None

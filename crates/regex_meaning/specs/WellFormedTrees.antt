@@ -46,10 +46,10 @@ encloses start_group end_group contents =
     nat_le start_group end_group && list_all (contains named) ids && list_all (contains ids) named
 
 -- A loop or a lookaround names exactly the groups inside it.
-abbrev pub names_the_groups_inside : Node → Bool
-names_the_groups_inside (lookaround l contents) = encloses l.start_group l.end_group contents
-names_the_groups_inside (loop q start_group end_group loopee) = encloses start_group end_group loopee
-names_the_groups_inside _ = true
+abbrev pub has_exact_group_range : Node → Bool
+has_exact_group_range (lookaround l contents) = encloses l.start_group l.end_group contents
+has_exact_group_range (loop q start_group end_group loopee) = encloses start_group end_group loopee
+has_exact_group_range _ = true
 
 -- A backreference is to one of n groups, which count from 1.
 abbrev pub refers_to_a_group : (n : ℕ) → Node → Bool
@@ -90,9 +90,11 @@ has_text_in_sequence _ = true
 -- Sets have at most four members, sets of bytes only ASCII, and code points of strings are at most
 -- U+10FFFF.
 abbrev pub set_sizes_and_characters_fit_instructions : Node → Bool
-set_sizes_and_characters_fit_instructions (byte_set members) = nat_le (length members) 4 && list_all (λ b. nat_lt b 128) members
+set_sizes_and_characters_fit_instructions (byte_set members) =
+    nat_le (length members) 4 && list_all (λ b. nat_lt b 128) members
 set_sizes_and_characters_fit_instructions (char_set members) = nat_le (length members) 4
-set_sizes_and_characters_fit_instructions (string_set strings icase) = list_all (list_all (λ c. nat_le c 0x10_FFFF)) strings
+set_sizes_and_characters_fit_instructions (string_set strings icase) =
+    list_all (list_all (λ c. nat_le c 0x10_FFFF)) strings
 set_sizes_and_characters_fit_instructions _ = true
 
 -- The tree satisfies all of these conditions.
@@ -100,7 +102,7 @@ unfoldable pub is_well_formed : Node → Bool
 is_well_formed root =
     only_goal_node_is_last root
     && each_id_stands_once root
-    && every_node_passes names_the_groups_inside root
+    && every_node_passes has_exact_group_range root
     && every_node_passes (refers_to_a_group (length (group_ids root))) root
     && every_node_passes has_order_in_quantifier root
     && every_node_passes has_one_character_body root

@@ -1,4 +1,4 @@
--- Case variants over all of Unicode.
+-- The case variants that the parser finds in its table of fold pairs are the specified ones.
 use Rattle.std.proofs.Common.{◌≡◌, ℕ, zero, suc, ◌+◌, ◌-◌, ◌<◌, ◌≤◌, Bool, true, false, not, ◌&&◌, ◌||◌, ◌==◌, List, [], ◌∷◌, ◌++◌, filter, take, drop}
 use Rattle.std.proofs.Common.{length, max, Contains, slice_index_or, refl, sym, ap, ap₂, subst, ◌∙◌, arith, inl, inr, ⊎_elim, true≢false, append_assoc}
 use Rattle.std.proofs.Common.{nat_lt, nat_eq, eq-eqb, eqb-true}
@@ -12,8 +12,8 @@ use Rattle.ucd_case.specs.FoldOtherRows.{fold_other_rows}
 use Rattle.ucd_case.proofs.FoldPairsLemmas.{IsFoldPairs-fold_pairs}
 use Rattle.regex_meaning.specs.NumberListHelpers.{contains}
 use Rattle.regex_meaning.specs.Canonical.{canonicalize, are_alike, AreIncreasing, AreCaseVariants}
-use Rattle.regex_meaning.proofs.Folding.{alike-folds}
-use Rattle.regex_meaning.proofs.Booleans.{same-truth}
+use Rattle.regex_meaning.proofs.CaseLawLemmas.{alike-folds}
+use Rattle.regex_meaning.proofs.BoolLemmas.{same-truth}
 use Rattle.regex_parser.specs.CaseVariantContracts.{match_each_other, AreOtherVariants, matching_seconds, is_between, is_on_side}
 
 -- ---- The pairs rise

@@ -1,4 +1,4 @@
--- Classes of the whole language, as the reader reads them.
+-- The ECMAScript class reader reads the members and sets that the grammar specifies.
 use Rattle.std.proofs.Common.{◌≡◌, ◌⊎◌, ℕ, ◌<◌, ◌≤◌, Bool, true, false, ◌&&◌, ◌||◌, List, [], ◌∷◌, ◌++◌, map, length, true≢false, ⊎_elim, inl, inr, refl, sym}
 use Rattle.std.proofs.Common.{ap, ap₂, subst, ◌∙◌, arith, append_assoc, append-nil, Option, Some, None, is_some, nat_eq, not, codes}
 use Rattle.std.specs.Prelude.{IsTrue, Result, Ok, Err, if◌then◌else◌}
@@ -21,14 +21,14 @@ use Rattle.regex_meaning.specs.EcmaClasses.{ClassEscape, simple_escape, class_es
 use Rattle.regex_meaning.specs.EcmaClasses.{CharacterClass, plain, inverted}
 use Rattle.regex_meaning.specs.UnicodeProperties.{Property as SpecProperty, has_property}
 use Rattle.regex_meaning.specs.EcmaEscapesAndNames.{CharacterEscape, non_identity_escape, identity_escape, is_identity_escape, PropertyExpression}
-use Rattle.regex_meaning.proofs.OneTree.{first, rest_of}
-use Rattle.regex_meaning.proofs.Members.{class_letter}
-use Rattle.regex_meaning.proofs.EcmaSets.{classes-are-closed}
-use Rattle.regex_meaning.proofs.Leaves.{behind, apart, firsts}
-use Rattle.regex_meaning.proofs.EcmaLeaves.{proper-kind, escape_kind}
-use Rattle.regex_meaning.proofs.EcmaMembers.{property-from}
-use Rattle.regex_meaning.proofs.EcmaMembers.{class_letter as ecma_class_letter}
-use Rattle.regex_meaning.proofs.EcmaMembers.{one_class_atom, atom_starts, is_range, atom_from, character_inj, one_member, member_starts}
+use Rattle.regex_meaning.proofs.DisjunctionReadingLemmas.{first, rest_of}
+use Rattle.regex_meaning.proofs.ClassAndAtomLemmas.{class_letter}
+use Rattle.regex_meaning.proofs.EcmaClassEscapeSets.{classes-are-closed}
+use Rattle.regex_meaning.proofs.EscapesAndNamesLemmas.{behind, apart, firsts}
+use Rattle.regex_meaning.proofs.EcmaEscapesAndNamesLemmas.{proper-kind, escape_kind}
+use Rattle.regex_meaning.proofs.EcmaClassAndAtomLemmas.{property-from}
+use Rattle.regex_meaning.proofs.EcmaClassAndAtomLemmas.{class_letter as ecma_class_letter}
+use Rattle.regex_meaning.proofs.EcmaClassAndAtomLemmas.{one_class_atom, atom_starts, is_range, atom_from, character_inj, one_member, member_starts}
 use Rattle.regex_pattern_front.specs.Intervals.{interval_of}
 use Rattle.regex_parser.specs.ClassReaderContracts.{is_in_any_interval}
 use Rattle.regex_parser.specs.CaseVariantContracts.{AddsMatching}
@@ -38,10 +38,10 @@ use Rattle.regex_parser.specs.EcmaClassContracts.{AreEcmaRangesRead, IsRangeOrCa
 use Rattle.regex_parser.specs.declared.ecmascript_classes.AtomValue.{AtomValue}
 use Rattle.regex_parser.specs.declared.ecmascript_classes.AtomValue.TheVariants.{Character, Letter, Property}
 use Rattle.regex_parser.specs.declared.diagnosis.Cause.{Cause}
-use Rattle.regex_parser.specs.CodePointReaderContracts.{is_syntax_error, peeked, IsEaten, IsNext, IsReadOr}
+use Rattle.regex_parser.specs.CodePointReaderContracts.{is_syntax_error, peeked, IsEaten, IsCodePointReadIfAny, IsReadOrSyntaxError}
 use Rattle.regex_parser.specs.declared.parser_error.ParseStopReason.{ParseStopReason}
 use Rattle.std.specs.Result.{IsErrAnd}
-use Rattle.regex_parser.proofs.ReadLemmas.{no_sign}
+use Rattle.regex_parser.proofs.NumberReaderLemmas.{no_sign}
 use Rattle.regex_parser.specs.ClassReaderContracts.{uninverted_digit_word_or_space_set, escape_of}
 use Rattle.regex_parser.specs.declared.character_class_parser.CharacterClassType.{CharacterClassType}
 use Rattle.regex_parser.specs.declared.character_class_parser.CharacterClassType.TheVariants.{Digits, WordCharacters, Spaces}
@@ -272,7 +272,7 @@ no-atom {flags} {here = here} no_c none end m (backslash u e f k) =
     true≢false (sym (ap (λ b. not b && begins_with_characters "c" here) u ∙ ap (λ x. begins_with_characters "c" x) (ap rest_of e) ∙ f) ∙ no_c)
 
 pub atom-escaped : {A : Type 0} (of : A → ClassMember) (flags : Flags) (named : Bool) (here : RemainingCodePoints) (r : Result A ParseStopReason) (there : RemainingCodePoints)
-    → (not flags.unicode && begins_with_characters "c" here) ≡ false → IsReadOr of (ClassEscape flags named here) r there → IsReadOr of (ClassAtom flags named (92 ∷ here)) r there
+    → (not flags.unicode && begins_with_characters "c" here) ≡ false → IsReadOrSyntaxError of (ClassEscape flags named here) r there → IsReadOrSyntaxError of (ClassAtom flags named (92 ∷ here)) r there
 atom-escaped of flags named here (Ok a) there no_c h = escaped refl h
 atom-escaped of flags named here (Err e) there no_c h = λ r. no-atom no_c (h r)
 
@@ -284,7 +284,7 @@ letter-escape {flags} base invert letter e f = class_escape (by_letter e (letter
 
 -- an escape of one letter
 pub letter-read : {flags : Flags} {named : Bool} (here there : RemainingCodePoints) (o r : Option ℕ) (base : CharacterClassType) (invert : Bool) → o ≡ peeked here
-    → escape_of o ≡ Some (Profile.class (uninverted_digit_word_or_space_set base) invert) → IsNext here r there → ClassEscape flags named here there (class (is_in_invertible_set (set_of_letter flags base, invert)))
+    → escape_of o ≡ Some (Profile.class (uninverted_digit_word_or_space_set base) invert) → IsCodePointReadIfAny here r there → ClassEscape flags named here there (class (is_in_invertible_set (set_of_letter flags base, invert)))
 letter-read here there o None base invert e f n = absurd (none (ap escape_of (sym (e ∙ ap peeked n.0)) ∙ f))
   where
     none : {A : Type 0} {x : A} → None ≡ Some x → ⊥
@@ -397,7 +397,7 @@ err-ranges there (Ok s) e h same none = absurd h
 err-ranges there (Err x) e h same none = λ r. none (sym (ap is_syntax_error (same x h)) ∙ r)
 
 pub err-or : {A B : Type 0} {P : ParseStopReason → Type 0} (of : A → B) (reads : RemainingCodePoints → B → Type 0) (there : RemainingCodePoints) (r : Result A ParseStopReason) (e : ParseStopReason) → IsErrAnd r P → ((x : ParseStopReason) → P x → x ≡ e)
-    → (IsTrue (is_syntax_error e) → (end : RemainingCodePoints) (b : B) → reads end b → ⊥) → IsReadOr of reads r there
+    → (IsTrue (is_syntax_error e) → (end : RemainingCodePoints) (b : B) → reads end b → ⊥) → IsReadOrSyntaxError of reads r there
 err-or of reads there (Ok s) e h same none = absurd h
 err-or of reads there (Err x) e h same none = λ r. none (sym (ap is_syntax_error (same x h)) ∙ r)
 

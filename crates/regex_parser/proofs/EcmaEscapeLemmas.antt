@@ -1,4 +1,4 @@
--- Escapes of one character in the whole language, as the reader reads them.
+-- The ECMAScript escape reader reads the characters that the grammar specifies.
 use Rattle.std.proofs.Common.{◌≡◌, ◌⊎◌, ℕ, ◌+◌, ◌*◌, ◌<◌, ◌≤◌, inl, inr, Bool, true, false, [], ◌∷◌, true≢false, refl, sym, ap, ap₂, subst, ◌∙◌, arith, Some, None}
 use Rattle.std.specs.Prelude.{Option, Result, if◌then◌else◌}
 use Rattle.std.specs.Option.{ok_or}
@@ -10,9 +10,9 @@ use Rattle.regex_meaning.specs.EcmaEscapesAndNames.{GrammarParameters, next_code
 use Rattle.regex_meaning.specs.EcmaEscapesAndNames.{one_digit, two_digits, two_high_digits, three_digits}
 use Rattle.regex_meaning.specs.EcmaEscapesAndNames.{NonIdentityEscape, control_escape, control_letter, null, hex_escape, unicode_escape, legacy_octal_escape}
 use Rattle.regex_meaning.specs.EcmaEscapesAndNames.{CharacterEscape, non_identity_escape, identity_escape, is_identity_escape}
-use Rattle.regex_meaning.proofs.OneTree.{first as first_of, rest_of, unlike}
-use Rattle.regex_meaning.proofs.Leaves.{firsts}
-use Rattle.regex_meaning.proofs.EcmaLeaves.{escape_kind, tag, tagged}
+use Rattle.regex_meaning.proofs.DisjunctionReadingLemmas.{first as first_of, rest_of, unlike}
+use Rattle.regex_meaning.proofs.EscapesAndNamesLemmas.{firsts}
+use Rattle.regex_meaning.proofs.EcmaEscapesAndNamesLemmas.{escape_kind, tag, tagged}
 use Rattle.regex_parser.specs.CodePointReaderContracts.{IsReadOrNothingCanBeRead, IsDigitRead}
 use Rattle.regex_parser.specs.EcmaReaderContracts.{IsControlLetterRead}
 

@@ -1,4 +1,4 @@
--- Names of groups in the whole language, read a character at a time.
+-- The ECMAScript reader of group names reads the names that the grammar specifies.
 use Rattle.std.proofs.Common.{◌≡◌, ◌⊎◌, ℕ, ◌+◌, ◌-◌, ◌*◌, ◌<◌, inl, inr, Bool, true, false, ◌&&◌, ◌||◌, List, [], ◌∷◌, ◌++◌, true≢false, refl, sym, ap, ap₂}
 use Rattle.std.proofs.Common.{subst, ◌∙◌, arith, Some, append_assoc, append-nil}
 use Rattle.std.specs.Prelude.{encode_utf8_all, encode_utf8, nat_le, nat_lt, nat_eq, Result, Ok, Err, IsErr}
@@ -11,12 +11,12 @@ use Rattle.ucd_derived.specs.Binary.{is_id_start, is_id_continue}
 use Rattle.ucd_derived.specs.IdStartRanges.{id_start_ranges}
 use Rattle.ucd_derived.specs.IdContinueRanges.{id_continue_ranges}
 use Rattle.regex_meaning.specs.ReadingStatesAndDigits.{RemainingCodePoints}
-use Rattle.regex_meaning.specs.EscapesNamesQuantifiers.{UnicodeEscape, is_lead_surrogate, is_trail_surrogate}
+use Rattle.regex_meaning.specs.EscapesNamesQuantifiers.{UnicodeEscape, is_high_surrogate, is_low_surrogate}
 use Rattle.regex_meaning.specs.EcmaEscapesAndNames.{verbatim, escaped, surrogates, NameRest, name_end, name_part}
 use Rattle.regex_meaning.specs.EcmaEscapesAndNames.{GroupName, group_name}
-use Rattle.regex_meaning.proofs.Leaves.{behind, firsts, apart, one_unicode}
-use Rattle.regex_meaning.proofs.EcmaLeaves.{TestsNames, start-tests, part-tests, no-sign, one_name_character}
-use Rattle.regex_parser.specs.CodePointReaderContracts.{IsReadOr}
+use Rattle.regex_meaning.proofs.EscapesAndNamesLemmas.{behind, firsts, apart, one_unicode}
+use Rattle.regex_meaning.proofs.EcmaEscapesAndNamesLemmas.{TestsNames, start-tests, part-tests, no-sign, one_name_character}
+use Rattle.regex_parser.specs.CodePointReaderContracts.{IsReadOrSyntaxError}
 use Rattle.regex_parser.specs.declared.parser_error.ParseStopReason.{ParseStopReason}
 use Rattle.regex_parser.specs.EcmaReaderContracts.{passes_in_name, NameCharacterAt, NoNameCharacter, IsNameCodePointRead}
 
@@ -76,7 +76,7 @@ backslash-inverse : (is_first : Bool) {here rest end : RemainingCodePoints} {c :
     → (a : RemainingCodePoints) × (rest ≡ 117 ∷ a) × UnicodeEscape true a end c × (passes_in_name is_first c ≡ true)
 backslash-inverse is_first h (verbatim e f) = absurd (apart (passes_in_name is_first) f (no-sign (tests is_first) 92 refl) (firsts e h))
 backslash-inverse is_first h (escaped {a = a} e u f) = (a, behind h e, u, f)
-backslash-inverse is_first h (surrogates e l r f) = absurd (apart is_lead_surrogate l refl (firsts e h))
+backslash-inverse is_first h (surrogates e l r f) = absurd (apart is_high_surrogate l refl (firsts e h))
 
 pub backslash-none : (is_first : Bool) {here : RemainingCodePoints} → ((rest : RemainingCodePoints) → here ≡ 117 ∷ rest → ⊥) → NoNameCharacter is_first (92 ∷ here)
 backslash-none is_first none end c x = let (a, e, u, f) = backslash-inverse is_first refl x in none a e
@@ -92,33 +92,33 @@ escape-read is_first {here} {a} {there} c h u = (λ p. escaped (ap (λ x. 92 ∷
         → (b : RemainingCodePoints) × (here ≡ 117 ∷ b) × UnicodeEscape true b end d × (passes_in_name is_first d ≡ true) → ⊥
     other p (b, e, v, f) = apart (passes_in_name is_first) f p (sym (one_unicode (behind h e) u v).1)
 
-lead-inverse : (is_first : Bool) {here rest end : RemainingCodePoints} {lead c : ℕ} → here ≡ lead ∷ rest → is_lead_surrogate lead ≡ true → NameCharacterAt is_first here end c
-    → (trail : ℕ) × (rest ≡ trail ∷ end) × (is_trail_surrogate trail ≡ true) × (passes_in_name is_first c ≡ true) × (c ≡ 0x1_0000 + (lead - 0xD800) * 0x400 + (trail - 0xDC00))
+lead-inverse : (is_first : Bool) {here rest end : RemainingCodePoints} {lead c : ℕ} → here ≡ lead ∷ rest → is_high_surrogate lead ≡ true → NameCharacterAt is_first here end c
+    → (trail : ℕ) × (rest ≡ trail ∷ end) × (is_low_surrogate trail ≡ true) × (passes_in_name is_first c ≡ true) × (c ≡ 0x1_0000 + (lead - 0xD800) * 0x400 + (trail - 0xDC00))
 lead-inverse is_first {lead = lead} h s (verbatim e f) = absurd (apart (passes_in_name is_first) f ((tests is_first).no_lead lead s) (firsts e h))
-lead-inverse is_first h s (escaped e u f) = absurd (apart is_lead_surrogate s refl (firsts h e))
+lead-inverse is_first h s (escaped e u f) = absurd (apart is_high_surrogate s refl (firsts h e))
 lead-inverse is_first h s (surrogates {lead = l} {trail = t} e k r f) = (t, behind h e, r, f, ap (λ x. 0x1_0000 + (x - 0xD800) * 0x400 + (t - 0xDC00)) (firsts e h))
 
-pub pair-none : (is_first : Bool) {here : RemainingCodePoints} {lead : ℕ} → is_lead_surrogate lead ≡ true
-    → ((trail : ℕ) (rest : RemainingCodePoints) → here ≡ trail ∷ rest → is_trail_surrogate trail ≡ true → ⊥) → NoNameCharacter is_first (lead ∷ here)
+pub pair-none : (is_first : Bool) {here : RemainingCodePoints} {lead : ℕ} → is_high_surrogate lead ≡ true
+    → ((trail : ℕ) (rest : RemainingCodePoints) → here ≡ trail ∷ rest → is_low_surrogate trail ≡ true → ⊥) → NoNameCharacter is_first (lead ∷ here)
 pair-none is_first s none end c x = let (t, e, r, f, v) = lead-inverse is_first refl s x in none t end e r
 
-pub pair-read : (is_first : Bool) {here there : RemainingCodePoints} {lead trail : ℕ} → is_lead_surrogate lead ≡ true → here ≡ trail ∷ there → is_trail_surrogate trail ≡ true
+pub pair-read : (is_first : Bool) {here there : RemainingCodePoints} {lead trail : ℕ} → is_high_surrogate lead ≡ true → here ≡ trail ∷ there → is_low_surrogate trail ≡ true
     → IsNameCodePointRead is_first (lead ∷ here) (Some (0x1_0000 + (lead - 0xD800) * 0x400 + (trail - 0xDC00))) there
 pair-read is_first {here} {there} {lead} {trail} s h r = (λ p. surrogates (ap (λ x. lead ∷ x) h) s r p, λ p end d x. other p (lead-inverse is_first refl s x))
   where
     other : {end : RemainingCodePoints} {d : ℕ} → passes_in_name is_first (0x1_0000 + (lead - 0xD800) * 0x400 + (trail - 0xDC00)) ≡ false
-        → (t : ℕ) × (here ≡ t ∷ end) × (is_trail_surrogate t ≡ true) × (passes_in_name is_first d ≡ true) × (d ≡ 0x1_0000 + (lead - 0xD800) * 0x400 + (t - 0xDC00)) → ⊥
+        → (t : ℕ) × (here ≡ t ∷ end) × (is_low_surrogate t ≡ true) × (passes_in_name is_first d ≡ true) × (d ≡ 0x1_0000 + (lead - 0xD800) * 0x400 + (t - 0xDC00)) → ⊥
     other p (t, e, k, f, v) =
         apart (passes_in_name is_first) f p (v ∙ ap (λ x. 0x1_0000 + (lead - 0xD800) * 0x400 + (x - 0xDC00)) (firsts e h))
 
 -- any other code point is itself
-pub itself-read : (is_first : Bool) {here there : RemainingCodePoints} {c : ℕ} → here ≡ c ∷ there → (c ≡ 92 → ⊥) → is_lead_surrogate c ≡ false → IsNameCodePointRead is_first here (Some c) there
+pub itself-read : (is_first : Bool) {here there : RemainingCodePoints} {c : ℕ} → here ≡ c ∷ there → (c ≡ 92 → ⊥) → is_high_surrogate c ≡ false → IsNameCodePointRead is_first here (Some c) there
 itself-read is_first {here} {there} {c} h no_backslash no_lead = (λ p. verbatim h p, λ p end d x. other p x)
   where
     other : {end : RemainingCodePoints} {d : ℕ} → passes_in_name is_first c ≡ false → NameCharacterAt is_first here end d → ⊥
     other p (verbatim e f) = apart (passes_in_name is_first) f p (firsts e h)
     other p (escaped e u f) = no_backslash (firsts h e)
-    other p (surrogates e l r f) = apart is_lead_surrogate l no_lead (firsts e h)
+    other p (surrogates e l r f) = apart is_high_surrogate l no_lead (firsts e h)
 
 -- ---- The name so far
 
@@ -174,6 +174,6 @@ no-name none end other (group_name x r) = none _ _ x
 
 -- an answer that hands on a call's error
 pub err-read : {A B : Type 0} (of : A → B) (reads : RemainingCodePoints → B → Type 0) (there : RemainingCodePoints) (r : Result A ParseStopReason) → IsErr r
-    → ((end : RemainingCodePoints) (b : B) → reads end b → ⊥) → IsReadOr of reads r there
+    → ((end : RemainingCodePoints) (b : B) → reads end b → ⊥) → IsReadOrSyntaxError of reads r there
 err-read of reads there (Ok a) e none = absurd (true≢false (sym e))
 err-read of reads there (Err e) f none = λ r. none

@@ -1,4 +1,4 @@
--- Terms without groups of the whole language, as the reader reads them.
+-- The ECMAScript term reader reads the terms without groups that the grammar specifies.
 use Rattle.std.proofs.Common.{◌≡◌, ◌⊎◌, ℕ, ◌+◌, ◌-◌, ◌<◌, ◌≤◌, Bool, true, false, not, ◌&&◌, List, [], ◌∷◌, ◌++◌, length, true≢false, ⊎_elim, inl, inr, refl, sym}
 use Rattle.std.proofs.Common.{ap, ap₂, subst}
 use Rattle.std.proofs.Common.{◌∙◌, arith, Option, Some, None, nat_eq, codes, is_some}
@@ -14,7 +14,7 @@ use Rattle.regex_meaning.specs.Tree.{Node, Flags as SpecFlags, BracketContents a
 use Rattle.regex_meaning.specs.Text.{is_scalar}
 use Rattle.regex_meaning.specs.NumberListHelpers.{contains}
 use Rattle.regex_meaning.specs.Canonical.{AreCaseVariants}
-use Rattle.regex_meaning.proofs.CaseVariants.{few-case-variants}
+use Rattle.regex_meaning.proofs.CaseVariantListLemmas.{few-case-variants}
 use Rattle.regex_meaning.specs.ReadingStatesAndDigits.{RemainingCodePoints, ParseState, PatternContext, ◌∈◌, begins_with_characters, group_number_of}
 use Rattle.regex_meaning.specs.EscapesNamesQuantifiers.{BeginsQuantifier}
 use Rattle.regex_meaning.specs.Grammar.{Term, Assertion, Atom, assertion, repeated_assertion, atom, quantified, start, end as line_end, boundary, look, leaf, group}
@@ -29,14 +29,14 @@ use Rattle.regex_meaning.specs.EcmaGrammarWithAnnexB.{BeginsGroupNumber, referen
 use Rattle.regex_meaning.specs.EcmaGrammarWithAnnexB.{AtomEscape}
 use Rattle.regex_meaning.specs.EcmaGrammarWithAnnexB.{decimal_escape, character_class_escape, property_escape, character_escape, named_reference}
 use Rattle.regex_meaning.specs.EcmaGrammarWithAnnexB.{SimpleAtom, pattern_character, extended_pattern_character, any_character, atom_escape, backslash, character_class}
-use Rattle.regex_meaning.proofs.OneTree.{first, rest_of, unlike}
-use Rattle.regex_meaning.proofs.Leaves.{behind, firsts, inside}
-use Rattle.regex_meaning.proofs.References.{number-positive, number_of-bounds}
-use Rattle.regex_meaning.proofs.EcmaMembers.{number-kind, letter-kind, property-kind, property-here, property-from, apart-kinds, kind, no-k, no-class}
-use Rattle.regex_meaning.proofs.EcmaMembers.{atom-tagged, atom_tag, atom_kind, c-first}
-use Rattle.regex_meaning.proofs.EcmaLeaves.{proper-kind, one_name}
-use Rattle.regex_meaning.proofs.Digits.{digit_begins}
-use Rattle.regex_meaning.proofs.Trees.{leaf-reference}
+use Rattle.regex_meaning.proofs.DisjunctionReadingLemmas.{first, rest_of, unlike}
+use Rattle.regex_meaning.proofs.EscapesAndNamesLemmas.{behind, firsts, inside}
+use Rattle.regex_meaning.proofs.BackreferenceNumberLemmas.{number-positive, number_of-bounds}
+use Rattle.regex_meaning.proofs.EcmaClassAndAtomLemmas.{number-kind, letter-kind, property-kind, property-here, property-from, apart-kinds, kind, no-k, no-class}
+use Rattle.regex_meaning.proofs.EcmaClassAndAtomLemmas.{atom-tagged, atom_tag, atom_kind, c-first}
+use Rattle.regex_meaning.proofs.EcmaEscapesAndNamesLemmas.{proper-kind, one_name}
+use Rattle.regex_meaning.proofs.FirstDigitOfNumber.{digit_begins}
+use Rattle.regex_meaning.proofs.PatternTreeLemmas.{leaf-reference}
 use Rattle.regex_pattern_front.specs.SubtreeListInvariants.{IsWellFormedGrouplessSubtree}
 use Rattle.regex_meaning.specs.CharacterClasses as Profile
 use Rattle.regex_pattern_front.specs.declared.types.BracketContents.{BracketContents as TheContents}
@@ -50,18 +50,18 @@ use Rattle.regex_parser.specs.declared.groupless_terms.GrouplessTerm.{GrouplessT
 use Rattle.regex_parser.specs.declared.parser_error.ParseStopReason.{ParseStopReason}
 use Rattle.regex_pattern_front.specs.AstToSpecTree.{node_of, spec_flags_of, class_as_spec}
 use Rattle.regex_parser.specs.ClassReaderContracts.{uninverted_digit_word_or_space_set, escape_of}
-use Rattle.regex_parser.specs.CodePointReaderContracts.{is_syntax_error, peeked, IsNext}
+use Rattle.regex_parser.specs.CodePointReaderContracts.{is_syntax_error, peeked, IsCodePointReadIfAny}
 use Rattle.regex_parser.specs.EcmaClassContracts.{set_of_letter}
 use Rattle.regex_parser.specs.GrouplessTermContracts.{pattern_context, parse_state_at, anchor_sign, boundary_letter, IsNumberUnlessMissingOrZero}
 use Rattle.regex_parser.specs.GrouplessTermContracts.{is_star_plus_or_question, is_brace_or_closing_bracket, is_paren_or_bar}
 use Rattle.regex_parser.specs.EcmaTermContracts.{AreGroupsKnown, NoEcmaTerm, IsEcmaAtomOr, IsEcmaTermRead, IsEcmaCharacterNode, NoAtomEscape, IsAtomEscapeRead}
 use Rattle.regex_parser.specs.EcmaTermContracts.{is_nonzero_digit}
-use Rattle.regex_parser.specs.EcmaTermContracts.{IsClassEscapeRead, NoGroupNumber, IsGroupNumberRead, IsEcmaNamed, IsEcmaNameNumberRead}
+use Rattle.regex_parser.specs.EcmaTermContracts.{IsClassEscapeRead, NoGroupNumber, IsGroupNumberRead, IsEcmaNameWithNumber, IsEcmaNameNumberRead}
 use Rattle.regex_parser.specs.EcmaTermContracts.{IsEcmaReferenceRead}
 use Rattle.regex_parser.proofs.EcmaClassLemmas.{letter-set, no-character, property-begin}
 use Rattle.regex_parser.proofs.EcmaEscapeLemmas.{digit-none}
-use Rattle.regex_parser.proofs.ReadLemmas.{no_sign}
-use Rattle.regex_parser.proofs.TermLemmas.{none_of}
+use Rattle.regex_parser.proofs.NumberReaderLemmas.{no_sign}
+use Rattle.regex_parser.proofs.GrouplessTermLemmas.{none_of}
 use Rattle.regex_parser.specs.declared.ecmascript_escapes.GrammarParameters.{GrammarParameters as TheParameters}
 use Rattle.regex_parser.specs.EcmaReaderContracts.{spec_parameters_of}
 
@@ -253,13 +253,13 @@ ecma-named numbers here middle there name number (Err x) e g f h = λ r end n (a
     h n (f ∙ ap numbers (one_name middle there end name other g (subst (λ y. GroupName y end other) (behind e' e) g')).1 ∙ f') pos
 
 pub no-name_reference : {R : Type 0} (flags : Flags) (count : ℕ) (named : Bool) (numbers : BTreeMap (String R) ℕ) (groups : List RemainingCodePoints) (here rest : RemainingCodePoints) → AreGroupsKnown flags count named numbers groups
-    → named ≡ true → here ≡ 107 ∷ rest → ((end : RemainingCodePoints) (n : ℕ) → IsEcmaNamed (λ x. get_by_text numbers x) rest end n → 0 < n → ⊥) → NoAtomEscape (pattern_context flags groups) here
+    → named ≡ true → here ≡ 107 ∷ rest → ((end : RemainingCodePoints) (n : ℕ) → IsEcmaNameWithNumber (λ x. get_by_text numbers x) rest end n → 0 < n → ⊥) → NoAtomEscape (pattern_context flags groups) here
 no-name_reference flags count named numbers groups here rest k m e none =
     no-name_escape (pattern_context flags groups) here (sym k.names ∙ m) e
     (λ a end name n f g h. none end n (a, name, f, g, k.numbered a end name g ∙ h) (number_of-bounds name groups n h).0)
 
 pub name-reference : {R : Type 0} (flags : Flags) (count : ℕ) (named : Bool) (numbers : BTreeMap (String R) ℕ) (groups : List RemainingCodePoints) (here rest there : RemainingCodePoints) (n : ℕ) → AreGroupsKnown flags count named numbers groups
-    → named ≡ true → here ≡ 107 ∷ rest → IsEcmaNamed (λ x. get_by_text numbers x) rest there n → AtomEscape (pattern_context flags groups) here there (reference_node (pattern_context flags groups) n)
+    → named ≡ true → here ≡ 107 ∷ rest → IsEcmaNameWithNumber (λ x. get_by_text numbers x) rest there n → AtomEscape (pattern_context flags groups) here there (reference_node (pattern_context flags groups) n)
 name-reference flags count named numbers groups here rest there n k m e (a, name, f, g, h) =
     named_reference (sym k.names ∙ m) (e ∙ ap (λ x. 107 ∷ x) f) g (sym (k.numbered a there name g) ∙ h)
 
@@ -284,7 +284,7 @@ canonical-node now old id n same icase e =
 -- ---- Class escapes
 
 pub letter-atom : (flags : Flags) (groups : List RemainingCodePoints) (here there : RemainingCodePoints) (o r : Option ℕ) (base : CharacterClassType) (invert : Bool) (b : TheContents) → o ≡ peeked here
-    → escape_of o ≡ Some (Profile.class (uninverted_digit_word_or_space_set base) invert) → IsNext here r there → b.invert ≡ invert → IsSetOf (spec_flags_of flags) (class (set_of_letter (spec_flags_of flags) base) ∷ []) b.cps
+    → escape_of o ≡ Some (Profile.class (uninverted_digit_word_or_space_set base) invert) → IsCodePointReadIfAny here r there → b.invert ≡ invert → IsSetOf (spec_flags_of flags) (class (set_of_letter (spec_flags_of flags) base) ∷ []) b.cps
     → AtomEscape (pattern_context flags groups) here there (bracket (class_as_spec b))
 letter-atom flags groups here there o None base invert b e f n i s = absurd (none (ap escape_of (sym (e ∙ ap peeked n.0)) ∙ f))
   where

@@ -1,17 +1,17 @@
--- Escapes, as the reader reads them.
+-- The escape reader reads the characters that the profile's grammar specifies.
 use Rattle.std.proofs.Common.{◌≡◌, ℕ, ◌+◌, ◌-◌, ◌*◌, ◌≤◌, inl, inr, Bool, true, false, ◌∷◌, true≢false, refl, sym, ap, subst, ◌∙◌, arith, Some, None}
 use Rattle.std.specs.Prelude.{Option, Result, Ok, Err, IsTrue}
 use Rattle.std.specs.Option.{SomeIff, ok_or}
 use Rattle.std.specs.Char.{IsScalar, OutOfScalarRange, is_ascii_digit, is_ascii_alphanumeric}
 use Rattle.regex_meaning.specs.Text.{is_scalar}
 use Rattle.regex_meaning.specs.ReadingStatesAndDigits.{RemainingCodePoints, Digits}
-use Rattle.regex_meaning.specs.EscapesNamesQuantifiers.{FixedHexDigits, SurrogatePair, pair, is_lead_surrogate, is_trail_surrogate, UnicodeEscape, surrogates}
+use Rattle.regex_meaning.specs.EscapesNamesQuantifiers.{FixedHexDigits, SurrogatePair, pair, is_high_surrogate, is_low_surrogate, UnicodeEscape, surrogates}
 use Rattle.regex_meaning.specs.EscapesNamesQuantifiers.{four_digits, code_point, CharacterEscape}
 use Rattle.regex_meaning.specs.EscapesNamesQuantifiers.{control_escape_code_point, control_escape, null, hex_escape, unicode_escape, identity_escape}
-use Rattle.regex_meaning.proofs.OneTree.{first, rest_of, unlike}
-use Rattle.regex_meaning.proofs.Leaves.{behind, one_hex, no_brace, no_brace_pair}
-use Rattle.regex_meaning.proofs.Members.{may_escape, escape_begins}
-use Rattle.regex_parser.specs.CodePointReaderContracts.{peeked, IsReadOrNothingCanBeRead, IsTrail, PairsWithTrailSurrogateIfAny}
+use Rattle.regex_meaning.proofs.DisjunctionReadingLemmas.{first, rest_of, unlike}
+use Rattle.regex_meaning.proofs.EscapesAndNamesLemmas.{behind, one_hex, no_brace, no_brace_pair}
+use Rattle.regex_meaning.proofs.ClassAndAtomLemmas.{may_escape, escape_begins}
+use Rattle.regex_parser.specs.CodePointReaderContracts.{peeked, IsReadOrNothingCanBeRead, IsTrailSurrogateEscape, PairsWithTrailSurrogateIfAny}
 use Rattle.regex_parser.specs.CodePointReaderContracts.{IsCodePointAndClosingBrace}
 
 -- the number that was asked whether it is a `char`
@@ -78,7 +78,7 @@ unicode-paired {here} {middle} {there} {lead} {c} h (inr p) = rw (p.0, p.1) (fou
     alone : {end : RemainingCodePoints} {d : ℕ} → SurrogatePair here end d → ⊥
     alone (pair {b = b} h' l e k t) =
         let same = one_hex refl h h' in
-        p.2 (subst (λ x. IsTrue (is_lead_surrogate x)) (sym same.1) l) _ _ (b, same.0 ∙ e, k, t)
+        p.2 (subst (λ x. IsTrue (is_high_surrogate x)) (sym same.1) l) _ _ (b, same.0 ∙ e, k, t)
 
 -- one reading by another
 pub as-read : {A E : Type 0} {reads other : RemainingCodePoints → A → Type 0} (there : RemainingCodePoints) (r : Result A E) → IsReadOrNothingCanBeRead reads r there
@@ -109,7 +109,7 @@ unicode_none none end c (identity_escape e f) = true≢false (ap is_ascii_alphan
 
 -- ---- A trail surrogate
 
-pub no_trail : {here a b there : RemainingCodePoints} {c : ℕ} → here ≡ 92 ∷ a → a ≡ 117 ∷ b → FixedHexDigits 4 b there c → is_trail_surrogate c ≡ false
-    → (end : RemainingCodePoints) (d : ℕ) → IsTrail here end d → ⊥
+pub no_trail : {here a b there : RemainingCodePoints} {c : ℕ} → here ≡ 92 ∷ a → a ≡ 117 ∷ b → FixedHexDigits 4 b there c → is_low_surrogate c ≡ false
+    → (end : RemainingCodePoints) (d : ℕ) → IsTrailSurrogateEscape here end d → ⊥
 no_trail e f h other end d (b', g, h', t) =
-    let same = one_hex (ap rest_of (sym f ∙ ap rest_of (sym e ∙ g))) h h' in true≢false (sym t ∙ sym (ap is_trail_surrogate same.1) ∙ other)
+    let same = one_hex (ap rest_of (sym f ∙ ap rest_of (sym e ∙ g))) h h' in true≢false (sym t ∙ sym (ap is_low_surrogate same.1) ∙ other)

@@ -1,4 +1,4 @@
--- The property Changes_When_NFKC_Casefolded.
+-- The computed set of Changes_When_NFKC_Casefolded has exactly the specified members.
 use Rattle.std.proofs.Common.{◌≡◌, ◌⊎◌, ℕ, ◌+◌, ◌≤◌, Bool, true, false, not, ◌&&◌, ◌||◌, nat_le, nat_lt, nat_eq, List, [], ◌∷◌, ◌++◌, length, refl, sym, ap, ap₂, subst}
 use Rattle.std.proofs.Common.{◌∙◌, arith}
 use Rattle.std.proofs.Common.{bytes_eq, eqb-true, encode_utf8_all, append-nil, inl, inr}

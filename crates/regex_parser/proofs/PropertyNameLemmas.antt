@@ -1,4 +1,4 @@
--- Names of properties, as the reader compares them.
+-- The reader finds a property name exactly if the list of names contains it.
 use Rattle.std.proofs.Common.{◌≡◌, ◌⊎◌, ℕ, suc, ◌+◌, ◌-◌, ◌<◌, ◌≤◌, Bool, true, false, ◌&&◌, ◌||◌, List, [], ◌∷◌, ◌++◌, length, take, drop, get_or, refl}
 use Rattle.std.proofs.Common.{sym, ap, ap₂}
 use Rattle.std.proofs.Common.{◌∙◌, arith, length-drop, ◌≢◌, true≢false, inl, inr, nat_eq, Option, None, option_map, slice_index}

@@ -1,5 +1,4 @@
--- The names of properties that the reader takes are those of the definitions, and the database finds
--- their sets.
+-- The tables have exactly the specified property names, each with its set in the database.
 use Rattle.std.proofs.Common.{◌≡◌, ℕ, ◌+◌, ◌*◌, Bool, true, false, not, ◌&&◌, ◌||◌, List, [], ◌∷◌, refl, sym, ap, ap₂, subst, ◌∙◌, true≢false, nat_eq, codes, map, filter}
 use Rattle.std.proofs.Common.{Option, Some, None, option_map, is_some, eq-eqb}
 use Rattle.std.specs.Prelude.{if◌then◌else◌, bytes_eq}

@@ -1,4 +1,4 @@
--- Quantifiers, as the reader reads them.
+-- The quantifier reader reads the quantifiers that the grammar specifies.
 use Rattle.std.proofs.Common.{◌≡◌, ℕ, ◌-◌, ◌^◌, ◌<◌, inl, inr, Bool, true, false, [], ◌∷◌, length, true≢false, refl, sym, ap, ap₂, subst, ◌∙◌, arith}
 use Rattle.std.proofs.Common.{Some, None}
 use Rattle.std.specs.Prelude.{Option, not}
@@ -8,10 +8,10 @@ use Rattle.regex_meaning.specs.ReadingStatesAndDigits.{RemainingCodePoints, Digi
 use Rattle.regex_meaning.specs.EscapesNamesQuantifiers.{saturated_count, QuantifierPrefix, star, plus, question, exactly, at_least, between, BeginsQuantifier}
 use Rattle.regex_meaning.specs.EscapesNamesQuantifiers.{ValidQuantifier}
 use Rattle.regex_meaning.specs.EscapesNamesQuantifiers.{greedy, lazy}
-use Rattle.regex_meaning.proofs.OneTree.{unlike}
-use Rattle.regex_meaning.proofs.Leaves.{behind, firsts, digits_on, one_prefix, no_digit}
+use Rattle.regex_meaning.proofs.DisjunctionReadingLemmas.{unlike}
+use Rattle.regex_meaning.proofs.EscapesAndNamesLemmas.{behind, firsts, digits_on, one_prefix, no_digit}
 use Rattle.regex_parser.specs.CodePointReaderContracts.{IsEaten, IsNumberRead, IsQuantifierMaximumRead}
-use Rattle.regex_parser.proofs.ReadLemmas.{no_sign}
+use Rattle.regex_parser.proofs.NumberReaderLemmas.{no_sign}
 
 no_digits_here : {here there : RemainingCodePoints} {n : ℕ} → Digits 10 here there n → leading_digits 10 here ≡ [] → ⊥
 no_digits_here (digits_from h) e = let k : 0 < length (leading_digits 10 []) = subst (λ x. 0 < length x) e h in omega arith

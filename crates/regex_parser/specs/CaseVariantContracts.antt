@@ -40,12 +40,15 @@ MatchesSome unicode test d = (c : ℕ) × IsTrue (test c) × IsTrue (match_each_
 -- the test; and each number that matches one that passes either passes the test itself or is in the new
 -- intervals.
 pub record AddsMatching (unicode : Bool) (test : ℕ → Bool) (old new : List Interval) : Type 0 where
-  pub sound : (d : ℕ) → IsTrue (is_in_any_interval new d) → IsTrue (is_in_any_interval old d) ⊎ MatchesSome unicode test d
+  pub sound : (d : ℕ) → IsTrue (is_in_any_interval new d) → IsTrue (is_in_any_interval old d)
+      ⊎ MatchesSome unicode test d
   pub kept : (d : ℕ) → IsTrue (is_in_any_interval old d) → IsTrue (is_in_any_interval new d)
   pub complete : (d : ℕ) → MatchesSome unicode test d → IsTrue (test d) ⊎ IsTrue (is_in_any_interval new d)
 
 -- `AddsMatching`, where the new intervals have, of the numbers that match one that passes the test, all `inside`
 pub record AddsMatchingWithin (unicode : Bool) (test inside : ℕ → Bool) (old new : List Interval) : Type 0 where
-  pub sound : (d : ℕ) → IsTrue (is_in_any_interval new d) → IsTrue (is_in_any_interval old d) ⊎ MatchesSome unicode test d
+  pub sound : (d : ℕ) → IsTrue (is_in_any_interval new d) → IsTrue (is_in_any_interval old d)
+      ⊎ MatchesSome unicode test d
   pub kept : (d : ℕ) → IsTrue (is_in_any_interval old d) → IsTrue (is_in_any_interval new d)
-  pub complete : (d : ℕ) → IsTrue (inside d) → MatchesSome unicode test d → IsTrue (test d) ⊎ IsTrue (is_in_any_interval new d)
+  pub complete : (d : ℕ) → IsTrue (inside d) → MatchesSome unicode test d → IsTrue (test d)
+      ⊎ IsTrue (is_in_any_interval new d)

@@ -53,29 +53,37 @@ pub record IsCaseClosureOfTest (flags : tree.Flags) (test : ℕ → Bool) (set :
 
 -- The new intervals have exactly the numbers of the old ones and those of these members.
 abbrev pub AddsMembers : (flags : tree.Flags) (old new : List Interval) → List ClassMember → Type 0
-AddsMembers flags old new members = (c : ℕ) → is_in_any_interval new c ≡ (is_in_any_interval old c || list_any (class_member_contains flags c) members)
+AddsMembers flags old new members =
+    (c : ℕ) → is_in_any_interval new c ≡ (is_in_any_interval old c || list_any (class_member_contains flags c) members)
 
 -- The atom that ends a range is read, or there is no range here; after a syntax error no atom
 -- follows the `-`.
-abbrev pub IsRangeEndRead : (flags : tree.Flags) (here : RemainingCodePoints) → Result (Option ClassAtomValue) ParseStopReason → (there : RemainingCodePoints) → Type 0
-IsRangeEndRead flags here (Ok (Some a)) there = (b : RemainingCodePoints) × (here ≡ 45 ∷ b) × ClassAtom flags b there (class_member_of_atom a)
+abbrev pub IsRangeEndRead : (flags : tree.Flags) (here : RemainingCodePoints)
+    → Result (Option ClassAtomValue) ParseStopReason → (there : RemainingCodePoints) → Type 0
+IsRangeEndRead flags here (Ok (Some a)) there = (b : RemainingCodePoints) × (here ≡ 45 ∷ b)
+    × ClassAtom flags b there (class_member_of_atom a)
 IsRangeEndRead flags here (Ok None) there = ¬ (IsRangeDash here)
 IsRangeEndRead flags here (Err e) there =
-    (b : RemainingCodePoints) × (here ≡ 45 ∷ b) × IsRangeDash here × ((end : RemainingCodePoints) (m : ClassMember) → ClassAtom flags b end m → ⊥)
+    (b : RemainingCodePoints) × (here ≡ 45 ∷ b) × IsRangeDash here
+    × ((end : RemainingCodePoints) (m : ClassMember) → ClassAtom flags b end m → ⊥)
 
 -- The members of an atom or a range are read, and their numbers are added; after a syntax error
 -- there are none. Nothing is claimed on allocation failure.
-abbrev pub IsClassMemberRead : (flags : tree.Flags) (here : RemainingCodePoints) (old : List Interval) → Result (Unit {0}) ParseStopReason
+abbrev pub IsClassMemberRead : (flags : tree.Flags) (here : RemainingCodePoints) (old : List Interval)
+    → Result (Unit {0}) ParseStopReason
     → (new : List Interval) (there : RemainingCodePoints) → Type 0
 IsClassMemberRead flags here old (Ok u) new there =
     (ms : List ClassMember) × ClassMembers flags here there ms × AddsMembers flags old new ms
 IsClassMemberRead flags here old (Err e) new there =
-    IsTrue (is_syntax_error e) → (end : RemainingCodePoints) (ms : List ClassMember) → ClassMembers flags here end ms → ⊥
+    IsTrue (is_syntax_error e) → (end : RemainingCodePoints) (ms : List ClassMember) → ClassMembers flags here end ms
+    → ⊥
 
 -- The members up to the end of the class are read, and their set is returned; after a syntax error
 -- there is no ClassRanges. Nothing is claimed on allocation failure.
-abbrev pub AreClassRangesRead : (flags : tree.Flags) (here : RemainingCodePoints) → Result tree.Intervals ParseStopReason → (there : RemainingCodePoints) → Type 0
-AreClassRangesRead flags here (Ok set) there = (ms : List ClassMember) × ClassRanges flags here there ms × IsSetOf flags ms set
+abbrev pub AreClassRangesRead : (flags : tree.Flags) (here : RemainingCodePoints)
+    → Result tree.Intervals ParseStopReason → (there : RemainingCodePoints) → Type 0
+AreClassRangesRead flags here (Ok set) there = (ms : List ClassMember) × ClassRanges flags here there ms
+    × IsSetOf flags ms set
 AreClassRangesRead flags here (Err e) there =
     IsTrue (is_syntax_error e) → (end : RemainingCodePoints) (ms : List ClassMember) → ClassRanges flags here end ms → ⊥
 
@@ -86,7 +94,8 @@ some_case_variant_passes unicode test c = list_any test (expand_code_point c tru
 -- All code points with the fold of this letter, if one of them passes the test.
 abbrev pub letter_case_variants_if_any_passes : (test : ℕ → Bool) (upper : ℕ) (unicode : Bool) → tree.Intervals
 letter_case_variants_if_any_passes test upper unicode =
-    if some_case_variant_passes unicode test upper then map single_code_point_interval (expand_code_point upper true unicode) else []
+    if some_case_variant_passes unicode test upper then map single_code_point_interval
+    (expand_code_point upper true unicode) else []
 
 -- The result is an error exactly if the class has a set operation.
 abbrev pub FailsExactlyOnSetOperation : (here : RemainingCodePoints) → Result (Unit {0}) ParseStopReason → Type 0
@@ -101,4 +110,5 @@ begins_nested_class_or_operation c (Some d) = c ∈ "[" || (c ∈ "&-" && c == d
 -- The ends of a range, if both atoms are characters.
 abbrev pub AreRangeEndsIfBothCharacters : (first second : ClassAtomValue) → Option (ℕ × ℕ) → Type 0
 AreRangeEndsIfBothCharacters first second (Some ends) = (first ≡ Character ends.0) × (second ≡ Character ends.1)
-AreRangeEndsIfBothCharacters first second None = are_characters (class_member_of_atom first) (class_member_of_atom second) ≡ false
+AreRangeEndsIfBothCharacters first second None =
+    are_characters (class_member_of_atom first) (class_member_of_atom second) ≡ false

@@ -10,7 +10,7 @@ use Rattle.regex_parser.specs.declared.parser_error.ParseStopReason.TheVariants.
 use Rattle.regex_pattern_front.specs.declared.ir.Quantifier.{Quantifier}
 use Rattle.regex_pattern_front.specs.AstToSpecTree.{spec_quantifier_of}
 use Rattle.regex_meaning.specs.ReadingStatesAndDigits.{RemainingCodePoints, Digits, leading_digits}
-use Rattle.regex_meaning.specs.EscapesNamesQuantifiers.{is_ascii_identifier_start, is_ascii_identifier_part, FixedHexDigits, is_lead_surrogate, is_trail_surrogate}
+use Rattle.regex_meaning.specs.EscapesNamesQuantifiers.{is_ascii_identifier_start, is_ascii_identifier_part, FixedHexDigits, is_high_surrogate, is_low_surrogate}
 use Rattle.regex_meaning.specs.EscapesNamesQuantifiers.{QuantifierPrefix, BeginsQuantifier, ValidQuantifier}
 
 -- Whether the fault is a syntax error, and no allocation failure.
@@ -19,9 +19,9 @@ is_syntax_error (Refused cause left) = true
 is_syntax_error (Memory e) = false
 
 -- A code point is read, or nothing is left.
-abbrev pub IsNext : (here : RemainingCodePoints) → Option ℕ → (there : RemainingCodePoints) → Type 0
-IsNext here None there = (here ≡ []) × (there ≡ here)
-IsNext here (Some c) there = here ≡ c ∷ there
+abbrev pub IsCodePointReadIfAny : (here : RemainingCodePoints) → Option ℕ → (there : RemainingCodePoints) → Type 0
+IsCodePointReadIfAny here None there = (here ≡ []) × (there ≡ here)
+IsCodePointReadIfAny here (Some c) there = here ≡ c ∷ there
 
 -- The first code point, if it is a `char`.
 abbrev pub peeked : RemainingCodePoints → Option ℕ
@@ -39,7 +39,8 @@ IsDigitRead base here None there = (there ≡ here) × (leading_digits base here
 IsDigitRead base here (Some d) there = (c : ℕ) × (here ≡ c ∷ there) × (is_digit c base ≡ true) × (d ≡ digit_value c)
 
 -- A number is read, which saturates at `most`, or no digit is here.
-abbrev pub IsNumberRead : (base most : ℕ) → (here : RemainingCodePoints) → Option ℕ → (there : RemainingCodePoints) → Type 0
+abbrev pub IsNumberRead : (base most : ℕ) → (here : RemainingCodePoints) → Option ℕ → (there : RemainingCodePoints)
+    → Type 0
 IsNumberRead base most here None there = (there ≡ here) × (leading_digits base here ≡ [])
 IsNumberRead base most here (Some v) there = (n : ℕ) × Digits base here there n × (v ≡ min n most)
 
@@ -50,78 +51,97 @@ IsHexRead count here (Some c) there = FixedHexDigits count here there c
 
 -- The minimum and maximum of a quantifier are read, without the question mark after it, or no
 -- quantifier is here.
-abbrev pub IsOptionalQuantifierPrefixRead : (here : RemainingCodePoints) → Option (ℕ × Option ℕ) → (there : RemainingCodePoints) → Type 0
+abbrev pub IsOptionalQuantifierPrefixRead : (here : RemainingCodePoints) → Option (ℕ × Option ℕ)
+    → (there : RemainingCodePoints) → Type 0
 IsOptionalQuantifierPrefixRead here None there = (there ≡ here) × ¬ (BeginsQuantifier here)
 IsOptionalQuantifierPrefixRead here (Some p) there = QuantifierPrefix here there p.0 p.1
 
 -- The minimum and maximum of a quantifier are read after the `{`, or `{` begins no quantifier.
-abbrev pub AreQuantifierCountsRead : (here : RemainingCodePoints) → Option (ℕ × Option ℕ) → (there : RemainingCodePoints) → Type 0
+abbrev pub AreQuantifierCountsRead : (here : RemainingCodePoints) → Option (ℕ × Option ℕ)
+    → (there : RemainingCodePoints) → Type 0
 AreQuantifierCountsRead here None there = ¬ (BeginsQuantifier (123 ∷ here))
 AreQuantifierCountsRead here (Some p) there = QuantifierPrefix (123 ∷ here) there p.0 p.1
 
 -- A quantifier is read, or none is here.
-abbrev pub IsFound : (here : RemainingCodePoints) → Option Quantifier → (there : RemainingCodePoints) → Type 0
-IsFound here None there = (there ≡ here) × ¬ (BeginsQuantifier here)
-IsFound here (Some q) there = ValidQuantifier here there (spec_quantifier_of q)
+abbrev pub IsOptionalQuantifierRead : (here : RemainingCodePoints) → Option Quantifier → (there : RemainingCodePoints)
+    → Type 0
+IsOptionalQuantifierRead here None there = (there ≡ here) × ¬ (BeginsQuantifier here)
+IsOptionalQuantifierRead here (Some q) there = ValidQuantifier here there (spec_quantifier_of q)
 
 -- A quantifier is read, or none is here; after an error its bounds are out of order.
-abbrev pub IsQuantifierRead : (here : RemainingCodePoints) → Result (Option Quantifier) ParseStopReason → (there : RemainingCodePoints) → Type 0
-IsQuantifierRead here (Ok found) there = IsFound here found there
+abbrev pub IsQuantifierRead : (here : RemainingCodePoints) → Result (Option Quantifier) ParseStopReason
+    → (there : RemainingCodePoints) → Type 0
+IsQuantifierRead here (Ok found) there = IsOptionalQuantifierRead here found there
 IsQuantifierRead here (Err e) there =
     BeginsQuantifier here × ((end : RemainingCodePoints) (q : tree.Quantifier) → ValidQuantifier here end q → ⊥)
 
 -- The minimum and maximum of a quantifier are read from the `{` on, or no quantifier with braces is
 -- here.
-abbrev pub IsOptionalBracesQuantifierRead : (here : RemainingCodePoints) → Option (ℕ × Option ℕ) → (there : RemainingCodePoints) → Type 0
-IsOptionalBracesQuantifierRead here None there = (there ≡ here) × ((rest : RemainingCodePoints) → here ≡ 123 ∷ rest → ¬ (BeginsQuantifier here))
+abbrev pub IsOptionalBracesQuantifierRead : (here : RemainingCodePoints) → Option (ℕ × Option ℕ)
+    → (there : RemainingCodePoints) → Type 0
+IsOptionalBracesQuantifierRead here None there = (there ≡ here)
+    × ((rest : RemainingCodePoints) → here ≡ 123 ∷ rest → ¬ (BeginsQuantifier here))
 IsOptionalBracesQuantifierRead here (Some p) there = QuantifierPrefix here there p.0 p.1
 
 -- The maximum is read after the minimum: without a comma it is the minimum, else a number, or none
 -- if no digit follows.
-abbrev pub IsQuantifierMaximumRead : (min : ℕ) → (here : RemainingCodePoints) → Option ℕ → (there : RemainingCodePoints) → Type 0
+abbrev pub IsQuantifierMaximumRead : (min : ℕ) → (here : RemainingCodePoints) → Option ℕ → (there : RemainingCodePoints)
+    → Type 0
 IsQuantifierMaximumRead min here most there =
     ((most ≡ Some min) × (there ≡ here) × ((rest : RemainingCodePoints) → here ≡ 44 ∷ rest → ⊥))
     ⊎ ((rest : RemainingCodePoints) × (here ≡ 44 ∷ rest) × IsNumberRead 10 (2 ^ 64 - 1) rest most there)
 
 -- The value is read from here to there, or nothing can be read.
-abbrev pub IsReadOrNothingCanBeRead : {A E : Type 0} → (reads : RemainingCodePoints → A → Type 0) → Result A E → (there : RemainingCodePoints) → Type 0
+abbrev pub IsReadOrNothingCanBeRead : {A E : Type 0} → (reads : RemainingCodePoints → A → Type 0) → Result A E
+    → (there : RemainingCodePoints) → Type 0
 IsReadOrNothingCanBeRead reads (Ok a) there = reads there a
 IsReadOrNothingCanBeRead {A} reads (Err e) there = (end : RemainingCodePoints) (a : A) → reads end a → ⊥
 
 -- `\u` and the digits of a trail surrogate
-abbrev pub IsTrail : (here there : RemainingCodePoints) (c : ℕ) → Type 0
-IsTrail here there c = (b : RemainingCodePoints) × (here ≡ codes "\\u" ++ b) × FixedHexDigits 4 b there c × IsTrue (is_trail_surrogate c)
+abbrev pub IsTrailSurrogateEscape : (here there : RemainingCodePoints) (c : ℕ) → Type 0
+IsTrailSurrogateEscape here there c = (b : RemainingCodePoints) × (here ≡ codes "\\u" ++ b) × FixedHexDigits 4 b there c
+    × IsTrue (is_low_surrogate c)
 
 -- An escape of a trail surrogate is read, or none is here.
-abbrev pub IsOptionalTrailSurrogateEscapeRead : (here : RemainingCodePoints) → Option ℕ → (there : RemainingCodePoints) → Type 0
-IsOptionalTrailSurrogateEscapeRead here None there = (end : RemainingCodePoints) (c : ℕ) → IsTrail here end c → ⊥
-IsOptionalTrailSurrogateEscapeRead here (Some c) there = IsTrail here there c
+abbrev pub IsOptionalTrailSurrogateEscapeRead : (here : RemainingCodePoints) → Option ℕ → (there : RemainingCodePoints)
+    → Type 0
+IsOptionalTrailSurrogateEscapeRead here None there = (end : RemainingCodePoints) (c : ℕ)
+    → IsTrailSurrogateEscape here end c → ⊥
+IsOptionalTrailSurrogateEscapeRead here (Some c) there = IsTrailSurrogateEscape here there c
 
 -- A code point and the `}` after it, after `\u{`.
 abbrev pub IsCodePointAndClosingBrace : (here there : RemainingCodePoints) (c : ℕ) → Type 0
-IsCodePointAndClosingBrace here there c = (b : RemainingCodePoints) × Digits 16 here b c × (b ≡ codes "}" ++ there) × (c ≤ 0x10_FFFF)
+IsCodePointAndClosingBrace here there c = (b : RemainingCodePoints) × Digits 16 here b c × (b ≡ codes "}" ++ there)
+    × (c ≤ 0x10_FFFF)
 
 -- A lead surrogate makes a pair with the escape of a trail surrogate after it; otherwise the number
 -- is the code point.
-abbrev pub PairsWithTrailSurrogateIfAny : (lead : ℕ) → (here : RemainingCodePoints) → (c : ℕ) → (there : RemainingCodePoints) → Type 0
+abbrev pub PairsWithTrailSurrogateIfAny : (lead : ℕ) → (here : RemainingCodePoints) → (c : ℕ)
+    → (there : RemainingCodePoints) → Type 0
 PairsWithTrailSurrogateIfAny lead here c there =
-    ((trail : ℕ) × IsTrail here there trail × IsTrue (is_lead_surrogate lead)
+    ((trail : ℕ) × IsTrailSurrogateEscape here there trail × IsTrue (is_high_surrogate lead)
     × (c ≡ 0x1_0000 + (lead - 0xD800) * 0x400 + (trail - 0xDC00)))
-    ⊎ ((there ≡ here) × (c ≡ lead) × (IsTrue (is_lead_surrogate lead) → (end : RemainingCodePoints) (trail : ℕ) → IsTrail here end trail → ⊥))
+    ⊎ ((there ≡ here) × (c ≡ lead) × (IsTrue (is_high_surrogate lead) → (end : RemainingCodePoints) (trail : ℕ)
+    → IsTrailSurrogateEscape here end trail → ⊥))
 
 -- The value is read from here to there; after a syntax error nothing can be read. Nothing is
 -- claimed on allocation failure.
-abbrev pub IsReadOr : {A B : Type 0} (of : A → B) (reads : RemainingCodePoints → B → Type 0) → Result A ParseStopReason → (there : RemainingCodePoints) → Type 0
-IsReadOr of reads (Ok a) there = reads there (of a)
-IsReadOr {B = B} of reads (Err e) there = IsTrue (is_syntax_error e) → (end : RemainingCodePoints) (b : B) → reads end b → ⊥
+abbrev pub IsReadOrSyntaxError : {A B : Type 0} (of : A → B) (reads : RemainingCodePoints → B → Type 0)
+    → Result A ParseStopReason → (there : RemainingCodePoints) → Type 0
+IsReadOrSyntaxError of reads (Ok a) there = reads there (of a)
+IsReadOrSyntaxError {B = B} of reads (Err e) there = IsTrue (is_syntax_error e) → (end : RemainingCodePoints) (b : B)
+    → reads end b → ⊥
 
 -- The code point as a letter of a name, or it is not allowed there.
 abbrev pub ResultIsGroupNameLetterOrNone : (is_first : Bool) (c : ℕ) → Option ℕ → Type 0
-ResultIsGroupNameLetterOrNone is_first c None = (if is_first then is_ascii_identifier_start c else is_ascii_identifier_part c) ≡ false
-ResultIsGroupNameLetterOrNone is_first c (Some letter) = (letter ≡ c) × ((if is_first then is_ascii_identifier_start c else is_ascii_identifier_part c) ≡ true)
+ResultIsGroupNameLetterOrNone is_first c None = (if is_first then is_ascii_identifier_start c
+    else is_ascii_identifier_part c) ≡ false
+ResultIsGroupNameLetterOrNone is_first c (Some letter) = (letter ≡ c)
+    × ((if is_first then is_ascii_identifier_start c else is_ascii_identifier_part c) ≡ true)
 
 -- The value is read from here to there; after any error nothing can be read.
-abbrev pub IsReadAndErrorMeansUnreadable : {A B E : Type 0} (of : A → B) (reads : RemainingCodePoints → B → Type 0) → Result A E → (there : RemainingCodePoints) → Type 0
+abbrev pub IsReadAndErrorMeansUnreadable : {A B E : Type 0} (of : A → B) (reads : RemainingCodePoints → B → Type 0)
+    → Result A E → (there : RemainingCodePoints) → Type 0
 IsReadAndErrorMeansUnreadable of reads (Ok a) there = reads there (of a)
 IsReadAndErrorMeansUnreadable {B = B} of reads (Err e) there = (end : RemainingCodePoints) (b : B) → reads end b → ⊥
 

@@ -35,67 +35,82 @@ member_of_atom flags (Property p invert) = class (is_in_invertible_set (has_prop
 
 -- The new intervals have exactly the numbers of the old ones and those of these members.
 abbrev pub AddsEcmaMembers : (old new : List Interval) → List ClassMember → Type 0
-AddsEcmaMembers old new members = (c : ℕ) → is_in_any_interval new c ≡ (is_in_any_interval old c || list_any (λ m. class_member_contains m c) members)
+AddsEcmaMembers old new members =
+    (c : ℕ) → is_in_any_interval new c ≡ (is_in_any_interval old c || list_any (λ m. class_member_contains m c) members)
 
 -- The atom that ends a range is read, or there is no range here; after a syntax error no atom follows
 -- the `-`. Nothing is claimed on allocation failure.
-abbrev pub IsEcmaRangeEndRead : (flags : tree.Flags) (named_groups : Bool) (here : RemainingCodePoints) → Result (Option AtomValue) ParseStopReason
+abbrev pub IsEcmaRangeEndRead : (flags : tree.Flags) (named_groups : Bool) (here : RemainingCodePoints)
+    → Result (Option AtomValue) ParseStopReason
     → (there : RemainingCodePoints) → Type 0
 IsEcmaRangeEndRead flags named_groups here (Ok (Some a)) there =
     (b : RemainingCodePoints) × (here ≡ 45 ∷ b) × ClassAtom flags named_groups b there (member_of_atom flags a)
 IsEcmaRangeEndRead flags named_groups here (Ok None) there = ¬ (IsRangeDash here)
 IsEcmaRangeEndRead flags named_groups here (Err e) there =
     IsTrue (is_syntax_error e)
-    → (b : RemainingCodePoints) × (here ≡ 45 ∷ b) × IsRangeDash here × ((end : RemainingCodePoints) (m : ClassMember) → ClassAtom flags named_groups b end m → ⊥)
+    → (b : RemainingCodePoints) × (here ≡ 45 ∷ b) × IsRangeDash here
+    × ((end : RemainingCodePoints) (m : ClassMember) → ClassAtom flags named_groups b end m → ⊥)
 
 -- The members of an atom or a range are read, and their numbers are added; after a syntax error there
 -- are none. Nothing is claimed on allocation failure.
-abbrev pub IsEcmaMemberRead : (flags : tree.Flags) (named_groups : Bool) (here : RemainingCodePoints) (old : List Interval) → Result (Unit {0}) ParseStopReason
+abbrev pub IsEcmaMemberRead : (flags : tree.Flags) (named_groups : Bool) (here : RemainingCodePoints)
+    (old : List Interval) → Result (Unit {0}) ParseStopReason
     → (new : List Interval) (there : RemainingCodePoints) → Type 0
 IsEcmaMemberRead flags named_groups here old (Ok u) new there =
     (ms : List ClassMember) × ClassMembers flags named_groups here there ms × AddsEcmaMembers old new ms
 IsEcmaMemberRead flags named_groups here old (Err e) new there =
-    IsTrue (is_syntax_error e) → (end : RemainingCodePoints) (ms : List ClassMember) → ClassMembers flags named_groups here end ms → ⊥
+    IsTrue (is_syntax_error e) → (end : RemainingCodePoints) (ms : List ClassMember)
+    → ClassMembers flags named_groups here end ms → ⊥
 
 -- The members up to the end of the class are read, and their set is returned; after a syntax error
 -- there is no ClassRanges. Nothing is claimed on allocation failure.
-abbrev pub AreEcmaRangesRead : (flags : tree.Flags) (named_groups : Bool) (here : RemainingCodePoints) → Result tree.Intervals ParseStopReason
+abbrev pub AreEcmaRangesRead : (flags : tree.Flags) (named_groups : Bool) (here : RemainingCodePoints)
+    → Result tree.Intervals ParseStopReason
     → (there : RemainingCodePoints) → Type 0
-AreEcmaRangesRead flags named_groups here (Ok set) there = (ms : List ClassMember) × ClassRanges flags named_groups here there ms × IsSetOf flags ms set
+AreEcmaRangesRead flags named_groups here (Ok set) there = (ms : List ClassMember)
+    × ClassRanges flags named_groups here there ms × IsSetOf flags ms set
 AreEcmaRangesRead flags named_groups here (Err e) there =
-    IsTrue (is_syntax_error e) → (end : RemainingCodePoints) (ms : List ClassMember) → ClassRanges flags named_groups here end ms → ⊥
+    IsTrue (is_syntax_error e) → (end : RemainingCodePoints) (ms : List ClassMember)
+    → ClassRanges flags named_groups here end ms → ⊥
 
 -- `c` and a ClassControlLetter are read, or they are not here
 abbrev pub IsClassControlRead : (here : RemainingCodePoints) → Option ℕ → (there : RemainingCodePoints) → Type 0
-IsClassControlRead here (Some c) there = (letter : ℕ) × (here ≡ 99 ∷ letter ∷ there) × IsTrue (is_class_control_letter letter) × (c ≡ letter % 32)
+IsClassControlRead here (Some c) there = (letter : ℕ) × (here ≡ 99 ∷ letter ∷ there)
+    × IsTrue (is_class_control_letter letter) × (c ≡ letter % 32)
 IsClassControlRead here None there =
-    (there ≡ here) × ((letter : ℕ) (rest : RemainingCodePoints) → here ≡ 99 ∷ letter ∷ rest → is_class_control_letter letter ≡ true → ⊥)
+    (there ≡ here) × ((letter : ℕ) (rest : RemainingCodePoints) → here ≡ 99 ∷ letter ∷ rest
+    → is_class_control_letter letter ≡ true → ⊥)
 
 -- The letter of an escape of a property is read, `p` or `P`, or there is neither; without `u` there is none.
-abbrev pub IsPropertyLetterRead : (unicode : Bool) (here : RemainingCodePoints) → Option Bool → (there : RemainingCodePoints) → Type 0
+abbrev pub IsPropertyLetterRead : (unicode : Bool) (here : RemainingCodePoints) → Option Bool
+    → (there : RemainingCodePoints) → Type 0
 IsPropertyLetterRead unicode here (Some invert) there = (unicode ≡ true) × (here ≡ (if invert then 80 else 112) ∷ there)
 IsPropertyLetterRead unicode here None there =
-    (there ≡ here) × (unicode ≡ true → (invert : Bool) (rest : RemainingCodePoints) → here ≡ (if invert then 80 else 112) ∷ rest → ⊥)
+    (there ≡ here) × (unicode ≡ true → (invert : Bool) (rest : RemainingCodePoints)
+    → here ≡ (if invert then 80 else 112) ∷ rest → ⊥)
 
 -- One of the alternatives of DigitWordOrSpaceEscape before CharacterClassEscape is read, or none is here.
-abbrev pub IsSimpleClassEscapeRead : (flags : tree.Flags) (here : RemainingCodePoints) → Option ℕ → (there : RemainingCodePoints) → Type 0
+abbrev pub IsSimpleClassEscapeRead : (flags : tree.Flags) (here : RemainingCodePoints) → Option ℕ
+    → (there : RemainingCodePoints) → Type 0
 IsSimpleClassEscapeRead flags here (Some c) there = SimpleClassEscape flags here there c
-IsSimpleClassEscapeRead flags here None there = (there ≡ here) × ((end : RemainingCodePoints) (c : ℕ) → SimpleClassEscape flags here end c → ⊥)
+IsSimpleClassEscapeRead flags here None there = (there ≡ here)
+    × ((end : RemainingCodePoints) (c : ℕ) → SimpleClassEscape flags here end c → ⊥)
 
 -- Without `u` no range is meant, with it an error.
-abbrev pub IsNoneUnless : (unicode : Bool) → Result (Option Interval) Cause → Type 0
-IsNoneUnless unicode (Ok found) = (unicode ≡ false) × (found ≡ None)
-IsNoneUnless unicode (Err cause) = unicode ≡ true
+abbrev pub IsNoRangeOrUnicodeError : (unicode : Bool) → Result (Option Interval) Cause → Type 0
+IsNoRangeOrUnicodeError unicode (Ok found) = (unicode ≡ false) × (found ≡ None)
+IsNoRangeOrUnicodeError unicode (Err cause) = unicode ≡ true
 
 -- The range between two characters, none if one is no character and `u` is not set, or an error.
 abbrev pub IsRangeOrCause : (first second : AtomValue) (unicode : Bool) → Result (Option Interval) Cause → Type 0
 IsRangeOrCause (Character c) (Character d) unicode (Ok None) = ⊥
 IsRangeOrCause (Character c) (Character d) unicode (Ok (Some i)) = (c ≤ d) × (i.first ≡ c) × (i.last ≡ d)
 IsRangeOrCause (Character c) (Character d) unicode (Err cause) = d < c
-IsRangeOrCause first second unicode found = IsNoneUnless unicode found
+IsRangeOrCause first second unicode found = IsNoRangeOrUnicodeError unicode found
 
 -- The set of what matches a number that passes the test, in canonical form.
 pub record IsCanonicalClosure (flags : tree.Flags) (test : ℕ → Bool) (set : tree.Intervals) : Type 0 where
   pub apart : AreCanonicalIntervals set
   pub same : (c : ℕ) → IsTrue (in_intervals set c)
-      ↔ ((d : ℕ) × IsTrue (test d) × (canonical_character flags.icase flags.unicode d ≡ canonical_character flags.icase flags.unicode c))
+      ↔ ((d : ℕ) × IsTrue (test d) × (canonical_character flags.icase flags.unicode d ≡ canonical_character flags.icase
+      flags.unicode c))

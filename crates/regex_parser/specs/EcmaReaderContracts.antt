@@ -16,7 +16,8 @@ abbrev pub IsControlLetterRead : (here : RemainingCodePoints) → Option ℕ →
 IsControlLetterRead here (Some c) there =
     (letter : ℕ) × (here ≡ letter ∷ there) × IsTrue (is_ascii_alphabetic letter) × (c ≡ letter % 32)
 IsControlLetterRead here None there =
-    (there ≡ here) × ((letter : ℕ) (rest : RemainingCodePoints) → here ≡ letter ∷ rest → is_ascii_alphabetic letter ≡ true → ⊥)
+    (there ≡ here) × ((letter : ℕ) (rest : RemainingCodePoints) → here ≡ letter ∷ rest
+    → is_ascii_alphabetic letter ≡ true → ⊥)
 
 -- ---- Names
 
@@ -34,13 +35,15 @@ abbrev pub NoNameCharacter : (is_first : Bool) → (here : RemainingCodePoints) 
 NoNameCharacter is_first here = (end : RemainingCodePoints) (c : ℕ) → NameCharacterAt is_first here end c → ⊥
 
 -- A character of a name is read, or none is here.
-abbrev pub IsNameCharacterRead : (is_first : Bool) → (here : RemainingCodePoints) → Result ℕ ParseStopReason → (there : RemainingCodePoints) → Type 0
+abbrev pub IsNameCharacterRead : (is_first : Bool) → (here : RemainingCodePoints) → Result ℕ ParseStopReason
+    → (there : RemainingCodePoints) → Type 0
 IsNameCharacterRead is_first here (Ok c) there = NameCharacterAt is_first here there c
 IsNameCharacterRead is_first here (Err e) there = NoNameCharacter is_first here
 
 -- If a code point is read and may be in a name, it is a character of a name from here to there. If it may
 -- not, or if none is read, no character of a name is here.
-abbrev pub IsNameCodePointRead : (is_first : Bool) → (here : RemainingCodePoints) → Option ℕ → (there : RemainingCodePoints) → Type 0
+abbrev pub IsNameCodePointRead : (is_first : Bool) → (here : RemainingCodePoints) → Option ℕ
+    → (there : RemainingCodePoints) → Type 0
 IsNameCodePointRead is_first here None there = NoNameCharacter is_first here
 IsNameCodePointRead is_first here (Some c) there =
     (passes_in_name is_first c ≡ true → NameCharacterAt is_first here there c)

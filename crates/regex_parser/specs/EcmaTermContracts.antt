@@ -20,36 +20,43 @@ use Rattle.regex_pattern_front.specs.AstToSpecTree.{node_of, class_as_spec}
 
 -- What the reader knows of the groups of the pattern: how many there are, whether one has a name, and
 -- the number of each name that can be read.
-pub record AreGroupsKnown {R : Type 0} (flags : Flags) (count : ℕ) (named : Bool) (numbers : BTreeMap (String R) ℕ) (groups : List RemainingCodePoints) : Type 0 where
+pub record AreGroupsKnown {R : Type 0} (flags : Flags) (count : ℕ) (named : Bool) (numbers : BTreeMap (String R) ℕ)
+    (groups : List RemainingCodePoints) : Type 0 where
   pub counted : count ≡ length groups
   pub names : named ≡ has_named_groups (pattern_context flags groups)
-  pub numbered : (here there : RemainingCodePoints) (name : List ℕ) → GroupName here there name → get_by_text numbers name ≡ group_number_of name groups
+  pub numbered : (here there : RemainingCodePoints) (name : List ℕ) → GroupName here there name
+      → get_by_text numbers name ≡ group_number_of name groups
 
 -- ---- Terms
 
 -- No term is here.
 abbrev pub NoEcmaTerm : PatternContext → (here : RemainingCodePoints) → Type 0
 NoEcmaTerm w here =
-    (in_lookbehind : Bool) (opened : List RemainingCodePoints) (q : ParseState) (n : tree.Node) → Term ecmascript w in_lookbehind (parse_state_at here opened) q n → ⊥
+    (in_lookbehind : Bool) (opened : List RemainingCodePoints) (q : ParseState) (n : tree.Node)
+    → Term ecmascript w in_lookbehind (parse_state_at here opened) q n → ⊥
 
 -- An atom or an assertion, from here to there.
 abbrev pub IsEcmaAtomOr : (is_atom : Bool) → PatternContext → (here there : RemainingCodePoints) → tree.Node → Type 0
 IsEcmaAtomOr true w here there n = SimpleAtom w here there n
-IsEcmaAtomOr false w here there n = (opened : List RemainingCodePoints) → Assertion ecmascript w (parse_state_at here opened) (parse_state_at there opened) n
+IsEcmaAtomOr false w here there n = (opened : List RemainingCodePoints)
+    → Assertion ecmascript w (parse_state_at here opened) (parse_state_at there opened) n
 
 -- A term is read; after a syntax error no term is here. Nothing is claimed on allocation failure.
-abbrev pub IsEcmaTermRead : PatternContext → (here : RemainingCodePoints) → Result GrouplessTerm ParseStopReason → (there : RemainingCodePoints) → Type 0
+abbrev pub IsEcmaTermRead : PatternContext → (here : RemainingCodePoints) → Result GrouplessTerm ParseStopReason
+    → (there : RemainingCodePoints) → Type 0
 IsEcmaTermRead w here (Ok l) there = IsEcmaAtomOr l.is_atom w here there (node_of l.node)
 IsEcmaTermRead w here (Err e) there = IsTrue (is_syntax_error e) → NoEcmaTerm w here
 
 -- The term of `^`, `$` or `.`, or the code point is none of them.
-abbrev pub IsEcmaSignIfAny : PatternContext → (c : ℕ) → (there : RemainingCodePoints) → Option GrouplessTerm → Type 0
-IsEcmaSignIfAny w c there (Some l) = IsEcmaAtomOr l.is_atom w (c ∷ there) there (node_of l.node)
-IsEcmaSignIfAny w c there None = c ∈ "^$." ≡ false
+abbrev pub IsEcmaAnchorOrDotIfAny : PatternContext → (c : ℕ) → (there : RemainingCodePoints) → Option GrouplessTerm
+    → Type 0
+IsEcmaAnchorOrDotIfAny w c there (Some l) = IsEcmaAtomOr l.is_atom w (c ∷ there) there (node_of l.node)
+IsEcmaAnchorOrDotIfAny w c there None = c ∈ "^$." ≡ false
 
 -- The node of a character, by its case variants.
 abbrev pub IsEcmaCharacterNode : tree.Flags → (c : ℕ) → tree.Node → Type 0
-IsEcmaCharacterNode flags c n = (members : List ℕ) × AreCaseVariants flags.icase flags.unicode c members × (n ≡ node_of_case_variants c members)
+IsEcmaCharacterNode flags c n = (members : List ℕ) × AreCaseVariants flags.icase flags.unicode c members
+    × (n ≡ node_of_case_variants c members)
 
 -- ---- Behind a backslash
 
@@ -58,16 +65,21 @@ abbrev pub NoAtomEscape : PatternContext → (here : RemainingCodePoints) → Ty
 NoAtomEscape w here = (end : RemainingCodePoints) (n : tree.Node) → AtomEscape w here end n → ⊥
 
 -- An atom is read; after a syntax error none is here. Nothing is claimed on allocation failure.
-abbrev pub IsAtomEscapeRead : PatternContext → (here : RemainingCodePoints) → Result GrouplessTerm ParseStopReason → (there : RemainingCodePoints) → Type 0
+abbrev pub IsAtomEscapeRead : PatternContext → (here : RemainingCodePoints) → Result GrouplessTerm ParseStopReason
+    → (there : RemainingCodePoints) → Type 0
 IsAtomEscapeRead w here (Ok l) there = (l.is_atom ≡ true) × AtomEscape w here there (node_of l.node)
 IsAtomEscapeRead w here (Err e) there = IsTrue (is_syntax_error e) → NoAtomEscape w here
 
 -- A class is read, or no class escape is here; after a syntax error no atom is here.
-abbrev pub IsClassEscapeRead : Flags → (here : RemainingCodePoints) → Result (Option BracketContents) ParseStopReason → (there : RemainingCodePoints) → Type 0
-IsClassEscapeRead flags here (Ok (Some b)) there = (groups : List RemainingCodePoints) → AtomEscape (pattern_context flags groups) here there (tree.bracket (class_as_spec b))
+abbrev pub IsClassEscapeRead : Flags → (here : RemainingCodePoints) → Result (Option BracketContents) ParseStopReason
+    → (there : RemainingCodePoints) → Type 0
+IsClassEscapeRead flags here (Ok (Some b)) there = (groups : List RemainingCodePoints)
+    → AtomEscape (pattern_context flags groups) here there (tree.bracket (class_as_spec b))
 IsClassEscapeRead flags here (Ok None) there =
-    (there ≡ here) × ((groups : List RemainingCodePoints) (end : RemainingCodePoints) (s : ℕ → Bool) → CharacterClassEscape (pattern_context flags groups).flags here end s → ⊥)
-IsClassEscapeRead flags here (Err e) there = IsTrue (is_syntax_error e) → (groups : List RemainingCodePoints) → NoAtomEscape (pattern_context flags groups) here
+    (there ≡ here) × ((groups : List RemainingCodePoints) (end : RemainingCodePoints) (s : ℕ → Bool)
+    → CharacterClassEscape (pattern_context flags groups).flags here end s → ⊥)
+IsClassEscapeRead flags here (Err e) there = IsTrue (is_syntax_error e) → (groups : List RemainingCodePoints)
+    → NoAtomEscape (pattern_context flags groups) here
 
 -- Whether the letter is a digit but no zero.
 abbrev pub is_nonzero_digit : Option ℕ → Bool
@@ -79,30 +91,36 @@ abbrev pub NoGroupNumber : (count : ℕ) → (here : RemainingCodePoints) → Ty
 NoGroupNumber count here = (end : RemainingCodePoints) (n : ℕ) → Digits 10 here end n → 0 < n → n ≤ count → ⊥
 
 -- Without `u` no group is meant, with it an error.
-abbrev pub IsNoGroupUnless : (unicode : Bool) → Result (Option ℕ) ParseStopReason → Type 0
-IsNoGroupUnless unicode (Ok found) = (unicode ≡ false) × (found ≡ None)
-IsNoGroupUnless unicode (Err e) = unicode ≡ true
+abbrev pub IsNoReferenceOrUnicodeError : (unicode : Bool) → Result (Option ℕ) ParseStopReason → Type 0
+IsNoReferenceOrUnicodeError unicode (Ok found) = (unicode ≡ false) × (found ≡ None)
+IsNoReferenceOrUnicodeError unicode (Err e) = unicode ≡ true
 
 -- The number of a group is read, or none is here, which is an error with `u`.
-abbrev pub IsGroupNumberRead : (count : ℕ) (unicode : Bool) (here : RemainingCodePoints) → Result (Option ℕ) ParseStopReason → (there : RemainingCodePoints) → Type 0
+abbrev pub IsGroupNumberRead : (count : ℕ) (unicode : Bool) (here : RemainingCodePoints)
+    → Result (Option ℕ) ParseStopReason → (there : RemainingCodePoints) → Type 0
 IsGroupNumberRead count unicode here (Ok (Some n)) there = Digits 10 here there n × (0 < n) × (n ≤ count)
 IsGroupNumberRead count unicode here (Ok None) there = (unicode ≡ false) × (there ≡ here) × NoGroupNumber count here
 IsGroupNumberRead count unicode here (Err e) there = (unicode ≡ true) × NoGroupNumber count here
 
 -- `<name>`, where the name has this number
-abbrev pub IsEcmaNamed : (numbers : List ℕ → Option ℕ) → (here there : RemainingCodePoints) → ℕ → Type 0
-IsEcmaNamed numbers here there n = (a : RemainingCodePoints) × (name : List ℕ) × (here ≡ 60 ∷ a) × GroupName a there name × (numbers name ≡ Some n)
+abbrev pub IsEcmaNameWithNumber : (numbers : List ℕ → Option ℕ) → (here there : RemainingCodePoints) → ℕ → Type 0
+IsEcmaNameWithNumber numbers here there n = (a : RemainingCodePoints) × (name : List ℕ) × (here ≡ 60 ∷ a)
+    × GroupName a there name × (numbers name ≡ Some n)
 
 -- The number of `<name>` is read; after a syntax error no name here has the number of a group.
 -- Nothing is claimed on allocation failure.
-abbrev pub IsEcmaNameNumberRead : (numbers : List ℕ → Option ℕ) → (here : RemainingCodePoints) → Result ℕ ParseStopReason → (there : RemainingCodePoints) → Type 0
-IsEcmaNameNumberRead numbers here (Ok n) there = IsEcmaNamed numbers here there n × (0 < n)
+abbrev pub IsEcmaNameNumberRead : (numbers : List ℕ → Option ℕ) → (here : RemainingCodePoints)
+    → Result ℕ ParseStopReason → (there : RemainingCodePoints) → Type 0
+IsEcmaNameNumberRead numbers here (Ok n) there = IsEcmaNameWithNumber numbers here there n × (0 < n)
 IsEcmaNameNumberRead numbers here (Err e) there =
-    IsTrue (is_syntax_error e) → (end : RemainingCodePoints) (n : ℕ) → IsEcmaNamed numbers here end n → 0 < n → ⊥
+    IsTrue (is_syntax_error e) → (end : RemainingCodePoints) (n : ℕ) → IsEcmaNameWithNumber numbers here end n → 0 < n
+    → ⊥
 
 -- A reference after its backslash, if there is one; after a syntax error no atom is here.
-abbrev pub IsEcmaReferenceRead : PatternContext → (here : RemainingCodePoints) → Result (Option ℕ) ParseStopReason → (there : RemainingCodePoints) → Type 0
+abbrev pub IsEcmaReferenceRead : PatternContext → (here : RemainingCodePoints) → Result (Option ℕ) ParseStopReason
+    → (there : RemainingCodePoints) → Type 0
 IsEcmaReferenceRead w here (Ok (Some n)) there = AtomEscape w here there (reference_node w n)
 IsEcmaReferenceRead w here (Ok None) there =
-    (there ≡ here) × ¬ (BeginsGroupNumber w here) × (has_named_groups w ≡ true → (rest : RemainingCodePoints) → here ≡ 107 ∷ rest → ⊥)
+    (there ≡ here) × ¬ (BeginsGroupNumber w here) × (has_named_groups w ≡ true → (rest : RemainingCodePoints)
+    → here ≡ 107 ∷ rest → ⊥)
 IsEcmaReferenceRead w here (Err e) there = IsTrue (is_syntax_error e) → NoAtomEscape w here

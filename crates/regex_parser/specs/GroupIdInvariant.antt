@@ -23,13 +23,14 @@ nodes_at level = level.arms.items ++ level.terms.items
 -- The open groups from group id `first` on, the outermost first, up to where the current
 -- disjunction begins: each disjunction has the groups that opened between its own parenthesis and
 -- the next.
-abbrev pub AreOpen : (greatest first : ℕ) → List OpenGroup → (inner : ℕ) → Type 0
-AreOpen greatest first [] inner = first ≡ inner
-AreOpen greatest first (o ∷ os) inner =
-    AreSoundSubtrees first o.start greatest (nodes_at o.outer) × AreOpen greatest (o.start + captures_opened_by_group_kind o.opening) os inner
+abbrev pub AreOpenGroupsSound : (greatest first : ℕ) → List OpenGroup → (inner : ℕ) → Type 0
+AreOpenGroupsSound greatest first [] inner = first ≡ inner
+AreOpenGroupsSound greatest first (o ∷ os) inner =
+    AreSoundSubtrees first o.start greatest (nodes_at o.outer)
+    × AreOpenGroupsSound greatest (o.start + captures_opened_by_group_kind o.opening) os inner
 
 -- The open disjunctions together have all groups that have opened.
 pub record OpenDisjunctionsHaveAllGroups (p : Parser) : Type 0 where
   pub inner : ℕ
-  pub around : AreOpen p.leaves.references 0 p.around.items inner
+  pub around : AreOpenGroupsSound p.leaves.references 0 p.around.items inner
   pub level : AreSoundSubtrees inner p.groups p.leaves.references (nodes_at p.level)

@@ -18,25 +18,28 @@ use Rattle.regex_parser.specs.declared.group_openings_and_names.GroupAndNameScan
 use Rattle.regex_parser.specs.declared.group_openings_and_names.GroupKind.TheVariants.{Capture, Named, Plain, Look}
 
 -- The text does not begin with this code point.
-abbrev pub NoneBegins : (c : ℕ) → (here : RemainingCodePoints) → Type 0
-NoneBegins c here = (rest : RemainingCodePoints) → here ≡ c ∷ rest → ⊥
+abbrev pub DoesNotBeginWith : (c : ℕ) → (here : RemainingCodePoints) → Type 0
+DoesNotBeginWith c here = (rest : RemainingCodePoints) → here ≡ c ∷ rest → ⊥
 
 -- The sign of a lookaround is read, `!` or `=`, or there is neither.
-abbrev pub IsLookaroundPolaritySignRead : (here : RemainingCodePoints) → Option Bool → (there : RemainingCodePoints) → Type 0
+abbrev pub IsLookaroundPolaritySignRead : (here : RemainingCodePoints) → Option Bool → (there : RemainingCodePoints)
+    → Type 0
 IsLookaroundPolaritySignRead here (Some true) there = here ≡ 33 ∷ there
 IsLookaroundPolaritySignRead here (Some false) there = here ≡ 61 ∷ there
-IsLookaroundPolaritySignRead here None there = (there ≡ here) × NoneBegins 33 here × NoneBegins 61 here
+IsLookaroundPolaritySignRead here None there = (there ≡ here) × DoesNotBeginWith 33 here × DoesNotBeginWith 61 here
 
 -- The rest of what opens a group is read after its parenthesis, or what follows the parenthesis
 -- begins no kind of group.
-abbrev pub IsOpeningRead : (here : RemainingCodePoints) → Result GroupKind ParseStopReason → (there : RemainingCodePoints) → Type 0
-IsOpeningRead here (Ok Capture) there = (there ≡ here) × NoneBegins 63 here
-IsOpeningRead here (Ok Named) there = (here ≡ 63 ∷ 60 ∷ there) × NoneBegins 33 there × NoneBegins 61 there
+abbrev pub IsOpeningRead : (here : RemainingCodePoints) → Result GroupKind ParseStopReason
+    → (there : RemainingCodePoints) → Type 0
+IsOpeningRead here (Ok Capture) there = (there ≡ here) × DoesNotBeginWith 63 here
+IsOpeningRead here (Ok Named) there = (here ≡ 63 ∷ 60 ∷ there) × DoesNotBeginWith 33 there × DoesNotBeginWith 61 there
 IsOpeningRead here (Ok Plain) there = here ≡ 63 ∷ 58 ∷ there
 IsOpeningRead here (Ok (Look negate backwards)) there = 40 ∷ here ≡ codes (lookaround_opener negate backwards) ++ there
 IsOpeningRead here (Err e) there =
-    (rest : RemainingCodePoints) × (here ≡ 63 ∷ rest) × NoneBegins 58 rest × NoneBegins 60 rest × NoneBegins 33 rest
-    × NoneBegins 61 rest
+    (rest : RemainingCodePoints) × (here ≡ 63 ∷ rest) × DoesNotBeginWith 58 rest × DoesNotBeginWith 60 rest
+    × DoesNotBeginWith 33 rest
+    × DoesNotBeginWith 61 rest
 
 -- Whether terms inside are in reverse order, given whether those outside are.
 abbrev pub is_reversed_in : GroupKind → (outside : Bool) → Bool
@@ -59,19 +62,22 @@ abbrev pub in_class_after : (in_class : Bool) → ℕ → Bool
 in_class_after in_class c = if c == 91 then true else if c == 93 then false else in_class
 
 -- The text after the code point, if it is a parenthesis outside classes.
-abbrev pub texts_opened_by : (in_class : Bool) → ℕ → (rest : RemainingCodePoints) → List RemainingCodePoints
-texts_opened_by in_class c rest = if c == 40 && not in_class then rest ∷ [] else []
+abbrev pub text_after_open_parenthesis : (in_class : Bool) → ℕ → (rest : RemainingCodePoints) → List RemainingCodePoints
+text_after_open_parenthesis in_class c rest = if c == 40 && not in_class then rest ∷ [] else []
 
 -- The map has the number of each name of the profile.
 abbrev pub MapsNamesToGroupNumbers : {R : Type 0} → BTreeMap (String R) ℕ → List RemainingCodePoints → Type 0
-MapsNamesToGroupNumbers numbers names = (name : RemainingCodePoints) → IsTrue (is_name name) → get_by_text numbers name ≡ group_number_of name names
+MapsNamesToGroupNumbers numbers names = (name : RemainingCodePoints) → IsTrue (is_name name)
+    → get_by_text numbers name ≡ group_number_of name names
 
 -- The map has the number of each text but the empty one, which is no name.
 abbrev pub MapsTextsToGroupNumbers : {R : Type 0} → BTreeMap (String R) ℕ → List RemainingCodePoints → Type 0
-MapsTextsToGroupNumbers numbers names = (name : RemainingCodePoints) → 0 < length name → get_by_text numbers name ≡ group_number_of name names
+MapsTextsToGroupNumbers numbers names = (name : RemainingCodePoints) → 0 < length name
+    → get_by_text numbers name ≡ group_number_of name names
 
 -- The numbers with one more name, unless another group has it.
-abbrev pub group_numbers_adding_absent_name : (name : RemainingCodePoints) (group : ℕ) (numbers : RemainingCodePoints → Option ℕ) → RemainingCodePoints → Option ℕ
+abbrev pub group_numbers_adding_absent_name : (name : RemainingCodePoints) (group : ℕ)
+    (numbers : RemainingCodePoints → Option ℕ) → RemainingCodePoints → Option ℕ
 group_numbers_adding_absent_name name group numbers other =
     if is_some (numbers name) then numbers other
     else if bytes_eq name other then Some group
@@ -83,21 +89,25 @@ count_of_groups names = min (length names) (2 ^ 32 - 1)
 
 -- This is the number of the names, and the map has the number of each name, if there are no more
 -- groups than allowed.
-abbrev pub AreCountedAndNumbered : {R : Type 0} → (count : ℕ) → BTreeMap (String R) ℕ → List RemainingCodePoints → Type 0
+abbrev pub AreCountedAndNumbered : {R : Type 0} → (count : ℕ) → BTreeMap (String R) ℕ → List RemainingCodePoints
+    → Type 0
 AreCountedAndNumbered count numbers names =
     (count ≡ min (length names) (2 ^ 32 - 1)) × (AreWithinGroupLimit names → MapsNamesToGroupNumbers numbers names)
 
 -- The groups of these names are counted, the map has an entry only if one of them has a name, and it has
 -- the number of each name, if there are no more groups than allowed.
-pub record AreGroupsCollected {R : Type 0} (count : ℕ) (numbers : BTreeMap (String R) ℕ) (names : List RemainingCodePoints) : Type 0 where
+pub record AreGroupsCollected {R : Type 0} (count : ℕ) (numbers : BTreeMap (String R) ℕ)
+    (names : List RemainingCodePoints) : Type 0 where
   pub counted : count ≡ count_of_groups names
   pub named : nat_lt 0 (btree_map_len numbers) ≡ list_any (λ name. nat_lt 0 (length name)) names
   pub numbered : AreWithinGroupLimit names → MapsTextsToGroupNumbers numbers names
 
 -- The groups that a scan of the pattern finds are collected.
-abbrev pub IsPatternScanned : {R : Type 0} → PatternDialect → (pattern : RemainingCodePoints) → (count : ℕ) → BTreeMap (String R) ℕ → Type 0
+abbrev pub IsPatternScanned : {R : Type 0} → PatternDialect → (pattern : RemainingCodePoints) → (count : ℕ)
+    → BTreeMap (String R) ℕ → Type 0
 IsPatternScanned s pattern count numbers =
-    (names : List RemainingCodePoints) × ScansGroups s (texts_after_parentheses false pattern) names × AreGroupsCollected count numbers names
+    (names : List RemainingCodePoints) × ScansGroups s (texts_after_parentheses false pattern) names
+    × AreGroupsCollected count numbers names
 
 -- These texts after parentheses open groups with these names, whatever follows.
 abbrev pub OpensScannedGroups : PatternDialect → (texts names : List RemainingCodePoints) → Type 0
@@ -105,18 +115,23 @@ OpensScannedGroups s texts names =
     (later more : List RemainingCodePoints) → ScansGroups s later more → ScansGroups s (texts ++ later) (names ++ more)
 
 -- The scan has found the groups that these texts after parentheses open.
-abbrev pub CollectsGroups : PatternDialect → (old new : GroupAndNameScanState) → (texts : List RemainingCodePoints) → Type 0
+abbrev pub CollectsGroups : PatternDialect → (old new : GroupAndNameScanState) → (texts : List RemainingCodePoints)
+    → Type 0
 CollectsGroups s old new texts =
     (more : List RemainingCodePoints) × OpensScannedGroups s texts more
-    × ((names : List RemainingCodePoints) → AreGroupsCollected old.groups old.numbers names → AreGroupsCollected new.groups new.numbers (names ++ more))
+    × ((names : List RemainingCodePoints) → AreGroupsCollected old.groups old.numbers names
+    → AreGroupsCollected new.groups new.numbers (names ++ more))
 
 -- The scan has found the groups that these texts after parentheses open, and left the rest of its state
 -- unchanged.
-abbrev pub RecordsFurtherGroupsInScan : PatternDialect → (old new : GroupAndNameScanState) → (texts : List RemainingCodePoints) → Type 0
-RecordsFurtherGroupsInScan s old new texts = (new.syntax ≡ old.syntax) × (new.in_class ≡ old.in_class) × CollectsGroups s old new texts
+abbrev pub RecordsFurtherGroupsInScan : PatternDialect → (old new : GroupAndNameScanState)
+    → (texts : List RemainingCodePoints) → Type 0
+RecordsFurtherGroupsInScan s old new texts = (new.syntax ≡ old.syntax) × (new.in_class ≡ old.in_class)
+    × CollectsGroups s old new texts
 
 -- The scan has processed one code point, and the group that it opens, if it does.
-abbrev pub GroupNameScanProcessesCodePoint : PatternDialect → (old new : GroupAndNameScanState) (c : ℕ) (rest : RemainingCodePoints) → Type 0
+abbrev pub GroupNameScanProcessesCodePoint : PatternDialect
+    → (old new : GroupAndNameScanState) (c : ℕ) (rest : RemainingCodePoints) → Type 0
 GroupNameScanProcessesCodePoint s old new c rest =
     (new.syntax ≡ old.syntax) × (new.in_class ≡ in_class_after old.in_class c)
-    × CollectsGroups s old new (texts_opened_by old.in_class c rest)
+    × CollectsGroups s old new (text_after_open_parenthesis old.in_class c rest)

@@ -22,7 +22,8 @@ use Rattle.regex_pattern_front.specs.AstToSpecTree.{node_of, spec_flags_of}
 
 -- The reader is of the same pattern.
 abbrev pub IsReaderOfSame : (new old : GrouplessTermReader) → Type 0
-IsReaderOfSame new old = (new.flags ≡ old.flags) × (new.numbers ≡ old.numbers) × (new.syntax ≡ old.syntax) × (new.groups ≡ old.groups)
+IsReaderOfSame new old = (new.flags ≡ old.flags) × (new.numbers ≡ old.numbers) × (new.syntax ≡ old.syntax)
+    × (new.groups ≡ old.groups)
 
 -- The context of a pattern with these flags and groups.
 abbrev pub pattern_context : Flags → List RemainingCodePoints → PatternContext
@@ -43,11 +44,13 @@ NoSimpleAtom w here = (end : RemainingCodePoints) (n : tree.Node) → AtomLeaf w
 -- No term is here.
 abbrev pub NoTerm : PatternContext → (here : RemainingCodePoints) → Type 0
 NoTerm w here =
-    (in_lookbehind : Bool) (opened : List RemainingCodePoints) (q : ParseState) (n : tree.Node) → Term profile w in_lookbehind (parse_state_at here opened) q n → ⊥
+    (in_lookbehind : Bool) (opened : List RemainingCodePoints) (q : ParseState) (n : tree.Node)
+    → Term profile w in_lookbehind (parse_state_at here opened) q n → ⊥
 
 -- An assertion without groups, from here to there.
 abbrev pub IsAssertion : PatternContext → (here there : RemainingCodePoints) → tree.Node → Type 0
-IsAssertion w here there n = (opened : List RemainingCodePoints) → Assertion profile w (parse_state_at here opened) (parse_state_at there opened) n
+IsAssertion w here there n = (opened : List RemainingCodePoints)
+    → Assertion profile w (parse_state_at here opened) (parse_state_at there opened) n
 
 -- An atom or an assertion.
 abbrev pub IsAtomOr : (is_atom : Bool) → PatternContext → (here there : RemainingCodePoints) → tree.Node → Type 0
@@ -55,45 +58,54 @@ IsAtomOr true w here there n = AtomLeaf w here there n
 IsAtomOr false w here there n = IsAssertion w here there n
 
 -- A term without groups, from here to there.
-abbrev pub TextBetweenIsGrouplessTerm : PatternContext → (here : RemainingCodePoints) → GrouplessTerm → (there : RemainingCodePoints) → Type 0
+abbrev pub TextBetweenIsGrouplessTerm : PatternContext → (here : RemainingCodePoints) → GrouplessTerm
+    → (there : RemainingCodePoints) → Type 0
 TextBetweenIsGrouplessTerm w here l there = IsAtomOr l.is_atom w here there (node_of l.node)
 
 -- The term is read. If a reference read so far exceeds the number of groups, then an earlier one
 -- did already, or `none` holds. `none` also holds after a syntax error. Nothing is claimed on
 -- allocation failure.
-abbrev pub IsReadOrNot :
-    (none : Type 0) → PatternContext → (here : RemainingCodePoints) → Result GrouplessTerm ParseStopReason → (old new : ℕ) → (there : RemainingCodePoints) → Type 0
-IsReadOrNot none w here (Ok l) old new there =
-    (new ≤ length w.groups → TextBetweenIsGrouplessTerm w here l there) × (length w.groups < new → (length w.groups < old) ⊎ none)
-IsReadOrNot none w here (Err e) old new there = IsTrue (is_syntax_error e) → none
+abbrev pub IsTermReadOrNone :
+    (none : Type 0) → PatternContext → (here : RemainingCodePoints) → Result GrouplessTerm ParseStopReason
+    → (old new : ℕ) → (there : RemainingCodePoints) → Type 0
+IsTermReadOrNone none w here (Ok l) old new there =
+    (new ≤ length w.groups → TextBetweenIsGrouplessTerm w here l there)
+    × (length w.groups < new → (length w.groups < old) ⊎ none)
+IsTermReadOrNone none w here (Err e) old new there = IsTrue (is_syntax_error e) → none
 
 -- An atom is read, or no atom is here.
-abbrev pub IsAtomReadIfPresent : PatternContext → (here : RemainingCodePoints) → Result GrouplessTerm ParseStopReason → (old new : ℕ) → (there : RemainingCodePoints) → Type 0
-IsAtomReadIfPresent w here r old new there = IsReadOrNot (NoSimpleAtom w here) w here r old new there
+abbrev pub IsAtomReadIfPresent : PatternContext → (here : RemainingCodePoints) → Result GrouplessTerm ParseStopReason
+    → (old new : ℕ) → (there : RemainingCodePoints) → Type 0
+IsAtomReadIfPresent w here r old new there = IsTermReadOrNone (NoSimpleAtom w here) w here r old new there
 
 -- A term is read, or no term is here.
-abbrev pub IsGrouplessTermReadIfPresent : PatternContext → (here : RemainingCodePoints) → Result GrouplessTerm ParseStopReason → (old new : ℕ) → (there : RemainingCodePoints) → Type 0
-IsGrouplessTermReadIfPresent w here r old new there = IsReadOrNot (NoTerm w here) w here r old new there
+abbrev pub IsGrouplessTermReadIfPresent : PatternContext → (here : RemainingCodePoints)
+    → Result GrouplessTerm ParseStopReason → (old new : ℕ) → (there : RemainingCodePoints) → Type 0
+IsGrouplessTermReadIfPresent w here r old new there = IsTermReadOrNone (NoTerm w here) w here r old new there
 
 -- The text between the two opens no group.
 abbrev pub TextBetweenOpensNoGroup : (here there : RemainingCodePoints) → Type 0
 TextBetweenOpensNoGroup here there = texts_after_parentheses false here ≡ texts_after_parentheses false there
 
 -- An atom or an assertion of the dialect.
-abbrev pub IsAtomOrIn : PatternDialect → (is_atom : Bool) → PatternContext → (here there : RemainingCodePoints) → tree.Node → Type 0
+abbrev pub IsAtomOrIn : PatternDialect → (is_atom : Bool) → PatternContext → (here there : RemainingCodePoints)
+    → tree.Node → Type 0
 IsAtomOrIn s true w here there n = s.simple_atom w here there n
-IsAtomOrIn s false w here there n = (opened : List RemainingCodePoints) → Assertion s w (parse_state_at here opened) (parse_state_at there opened) n
+IsAtomOrIn s false w here there n = (opened : List RemainingCodePoints)
+    → Assertion s w (parse_state_at here opened) (parse_state_at there opened) n
 
 -- No term of the dialect is here.
 abbrev pub NoTermIn : PatternDialect → PatternContext → (here : RemainingCodePoints) → Type 0
 NoTermIn s w here =
-    (in_lookbehind : Bool) (opened : List RemainingCodePoints) (q : ParseState) (n : tree.Node) → Term s w in_lookbehind (parse_state_at here opened) q n → ⊥
+    (in_lookbehind : Bool) (opened : List RemainingCodePoints) (q : ParseState) (n : tree.Node)
+    → Term s w in_lookbehind (parse_state_at here opened) q n → ⊥
 
 -- A term of the dialect is read, and the text opens no group. If a reference read so far exceeds the
 -- number of groups, then an earlier one did already, or no term is here. None is here after a syntax
 -- error. Nothing is claimed on allocation failure.
 abbrev pub IsTermReadIn :
-    PatternDialect → PatternContext → (here : RemainingCodePoints) → Result GrouplessTerm ParseStopReason → (old new : ℕ) → (there : RemainingCodePoints) → Type 0
+    PatternDialect → PatternContext → (here : RemainingCodePoints) → Result GrouplessTerm ParseStopReason
+    → (old new : ℕ) → (there : RemainingCodePoints) → Type 0
 IsTermReadIn s w here (Ok l) old new there =
     TextBetweenOpensNoGroup here there × (new ≤ length w.groups → IsAtomOrIn s l.is_atom w here there (node_of l.node))
     × (length w.groups < new → (length w.groups < old) ⊎ NoTermIn s w here)
@@ -121,7 +133,8 @@ abbrev pub is_brace_or_closing_bracket : ℕ → Bool
 is_brace_or_closing_bracket c = c ∈ "{}]"
 
 -- The term of `^`, `$` or `.`, or the code point is none of them.
-abbrev pub AnchorOrDotReadIfPresent : PatternContext → (c : ℕ) → (there : RemainingCodePoints) → Option GrouplessTerm → Type 0
+abbrev pub AnchorOrDotReadIfPresent : PatternContext → (c : ℕ) → (there : RemainingCodePoints) → Option GrouplessTerm
+    → Type 0
 AnchorOrDotReadIfPresent w c there (Some l) = TextBetweenIsGrouplessTerm w (c ∷ there) l there
 AnchorOrDotReadIfPresent w c there None = c ∈ "^$." ≡ false
 
@@ -129,9 +142,11 @@ AnchorOrDotReadIfPresent w c there None = c ∈ "^$." ≡ false
 -- refused; or it can be a term.
 abbrev pub RefusesCodePointThatIsNoTerm : (unicode : Bool) (c : ℕ) (there : RemainingCodePoints) → Option Cause → Type 0
 RefusesCodePointThatIsNoTerm unicode c there (Some cause) =
-    (is_star_plus_or_question c ≡ true) ⊎ ((is_brace_or_closing_bracket c ≡ true) × ((unicode ≡ true) ⊎ BeginsQuantifier (c ∷ there)))
+    (is_star_plus_or_question c ≡ true) ⊎ ((is_brace_or_closing_bracket c ≡ true)
+    × ((unicode ≡ true) ⊎ BeginsQuantifier (c ∷ there)))
 RefusesCodePointThatIsNoTerm unicode c there None =
-    (is_star_plus_or_question c ≡ false) × (is_brace_or_closing_bracket c ≡ true → (unicode ≡ false) × ¬ (BeginsQuantifier (c ∷ there)))
+    (is_star_plus_or_question c ≡ false) × (is_brace_or_closing_bracket c ≡ true → (unicode ≡ false)
+    × ¬ (BeginsQuantifier (c ∷ there)))
 
 -- Whether a reference begins with this letter or digit: `k` or `1` to `9`.
 abbrev pub begins_backreference : Option ℕ → Bool
@@ -139,16 +154,18 @@ begins_backreference None = false
 begins_backreference (Some c) = c == 107 || is_in_range 49 57 c
 
 -- `<name>`, where the name has this number
-abbrev pub IsNamed : (numbers : RemainingCodePoints → Option ℕ) → (here there : RemainingCodePoints) → ℕ → Type 0
-IsNamed numbers here there n =
+abbrev pub IsNameWithNumber : (numbers : RemainingCodePoints → Option ℕ) → (here there : RemainingCodePoints) → ℕ
+    → Type 0
+IsNameWithNumber numbers here there n =
     (a name : RemainingCodePoints) × (here ≡ codes "<" ++ a) × GroupName a there name × (numbers name ≡ Some n)
 
 -- The number of `<name>` is read; after a syntax error no name here has the number of a group.
 -- Nothing is claimed on allocation failure.
-abbrev pub IsReferencedNameNumberRead : (numbers : RemainingCodePoints → Option ℕ) → (here : RemainingCodePoints) → Result ℕ ParseStopReason → (there : RemainingCodePoints) → Type 0
-IsReferencedNameNumberRead numbers here (Ok n) there = IsNamed numbers here there n
+abbrev pub IsReferencedNameNumberRead : (numbers : RemainingCodePoints → Option ℕ) → (here : RemainingCodePoints)
+    → Result ℕ ParseStopReason → (there : RemainingCodePoints) → Type 0
+IsReferencedNameNumberRead numbers here (Ok n) there = IsNameWithNumber numbers here there n
 IsReferencedNameNumberRead numbers here (Err e) there =
-    IsTrue (is_syntax_error e) → (end : RemainingCodePoints) (n : ℕ) → IsNamed numbers here end n → 0 < n → ⊥
+    IsTrue (is_syntax_error e) → (end : RemainingCodePoints) (n : ℕ) → IsNameWithNumber numbers here end n → 0 < n → ⊥
 
 -- The number, if there is one and it is not 0.
 abbrev pub IsNumberUnlessMissingOrZero : Option ℕ → Result ℕ ParseStopReason → Type 0
@@ -168,7 +185,9 @@ IsReference numbers here there n =
 
 -- The number of a reference is read; after a syntax error no reference here is to a group.
 -- Nothing is claimed on allocation failure.
-abbrev pub IsReferencedGroupNumberRead : (numbers : RemainingCodePoints → Option ℕ) → (here : RemainingCodePoints) → Result ℕ ParseStopReason → (there : RemainingCodePoints) → Type 0
+abbrev pub IsReferencedGroupNumberRead : (numbers : RemainingCodePoints → Option ℕ) → (here : RemainingCodePoints)
+    → Result ℕ ParseStopReason → (there : RemainingCodePoints) → Type 0
 IsReferencedGroupNumberRead numbers here (Ok n) there = IsReference numbers here there n
 IsReferencedGroupNumberRead numbers here (Err e) there =
-    IsTrue (is_syntax_error e) → (end : RemainingCodePoints) (n : ℕ) → IsReference numbers here end n → 0 < n → n < 2 ^ 32 → ⊥
+    IsTrue (is_syntax_error e) → (end : RemainingCodePoints) (n : ℕ) → IsReference numbers here end n → 0 < n
+    → n < 2 ^ 32 → ⊥

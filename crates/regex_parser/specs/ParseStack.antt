@@ -31,7 +31,8 @@ nest_alternatives [] last = last
 nest_alternatives (n ∷ ns) last = alt n (nest_alternatives ns last)
 
 -- Reading from p to q completes the partial disjunction to this node.
-pub data Completes (s : PatternDialect) (w : PatternContext) (l : PartialDisjunction) (p : ParseState) : (q : ParseState) → Node → Type 0 where
+pub data Completes (s : PatternDialect) (w : PatternContext) (l : PartialDisjunction)
+    (p : ParseState) : (q : ParseState) → Node → Type 0 where
   last_arm : {q : ParseState} {ns : List Node}
       → Alternative s w l.in_lookbehind p q ns
       → Completes s w l p q (nest_alternatives l.arms (arm l.in_lookbehind (l.terms ++ ns)))
@@ -65,7 +66,8 @@ lookaround_up_to negate backwards start p =
     record { negate = negate; backwards = backwards; start_group = start; end_group = groups_at p }
 
 -- The term that a group becomes after its `)`, with its quantifier if it has one.
-pub data ClosesGroup (s : PatternDialect) (w : PatternContext) (o : OpenGroup) (contents : Node) (p : ParseState) : (q : ParseState) → Node → Type 0 where
+pub data ClosesGroup (s : PatternDialect) (w : PatternContext) (o : OpenGroup) (contents : Node)
+    (p : ParseState) : (q : ParseState) → Node → Type 0 where
   looked : (negate backwards : Bool) (start : ℕ)
       → o.opened ≡ looks negate backwards start → ¬ (BeginsQuantifier p.text)
       → ClosesGroup s w o contents p p (lookaround (lookaround_up_to negate backwards start p) contents)
@@ -83,8 +85,10 @@ pub data ClosesGroup (s : PatternDialect) (w : PatternContext) (o : OpenGroup) (
 
 -- Reading the rest of the pattern completes all disjunctions, the innermost first; at the end
 -- exactly these groups have opened.
-abbrev pub CompletesAll : PatternDialect → PatternContext → (groups : List RemainingCodePoints) → List OpenGroup → PartialDisjunction → ParseState → Node → Type 0
+abbrev pub CompletesAll : PatternDialect → PatternContext → (groups : List RemainingCodePoints) → List OpenGroup
+    → PartialDisjunction → ParseState → Node → Type 0
 CompletesAll s w groups [] l p t = Completes s w l p (record { text = []; opened = groups }) t
 CompletesAll s w groups (o ∷ around) l p t =
-    (q r end : ParseState) × (contents n : Node) × Completes s w l p q contents × (q ≡ ")" ▸ r) × ClosesGroup s w o contents r end n
+    (q r end : ParseState) × (contents n : Node) × Completes s w l p q contents × (q ≡ ")" ▸ r)
+    × ClosesGroup s w o contents r end n
     × CompletesAll s w groups around (push_term n o.outer) end t

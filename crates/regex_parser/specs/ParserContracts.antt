@@ -31,7 +31,12 @@ group_kind_of (Look negate backwards) name start = grammar.looks negate backward
 
 -- An open group, as in the grammar.
 abbrev pub open_group_of : OpenGroup → grammar.OpenGroup
-open_group_of o = record { outer = disjunction_of o.outer; opened = group_kind_of o.opening (group_name_bytes o.name) o.start; start = o.start }
+open_group_of o = record {
+  outer = disjunction_of o.outer;
+  opened = group_kind_of o.opening (group_name_bytes o.name)
+      o.start;
+  start = o.start;
+}
 
 -- The open groups, the innermost first as in the grammar.
 abbrev pub around_from : List grammar.OpenGroup → List OpenGroup → List grammar.OpenGroup
@@ -51,13 +56,16 @@ group_node_around (Look negate backwards) name start end contents =
 -- The result is the term or, if it is an atom with a quantifier, a loop over it. A quantifier is
 -- refused if it is out of order or does not follow an atom; so none follows another term.
 abbrev pub IsTermWithOptionalQuantifierRead :
-    (is_atom : Bool) → (here : RemainingCodePoints) → (start end : ℕ) → tree.Node → Result Node ParseStopReason → (there : RemainingCodePoints) → Type 0
+    (is_atom : Bool) → (here : RemainingCodePoints) → (start end : ℕ) → tree.Node → Result Node ParseStopReason
+    → (there : RemainingCodePoints) → Type 0
 IsTermWithOptionalQuantifierRead true here start end term (Ok n) there =
     (opened : List RemainingCodePoints) → length opened ≡ end
     → grammar.IsTerm start term (parse_state here opened) (parse_state there opened) (node_of n)
-IsTermWithOptionalQuantifierRead false here start end term (Ok n) there = (there ≡ here) × (node_of n ≡ term) × ¬ (BeginsQuantifier here)
+IsTermWithOptionalQuantifierRead false here start end term (Ok n) there = (there ≡ here) × (node_of n ≡ term)
+    × ¬ (BeginsQuantifier here)
 IsTermWithOptionalQuantifierRead true here start end term (Err e) there =
-    IsTrue (is_syntax_error e) → BeginsQuantifier here × ((rest : RemainingCodePoints) (q : tree.Quantifier) → ValidQuantifier here rest q → ⊥)
+    IsTrue (is_syntax_error e) → BeginsQuantifier here
+    × ((rest : RemainingCodePoints) (q : tree.Quantifier) → ValidQuantifier here rest q → ⊥)
 IsTermWithOptionalQuantifierRead false here start end term (Err e) there = BeginsQuantifier here
 
 -- Whether the group has a name.
@@ -70,13 +78,15 @@ is_named_group (Look negate backwards) = false
 -- The name of a named group is read and has the number of this group; after a syntax error there is
 -- no such name.
 abbrev pub IsOptionalGroupNameRead :
-    {R : Type 0} → PatternDialect → (numbers : RemainingCodePoints → Option ℕ) → (groups : ℕ) → (named : Bool) → (here : RemainingCodePoints)
+    {R : Type 0} → PatternDialect → (numbers : RemainingCodePoints → Option ℕ) → (groups : ℕ) → (named : Bool)
+    → (here : RemainingCodePoints)
     → Result (Option (String R)) ParseStopReason → (there : RemainingCodePoints) → Type 0
 IsOptionalGroupNameRead s numbers groups true here (Ok name) there =
     s.group_name here there (group_name_bytes name) × (numbers (group_name_bytes name) ≡ Some (groups + 1))
 IsOptionalGroupNameRead s numbers groups false here (Ok name) there = (there ≡ here) × (group_name_bytes name ≡ [])
 IsOptionalGroupNameRead s numbers groups true here (Err e) there =
-    IsTrue (is_syntax_error e) → (rest name : RemainingCodePoints) → s.group_name here rest name → numbers name ≡ Some (groups + 1) → ⊥
+    IsTrue (is_syntax_error e) → (rest name : RemainingCodePoints) → s.group_name here rest name
+    → numbers name ≡ Some (groups + 1) → ⊥
 IsOptionalGroupNameRead s numbers groups false here (Err e) there = IsTrue (is_syntax_error e) → ⊥
 
 -- ---- The parser
@@ -86,13 +96,15 @@ abbrev pub KnowsGroups : GrouplessTermReader → (names : List RemainingCodePoin
 KnowsGroups l names = AreGroupsKnownIn (spec_syntax_of l.syntax) l.flags l.groups.count l.groups.named l.numbers names
 
 -- The parser has read the pattern, whose groups have these names, up to `here`.
-pub record HasReadPatternUpTo (pattern : RemainingCodePoints) (names : List RemainingCodePoints) (here : RemainingCodePoints) (p : Parser) : Type 0 where
+pub record HasReadPatternUpTo (pattern : RemainingCodePoints) (names : List RemainingCodePoints)
+    (here : RemainingCodePoints) (p : Parser) : Type 0 where
   pub known : KnowsGroups p.leaves names
   pub few : p.groups ≤ 65535
   pub stands :
       let around = around_from [] p.around.items in
       let s = spec_syntax_of p.leaves.syntax in
-      IsParserInvariant s (spec_flags_of p.leaves.flags) pattern names p.leaves.references p.groups around (disjunction_of p.level) here
+      IsParserInvariant s (spec_flags_of p.leaves.flags) pattern names p.leaves.references p.groups around
+      (disjunction_of p.level) here
 
 -- The pattern has no tree in the language that the reader reads.
 abbrev pub HasNoTreeFor : GrouplessTermReader → (pattern : RemainingCodePoints) → Type 0
@@ -100,17 +112,20 @@ HasNoTreeFor l pattern = HasNoTreeIn (spec_syntax_of l.syntax) (spec_flags_of l.
 
 -- The parser has advanced from `here`; after a syntax error the pattern has no tree. Nothing is claimed
 -- on allocation failure.
-abbrev pub AdvancesOrHasNoTree : (here : RemainingCodePoints) → (old : Parser) → {A : Type 0} → Result A ParseStopReason → (new : Parser) → Type 0
+abbrev pub AdvancesOrHasNoTree : (here : RemainingCodePoints) → (old : Parser) → {A : Type 0} → Result A ParseStopReason
+    → (new : Parser) → Type 0
 AdvancesOrHasNoTree here old (Ok u) new =
     (pattern : RemainingCodePoints) (names : List RemainingCodePoints) → HasReadPatternUpTo pattern names here old
     → HasReadPatternUpTo pattern names new.leaves.reader.rest.now new
 AdvancesOrHasNoTree here old (Err e) new =
-    IsTrue (is_syntax_error e) → (pattern : RemainingCodePoints) (names : List RemainingCodePoints) → HasReadPatternUpTo pattern names here old
+    IsTrue (is_syntax_error e) → (pattern : RemainingCodePoints) (names : List RemainingCodePoints)
+    → HasReadPatternUpTo pattern names here old
     → HasNoTreeFor old.leaves pattern
 
 -- The result is the tree of the pattern; after a syntax error it has none. Allocation failure says
 -- nothing.
-abbrev pub IsParseResult : PatternDialect → {A : Type 0} → (of : A → tree.Tree) → tree.Flags → (pattern : RemainingCodePoints) → Result A ParseStopReason → Type 0
+abbrev pub IsParseResult : PatternDialect → {A : Type 0} → (of : A → tree.Tree) → tree.Flags
+    → (pattern : RemainingCodePoints) → Result A ParseStopReason → Type 0
 IsParseResult s of flags pattern (Ok a) = ParsesBy s flags pattern (of a)
 IsParseResult s of flags pattern (Err e) = IsTrue (is_syntax_error e) → HasNoTreeIn s flags pattern
 

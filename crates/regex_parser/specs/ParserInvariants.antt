@@ -29,8 +29,8 @@ abbrev pub OpensTooManyGroups : (pattern : RemainingCodePoints) → Type 0
 OpensTooManyGroups pattern = 65535 < length (group_names_found_by_scan pattern)
 
 -- The context of a pattern with these flags and groups.
-abbrev pub with_groups : Flags → List RemainingCodePoints → PatternContext
-with_groups flags groups = record { flags = flags; groups = groups }
+abbrev pub spec_pattern_context : Flags → List RemainingCodePoints → PatternContext
+spec_pattern_context flags groups = record { flags = flags; groups = groups }
 
 -- The state with this text left and these groups opened.
 abbrev pub parse_state : (here : RemainingCodePoints) → (opened : List RemainingCodePoints) → ParseState
@@ -41,23 +41,27 @@ abbrev pub FindsGroups : PatternDialect → (here : RemainingCodePoints) → (na
 FindsGroups s here names = ScansGroups s (texts_after_parentheses false here) names
 
 -- Reading the rest from here completes what was read to this node.
-abbrev pub CompletesTo : PatternDialect → Flags → (names : List RemainingCodePoints) → List OpenGroup → PartialDisjunction → ParseState → Node → Type 0
-CompletesTo s flags names around level here n = CompletesAll s (with_groups flags names) names around level here n
+abbrev pub CompletesTo : PatternDialect → Flags → (names : List RemainingCodePoints) → List OpenGroup
+    → PartialDisjunction → ParseState → Node → Type 0
+CompletesTo s flags names around level here n =
+    CompletesAll s (spec_pattern_context flags names) names around level here n
 
 -- The whole pattern is this node.
-abbrev pub ParsesTo : PatternDialect → Flags → (pattern : RemainingCodePoints) → (names : List RemainingCodePoints) → Node → Type 0
+abbrev pub ParsesTo : PatternDialect → Flags → (pattern : RemainingCodePoints) → (names : List RemainingCodePoints)
+    → Node → Type 0
 ParsesTo s flags pattern names n = CompletesTo s flags names [] (empty_disjunction false) (parse_state pattern []) n
 
 -- Each group that has opened has no name, or its name is numbered as that group.
-abbrev pub AreNumbered : (opened names : List RemainingCodePoints) → Type 0
-AreNumbered opened names =
+abbrev pub AreOpenedNamesNumbered : (opened names : List RemainingCodePoints) → Type 0
+AreOpenedNamesNumbered opened names =
     (i : ℕ) (d : RemainingCodePoints) → i < length opened
     → (slice_index_or opened i d ≡ []) ⊎ (group_number_of (slice_index_or opened i d) names ≡ Some (i + 1))
 
 -- The whole pattern, whose groups have these names, is exactly the nodes to which the rest completes
 -- what was read. But if a reference exceeds the number of groups, the pattern has no node.
 pub record IsParserInvariant
-    (s : PatternDialect) (flags : Flags) (pattern : RemainingCodePoints) (names : List RemainingCodePoints) (references groups : ℕ) (around : List OpenGroup) (level : PartialDisjunction) (here : RemainingCodePoints)
+    (s : PatternDialect) (flags : Flags) (pattern : RemainingCodePoints) (names : List RemainingCodePoints)
+    (references groups : ℕ) (around : List OpenGroup) (level : PartialDisjunction) (here : RemainingCodePoints)
     : Type 0 where
   pub whole : FindsGroups s pattern names
   pub opened : List RemainingCodePoints
@@ -65,6 +69,7 @@ pub record IsParserInvariant
   pub count : length opened ≡ groups
   pub ahead : FindsGroups s here rest
   pub found : names ≡ opened ++ rest
-  pub numbered : AreNumbered opened names
-  pub same : references ≤ length names → (n : Node) → ParsesTo s flags pattern names n ↔ CompletesTo s flags names around level (parse_state here opened) n
+  pub numbered : AreOpenedNamesNumbered opened names
+  pub same : references ≤ length names → (n : Node)
+      → ParsesTo s flags pattern names n ↔ CompletesTo s flags names around level (parse_state here opened) n
   pub none : length names < references → (n : Node) → ParsesTo s flags pattern names n → ⊥

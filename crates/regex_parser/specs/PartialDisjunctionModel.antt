@@ -7,7 +7,8 @@ use Rattle.regex_pattern_front.specs.AstToSpecTree.{node_of}
 
 -- The partial disjunction of the grammar.
 abbrev pub disjunction_of : PartialDisjunction → grammar.PartialDisjunction
-disjunction_of l = record { arms = map node_of l.arms.items; terms = map node_of l.terms.items; in_lookbehind = l.in_lookbehind }
+disjunction_of l =
+    record { arms = map node_of l.arms.items; terms = map node_of l.terms.items; in_lookbehind = l.in_lookbehind }
 
 -- Alternatives nested to the right; an empty list is the empty pattern.
 abbrev pub nest_all_alternatives : List tree.Node → tree.Node

@@ -28,7 +28,8 @@ words_of text = words_from [] text
 -- these words.
 abbrev pub listed_value : (words : List (List ℕ)) (property value : List ℕ) → Option SpecProperty
 listed_value words property value =
-    if list_any (λ word. pointwise nat_eq word value) words then option_map in_database (by_value property (normalize value)) else None
+    if list_any (λ word. pointwise nat_eq word value) words then option_map in_database
+    (by_value property (normalize value)) else None
 
 -- The letters, digits and `_` of a name.
 abbrev pub is_name_character : ℕ → Bool
@@ -41,6 +42,9 @@ pub record AreNameCharactersRead (here name there : RemainingCodePoints) : Type 
   pub ends : (c : ℕ) (rest : RemainingCodePoints) → there ≡ c ∷ rest → is_name_character c ≡ false
 
 -- The property named after a `{`, if there is one: the expression ends where a `}` follows.
-pub record IsPropertyNamed (here : RemainingCodePoints) (found : Option SpecProperty) (there : RemainingCodePoints) : Type 0 where
-  pub on : (end : RemainingCodePoints) (p : SpecProperty) → found ≡ Some p → there ≡ 125 ∷ end → PropertyExpression (123 ∷ here) end p
-  pub back : (end : RemainingCodePoints) (p : SpecProperty) → PropertyExpression (123 ∷ here) end p → (found ≡ Some p) × (there ≡ 125 ∷ end)
+pub record IsPropertyNamed (here : RemainingCodePoints) (found : Option SpecProperty)
+    (there : RemainingCodePoints) : Type 0 where
+  pub on : (end : RemainingCodePoints) (p : SpecProperty) → found ≡ Some p → there ≡ 125 ∷ end
+      → PropertyExpression (123 ∷ here) end p
+  pub back : (end : RemainingCodePoints) (p : SpecProperty) → PropertyExpression (123 ∷ here) end p → (found ≡ Some p)
+      × (there ≡ 125 ∷ end)

@@ -21,7 +21,8 @@ pub data ScansGroups (s : PatternDialect) : (texts names : List RemainingCodePoi
       → begins_with_characters "?" text ≡ false → ScansGroups s texts names
       → ScansGroups s (text ∷ texts) ([] ∷ names)
   -- A group with a name.
-  scans_named_group : {text name : RemainingCodePoints} {texts names : List RemainingCodePoints} (here there : RemainingCodePoints)
+  scans_named_group : {text name : RemainingCodePoints} {texts names : List RemainingCodePoints}
+      (here there : RemainingCodePoints)
       → text ≡ codes "?<" ++ here → s.group_name here there name → ScansGroups s texts names
       → ScansGroups s (text ∷ texts) (name ∷ names)
   -- A group whose name cannot be read.
@@ -32,7 +33,8 @@ pub data ScansGroups (s : PatternDialect) : (texts names : List RemainingCodePoi
   -- `(?` and no `<`, or a lookbehind
   scans_other : {text : RemainingCodePoints} {texts names : List RemainingCodePoints} (here : RemainingCodePoints)
       → text ≡ codes "?" ++ here
-      → (begins_with_characters "<" here ≡ false) ⊎ ((begins_with_characters "<=" here ≡ true) ⊎ (begins_with_characters "<!" here ≡ true))
+      → (begins_with_characters "<" here ≡ false) ⊎ ((begins_with_characters "<=" here ≡ true)
+      ⊎ (begins_with_characters "<!" here ≡ true))
       → ScansGroups s texts names
       → ScansGroups s (text ∷ texts) names
 
@@ -40,4 +42,5 @@ pub data ScansGroups (s : PatternDialect) : (texts names : List RemainingCodePoi
 abbrev pub EcmaScriptScanFindsGroups : Type 0
 EcmaScriptScanFindsGroups =
     (w : PatternContext) (pattern : RemainingCodePoints) (groups names : List RemainingCodePoints) (n : Node)
-    → IsPatternDisjunction w pattern groups n → ScansGroups ecmascript (texts_after_parentheses false pattern) names → groups ≡ names
+    → IsPatternDisjunction w pattern groups n → ScansGroups ecmascript (texts_after_parentheses false pattern) names
+    → groups ≡ names

@@ -16,8 +16,10 @@ spec_syntax_of EcmaScript2018 = ecmascript
 
 -- What the reader knows of the groups of the pattern, which are within the limit: how many there are,
 -- whether one has a name, and the number of each name that can be read.
-pub record AreGroupsKnownIn {R : Type 0} (s : PatternDialect) (flags : Flags) (count : ℕ) (named : Bool) (numbers : BTreeMap (String R) ℕ) (groups : List RemainingCodePoints) : Type 0 where
+pub record AreGroupsKnownIn {R : Type 0} (s : PatternDialect) (flags : Flags) (count : ℕ) (named : Bool)
+    (numbers : BTreeMap (String R) ℕ) (groups : List RemainingCodePoints) : Type 0 where
   pub few : length groups ≤ 65535
   pub counted : count ≡ length groups
   pub names : named ≡ has_named_groups (record { flags = spec_flags_of flags; groups = groups })
-  pub numbered : (here there name : RemainingCodePoints) → s.group_name here there name → get_by_text numbers name ≡ group_number_of name groups
+  pub numbered : (here there name : RemainingCodePoints) → s.group_name here there name
+      → get_by_text numbers name ≡ group_number_of name groups

@@ -6,7 +6,7 @@ ghost use Rattle.regex_meaning.specs.CharacterClasses.{class as class_of, single
 ghost use Rattle.std.specs.List.{list_any};
 ghost use Rattle.regex_pattern_front.specs.Intervals.{interval_of};
 ghost use Rattle.regex_pattern_front.specs.AstToSpecTree.{class_as_spec, spec_flags_of};
-ghost use Rattle.regex_parser.specs.CodePointReaderContracts.{IsReadAndErrorMeansUnreadable, IsReadOr};
+ghost use Rattle.regex_parser.specs.CodePointReaderContracts.{IsReadAndErrorMeansUnreadable, IsReadOrSyntaxError};
 ghost use Rattle.regex_parser.specs.ClassReaderContracts.{uninverted_digit_word_or_space_set, class_member_of_character_class_escape, class_member_of_atom};
 ghost use Rattle.regex_parser.specs.ClassReaderContracts.{escape_of};
 ghost use Rattle.regex_parser.specs.ClassReaderContracts.{is_in_any_interval, IsCaseClosureOfTest, AddsMembers, IsRangeEndRead};
@@ -130,8 +130,7 @@ impl DigitWordOrSpaceEscape {
         flags: Flags,
     ) -> Result<BracketContents, AllocError>
         ensures set { IfOk result (λ b. IsSetOf (spec_flags_of flags)
-            (class_of (uninverted_digit_word_or_space_set self.base)
-            false ∷ []) b.cps) }
+            (class_of (uninverted_digit_word_or_space_set self.base) false ∷ []) b.cps) }
         ensures invert { IfOk result (λ b. b.invert ≡ self.invert) }
     {
         Ok(BracketContents {
@@ -197,7 +196,7 @@ pub(crate) fn read_class(
 ) -> Result<BracketContents, ParseStopReason>
     ensures moves { length reader.new.rest.now ≤ length reader.old.rest.now }
     ensures text { let here = reader.old.rest.now in
-        IsReadOr class_as_spec (CharacterClass (spec_flags_of flags) here) result reader.new.rest.now }
+        IsReadOrSyntaxError class_as_spec (CharacterClass (spec_flags_of flags) here) result reader.new.rest.now }
 {
     if flags.unicode_sets {
         no_set_operation(*reader)?;

@@ -4,7 +4,7 @@ ghost use Rattle.std.specs.Prelude.{◌≡◌, ◌<◌, ◌≤◌, ◌∷◌, �
 ghost use Rattle.std.specs.Option.{ForSome};
 ghost use Rattle.regex_meaning.specs.WellFormedTrees.{is_min_at_most_max};
 ghost use Rattle.regex_meaning.specs.EscapesNamesQuantifiers.{BeginsQuantifier};
-ghost use Rattle.regex_parser.specs.CodePointReaderContracts.{IsUnescapedRead, IsNext, peeked, IsEaten, IsDigitRead, IsNumberRead, IsHexRead};
+ghost use Rattle.regex_parser.specs.CodePointReaderContracts.{IsUnescapedRead, IsCodePointReadIfAny, peeked, IsEaten, IsDigitRead, IsNumberRead, IsHexRead};
 ghost use Rattle.regex_parser.specs.CodePointReaderContracts.{AreQuantifierCountsRead};
 ghost use Rattle.regex_parser.specs.CodePointReaderContracts.{IsQuantifierMaximumRead, IsOptionalBracesQuantifierRead};
 ghost use Rattle.regex_parser.specs.CodePointReaderContracts.{IsOptionalQuantifierPrefixRead};
@@ -61,7 +61,7 @@ impl PatternReader<'_> {
         ensures moves { length self.new.rest.now ≤ length self.old.rest.now }
         ensures read { IsSome result → length self.new.rest.now < length self.old.rest.now }
         ensures more { 0 < length self.old.rest.now → length self.new.rest.now < length self.old.rest.now }
-        ensures text { IsNext self.old.rest.now result self.new.rest.now }
+        ensures text { IsCodePointReadIfAny self.old.rest.now result self.new.rest.now }
     {
         let (first, others) = self.rest.split_first()?;
         self.rest = others;

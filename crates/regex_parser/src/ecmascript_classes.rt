@@ -4,11 +4,11 @@ ghost use Rattle.std.specs.Prelude.{◌≡◌, ◌≢◌, ◌≤◌, ◌∷◌, 
 ghost use Rattle.regex_meaning.specs.Outcomes.{in_intervals};
 ghost use Rattle.regex_meaning.specs.EcmaClasses.{CharacterClass, ClassAtom, ClassEscape as SpecClassEscape, character, class as class_of, IsSetOf, is_in_invertible_set};
 ghost use Rattle.regex_pattern_front.specs.AstToSpecTree.{class_as_spec, spec_flags_of};
-ghost use Rattle.regex_parser.specs.CodePointReaderContracts.{IsReadOr};
+ghost use Rattle.regex_parser.specs.CodePointReaderContracts.{IsReadOrSyntaxError};
 ghost use Rattle.regex_parser.specs.ClassReaderContracts.{is_in_any_interval};
 ghost use Rattle.regex_parser.specs.EcmaClassContracts.{member_of_atom, set_of_letter, AreEcmaRangesRead, IsEcmaMemberRead, IsEcmaRangeEndRead};
 ghost use Rattle.regex_parser.specs.EcmaClassContracts.{IsClassControlRead, AddsEcmaMembers, IsCanonicalClosure, IsPropertyLetterRead, IsRangeOrCause};
-ghost use Rattle.regex_parser.specs.EcmaClassContracts.{IsNoneUnless, IsSimpleClassEscapeRead};
+ghost use Rattle.regex_parser.specs.EcmaClassContracts.{IsNoRangeOrUnicodeError, IsSimpleClassEscapeRead};
 ghost use Rattle.regex_meaning.specs.ReadingStatesAndDigits.{begins_with_characters};
 
 use crate::case_variants::add_canonical_variants;
@@ -46,9 +46,8 @@ impl ClassReader {
         reader: &mut PatternReader,
     ) -> Result<BracketContents, ParseStopReason>
         ensures moves { length reader.new.rest.now ≤ length reader.old.rest.now }
-        ensures text { IsReadOr class_as_spec (CharacterClass (spec_flags_of self.flags) self.named_groups
-            reader.old.rest.now) result
-            reader.new.rest.now }
+        ensures text { IsReadOrSyntaxError class_as_spec (CharacterClass (spec_flags_of self.flags) self.named_groups
+            reader.old.rest.now) result reader.new.rest.now }
     {
         let start = *reader;
         let invert = reader.eat('^');
@@ -88,8 +87,7 @@ impl ClassReader {
         requires { c ≢ 93 }
         ensures moves { length reader.new.rest.now ≤ length reader.old.rest.now }
         ensures text { IsEcmaMemberRead (spec_flags_of self.flags) self.named_groups (c ∷ reader.old.rest.now)
-            intervals.old.items
-            result intervals.new.items reader.new.rest.now }
+            intervals.old.items result intervals.new.items reader.new.rest.now }
     {
         let start = *reader;
         let first = self.read_atom(reader, c)?;
@@ -129,9 +127,9 @@ impl ClassReader {
     fn read_atom(self, reader: &mut PatternReader, c: u32) -> Result<AtomValue, ParseStopReason>
         requires { c ≢ 93 }
         ensures moves { length reader.new.rest.now ≤ length reader.old.rest.now }
-        ensures text { IsReadOr (member_of_atom (spec_flags_of self.flags)) (ClassAtom (spec_flags_of self.flags)
-            self.named_groups (c ∷ reader.old.rest.now))
-            result reader.new.rest.now }
+        ensures text { IsReadOrSyntaxError (member_of_atom (spec_flags_of self.flags))
+            (ClassAtom (spec_flags_of self.flags)
+            self.named_groups (c ∷ reader.old.rest.now)) result reader.new.rest.now }
     {
         if c != '\\' as u32 {
             return Ok(AtomValue::Character(c));
@@ -153,9 +151,9 @@ impl ClassReader {
     // Reads an escape in a class, after its backslash (`DigitWordOrSpaceEscape`).
     fn read_escape(self, reader: &mut PatternReader) -> Result<AtomValue, ParseStopReason>
         ensures moves { length reader.new.rest.now ≤ length reader.old.rest.now }
-        ensures text { IsReadOr (member_of_atom (spec_flags_of self.flags)) (SpecClassEscape (spec_flags_of self.flags)
-            self.named_groups reader.old.rest.now)
-            result reader.new.rest.now }
+        ensures text { IsReadOrSyntaxError (member_of_atom (spec_flags_of self.flags))
+            (SpecClassEscape (spec_flags_of self.flags)
+            self.named_groups reader.old.rest.now) result reader.new.rest.now }
     {
         let start = *reader;
         if let Some(c) = read_simple_escape(reader, self.flags) {
@@ -259,7 +257,7 @@ fn range_or_cause(
 }
 
 fn none_unless(unicode: bool) -> Result<Option<Interval>, Cause>
-    ensures { IsNoneUnless unicode result }
+    ensures { IsNoRangeOrUnicodeError unicode result }
 {
     if unicode {
         Err(Cause::RangeOfClasses)

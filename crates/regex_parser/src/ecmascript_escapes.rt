@@ -125,8 +125,7 @@ fn read_octal_escape(reader: &mut PatternReader, first: u32, unicode: bool) -> R
     ensures moves { length reader.new.rest.now ≤ length reader.old.rest.now }
     ensures text { (named_groups : Bool) → IsReadOrNothingCanBeRead
         (NonIdentityEscape (record { unicode = unicode; named_groups = named_groups })
-        ((48 + first) ∷ reader.old.rest.now))
-        result reader.new.rest.now }
+        ((48 + first) ∷ reader.old.rest.now)) result reader.new.rest.now }
 {
     if !unicode {
         return Ok(read_legacy_octal_escape(reader, first));

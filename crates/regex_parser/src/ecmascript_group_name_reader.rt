@@ -2,13 +2,13 @@
 
 ghost use Rattle.std.specs.Prelude.{◌≡◌, ◌<◌, ◌≤◌, ◌∷◌, length, string_bytes, IfErr, IsTrue, OnOk, IsSome, Bool};
 ghost use Rattle.regex_meaning.specs.EcmaEscapesAndNames.{GroupName};
-ghost use Rattle.regex_meaning.specs.EscapesNamesQuantifiers.{is_lead_surrogate};
-ghost use Rattle.regex_parser.specs.CodePointReaderContracts.{IsReadOr, is_syntax_error};
+ghost use Rattle.regex_meaning.specs.EscapesNamesQuantifiers.{is_high_surrogate};
+ghost use Rattle.regex_parser.specs.CodePointReaderContracts.{IsReadOrSyntaxError, is_syntax_error};
 ghost use Rattle.regex_parser.specs.EcmaReaderContracts.{passes_in_name, IsNameCharacterRead, IsNameCodePointRead};
 
 use crate::code_point_reader::PatternReader;
 use crate::diagnosis::Cause;
-use crate::escapes_and_group_names::{is_lead_surrogate, is_trail_surrogate, unicode_escape};
+use crate::escapes_and_group_names::{is_high_surrogate, is_low_surrogate, unicode_escape};
 use crate::parser_error::ParseStopReason;
 use std::alloc::Global;
 use ucd_derived::{is_id_continue, is_id_start};
@@ -20,7 +20,8 @@ pub(crate) fn read_group_name(
     reader: &mut PatternReader,
 ) -> Result<String, ParseStopReason>
     ensures moves { length reader.new.rest.now ≤ length reader.old.rest.now }
-    ensures text { IsReadOr (λ s. string_bytes s) (GroupName reader.old.rest.now) result reader.new.rest.now }
+    ensures text { IsReadOrSyntaxError (λ s. string_bytes s) (GroupName reader.old.rest.now) result
+        reader.new.rest.now }
 {
     let start = *reader;
     let mut name = String::new(alloc);
@@ -68,7 +69,7 @@ fn read_name_code_point(reader: &mut PatternReader) -> Option<u32>
     if c == '\\' as u32 {
         return read_escaped_code_point(reader);
     }
-    if is_lead_surrogate(c) {
+    if is_high_surrogate(c) {
         return read_surrogate_pair(reader, c);
     }
     Some(c)
@@ -91,13 +92,13 @@ fn read_escaped_code_point(reader: &mut PatternReader) -> Option<u32>
 
 // Reads a trail surrogate and returns the code point of the pair.
 fn read_surrogate_pair(reader: &mut PatternReader, lead: u32) -> Option<u32>
-    requires { IsTrue (is_lead_surrogate lead) }
+    requires { IsTrue (is_high_surrogate lead) }
     ensures moves { length reader.new.rest.now ≤ length reader.old.rest.now }
     ensures text { (is_first : Bool) → IsNameCodePointRead is_first (lead ∷ reader.old.rest.now) result
         reader.new.rest.now }
 {
     let trail = reader.next()?;
-    if is_trail_surrogate(trail) {
+    if is_low_surrogate(trail) {
         Some(0x1_0000 + (lead - 0xD800) * 0x400 + (trail - 0xDC00))
     } else {
         None

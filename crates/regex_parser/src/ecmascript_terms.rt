@@ -11,7 +11,7 @@ ghost use Rattle.regex_parser.specs.CodePointReaderContracts.{is_syntax_error};
 ghost use Rattle.regex_parser.specs.PropertyReaderContracts.{spec_property_of};
 ghost use Rattle.regex_parser.specs.GrouplessTermContracts.{pattern_context, is_paren_or_bar, IsReaderOfSame};
 ghost use Rattle.regex_parser.specs.EcmaTermContracts.{AreGroupsKnown, IsEcmaTermRead, IsAtomEscapeRead, IsEcmaCharacterNode, IsClassEscapeRead};
-ghost use Rattle.regex_parser.specs.EcmaTermContracts.{IsEcmaReferenceRead, IsGroupNumberRead, IsNoGroupUnless, IsEcmaNameNumberRead, is_nonzero_digit};
+ghost use Rattle.regex_parser.specs.EcmaTermContracts.{IsEcmaReferenceRead, IsGroupNumberRead, IsNoReferenceOrUnicodeError, IsEcmaNameNumberRead, is_nonzero_digit};
 
 use crate::case_variants::case_variants;
 use crate::character_class_parser::DigitWordOrSpaceEscape;
@@ -252,7 +252,7 @@ fn read_group_number(
 }
 
 fn no_group_unless(reader: PatternReader, unicode: bool) -> Result<Option<u32>, ParseStopReason>
-    ensures { IsNoGroupUnless unicode result }
+    ensures { IsNoReferenceOrUnicodeError unicode result }
 {
     if unicode {
         Err(reader.error_at_last_read(Cause::NoSuchGroup))

@@ -2,9 +2,9 @@
 
 ghost use Rattle.std.specs.Prelude.{◌≡◌, ◌≤◌, ◌∷◌, length, string_bytes, Bool, not, ◌&&◌, ◌==◌, IfErr, IfSome, IsTrue, if◌then◌else◌};
 ghost use Rattle.regex_meaning.specs.EscapesNamesQuantifiers.{CharacterEscape, GroupName, control_escape_code_point, is_ascii_identifier_start, is_ascii_identifier_part};
-ghost use Rattle.regex_meaning.specs.EscapesNamesQuantifiers.{FixedHexDigits, UnicodeEscape, is_lead_surrogate};
-ghost use Rattle.regex_meaning.specs.EscapesNamesQuantifiers.{is_trail_surrogate};
-ghost use Rattle.regex_parser.specs.CodePointReaderContracts.{IsReadOrNothingCanBeRead, IsReadOr, ResultIsGroupNameLetterOrNone};
+ghost use Rattle.regex_meaning.specs.EscapesNamesQuantifiers.{FixedHexDigits, UnicodeEscape, is_high_surrogate};
+ghost use Rattle.regex_meaning.specs.EscapesNamesQuantifiers.{is_low_surrogate};
+ghost use Rattle.regex_parser.specs.CodePointReaderContracts.{IsReadOrNothingCanBeRead, IsReadOrSyntaxError, ResultIsGroupNameLetterOrNone};
 ghost use Rattle.regex_parser.specs.CodePointReaderContracts.{IsOptionalTrailSurrogateEscapeRead};
 ghost use Rattle.regex_parser.specs.CodePointReaderContracts.{PairsWithTrailSurrogateIfAny, IsCodePointAndClosingBrace, is_syntax_error};
 
@@ -126,7 +126,7 @@ fn paired(reader: &mut PatternReader, c: u32) -> u32
     ensures moves { length reader.new.rest.now ≤ length reader.old.rest.now }
     ensures text { PairsWithTrailSurrogateIfAny c reader.old.rest.now result reader.new.rest.now }
 {
-    if !is_lead_surrogate(c) {
+    if !is_high_surrogate(c) {
         return c;
     }
     let mut ahead = *reader;
@@ -137,14 +137,14 @@ fn paired(reader: &mut PatternReader, c: u32) -> u32
     0x1_0000 + (c - 0xD800) * 0x400 + (low - 0xDC00)
 }
 
-pub(crate) fn is_lead_surrogate(c: u32) -> bool
-    ensures { result ≡ is_lead_surrogate c }
+pub(crate) fn is_high_surrogate(c: u32) -> bool
+    ensures { result ≡ is_high_surrogate c }
 {
     0xD800 <= c && c <= 0xDBFF
 }
 
-pub(crate) fn is_trail_surrogate(c: u32) -> bool
-    ensures { result ≡ is_trail_surrogate c }
+pub(crate) fn is_low_surrogate(c: u32) -> bool
+    ensures { result ≡ is_low_surrogate c }
 {
     0xDC00 <= c && c <= 0xDFFF
 }
@@ -178,14 +178,15 @@ fn low_surrogate(reader: &mut PatternReader) -> Option<u32>
         return None;
     }
     let c = reader.read_hex_digits(4)?;
-    if is_trail_surrogate(c) { Some(c) } else { None }
+    if is_low_surrogate(c) { Some(c) } else { None }
 }
 
 /// Reads a name after its `<`, and the `>`: ASCII letters and digits, `_` and `$`, with no digit
 /// first.
 pub(crate) fn name(alloc: Global, reader: &mut PatternReader) -> Result<String, ParseStopReason>
     ensures moves { length reader.new.rest.now ≤ length reader.old.rest.now }
-    ensures text { IsReadOr (λ s. string_bytes s) (GroupName reader.old.rest.now) result reader.new.rest.now }
+    ensures text { IsReadOrSyntaxError (λ s. string_bytes s) (GroupName reader.old.rest.now) result
+        reader.new.rest.now }
 {
     let start = *reader;
     let mut name = String::new(alloc);

@@ -7,8 +7,8 @@ ghost use Rattle.regex_meaning.specs.ReadingStatesAndDigits.{RemainingCodePoints
 ghost use Rattle.regex_meaning.specs.Tree.{Flags};
 ghost use Rattle.regex_parser.specs.GroupReaderContracts.{IsLookaroundPolaritySignRead, IsOpeningRead, AreCountedAndNumbered, RecordsFurtherGroupsInScan};
 ghost use Rattle.regex_parser.specs.GroupReaderContracts.{GroupNameScanProcessesCodePoint, group_numbers_adding_absent_name, count_of_groups, IsPatternScanned};
-ghost use Rattle.regex_parser.specs.GroupReaderContracts.{NoneBegins};
-ghost use Rattle.regex_parser.specs.CodePointReaderContracts.{is_syntax_error, IsReadOr};
+ghost use Rattle.regex_parser.specs.GroupReaderContracts.{DoesNotBeginWith};
+ghost use Rattle.regex_parser.specs.CodePointReaderContracts.{is_syntax_error, IsReadOrSyntaxError};
 ghost use Rattle.regex_parser.specs.SyntaxDialects.{spec_syntax_of};
 ghost use Rattle.regex_parser.specs.declared.syntax.Syntax.TheVariants.{Profile};
 
@@ -128,8 +128,8 @@ pub(crate) fn read_name(
     syntax: Syntax,
 ) -> Result<String, ParseStopReason>
     ensures moves { length reader.new.rest.now ≤ length reader.old.rest.now }
-    ensures text { IsReadOr (λ s. string_bytes s) ((spec_syntax_of syntax).group_name reader.old.rest.now) result
-        reader.new.rest.now }
+    ensures text { IsReadOrSyntaxError (λ s. string_bytes s) ((spec_syntax_of syntax).group_name reader.old.rest.now)
+        result reader.new.rest.now }
 {
     match syntax {
         Syntax::Profile => name(alloc, reader),
@@ -255,7 +255,7 @@ impl GroupAndNameScanState {
 
     // Records a group and its name, which is read here, unless an earlier group has the name.
     fn note_name(&mut self, alloc: Global, mut reader: PatternReader) -> Result<(), AllocError>
-        requires { NoneBegins 33 reader.rest.now × NoneBegins 61 reader.rest.now }
+        requires { DoesNotBeginWith 33 reader.rest.now × DoesNotBeginWith 61 reader.rest.now }
         ensures { OnOk result (RecordsFurtherGroupsInScan (spec_syntax_of self.old.syntax) self.old self.new
             ((63 ∷ 60 ∷ reader.entry.rest.now) ∷ [])) }
     {

@@ -12,7 +12,7 @@ ghost use Rattle.regex_parser.specs.GrouplessTermContracts.{IsGrouplessTermReadI
 ghost use Rattle.regex_parser.specs.GrouplessTermContracts.{TextBetweenOpensNoGroup, AnchorOrDotReadIfPresent, RefusesCodePointThatIsNoTerm, is_paren_or_bar};
 ghost use Rattle.regex_parser.specs.GrouplessTermContracts.{is_star_plus_or_question, is_brace_or_closing_bracket, begins_backreference, anchor_sign};
 ghost use Rattle.regex_parser.specs.GrouplessTermContracts.{boundary_letter, IsReferencedGroupNumberRead, IsReferencedNameNumberRead};
-ghost use Rattle.regex_parser.specs.EcmaTermContracts.{IsEcmaSignIfAny, IsEcmaAtomOr};
+ghost use Rattle.regex_parser.specs.EcmaTermContracts.{IsEcmaAnchorOrDotIfAny, IsEcmaAtomOr};
 ghost use Rattle.regex_parser.specs.GrouplessTermContracts.{IsReaderOfSame, IsTermReadIn};
 ghost use Rattle.regex_parser.specs.SyntaxDialects.{spec_syntax_of, AreGroupsKnownIn};
 ghost use Rattle.regex_parser.specs.GrouplessTermContracts.{IsNumberUnlessMissingOrZero, IsDecimalReadIfItFitsU32};
@@ -86,8 +86,7 @@ impl GrouplessTermReader<'_> {
         ensures text { is_paren_or_bar c ≡ false → (groups : List RemainingCodePoints) →
             NamesAreNumberedWithinGroupLimit self.old.numbers groups
             → IsGrouplessTermReadIfPresent (pattern_context self.old.flags groups) (c ∷ self.old.reader.rest.now) result
-            self.old.references
-            self.new.references self.new.reader.rest.now }
+            self.old.references self.new.references self.new.reader.rest.now }
     {
         if c == '\\' as u32 {
             return self.escape();
@@ -111,7 +110,7 @@ impl GrouplessTermReader<'_> {
         ensures text { (groups : List RemainingCodePoints) (there : RemainingCodePoints)
             → AnchorOrDotReadIfPresent (pattern_context self.now.flags groups) c there result }
         ensures ecma { (groups : List RemainingCodePoints) (there : RemainingCodePoints)
-            → IsEcmaSignIfAny (pattern_context self.now.flags groups) c there result }
+            → IsEcmaAnchorOrDotIfAny (pattern_context self.now.flags groups) c there result }
     {
         if c == '^' as u32 {
             Some(self.anchor(AnchorType::StartOfLine))
@@ -203,8 +202,7 @@ impl GrouplessTermReader<'_> {
             self.new.reader.rest.now) }
         ensures text { (groups : List RemainingCodePoints) → NamesAreNumberedWithinGroupLimit self.old.numbers groups
             → IsGrouplessTermReadIfPresent (pattern_context self.old.flags groups) (92 ∷ self.old.reader.rest.now)
-            result self.old.references
-            self.new.references self.new.reader.rest.now }
+            result self.old.references self.new.references self.new.reader.rest.now }
     {
         if self.reader.eat('b') {
             return Ok(self.boundary(false));
@@ -225,8 +223,7 @@ impl GrouplessTermReader<'_> {
             self.new.reader.rest.now) }
         ensures text { (groups : List RemainingCodePoints) → NamesAreNumberedWithinGroupLimit self.old.numbers groups
             → IsAtomReadIfPresent (pattern_context self.old.flags groups) (92 ∷ self.old.reader.rest.now) result
-            self.old.references
-            self.new.references self.new.reader.rest.now }
+            self.old.references self.new.references self.new.reader.rest.now }
     {
         let letter = self.reader.peek();
         if let Some(escape) = DigitWordOrSpaceEscape::of(letter) {

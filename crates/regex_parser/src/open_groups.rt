@@ -3,7 +3,7 @@
 
 ghost use Rattle.std.specs.Prelude.{◌≡◌, IfOk, OnOk, [], ◌∷◌, ◌++◌, map};
 ghost use Rattle.regex_pattern_front.specs.AstToSpecTree.{node_of};
-ghost use Rattle.regex_pattern_front.specs.SubtreeListInvariants.{CombinesGroupsAndGoalsOfNodes, SoundSubtreesMakeSoundNode, KeepsSubtrees};
+ghost use Rattle.regex_pattern_front.specs.SubtreeListInvariants.{CombinesGroupsAndGoalsOfNodes, SoundSubtreesMakeSoundNode, KeepsSubtreeInvariant};
 ghost use Rattle.regex_parser.specs.GroupIdInvariant.{nodes_at};
 ghost use Rattle.regex_parser.specs.PartialDisjunctionModel.{disjunction_of, nest_all_alternatives};
 ghost use Rattle.regex_parser.specs.ParseStack.{empty_disjunction, push_term, end_alternative, nest_alternatives};
@@ -69,7 +69,7 @@ impl PartialDisjunction {
 
     /// Ends the current alternative.
     pub(crate) fn end_alternative(&mut self) -> Result<(), AllocError>
-        ensures parts { OnOk result (KeepsSubtrees (nodes_at self.old) (nodes_at self.new)) }
+        ensures parts { OnOk result (KeepsSubtreeInvariant (nodes_at self.old) (nodes_at self.new)) }
         ensures ended { OnOk result (self.new.terms.items ≡ []) }
         ensures level { OnOk result (disjunction_of self.new ≡ end_alternative (disjunction_of self.old)) }
     {

@@ -489,8 +489,7 @@ fn quantified(
         → IsSoundSubtreeWithGroupIds groups.start groups.end greatest (node_of n)) }
     ensures same { IsReaderOfSame leaves.new leaves.old }
     ensures text { IsTermWithOptionalQuantifierRead is_atom leaves.old.reader.rest.now groups.start groups.end
-        (node_of term) result
-        leaves.new.reader.rest.now }
+        (node_of term) result leaves.new.reader.rest.now }
 {
     if !is_atom {
         return if leaves.reader.quantifier_begins_here() {

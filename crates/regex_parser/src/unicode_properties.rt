@@ -9,7 +9,7 @@ ghost use Rattle.ucd_sets.specs.Loose.{normalize};
 ghost use Rattle.regex_meaning.specs.EcmaClasses.{is_in_invertible_set};
 ghost use Rattle.regex_meaning.specs.UnicodeProperties.{property_named, property_with_value, general_category_named, binary_property_named, has_property, in_database};
 ghost use Rattle.regex_meaning.specs.EcmaEscapesAndNames.{PropertyExpression};
-ghost use Rattle.regex_parser.specs.CodePointReaderContracts.{IsReadOr};
+ghost use Rattle.regex_parser.specs.CodePointReaderContracts.{IsReadOrSyntaxError};
 ghost use Rattle.regex_parser.specs.PropertyReaderContracts.{spec_property_of, words_of, AreNameCharactersRead, IsPropertyNamed, listed_value, is_name_character};
 ghost use lib.Pointwise.{pointwise};
 
@@ -67,7 +67,8 @@ pub(crate) fn read_property_expression(
     reader: &mut PatternReader,
 ) -> Result<Property, ParseStopReason>
     ensures moves { length reader.new.rest.now ≤ length reader.old.rest.now }
-    ensures text { IsReadOr spec_property_of (PropertyExpression reader.old.rest.now) result reader.new.rest.now }
+    ensures text { IsReadOrSyntaxError spec_property_of (PropertyExpression reader.old.rest.now) result
+        reader.new.rest.now }
 {
     if !reader.eat('{') {
         return Err(start.error_at_last_read(Cause::PropertyWithoutName));

@@ -1,4 +1,4 @@
--- Tests that hold together.
+-- A conjunction that is true has true operands.
 use Rattle.std.proofs.Common.{◌≡◌, Bool, true, ◌&&◌}
 use Rattle.std.proofs.lemmas.Bool.{and_parts}
 pub use Rattle.std.proofs.lemmas.Bool.{and_from}

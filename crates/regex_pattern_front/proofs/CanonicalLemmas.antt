@@ -1,4 +1,4 @@
--- The values of `canonicalize`: in ASCII, of a character with its uppercase forms, and of what is no character.
+-- Each case that the code of `canonicalize` distinguishes has the specified value.
 use Rattle.std.proofs.Common.{◌≡◌, ℕ, ◌+◌, ◌-◌, ◌≤◌, ◌<◌, Bool, true, false, ◌&&◌, ◌||◌, ◌==◌, nat_le, nat_lt, List, [], ◌∷◌, ◌++◌, Option, None, Some, slice_index_or}
 use Rattle.std.proofs.Common.{refl, sym, ap, ap₂, ◌∙◌, arith, eqb-true}
 use Rattle.std.proofs.Common.{inl, inr, ◌⊎◌}
@@ -13,7 +13,7 @@ use Rattle.ucd_case.specs.CaseFolding.{simple_folding, simple_fold}
 use Rattle.ucd_case.specs.SimpleFoldingRows.{simple_folding_rows}
 use Rattle.regex_meaning.specs.Text.{fold_code_point}
 use Rattle.regex_meaning.specs.Text.{nonascii_folds_to_ascii_word_char}
-use Rattle.regex_meaning.proofs.Folding.{profile-folds}
+use Rattle.regex_meaning.proofs.CaseLawLemmas.{profile-folds}
 use Rattle.regex_meaning.specs.Canonical.{uppercase_or_itself, canonicalize}
 
 -- ---- In ASCII

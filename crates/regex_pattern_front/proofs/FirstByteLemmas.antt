@@ -1,4 +1,4 @@
--- The first byte of a code point's UTF-8 rises with the code point.
+-- The first UTF-8 bytes of the code points of an interval lie between those of its ends.
 use Rattle.std.proofs.Common.{◌≡◌, ℕ, ◌+◌, ◌-◌, ◌*◌, ◌/◌, ◌<◌, ◌≤◌, min, Bool, true, false, [], ◌∷◌, Some, slice_get, refl, sym, ◌∙◌, arith, inl, inr}
 use Rattle.std.specs.Prelude.{nat_lt, nat_le, ◌==◌, ◌&&◌, ◌||◌}
 use mathlib.Core.Logic.{◌⊎◌}
@@ -8,9 +8,9 @@ use Rattle.std.proofs.lemmas.Bool.{cond_both, cases_lt, lt-ltb, le-ltb, ltb-true
 use Rattle.std.proofs.Math.Bool.{or-false}
 use Rattle.regex_meaning.specs.Tree.{Intervals}
 use Rattle.regex_meaning.specs.StartPredicate.{chars_with_first_byte, intersects}
-use Rattle.regex_meaning.proofs.Booleans.{and-left, and-right}
-use Rattle.regex_meaning.proofs.FirstBytes.{true-in_range}
-use Rattle.regex_meaning.proofs.Options.{some-same}
+use Rattle.regex_meaning.proofs.BoolLemmas.{and-left, and-right}
+use Rattle.regex_meaning.proofs.FirstByteOfCharacter.{true-in_range}
+use Rattle.regex_meaning.proofs.OptionLemmas.{some-same}
 
 -- by how many bytes there are
 abbrev IsFirstByte : (c b : ℕ) → Type 0

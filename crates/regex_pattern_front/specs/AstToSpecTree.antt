@@ -15,9 +15,9 @@ use Rattle.regex_pattern_front.specs.declared.canonical.Sameness.{Sameness}
 use Rattle.regex_pattern_front.specs.declared.canonical.Sameness.TheVariants.{Exact, Folded, Alike}
 
 -- An anchor type as that of the definitions.
-abbrev pub anchor_of : AnchorType → tree.AnchorType
-anchor_of StartOfLine = tree.start_of_line
-anchor_of EndOfLine = tree.end_of_line
+abbrev pub spec_anchor_of : AnchorType → tree.AnchorType
+spec_anchor_of StartOfLine = tree.start_of_line
+spec_anchor_of EndOfLine = tree.end_of_line
 
 -- A quantifier as that of the definitions.
 abbrev pub spec_quantifier_of : Quantifier → tree.Quantifier
@@ -33,10 +33,10 @@ group_name_bytes None = []
 group_name_bytes (Some s) = string_bytes s
 
 -- A sameness as that of the definitions.
-abbrev pub sameness_of : Sameness → tree.Sameness
-sameness_of Exact = tree.exact
-sameness_of Folded = tree.folded
-sameness_of (Alike unicode) = tree.alike unicode
+abbrev pub spec_sameness_of : Sameness → tree.Sameness
+spec_sameness_of Exact = tree.exact
+spec_sameness_of Folded = tree.folded
+spec_sameness_of (Alike unicode) = tree.alike unicode
 
 -- A node, and a list of children, as a tree of the definitions.
 unfoldable mutual
@@ -53,15 +53,22 @@ unfoldable mutual
   node_of (StringSet alternatives icase) = tree.string_set (map (λ s. s.items) alternatives.items) icase
   node_of MatchAny = tree.match_any
   node_of MatchAnyExceptLineTerminator = tree.match_any_except_line_terminator
-  node_of (Anchor type multiline) = tree.anchor (anchor_of type) multiline
+  node_of (Anchor type multiline) = tree.anchor (spec_anchor_of type) multiline
   node_of (WordBoundary invert unicode_icase) = tree.word_boundary invert unicode_icase
   node_of (CaptureGroup' id p contents name) = tree.capture_group id (group_name_bytes name) (node_of contents)
   node_of (BackRef group icase) = tree.back_ref group (tree.by_case icase)
   node_of (CanonicalBackRef group unicode) = tree.back_ref group (tree.alike unicode)
   node_of (LookaroundAssertion' negate backwards start_group end_group p contents) =
-      tree.lookaround (record { negate = negate; backwards = backwards; start_group = start_group; end_group = end_group })
+      tree.lookaround (record {
+        negate =
+            negate;
+        backwards = backwards;
+        start_group = start_group;
+        end_group = end_group;
+      })
       (node_of contents)
-  node_of (Loop' p loopee quant enclosed) = tree.loop (spec_quantifier_of quant) enclosed.start enclosed.end (node_of loopee)
+  node_of (Loop' p loopee quant enclosed) =
+      tree.loop (spec_quantifier_of quant) enclosed.start enclosed.end (node_of loopee)
   node_of (Loop1CharBody' p loopee quant) = tree.loop_1_char_body (spec_quantifier_of quant) (node_of loopee)
 
   pub nodes_of : {m : _} → Row_of-Node m → tree.Node
@@ -75,7 +82,14 @@ cat_of (node ∷ nodes) = tree.cat (node_of node) (cat_of nodes)
 
 -- Flags as those of the definitions.
 abbrev pub spec_flags_of : Flags → tree.Flags
-spec_flags_of f = record { icase = f.icase; multiline = f.multiline; dot_all = f.dot_all; no_opt = f.no_opt; unicode = f.unicode; unicode_sets = f.unicode_sets }
+spec_flags_of f = record {
+  icase = f.icase;
+  multiline = f.multiline;
+  dot_all = f.dot_all;
+  no_opt = f.no_opt;
+  unicode = f.unicode;
+  unicode_sets = f.unicode_sets;
+}
 
 -- The tree of a pattern.
 abbrev pub tree_of : Regex → tree.Tree

@@ -10,7 +10,8 @@ pub record IsFirstPassingIndex (test : ℕ → Bool) (count index : ℕ) : Type 
 
 -- The result is the first index at which the test passes, or none if there is none.
 abbrev pub FindsFirstPassingIndex : (ℕ → Bool) → (count : ℕ) → Option ℕ → Type 0
-FindsFirstPassingIndex test count found = MatchOption found ((k : ℕ) → k < count → test k ≡ false) (IsFirstPassingIndex test count)
+FindsFirstPassingIndex test count found =
+    MatchOption found ((k : ℕ) → k < count → test k ≡ false) (IsFirstPassingIndex test count)
 
 -- Whether the byte at the index is a member.
 abbrev pub is_member_byte_at_index : (members bytes : List ℕ) → (index : ℕ) → Bool

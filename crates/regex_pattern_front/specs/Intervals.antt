@@ -25,7 +25,10 @@ is_interval_nonempty i = nat_le i.first i.last
 abbrev pub merged_intervals : Interval → List Interval → List Interval
 merged_intervals current [] = current ∷ []
 merged_intervals current (next ∷ others) =
-    if nat_le (next.first - 1) current.last then merged_intervals (record current { last = max current.last next.last }) others
+    if nat_le (next.first - 1) current.last then merged_intervals (record current {
+      last =
+          max current.last next.last;
+    }) others
     else current ∷ merged_intervals next others
 
 -- The intervals between these intervals from a number on, up to U+10FFFF.

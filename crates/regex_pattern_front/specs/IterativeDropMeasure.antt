@@ -41,5 +41,6 @@ drop_measure_of_node_and_rest n rest = drop_measure_of_size_and_rest (node_size 
 -- The measure of what is left is below `before`, and a list that is dropped has no nodes.
 abbrev pub DecreasesDropMeasure : NextNodeAndRestToDrop → (before : ℕ) → Type 0
 DecreasesDropMeasure (Inside node rest) before = drop_measure_of_node_and_rest node rest < before
-DecreasesDropMeasure (Row row rest) before = (row.items ≡ []) × IfSome rest (λ node. drop_measure_of_node_and_rest node None < before)
+DecreasesDropMeasure (Row row rest) before = (row.items ≡ [])
+    × IfSome rest (λ node. drop_measure_of_node_and_rest node None < before)
 DecreasesDropMeasure Nothing before = ⊤

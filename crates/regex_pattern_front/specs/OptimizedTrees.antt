@@ -48,7 +48,8 @@ first_alternative_prepended_to_chain _ rest = rest
 -- before the rest
 abbrev pub alternatives_with_links_unreversed : (count : ℕ) (done rest : Node) → Node
 alternatives_with_links_unreversed zero done rest = alt done rest
-alternatives_with_links_unreversed (suc count) done rest = alternatives_with_links_unreversed count (rest_of_alternatives done) (first_alternative_prepended_to_chain done rest)
+alternatives_with_links_unreversed (suc count) done rest = alternatives_with_links_unreversed count
+    (rest_of_alternatives done) (first_alternative_prepended_to_chain done rest)
 
 -- Optimization keeps a tree well formed.
 abbrev pub OptimizedIsWellFormed : Type 0
@@ -71,4 +72,5 @@ OptimizedHasSameGroups = (root : Node) → group_ids (optimized root) ≡ group_
 
 -- Optimization keeps the name of each group.
 abbrev pub OptimizedHasSameNames : Type 0
-OptimizedHasSameNames = (root : Node) → capturing_group_ids_and_names (optimized root) ≡ capturing_group_ids_and_names root
+OptimizedHasSameNames =
+    (root : Node) → capturing_group_ids_and_names (optimized root) ≡ capturing_group_ids_and_names root

@@ -4,7 +4,7 @@ use Rattle.std.specs.List.{All}
 use Rattle.regex_meaning.specs.Tree as tree
 use Rattle.regex_meaning.specs.Tree.{group_ids, every_node_passes}
 use Rattle.regex_meaning.specs.WellFormedTrees.{number_of_goal_nodes}
-pub use Rattle.regex_meaning.specs.SubtreeInvariants.{is_sound, occurrences_of_id, once_within, IsSoundSubtreeWithGroupIds, IsWellFormedGrouplessSubtree}
+pub use Rattle.regex_meaning.specs.SubtreeInvariants.{is_well_formed_in_pattern, occurrences_of_id, one_if_id_within, IsSoundSubtreeWithGroupIds, IsWellFormedGrouplessSubtree}
 use Rattle.regex_pattern_front.specs.declared.ir.Node.{Node}
 use Rattle.regex_pattern_front.specs.AstToSpecTree.{node_of}
 
@@ -13,21 +13,24 @@ use Rattle.regex_pattern_front.specs.AstToSpecTree.{node_of}
 pub record AreSoundSubtrees (first end greatest : ℕ) (nodes : List Node) : Type 0 where
   pub goals : sum_by (λ n. number_of_goal_nodes (node_of n)) nodes ≡ 0
   pub count : first + sum_by (λ n. length (group_ids (node_of n))) nodes ≡ end
-  pub ids : (id : ℕ) → sum_by (λ n. occurrences_of_id id (node_of n)) nodes ≡ once_within first end id
-  pub sound : All (λ n. IsTrue (every_node_passes (is_sound greatest) (node_of n))) nodes
+  pub ids : (id : ℕ) → sum_by (λ n. occurrences_of_id id (node_of n)) nodes ≡ one_if_id_within first end id
+  pub sound : All (λ n. IsTrue (every_node_passes (is_well_formed_in_pattern greatest) (node_of n))) nodes
 
 -- What is known of the old nodes together is known of the new ones.
-abbrev pub KeepsSubtrees : List Node → List Node → Type 0
-KeepsSubtrees old new = (first end greatest : ℕ) → AreSoundSubtrees first end greatest old → AreSoundSubtrees first end greatest new
+abbrev pub KeepsSubtreeInvariant : List Node → List Node → Type 0
+KeepsSubtreeInvariant old new = (first end greatest : ℕ) → AreSoundSubtrees first end greatest old
+    → AreSoundSubtrees first end greatest new
 
 -- What is known of the nodes together is known of the one node.
 abbrev pub SoundSubtreesMakeSoundNode : List Node → tree.Node → Type 0
-SoundSubtreesMakeSoundNode nodes n = (first end greatest : ℕ) → AreSoundSubtrees first end greatest nodes → IsSoundSubtreeWithGroupIds first end greatest n
+SoundSubtreesMakeSoundNode nodes n = (first end greatest : ℕ) → AreSoundSubtrees first end greatest nodes
+    → IsSoundSubtreeWithGroupIds first end greatest n
 
 -- One node that has the groups and the `Goal`s of these nodes together.
 pub record CombinesGroupsAndGoalsOfNodes (nodes : List Node) (n : tree.Node) : Type 0 where
   pub goals : number_of_goal_nodes n ≡ sum_by (λ m. number_of_goal_nodes (node_of m)) nodes
   pub count : length (group_ids n) ≡ sum_by (λ m. length (group_ids (node_of m))) nodes
   pub ids : (id : ℕ) → occurrences_of_id id n ≡ sum_by (λ m. occurrences_of_id id (node_of m)) nodes
-  pub sound : (greatest : ℕ) → All (λ m. IsTrue (every_node_passes (is_sound greatest) (node_of m))) nodes
-      → IsTrue (every_node_passes (is_sound greatest) n)
+  pub sound : (greatest : ℕ) → All (λ m. IsTrue (every_node_passes (is_well_formed_in_pattern greatest) (node_of m)))
+      nodes
+      → IsTrue (every_node_passes (is_well_formed_in_pattern greatest) n)

@@ -2,7 +2,7 @@
 
 ghost use Rattle.std.specs.Prelude.{◌≡◌, ◌==◌, ◌≤◌, false, [], ◌∷◌};
 ghost use Rattle.regex_meaning.specs.{Canonical.{canonicalize, uppercase_or_itself}, Tree.{by_case}};
-ghost use Rattle.regex_pattern_front.specs.AstToSpecTree.{sameness_of};
+ghost use Rattle.regex_pattern_front.specs.AstToSpecTree.{spec_sameness_of};
 
 use crate::folding_and_first_bytes::fold_code_point;
 use ucd_case::simple_fold;
@@ -21,7 +21,7 @@ pub enum Sameness {
 impl Sameness {
     /// Returns the sameness of a backreference that compares by the text's fold if `icase` is set.
     pub fn by_case(icase: bool) -> Sameness
-        ensures { sameness_of result ≡ by_case icase }
+        ensures { spec_sameness_of result ≡ by_case icase }
     {
         if icase {
             Sameness::Folded

@@ -162,25 +162,25 @@ fn gaps_between_intervals(
 ) -> Result<Vec<Interval>, AllocError>
     ensures { IfOk result (λ v. v.items ≡ gaps_between_intervals 0 intervals.now) }
 {
-    let mut gaps_between_intervals = Vec::new(alloc);
+    let mut gaps = Vec::new(alloc);
     let mut next = 0;
     for interval in intervals {
         if next < interval.first {
-            gaps_between_intervals.push(Interval {
+            gaps.push(Interval {
                 first: next,
                 last: CODE_POINT_MAX.min(interval.first - 1),
             })?;
         }
         if interval.last >= CODE_POINT_MAX {
-            return Ok(gaps_between_intervals);
+            return Ok(gaps);
         }
         next = interval.last + 1;
     }
-    gaps_between_intervals.push(Interval {
+    gaps.push(Interval {
         first: next,
         last: CODE_POINT_MAX,
     })?;
-    Ok(gaps_between_intervals)
+    Ok(gaps)
 }
 
 // Binary search: intervals below `low` end before the number, and those from `high` on begin after

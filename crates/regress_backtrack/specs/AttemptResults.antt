@@ -11,17 +11,23 @@ use Rattle.regress_backtrack.specs.StepsTakenFromBudget.{Budget, step_limit}
 
 -- The end is that of the first outcome at the offset, and the state holds its groups; `None` if
 -- there is no outcome.
-abbrev pub HasFirstOutcomeEndAndGroups : {P : Type 0} → (offset : P → ℕ) → SearchInput → (at : ℕ) → (after : StateModel) → Option P → Type 0
-HasFirstOutcomeEndAndGroups offset w at after end = end_with_groups offset end (current_thread_state_of after 0 0).groups ≡ match_end_and_groups_at w.tree w.text at
+abbrev pub HasFirstOutcomeEndAndGroups : {P : Type 0} → (offset : P → ℕ) → SearchInput → (at : ℕ) → (after : StateModel)
+    → Option P → Type 0
+HasFirstOutcomeEndAndGroups offset w at after end =
+    end_with_groups offset end (current_thread_state_of after 0 0).groups ≡ match_end_and_groups_at w.tree w.text at
 
 -- The steps left are reduced by those up to the first outcome at the offset, or do not suffice.
-abbrev pub CostsStepsAt : {X : Type 0} → SearchInput → (at : ℕ) → (counts : Bool) → (before : Budget) → Result X SearchError → (after : Budget) → Type 0
-CostsStepsAt w at counts before answer after = SpendsNeedOrReachesLimit (ticks_of_attempt_at w.tree w.text at) (step_limit counts before) answer (step_limit counts after)
+abbrev pub CostsStepsAt : {X : Type 0} → SearchInput → (at : ℕ) → (counts : Bool) → (before : Budget)
+    → Result X SearchError → (after : Budget) → Type 0
+CostsStepsAt w at counts before answer after = SpendsNeedOrReachesLimit (ticks_of_attempt_at w.tree w.text at)
+    (step_limit counts before) answer (step_limit counts after)
 
 -- The state has a slot for each group and loop of the tree.
 abbrev pub HasSlots : Tree → StateModel → Type 0
 HasSlots tree h = length h.slots ≡ (compiled tree).groups + (compiled tree).loops
 
 -- If the state has its slots, an allocation failure came after at least one step.
-abbrev pub TakesIfSlots : {X : Type 0} → SearchInput → (left : StateModel) → (counts : Bool) → (before : Budget) → Result X SearchError → (after : Budget) → Type 0
-TakesIfSlots w left counts before answer after = AllocFailureCostsAStep (HasSlots w.tree left) (step_limit counts before) answer (step_limit counts after)
+abbrev pub AllocFailureCostsStepIfSlots : {X : Type 0} → SearchInput → (left : StateModel) → (counts : Bool)
+    → (before : Budget) → Result X SearchError → (after : Budget) → Type 0
+AllocFailureCostsStepIfSlots w left counts before answer after =
+    AllocFailureCostsAStep (HasSlots w.tree left) (step_limit counts before) answer (step_limit counts after)

@@ -6,7 +6,7 @@ use Rattle.regress_memo.specs.Laws.{analysis_keys}
 use Rattle.regress_memo.specs.MemoContents.{has_failure, has_success}
 use Rattle.regress_memo.specs.MemoContractView.{MemoView}
 use Rattle.regress_search.specs.TreePlanAndText.{SearchInput}
-use Rattle.regress_backtrack.specs.FailureMemo.{MemoScheme, AreFailuresRight, AreEndsRight, scheme_in, failed_in}
+use Rattle.regress_backtrack.specs.FailureMemo.{MemoScheme, AreFailuresSound, AreEndsSound, scheme_in, failed_in}
 
 -- From this instruction on, groups stay unchanged, and only loops with number `loops` or a greater
 -- one may be written. The instruction is in no loop whose data are live.
@@ -18,7 +18,7 @@ keeps_state_from t ip loops =
 -- The scheme of a memo analysis: its liveness, its keys, and what leaves the state unchanged.
 abbrev pub scheme_of : MemoAnalysis → MemoScheme
 scheme_of t = record {
-  account = analysis_as_liveness t;
+  liveness = analysis_as_liveness t;
   keys = λ program text. analysis_keys program text t;
   questions = key_code_questions_of t;
   way = insn_direction t;
@@ -29,5 +29,5 @@ scheme_of t = record {
 -- The failures and the ends in the memo are right, if there is a memo.
 abbrev pub IsMemoRight : {B : Type 0} → (known : B → MemoView) → SearchInput → Option B → Type 0
 IsMemoRight known w o =
-    AreFailuresRight w (scheme_in (λ b. scheme_of (known b).memo_analysis) o) (failed_in (λ b. has_failure (known b)) o)
-    × AreEndsRight w (scheme_in (λ b. scheme_of (known b).memo_analysis) o) (failed_in (λ b. has_success (known b)) o)
+    AreFailuresSound w (scheme_in (λ b. scheme_of (known b).memo_analysis) o) (failed_in (λ b. has_failure (known b)) o)
+    × AreEndsSound w (scheme_in (λ b. scheme_of (known b).memo_analysis) o) (failed_in (λ b. has_success (known b)) o)

@@ -8,11 +8,11 @@ use Rattle.regress_backtrack.specs.declared.leap_memory.LeapMemory.{LeapMemory}
 
 -- No match begins from `from` on and before the offset to which a leap led or, without one, up to
 -- the end.
-pub record IsLeapRight (tree : Tree) (text : Text) (from : ℕ) (next : Option ℕ) : Type 0 where
+pub record NoMatchBeforeLeapTarget (tree : Tree) (text : Text) (from : ℕ) (next : Option ℕ) : Type 0 where
   pub boundary : (to : ℕ) → next ≡ Some to → IsBoundary text to
   pub ahead : (to : ℕ) → next ≡ Some to → from ≤ to
   pub none : (at : ℕ) → IsBoundary text at → from ≤ at → ((to : ℕ) → next ≡ Some to → at < to) → NoMatchAt tree text at
 
--- `IsLeapRight` for the memory of a search.
-abbrev pub IsLeapMemoryRight : Tree → Text → LeapMemory → Type 0
-IsLeapMemoryRight tree text memory = IsLeapRight tree text memory.from memory.to
+-- `NoMatchBeforeLeapTarget` for the memory of a search.
+abbrev pub NoMatchBeforeRememberedLeap : Tree → Text → LeapMemory → Type 0
+NoMatchBeforeRememberedLeap tree text memory = NoMatchBeforeLeapTarget tree text memory.from memory.to

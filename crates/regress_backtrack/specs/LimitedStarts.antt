@@ -20,9 +20,11 @@ pub record IsTriedStart (tree : Tree) (text : Text) (from : ℕ) (tried next : O
 -- By this start predicate, an offset is the first one tried at or after another one, for any tree
 -- that has the predicate.
 abbrev pub IsFirstTried : StartPredicate → Text → (from : ℕ) → Option ℕ → Type 0
-IsFirstTried p text from next = (tree : Tree) → start_predicate tree ≡ p → IsTriedStart tree text from (first_filtered_start tree text from) next
+IsFirstTried p text from next = (tree : Tree) → start_predicate tree ≡ p
+    → IsTriedStart tree text from (first_filtered_start tree text from) next
 
 -- By this start predicate, an offset is the next one tried after a failed start, for any tree that
 -- has the predicate.
 abbrev pub IsNextTried : StartPredicate → Text → (at : ℕ) → Option ℕ → Type 0
-IsNextTried p text at next = (tree : Tree) → start_predicate tree ≡ p → IsTriedStart tree text (at + 1) (next_filtered_start tree text at) next
+IsNextTried p text at next = (tree : Tree) → start_predicate tree ≡ p
+    → IsTriedStart tree text (at + 1) (next_filtered_start tree text at) next

@@ -49,20 +49,24 @@ module _ (changes : Bool) (program : Program) where
   -- From instruction `from` on, each instruction before `past` continues before `past`.
   abbrev pub AllStayInContents : (from past : ℕ) → Type 0
   AllStayInContents from past =
-      (ip : ℕ) → from ≤ ip → ip < past → (insn : Insn) → slice_get program.insns ip ≡ Some insn → StaysInBody (past - 1) ip insn
+      (ip : ℕ) → from ≤ ip → ip < past → (insn : Insn) → slice_get program.insns ip ≡ Some insn
+      → StaysInBody (past - 1) ip insn
 
   -- The contents of a lookaround are not empty, and do not continue after it. `Goal` is in the contents of a lookaround
   -- that begins at instruction `from` or later.
   abbrev pub HasClosedContents : (from ip : ℕ) → Insn → Type 0
   HasClosedContents from ip Goal = LookaroundsEndBy program from ip → ⊥
-  HasClosedContents from ip (Lookahead negate start_group end_group continuation) = (ip + 1 < continuation) × AllStayInContents (ip + 1) continuation
-  HasClosedContents from ip (Lookbehind negate start_group end_group continuation) = (ip + 1 < continuation) × AllStayInContents (ip + 1) continuation
+  HasClosedContents from ip (Lookahead negate start_group end_group continuation) = (ip + 1 < continuation)
+      × AllStayInContents (ip + 1) continuation
+  HasClosedContents from ip (Lookbehind negate start_group end_group continuation) = (ip + 1 < continuation)
+      × AllStayInContents (ip + 1) continuation
   HasClosedContents from ip _ = Unit {0}
 
   -- Both are true of each instruction from `from` on and before `stop`.
   abbrev pub IsPlainBody : (from stop : ℕ) → Type 0
   IsPlainBody from stop =
-      (ip : ℕ) → from ≤ ip → ip < stop → (insn : Insn) → slice_get program.insns ip ≡ Some insn → StaysInBody stop ip insn × HasClosedContents from ip insn
+      (ip : ℕ) → from ≤ ip → ip < stop → (insn : Insn) → slice_get program.insns ip ≡ Some insn
+      → StaysInBody stop ip insn × HasClosedContents from ip insn
 
 -- The instruction is no backreference.
 abbrev pub IsNoBackreference : Insn → Type 0
@@ -92,6 +96,9 @@ pub record HasRepeatableBody (program : Program) (begin : ℕ) (f : LoopFields) 
 -- requires more iterations than there are units left. Of that many iterations one is empty, and what
 -- may follow an empty one does not depend on it.
 abbrev pub LaterIterationReplacesSurplus : Type 0
-LaterIterationReplacesSurplus = (program : Program) (text : Text) → HasRisingPlaceOffsets text → ReadsAsBytes program text → (d : Direction) (begin : ℕ) (f : LoopFields) → HasRepeatableBody program begin f
-    → f.min_iters ≤ f.max_iters → (k to : ℕ) (s : State) → k ≤ to → to + left_from (units text) d s.pos + 2 ≤ f.min_iters
-    → Simulates program text false d 0 (running (body_entered_with_iteration_count f.loop_id begin to s) ∷ []) (running (body_entered_with_iteration_count f.loop_id begin k s) ∷ [])
+LaterIterationReplacesSurplus = (program : Program) (text : Text) → HasRisingPlaceOffsets text
+    → ReadsAsBytes program text → (d : Direction) (begin : ℕ) (f : LoopFields) → HasRepeatableBody program begin f
+    → f.min_iters ≤ f.max_iters → (k to : ℕ) (s : State) → k ≤ to
+    → to + left_from (units text) d s.pos + 2 ≤ f.min_iters
+    → Simulates program text false d 0 (running (body_entered_with_iteration_count f.loop_id begin to s) ∷ [])
+    (running (body_entered_with_iteration_count f.loop_id begin k s) ∷ [])

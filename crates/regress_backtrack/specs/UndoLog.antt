@@ -10,6 +10,10 @@ HasLogRoomOrIsLogged used log_len_at_choice_point noted log false = log_len_at_c
 
 -- The number under which a slot is logged: a change is appended, or the slot was logged since the
 -- last choice point.
-pub data IsLoggedOnce (change : UndoEntry) (log_len_at_choice_point log_len : ℕ) (log : List UndoEntry) (log_len' : ℕ) (log' : List UndoEntry) (noted : ℕ) : Type 0 where
-  once : noted ≤ log_len + 1 → log_len' ≡ log_len + 1 → take (log_len + 1) log' ≡ take log_len log ++ change ∷ [] → IsLoggedOnce change log_len_at_choice_point log_len log log_len' log' noted
-  already : log_len_at_choice_point < change.old.noted → noted ≡ change.old.noted → log_len' ≡ log_len → take log_len log' ≡ take log_len log → IsLoggedOnce change log_len_at_choice_point log_len log log_len' log' noted
+pub data IsLoggedOnce (change : UndoEntry) (log_len_at_choice_point log_len : ℕ) (log : List UndoEntry) (log_len' : ℕ)
+    (log' : List UndoEntry) (noted : ℕ) : Type 0 where
+  once : noted ≤ log_len + 1 → log_len' ≡ log_len + 1 → take (log_len + 1) log' ≡ take log_len log ++ change ∷ []
+      → IsLoggedOnce change log_len_at_choice_point log_len log log_len' log' noted
+  already : log_len_at_choice_point < change.old.noted → noted ≡ change.old.noted → log_len' ≡ log_len
+      → take log_len log' ≡ take log_len log → IsLoggedOnce change log_len_at_choice_point log_len log log_len' log'
+      noted

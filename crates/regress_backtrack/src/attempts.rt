@@ -4,9 +4,9 @@ ghost use Rattle.std.specs.Prelude.{◌≡◌, IfOk, None, false, map, option_ma
 ghost use Rattle.regex_meaning.specs.CodeUnitOffsets.{IsBoundary};
 ghost use Rattle.regress_search.specs.AttemptsAndStarts.{ticks_of_attempt_at};
 ghost use Rattle.regress_search.specs.SearchEffects.{SpendsNeedOrReachesLimit, cause_of_error, TellsIfStepLimitReached};
-ghost use Rattle.regress_program.specs.InsnsAsSpecInsns.{insn_as_spec_insn};
+ghost use Rattle.regress_program.specs.InsnsAsSpec.{insn_as_spec_insn};
 ghost use Rattle.regress_search.specs.TreePlanAndText.{program_of};
-ghost use Rattle.regress_backtrack.specs.AttemptResults.{HasFirstOutcomeEndAndGroups, CostsStepsAt, TakesIfSlots};
+ghost use Rattle.regress_backtrack.specs.AttemptResults.{HasFirstOutcomeEndAndGroups, CostsStepsAt, AllocFailureCostsStepIfSlots};
 ghost use Rattle.regress_backtrack.specs.{MemoizedExecution.{IsMemoSound, KeepsMemoSound}, Interpreter.{IfDone}};
 ghost use Rattle.regress_backtrack.specs.{FailuresInMemoTable.{IsMemoRight}, TextsReadAsTreeRequires.{TreeCanSearchText}};
 
@@ -60,7 +60,7 @@ pub(crate) fn attempt<W: SearchContext, S: StepCounter, M: FailureMemo>(
         IfOk result (HasFirstOutcomeEndAndGroups at (W.searching context.now) (at pos) memory.new) }
     ensures steps { CostsStepsAt (W.searching context.now) (W.Input.Position.offset pos) S.COUNTS
         (S.budget progress.old.steps) result (S.budget progress.new.steps) }
-    ensures begun { TakesIfSlots (W.searching context.now) memory.new S.COUNTS
+    ensures begun { AllocFailureCostsStepIfSlots (W.searching context.now) memory.new S.COUNTS
         (S.budget progress.old.steps) result (S.budget progress.new.steps) }
     ensures cause { TellsIfStepLimitReached result (S.budget progress.new.steps).out }
     ensures sound { KeepsMemoSound S.StepCounter M.FailureMemo (W.searching context.now) progress.old.memo

@@ -12,8 +12,8 @@ ghost use Rattle.regress_search.specs.TreePlanAndText.{program_of};
 ghost use Rattle.regress_memo.specs.MemoContents.{has_failure, has_success};
 ghost use Rattle.regress_program.specs.CompilationOfTreesAsFunction.{compiled};
 ghost use Rattle.regress_backtrack.specs.{State.{current_thread_state_of}, FailuresInMemoTable.{scheme_of}, ProgramsAndPlans.{executed_tree_of}};
-ghost use Rattle.regress_backtrack.specs.LeapMemory.{IsLeapMemoryRight};
-ghost use Rattle.regress_backtrack.specs.FailureMemo.{AreFailuresRightIn, AreEndsRightIn, scheme_in, failed_in};
+ghost use Rattle.regress_backtrack.specs.LeapMemory.{NoMatchBeforeRememberedLeap};
+ghost use Rattle.regress_backtrack.specs.FailureMemo.{AreFailuresSoundIn, AreEndsSoundIn, scheme_in, failed_in};
 
 use crate::attempts::{attempt, retry_with_memo};
 use crate::failure_memo::{NoMemo, StepsAndMemo};
@@ -46,29 +46,30 @@ pub struct BacktrackExecutor<'r, Input: InputIndexer> {
     pub(crate) memory: BacktrackState,
     // The work budget of all attempts without a memo. When it is spent, an attempt is made again
     // with a memo.
-    free: StepsAndMemo<WorkBounded, NoMemo>,
+    without_memo: StepsAndMemo<WorkBounded, NoMemo>,
     // The state of attempts after that, which record what failed.
-    again: CounterAndMemoForRetries,
+    with_memo: CounterAndMemoForRetries,
     // The end found by the last attempt that was made again. Its position type also exposes the
     // text's lifetime in this struct, which calls that are generic in the executor require.
-    came: Option<Input::Position>,
+    retry_end: Option<Input::Position>,
     // The leading char loop (the one with which each match begins), which is scanned again after a
     // failed start, so that none of its positions is tried.
-    leads: LeadingCharLoop,
+    leading_loop: LeadingCharLoop,
     // How far the last leap has led.
     leap: LeapMemory,
     // The memo is right: each key that it holds as failed does fail, and each one that it holds as
     // finding an end does.
-    ghost right: { AreFailuresRightIn (compiled (executed_tree_of search.program)) (Input.text search.searched.input)
-        (scheme_in (λ memo. scheme_of memo.value.memo_analysis) again.progress.memo)
-        (failed_in (λ memo. has_failure memo.value) again.progress.memo)
-        × AreEndsRightIn (compiled (executed_tree_of search.program)) (Input.text search.searched.input)
-        (scheme_in (λ memo. scheme_of memo.value.memo_analysis) again.progress.memo)
-        (failed_in (λ memo. has_success memo.value) again.progress.memo) } by { Prim.hlevel props },
+    ghost right: { AreFailuresSoundIn (compiled (executed_tree_of search.program)) (Input.text search.searched.input)
+        (scheme_in (λ memo. scheme_of memo.value.memo_analysis) with_memo.progress.memo)
+        (failed_in (λ memo. has_failure memo.value) with_memo.progress.memo)
+        × AreEndsSoundIn (compiled (executed_tree_of search.program)) (Input.text search.searched.input)
+        (scheme_in (λ memo. scheme_of memo.value.memo_analysis) with_memo.progress.memo)
+        (failed_in (λ memo. has_success memo.value) with_memo.progress.memo) } by { Prim.hlevel props },
     // No match begins between the two offsets of the last leap.
-    ghost leapt: { IsLeapMemoryRight (executed_tree_of search.program) (Input.text search.searched.input) leap } by { Prim.hlevel props },
+    ghost leapt: { NoMatchBeforeRememberedLeap (executed_tree_of search.program) (Input.text search.searched.input)
+        leap } by { Prim.hlevel props },
     // Only groups are opened before the leading char loop.
-    ghost opened: { OnlyOpensGroups search.program.plan leads.opens } by { Prim.hlevel props },
+    ghost opened: { OnlyOpensGroups search.program.plan leading_loop.opens } by { Prim.hlevel props },
 }
 
 // The work allowed for each offset of a text, which is more than most searches do, and for each
@@ -101,17 +102,17 @@ impl<'r, Input: InputIndexer> BacktrackExecutor<'r, Input> {
         let alloc = search.searched.program.allocator();
         let units = search.searched.input.unit_count();
         let work = work_at_first(units, search.program.insns().len());
-        let leads = LeadingCharLoop::of(search.program.plan());
+        let leading_loop = LeadingCharLoop::of(search.program.plan());
         let leap = LeapMemory::new(&search.program.plan().leap);
         BacktrackExecutor {
             search,
             memory: BacktrackState::new(alloc),
-            free: StepsAndMemo {
+            without_memo: StepsAndMemo {
                 steps: WorkBounded::work_counter_with_limit(work),
                 memo: NoMemo,
                 end: None,
             },
-            again: CounterAndMemoForRetries {
+            with_memo: CounterAndMemoForRetries {
                 progress: StepsAndMemo {
                     steps: Unlimited::work_counter_with_limit(0),
                     memo: None,
@@ -119,8 +120,8 @@ impl<'r, Input: InputIndexer> BacktrackExecutor<'r, Input> {
                 },
                 began: false,
             },
-            came: None,
-            leads,
+            retry_end: None,
+            leading_loop,
             leap,
         }
     }
@@ -130,7 +131,7 @@ impl<'r, Input: InputIndexer> BacktrackExecutor<'r, Input> {
     // loop's end, so each character is scanned again only once.
     #[inline(always)]
     fn goes_over(&self, tried: Input::Position, next: Input::Position) -> bool {
-        let most = self.leads.max_char_units;
+        let most = self.leading_loop.max_char_units;
         most != 0 && next.to_offset().wrapping_sub(tried.to_offset()) <= most
     }
 
@@ -140,7 +141,7 @@ impl<'r, Input: InputIndexer> BacktrackExecutor<'r, Input> {
         ensures tree { tree_of self.new.search.program.regex ≡ tree_of self.old.search.program.regex }
         ensures text { Input.text self.new.search.searched.input ≡ Input.text self.old.search.searched.input }
     {
-        self.free.steps = WorkBounded::exhausted_work_counter();
+        self.without_memo.steps = WorkBounded::exhausted_work_counter();
     }
 }
 
@@ -168,7 +169,7 @@ fn next_candidate_past_leap<W: SearchContext>(
 ) -> Option<PositionOf<W>>
     requires at { IsBoundary (W.searching context.now).text (W.Input.Position.offset from) }
     requires executable { let w = W.searching context.now in TreeProgramCanSearchText (program_of w) w.tree w.text }
-    requires leapt { let w = W.searching context.now in IsLeapMemoryRight w.tree w.text leap.now }
+    requires leapt { let w = W.searching context.now in NoMatchBeforeRememberedLeap w.tree w.text leap.now }
     ensures { let w = W.searching context.now in let at = W.Input.Position.offset in
         NextStartSkipsNoMatch w.tree w.text (at from) (option_map at result) }
 {
@@ -187,7 +188,7 @@ fn next_candidate_behind_leap<W: SearchContext>(
 ) -> Option<PositionOf<W>>
     requires at { IsBoundary (W.searching context.now).text (W.Input.Position.offset from) }
     requires executable { let w = W.searching context.now in TreeProgramCanSearchText (program_of w) w.tree w.text }
-    requires leapt { let w = W.searching context.now in IsLeapMemoryRight w.tree w.text leap.now }
+    requires leapt { let w = W.searching context.now in NoMatchBeforeRememberedLeap w.tree w.text leap.now }
     ensures { let w = W.searching context.now in let at = W.Input.Position.offset in
         NextStartSkipsNoMatch w.tree w.text (at from) (option_map at result) }
 {
@@ -249,19 +250,19 @@ impl<'r, Input: InputIndexer> SingleAttemptExecutor for BacktrackExecutor<'r, In
         if leaps_over_if_due(&self.search, &mut self.leap, at) {
             return Ok(None);
         }
-        if self.free.steps.is_work_limit_exceeded() {
+        if self.without_memo.steps.is_work_limit_exceeded() {
             let insns = self.search.program.insns();
             return retry_with_memo(
                 &self.search,
                 insns,
                 pos,
                 &mut self.memory,
-                &mut self.again,
-                &mut self.came,
+                &mut self.with_memo,
+                &mut self.retry_end,
             );
         }
-        let end = attempt(&self.search, pos, &mut self.memory, &mut self.free);
-        if end.is_ok() || !self.free.steps.is_work_limit_exceeded() {
+        let end = attempt(&self.search, pos, &mut self.memory, &mut self.without_memo);
+        if end.is_ok() || !self.without_memo.steps.is_work_limit_exceeded() {
             return end;
         }
         let insns = self.search.program.insns();
@@ -270,8 +271,8 @@ impl<'r, Input: InputIndexer> SingleAttemptExecutor for BacktrackExecutor<'r, In
             insns,
             pos,
             &mut self.memory,
-            &mut self.again,
-            &mut self.came,
+            &mut self.with_memo,
+            &mut self.retry_end,
         )
     }
 
@@ -304,7 +305,7 @@ impl<'r, Input: InputIndexer> SingleAttemptExecutor for BacktrackExecutor<'r, In
         let next = self.search.searched.position_after_failure(tried)?;
         let to = next_candidate_past_leap(&self.search, &self.leap, next)?;
         if self.goes_over(tried, to) {
-            return next_start_past_loop(&self.search, self.leads.opens, tried, to);
+            return next_start_past_loop(&self.search, self.leading_loop.opens, tried, to);
         }
         Some(to)
     }

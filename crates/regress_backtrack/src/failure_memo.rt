@@ -5,7 +5,7 @@ ghost use Rattle.regex_meaning.specs.CodeUnitOffsets.{units};
 ghost use Rattle.regress_memo.specs.MemoSearch.{Key as KeyOf};
 ghost use Rattle.regress_machine.specs.Machine.{running};
 ghost use Rattle.regress_backtrack.specs.{State.{current_thread_state_of}, MemoizedCharLoops.{DecidesLoopRest}};
-ghost use Rattle.regress_backtrack.specs.FailureMemo.{MemoScheme, AreFailuresRight, IsKeyOf, memo_key_as_spec, no_scheme};
+ghost use Rattle.regress_backtrack.specs.FailureMemo.{MemoScheme, AreFailuresSound, IsKeyOf, memo_key_as_spec, no_scheme};
 ghost use Rattle.regress_backtrack.specs.FailureMemo.{ContentsKeepState};
 
 use crate::position_and_result::DirectedThreadPos;
@@ -46,11 +46,10 @@ pub trait FailureMemo {
         thread: DirectedThreadPos,
         memory: &BacktrackState,
     ) -> Option<RecordKey>
-        requires sound { AreFailuresRight (W.searching context.now) (terms self.now) (failed self.now) }
+        requires sound { AreFailuresSound (W.searching context.now) (terms self.now) (failed self.now) }
         requires inside { thread.here.at ≤ units (W.searching context.now).text }
         ensures { IfSome result (λ k. IsKeyOf (W.searching context.now) (terms self.now) thread.forward
-            (memo_key_as_spec k)
-            (running (current_thread_state_of memory.now thread.here.ip thread.here.at) ∷ [])) };
+            (memo_key_as_spec k) (running (current_thread_state_of memory.now thread.here.ip thread.here.at) ∷ [])) };
 
     /// Returns the key of the rest of a char loop without a maximum from an offset on, if it has
     /// one.
@@ -60,13 +59,13 @@ pub trait FailureMemo {
         run: DirectedThreadPos,
         memory: &BacktrackState,
     ) -> Option<RecordKey>
-        requires sound { AreFailuresRight (W.searching context.now) (terms self.now) (failed self.now) }
+        requires sound { AreFailuresSound (W.searching context.now) (terms self.now) (failed self.now) }
         ensures { IfSome result (λ k. DecidesLoopRest (W.searching context.now) (terms self.now) run.forward run.here
             (memo_key_as_spec k) memory.now) };
 
     /// Returns whether a search from an instruction is known to change neither groups nor loop data.
     fn keeps_state<W: SearchContext>(&self, context: &W, ip: usize, memory: &BacktrackState) -> bool
-        requires sound { AreFailuresRight (W.searching context.now) (terms self.now) (failed self.now) }
+        requires sound { AreFailuresSound (W.searching context.now) (terms self.now) (failed self.now) }
         ensures { result ≡ true → ContentsKeepState (W.searching context.now) ip memory.now };
 
     /// Returns whether a key is known to fail.

@@ -4,7 +4,7 @@ ghost use Rattle.std.specs.Prelude.{◌≡◌, ℕ, true, false, None, is_some, 
 ghost use Rattle.regress_memo.specs.{LoopDataKeyCodes.{HasSlotsOfProgram}, UnboundedCharLoopMemoKeys.{char_loop_greediness_at, insn_before}};
 ghost use Rattle.regress_memo.specs.CheckedAnalysis.{IsRecordableMemoKey};
 ghost use Rattle.regress_memo.specs.MemoContents.{has_failure, has_success, memo_key_as_spec as key_known};
-ghost use Rattle.regress_program.specs.{InsnsAsSpecInsns.{insn_as_spec_insn}, Plans.{op_as_char_loop}};
+ghost use Rattle.regress_program.specs.{InsnsAsSpec.{insn_as_spec_insn}, Plans.{op_as_char_loop}};
 ghost use Rattle.regress_search.specs.TreePlanAndText.{program_of};
 ghost use Rattle.regress_backtrack.specs.{State.{current_thread_state_of}, FailuresInMemoTable.{scheme_of, IsMemoRight}};
 ghost use Rattle.regress_backtrack.specs.FailuresInMemoTable.{keeps_state_from as spec_keeps_state_from};
@@ -329,7 +329,7 @@ pub(crate) fn enable_memo<W: SearchContext>(
     }
 }
 
-// Checks whether a program has a lookaround of which only matters whether its contents find an end.
+// Checks whether a program has a lookaround for which it suffices that its contents find an end.
 // Only such contents read the ends that are recorded.
 fn reads_ends(memo_analysis: &MemoAnalysis, insns: &[Insn], loops: usize) -> bool {
     for ip in 0..insns.len() {

@@ -6,7 +6,7 @@ ghost use Rattle.regress_search.specs.AttemptsAndStarts.{NextStartSkipsNoMatch, 
 ghost use Rattle.regress_machine.specs.SearchFindsFirstOutcomeAtPlace.{TreeProgramCanSearchText};
 ghost use Rattle.regress_program.specs.{Leaps.{IsLeap}, TableKeysOfUnits.{is_16_bit_encoding}};
 ghost use Rattle.regress_search.specs.TreePlanAndText.{program_of};
-ghost use Rattle.regress_backtrack.specs.LeapMemory.{IsLeapMemoryRight};
+ghost use Rattle.regress_backtrack.specs.LeapMemory.{NoMatchBeforeRememberedLeap};
 
 use regress_program::leap::Leap;
 use regress_search::leaping::{LeapTarget, leap_from};
@@ -65,7 +65,7 @@ impl LeapMemory {
     /// Returns the first offset from `at` on where a match may begin, as far as the last leap
     /// tells; `None` if there is none.
     pub(crate) fn past(&self, at: usize) -> Option<usize>
-        ensures { (tree : Tree) (text : Text) → IsBoundary text at → IsLeapMemoryRight tree text self.now
+        ensures { (tree : Tree) (text : Text) → IsBoundary text at → NoMatchBeforeRememberedLeap tree text self.now
             → NextStartSkipsNoMatch tree text at result }
     {
         if at < self.from {
@@ -103,8 +103,8 @@ pub(crate) fn leaps_over_if_due<W: SearchContext>(
     requires at { IsBoundary (W.searching context.now).text at }
     requires executable { let w = W.searching context.now in TreeProgramCanSearchText (program_of w) w.tree w.text }
     ensures none { let w = W.searching context.now in result ≡ true → NoMatchAt w.tree w.text at }
-    ensures sound { let w = W.searching context.now in IsLeapMemoryRight w.tree w.text memory.old
-        → IsLeapMemoryRight w.tree w.text memory.new }
+    ensures sound { let w = W.searching context.now in NoMatchBeforeRememberedLeap w.tree w.text memory.old
+        → NoMatchBeforeRememberedLeap w.tree w.text memory.new }
 {
     if !memory.is_due(at) {
         return false;
@@ -119,8 +119,8 @@ fn leaps_over<W: SearchContext>(context: &W, memory: &mut LeapMemory, at: usize)
     requires at { IsBoundary (W.searching context.now).text at }
     requires executable { let w = W.searching context.now in TreeProgramCanSearchText (program_of w) w.tree w.text }
     ensures none { let w = W.searching context.now in result ≡ true → NoMatchAt w.tree w.text at }
-    ensures sound { let w = W.searching context.now in IsLeapMemoryRight w.tree w.text memory.old
-        → IsLeapMemoryRight w.tree w.text memory.new }
+    ensures sound { let w = W.searching context.now in NoMatchBeforeRememberedLeap w.tree w.text memory.old
+        → NoMatchBeforeRememberedLeap w.tree w.text memory.new }
 {
     context.lemma_plan_fits_program();
     let Some(leap) = &context.plan().leap else {
@@ -140,7 +140,7 @@ fn leap_over<W: SearchContext>(context: &W, leap: &Leap, memory: &mut LeapMemory
     requires executable { let w = W.searching context.now in TreeProgramCanSearchText (program_of w) w.tree w.text }
     requires leap { let w = W.searching context.now in IsLeap (is_16_bit_encoding w.encoding) (program_of w) leap.now }
     ensures none { let w = W.searching context.now in result ≡ true → NoMatchAt w.tree w.text at }
-    ensures sound { let w = W.searching context.now in IsLeapMemoryRight w.tree w.text memory.new }
+    ensures sound { let w = W.searching context.now in NoMatchBeforeRememberedLeap w.tree w.text memory.new }
 {
     memory.from = at;
     match leap_from(context, leap, at) {

@@ -1,7 +1,7 @@
 //! The state of a search: slots, an undo log of the values they had, and the choice points.
 
 ghost use Rattle.std.specs.Prelude.{◌≡◌, ◌≢◌, ◌<◌, ◌≤◌, ◌+◌, ◌-◌, ◌^◌, ◌++◌, ℕ, [], ◌∷◌, length, take, map, slice_get, slice_set, Some, true, false, OnOk, OnErr, IfOk};
-ghost use Rattle.regress_backtrack.specs.State.{StateModel, undone, IsStateInvariant, initial_slot as first_slot_at, logical_slot_value, seen_change};
+ghost use Rattle.regress_backtrack.specs.State.{StateModel, undone, IsStateInvariant, initial_slot as first_slot_at, logical_slot_value, logical_undo_entry};
 ghost use Rattle.regress_backtrack.specs.State.{SlotsAreUnsetAndUnlogged, undo_entry_logged_for_slot};
 ghost use Rattle.regress_backtrack.specs.State.{log_len_at_choice_point as noted_since, initial_state, current_thread_state_of, loop_data_in_slot, with_choice_point_list};
 ghost use Rattle.regress_backtrack.specs.State.{ChangesFromNumberAreUndone, SetsSlotUndoably, ChangesStateUndoably, with_group_open};
@@ -91,7 +91,7 @@ impl Model for BacktrackState {
     ghost view = { λ m. record {
       groups = m.groups;
       slots = map (logical_slot_value m.begun) m.slots.items;
-      log = map (seen_change m.begun) (take m.log_len m.log.items);
+      log = map (logical_undo_entry m.begun) (take m.log_len m.log.items);
       choice_points = take m.choice_point_len m.choice_points.items;
     } };
 
@@ -117,9 +117,9 @@ const ROOM_FOR_CHANGE: UndoEntry = UndoEntry {
 
 // The number of changes that are logged without a check whether their slots were logged before.
 // Most searches make fewer, and duplicate entries take no more memory than this.
-const ALL_NOTED: usize = 4096;
+const UNCHECKED_ENTRIES: usize = 4096;
 
-const ROOM_FOR_MARK: ChoicePoint = ChoicePoint {
+const EMPTY_CHOICE_POINT: ChoicePoint = ChoicePoint {
     ip: 0,
     kind: ChoicePointKind::One,
     next: 0,
@@ -200,7 +200,7 @@ fn grow_log(log: &mut Vec<UndoEntry>, free: &mut usize, used: usize) -> Result<(
     ensures free { free.new ≤ length log.new.items }
 {
     lengthen(log, used)?;
-    *free = smaller_of(log.len(), ALL_NOTED);
+    *free = smaller_of(log.len(), UNCHECKED_ENTRIES);
     Ok(())
 }
 
@@ -241,8 +241,7 @@ fn log_change(
     requires free { free.old ≤ length log.old.items }
     requires slot { slot < length slots.now }
     ensures noted { IfOk result (IsLoggedOnce (undo_entry_logged_for_slot slots.now slot)
-        (noted_since choice_points.now)
-        log_len.old log.old.items log_len.new log.new.items) }
+        (noted_since choice_points.now) log_len.old log.old.items log_len.new log.new.items) }
     ensures refused { OnErr result ((log_len.new ≡ log_len.old)
         × (take log_len.old log.new.items ≡ take log_len.old log.old.items)) }
     ensures log_len { log_len.new ≤ length log.new.items }
@@ -449,7 +448,7 @@ impl BacktrackState {
         ensures refused { OnErr result (self.new ≡ self.old) }
     {
         if self.choice_point_len >= self.choice_points.len() {
-            grow(&mut self.choice_points, ROOM_FOR_MARK)?;
+            grow(&mut self.choice_points, EMPTY_CHOICE_POINT)?;
         }
         self.choice_points[self.choice_point_len] = mark;
         self.choice_point_len += 1;

@@ -2,7 +2,7 @@
 
 ghost use Rattle.std.specs.Prelude.{◌≡◌, IfOk, Some};
 ghost use Rattle.regex_meaning.specs.{StartPredicate.{start_predicate}, Text.{utf8_text}};
-ghost use Rattle.regex_meaning.proofs.TextLemmas.{utf8_text-IsText};
+ghost use Rattle.regex_meaning.proofs.CodeUnitOffsetsLemmas.{utf8_text-IsText};
 ghost use Rattle.regex_pattern_front.specs.AstToSpecTree.{tree_of};
 ghost use Rattle.regress_program.specs.InsnsAsSpec.{start_predicate_as_spec};
 ghost use Rattle.regress_backtrack.specs.{State.{current_thread_state_of}, AttemptResults.{HasSlots}};

@@ -5,7 +5,7 @@ use Rattle.regex_meaning.specs.Text.{Text, rightwards}
 use Rattle.regex_meaning.specs.Tree.{Tree}
 use Rattle.regex_meaning.specs.CompilationRelation.{Program}
 use Rattle.regress_machine.specs.Machine.{State, running, ends, act}
-use Rattle.regress_memo.specs.MemoSearch.{Key, Entry, tried, tries}
+use Rattle.regress_memo.specs.MemoSearch.{Key, Entry, one_thread, thread_entries}
 use Rattle.regress_memo.specs.declared.analysis_result.MemoAnalysis.{MemoAnalysis}
 use Rattle.regress_memo.specs.CheckedAnalysis.{IsAnalysisOf}
 use Rattle.regress_memo.specs.WorkBound.{initial_threads}
@@ -31,37 +31,43 @@ ListsFailures failures memory = ListsExactlyKnownKeys (λ k. failures k.ip k.at 
 pub data HasFinished (program : Program) (text : Text) : List Entry → Type 0 where
   no_entry : HasFinished program text []
   is_end : (s end : State) (rest : List Entry) → act program text rightwards s ≡ ends end
-      → HasFinished program text (tried (running s) ∷ rest)
+      → HasFinished program text (one_thread (running s) ∷ rest)
 
 -- The events of an attempt at an offset, by a memo analysis of the tree's program. Their costs are
 -- `cost`, and the failures `before` are known at first. If the attempt is over, the failures `after`
 -- are known.
-pub record EventsOfAttempt (tree : Tree) (text : Text) (before : Failures) (at cost : ℕ) (after : Option Failures) : Type 0 where
+pub record EventsOfAttempt (tree : Tree) (text : Text) (before : Failures) (at cost : ℕ)
+    (after : Option Failures) : Type 0 where
   pub memo_analysis : MemoAnalysis
   pub is_analysis : IsAnalysisOf (compiled tree) memo_analysis
   pub memory : List Key
   pub lists : ListsFailures before memory
   pub now : List Key
   pub row : List Entry
-  pub costs : Costs (compiled tree) text memo_analysis rightwards memory (tries (initial_threads (compiled tree) at)) cost now row
+  pub costs : Costs (compiled tree) text memo_analysis rightwards memory
+      (thread_entries (initial_threads (compiled tree) at)) cost now row
   pub over : IfSome after (λ failures. HasFinished (compiled tree) text row × ListsFailures failures now)
 
 -- The attempt, or a part of it from its beginning on, costs this (a proposition).
-abbrev pub AttemptCosts : (tree : Tree) (text : Text) (before : Failures) (at cost : ℕ) (after : Option Failures) → Type 0
+abbrev pub AttemptCosts : (tree : Tree) (text : Text) (before : Failures) (at cost : ℕ) (after : Option Failures)
+    → Type 0
 AttemptCosts tree text before at cost after = ∥ EventsOfAttempt tree text before at cost after ∥₁
 
 -- No failure is known.
-abbrev pub AreNone : Failures → Type 0
-AreNone failures = (ip at code : ℕ) → failures ip at code ≡ false
+abbrev pub NoFailuresAreKnown : Failures → Type 0
+NoFailuresAreKnown failures = (ip at code : ℕ) → failures ip at code ≡ false
 
 -- What the cost of the first call of an iterator depends on: it searches this text with the tree's
 -- program from `start` on, and no failure is known.
-pub record BeginsSearches (tree : Tree) (text : Text) (start : ℕ) (its_tree : Tree) (its_text : Text) (its_failures : Failures) (its_position : Option ℕ) : Type 0 where
+pub record BeginsSearches (tree : Tree) (text : Text) (start : ℕ) (its_tree : Tree) (its_text : Text)
+    (its_failures : Failures) (its_position : Option ℕ) : Type 0 where
   pub of_tree : its_tree ≡ tree
   pub of_text : its_text ≡ text
-  pub fresh : AreNone its_failures
+  pub fresh : NoFailuresAreKnown its_failures
   pub position : its_position ≡ offset_within text start
 
 -- `BeginsSearches` of an iterator, by the ghost state of its producer.
-abbrev pub IteratorBeginsSearches : {E Q : Type 0} (e : Ghosts E Q) (tree : Tree) (text : Text) (start : ℕ) → WorkMatchesView E → Type 0
-IteratorBeginsSearches e tree text start it = BeginsSearches tree text start (e.tree it.producer) (e.text it.producer) (e.failures it.producer) it.position
+abbrev pub IteratorBeginsSearches : {E Q : Type 0} (e : Ghosts E Q) (tree : Tree) (text : Text) (start : ℕ)
+    → WorkMatchesView E → Type 0
+IteratorBeginsSearches e tree text start it =
+    BeginsSearches tree text start (e.tree it.producer) (e.text it.producer) (e.failures it.producer) it.position

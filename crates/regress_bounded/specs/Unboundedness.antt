@@ -3,31 +3,31 @@ use Rattle.std.specs.Prelude.{◌≡◌, ◌||◌, Bool, true, false, not}
 use Rattle.regex_meaning.specs.CompilationRelation.{Insn, BackRef, Lookahead, Lookbehind}
 use Rattle.regex_meaning.specs.Tree.{Node, Tree, back_ref, fold_nodes, lookaround}
 use Rattle.regress_bounded.specs.declared.work_bound.Unbounded.{Unbounded}
-use Rattle.regress_bounded.specs.declared.work_bound.Unbounded.TheVariants.{Memory, Lookaround, Backreference, Count, Price}
+use Rattle.regress_bounded.specs.declared.work_bound.Unbounded.TheVariants.{Memory, Lookaround, Backreference, Count, BoundTooLarge}
 
 -- Whether a node is a lookaround, or, if `looks` is false, a backreference.
-abbrev pub is_sought_node : (looks : Bool) → Node → Bool
-is_sought_node looks (lookaround l contents) = looks
-is_sought_node looks (back_ref group same) = not looks
-is_sought_node looks _ = false
+abbrev pub is_unbounded_node : (looks : Bool) → Node → Bool
+is_unbounded_node looks (lookaround l contents) = looks
+is_unbounded_node looks (back_ref group same) = not looks
+is_unbounded_node looks _ = false
 
 -- The same of an instruction.
-abbrev pub is_sought_insn : (looks : Bool) → Insn → Bool
-is_sought_insn looks (Lookahead negate start_group end_group continuation) = looks
-is_sought_insn looks (Lookbehind negate start_group end_group continuation) = looks
-is_sought_insn looks (BackRef group same) = not looks
-is_sought_insn looks _ = false
+abbrev pub is_unbounded_insn : (looks : Bool) → Insn → Bool
+is_unbounded_insn looks (Lookahead negate start_group end_group continuation) = looks
+is_unbounded_insn looks (Lookbehind negate start_group end_group continuation) = looks
+is_unbounded_insn looks (BackRef group same) = not looks
+is_unbounded_insn looks _ = false
 
 -- Whether the tree has a lookaround.
 abbrev pub has_lookaround : Tree → Bool
-has_lookaround tree = fold_nodes ◌||◌ (is_sought_node true) tree.root
+has_lookaround tree = fold_nodes ◌||◌ (is_unbounded_node true) tree.root
 
 -- Whether the tree has a backreference.
 abbrev pub has_backreference : Tree → Bool
-has_backreference tree = fold_nodes ◌||◌ (is_sought_node false) tree.root
+has_backreference tree = fold_nodes ◌||◌ (is_unbounded_node false) tree.root
 
 -- The tree has neither lookarounds nor backreferences.
-pub record IsPlain (tree : Tree) : Type 0 where
+pub record HasNoLookaroundOrBackreference (tree : Tree) : Type 0 where
   pub no_lookaround : has_lookaround tree ≡ false
   pub no_backreference : has_backreference tree ≡ false
 
@@ -39,9 +39,9 @@ pub record HasOnlyBackreferences (tree : Tree) : Type 0 where
 -- When the program of a tree is refused with this reason: `Lookaround` if the tree has a lookaround,
 -- `Backreference` if it has a backreference but no lookaround. The other reasons are given only if it
 -- has neither.
-abbrev pub IsUnboundedBy : Tree → Unbounded → Type 0
-IsUnboundedBy tree Lookaround = has_lookaround tree ≡ true
-IsUnboundedBy tree Backreference = HasOnlyBackreferences tree
-IsUnboundedBy tree Memory = IsPlain tree
-IsUnboundedBy tree Count = IsPlain tree
-IsUnboundedBy tree Price = IsPlain tree
+abbrev pub IsReasonForUnboundedness : Tree → Unbounded → Type 0
+IsReasonForUnboundedness tree Lookaround = has_lookaround tree ≡ true
+IsReasonForUnboundedness tree Backreference = HasOnlyBackreferences tree
+IsReasonForUnboundedness tree Memory = HasNoLookaroundOrBackreference tree
+IsReasonForUnboundedness tree Count = HasNoLookaroundOrBackreference tree
+IsReasonForUnboundedness tree BoundTooLarge = HasNoLookaroundOrBackreference tree

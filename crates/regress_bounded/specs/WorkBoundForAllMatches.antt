@@ -16,7 +16,7 @@ use Rattle.regress_memo.specs.declared.analysis_result.MemoAnalysis.{MemoAnalysi
 use Rattle.regress_memo.specs.WorkBound.{IsWorkBounded, work_per_position}
 use Rattle.regress_memo.specs.AnalysisChecks.{unlimited}
 use Rattle.regress_memo.specs.CheckedAnalysis.{IsAnalysisOf}
-use Rattle.regress_bounded.specs.CostsOfAttempts.{AreNone}
+use Rattle.regress_bounded.specs.CostsOfAttempts.{NoFailuresAreKnown}
 use Rattle.regress_bounded.specs.declared.work_bound.WorkBound.{WorkBound}
 
 -- The bound per position: 1 to pass it, the work of all searches together, and that of one more.
@@ -37,7 +37,7 @@ abbrev pub most_memo_codes_per_insn : MemoAnalysis → ℕ
 most_memo_codes_per_insn t = fold (λ most x. max most x.codes) 0 t.lines.items
 
 -- The memo analysis covers searches with the program, which has no lookarounds.
-pub record HasBound (program : Program) (t : MemoAnalysis) : Type 0 where
+pub record AnalysisBoundsProgram (program : Program) (t : MemoAnalysis) : Type 0 where
   pub memo_analysis : IsAnalysisOf program t
   pub bounded : IsWorkBounded t program
   pub no_look : (ip : ℕ) → lookaround_at (slice_get program.insns ip) ≡ None
@@ -45,9 +45,10 @@ pub record HasBound (program : Program) (t : MemoAnalysis) : Type 0 where
 -- The bound is that of the tree's program. Per unit, it is at most a constant times the program's
 -- size and its largest number of codes.
 pub record IsWorkBoundOfTree (tree : Tree) (bound : WorkBound) : Type 0 where
-  pub has : HasBound (compiled tree) (arc_value bound.memo_analysis)
+  pub has : AnalysisBoundsProgram (compiled tree) (arc_value bound.memo_analysis)
   pub per_unit : bound.per_unit ≡ work_per_unit (arc_value bound.memo_analysis)
-  pub few : bound.per_unit ≤ 64 * (program_size (compiled tree) * most_memo_codes_per_insn (arc_value bound.memo_analysis))
+  pub few : bound.per_unit ≤ 64 * (program_size (compiled tree) * most_memo_codes_per_insn
+      (arc_value bound.memo_analysis))
 
 -- The bound is one of the tree's program (a proposition).
 abbrev pub TreeHasWorkBound : Tree → WorkBound → Type 0
@@ -59,21 +60,23 @@ is_work_enough_for_text per_unit text work = nat_le (per_unit * (units text + 1)
 
 -- The public state of an executor before its first attempt: its tree and text, no step limit, the
 -- work left, whether that is enough, and no known failures.
-pub record IsAtStart (tree : Tree) (text : Text) (per_unit work : ℕ)
-    (its_tree : Tree) (its_text : Text) (budget : Option ℕ) (enough : Bool) (ahead left : ℕ) (failures : Failures) : Type 0 where
+pub record ExecutorIsAtStart (tree : Tree) (text : Text) (per_unit work : ℕ)
+    (its_tree : Tree) (its_text : Text) (budget : Option ℕ) (enough : Bool) (ahead left : ℕ)
+    (failures : Failures) : Type 0 where
   pub of_tree : its_tree ≡ tree
   pub of_text : its_text ≡ text
   pub unlimited : budget ≡ None
   pub is_enough : enough ≡ is_work_enough_for_text per_unit text work
   pub first : ahead ≡ 0
   pub has_left : left ≡ work
-  pub fresh : AreNone failures
+  pub fresh : NoFailuresAreKnown failures
 
--- `IsAtStart` of an executor, by its ghost state, with the bound of a tree's program; the tree's
+-- `ExecutorIsAtStart` of an executor, by its ghost state, with the bound of a tree's program; the tree's
 -- unicode flag selects the text.
-abbrev pub HasMadeNoAttempt : {E Q : Type 0} (e : Ghosts E Q) (tree : Tree) (text_of : Bool → Text) (bound : WorkBound) (work : ℕ) → E → Type 0
+abbrev pub HasMadeNoAttempt : {E Q : Type 0} (e : Ghosts E Q) (tree : Tree) (text_of : Bool → Text) (bound : WorkBound)
+    (work : ℕ) → E → Type 0
 HasMadeNoAttempt e tree text_of bound work x =
-    IsAtStart tree (text_of tree.flags.unicode) bound.per_unit work
+    ExecutorIsAtStart tree (text_of tree.flags.unicode) bound.per_unit work
     (e.tree x) (e.text x) (e.budget x) (e.enough x) (e.ahead x) (e.left x) (e.failures x)
 
 -- The work that is enough for a text: `per_unit` for each unit of it, and once more.
@@ -83,7 +86,8 @@ enough_work_for_text per_unit text = per_unit * (units text + 1)
 -- The remaining matches of a search from `start` are the tree's list of matches in the text, and no
 -- step limit ends the list. `work` is left, and it is enough for all of them if it is at least
 -- `enough_work_for_text`.
-pub record YieldsMatchesIfWorkSuffices (tree : Tree) (text : Text) (start per_unit work : ℕ) (it : RemainingAnswersAndWork) : Type 0 where
+pub record YieldsMatchesIfWorkSuffices (tree : Tree) (text : Text) (start per_unit work : ℕ)
+    (it : RemainingAnswersAndWork) : Type 0 where
   pub answers : it.remaining.answers ≡ answers_from tree.root text start
   pub unlimited : it.remaining.limited ≡ false
   pub text_end : it.remaining.text_end ≡ units text

@@ -13,9 +13,9 @@ ghost use Rattle.regress_pikevm.specs.{InsnEffects.{end_and_groups}, States.{gro
 ghost use Rattle.regress_bounded.specs.WorkBoundForAllMatches.{TreeHasWorkBound, HasMadeNoAttempt};
 ghost use Rattle.regress_bounded.specs.WorkBoundForAllMatches.{YieldsMatchesIfWorkSuffices, is_work_enough_for_text};
 ghost use Rattle.regress_bounded.specs.BoundedState.{BoundedAttempt, BoundedAttemptBegins, IsMemoRightForRegex, AttemptHasState};
-ghost use Rattle.regress_bounded.specs.BoundedState.{HasAttemptState, AttemptResultIs, front_of};
+ghost use Rattle.regress_bounded.specs.BoundedState.{HasAttemptState, AttemptResultIs, entry_of_current_thread};
 ghost use Rattle.regress_bounded.specs.WorkOfSuccessiveAttempts.{HasWalked};
-ghost use Rattle.regress_bounded.specs.CostsOfAttempts.{AreNone, AttemptCosts, IteratorBeginsSearches, failures_of};
+ghost use Rattle.regress_bounded.specs.CostsOfAttempts.{NoFailuresAreKnown, AttemptCosts, IteratorBeginsSearches, failures_of};
 
 use crate::memo_and_work_budget::{AttemptAbortReason, MemoAndWorkBudget};
 use crate::pending_stack::StackEntry;
@@ -52,9 +52,11 @@ pub struct BoundedExecutor<'r, Input: InputIndexer> {
     ahead: usize,
     // Whether the last attempt was given up because the budget was exhausted; then no work is left.
     out: bool,
-    ghost right: { IsMemoRightForRegex searched.program.now (Input.text searched.input) progress.memo } by { Prim.hlevel props },
+    ghost right: { IsMemoRightForRegex searched.program.now (Input.text searched.input)
+        progress.memo } by { Prim.hlevel props },
     ghost walked: { enough ≡ true
-        → HasWalked (compiled (tree_of searched.program.now)) (Input.text searched.input) progress ahead } by { Prim.hlevel props },
+        → HasWalked (compiled (tree_of searched.program.now)) (Input.text searched.input) progress
+        ahead } by { Prim.hlevel props },
     ghost spent: { out ≡ true → progress.left ≡ 0 } by { Prim.hlevel props },
 }
 
@@ -67,13 +69,14 @@ fn run<Input: InputIndexer>(
 ) -> Result<Option<State<Input::Position>>, AttemptAbortReason>
     requires stands { let s = searched.now in
         HasAttemptState Input.Position.offset (compiled (tree_of s.program.now)) (Input.text s.input)
-        (front_of Input.Position.offset (Some start)) [] progress.old }
+        (entry_of_current_thread Input.Position.offset (Some start)) [] progress.old }
     ensures sound { let s = searched.now in IsMemoRightForRegex s.program.now (Input.text s.input) progress.new.memo }
     ensures memo_analysis { progress.new.memo.memo_analysis ≡ progress.old.memo.memo_analysis }
     ensures left { progress.new.left ≤ progress.old.left }
     ensures runs { let at = Input.Position.offset in let s = searched.now in
         let program = compiled (tree_of s.program.now) in let text = Input.text s.input in
-        (b : BoundedAttempt) → AttemptHasState at program text b (front_of at (Some start)) [] progress.old
+        (b : BoundedAttempt) → AttemptHasState at program text b (entry_of_current_thread at (Some start)) []
+        progress.old
         → AttemptResultIs at program text b result progress.new }
 {
     stack.clear();
@@ -224,7 +227,7 @@ impl<'r, Input: InputIndexer> BoundedExecutor<'r, Input> {
         ensures enough { IfOk result (λ e. e.enough
             ≡ is_work_enough_for_text bound.now.per_unit (Input.text searched.entry.input) work) }
         ensures ahead { IfOk result (λ e. e.ahead ≡ 0) }
-        ensures fresh { IfOk result (λ e. AreNone (failures_of e.progress.memo)) }
+        ensures fresh { IfOk result (λ e. NoFailuresAreKnown (failures_of e.progress.memo)) }
         ensures refused { IfErr result (λ e. e ≡ Memory) }
     {
         let alloc = searched.program.allocator();
@@ -273,8 +276,7 @@ impl<'r, 't> BoundedExecutor<'r, Ucs2Input<'t>> {
         requires bound { TreeHasWorkBound (tree_of re.now) bound.now }
         requires start { IsBoundaryOrPastEnd (ucs2_text text.now (tree_of re.now).flags.unicode) start }
         ensures yields { IfOk result (λ it. YieldsMatchesIfWorkSuffices (tree_of re.now)
-            (ucs2_text text.now (tree_of re.now).flags.unicode)
-            start bound.now.per_unit work (without_costs it)) }
+            (ucs2_text text.now (tree_of re.now).flags.unicode) start bound.now.per_unit work (without_costs it)) }
         ensures begins { let e = ⟦<BoundedExecutor<'r, Ucs2Input<'t>> as MatchProducer>⟧ in
             IfOk result (IteratorBeginsSearches e (tree_of re.now)
             (ucs2_text text.now (tree_of re.now).flags.unicode) start) }
@@ -320,8 +322,7 @@ impl<'r, 't> BoundedExecutor<'r, Utf8Input<'t>> {
         requires bound { TreeHasWorkBound (tree_of re.now) bound.now }
         requires start { IsBoundaryOrPastEnd (utf8_text text.now (tree_of re.now).flags.unicode) start }
         ensures yields { IfOk result (λ it. YieldsMatchesIfWorkSuffices (tree_of re.now)
-            (utf8_text text.now (tree_of re.now).flags.unicode)
-            start bound.now.per_unit work (without_costs it)) }
+            (utf8_text text.now (tree_of re.now).flags.unicode) start bound.now.per_unit work (without_costs it)) }
         ensures begins { let e = ⟦<BoundedExecutor<'r, Utf8Input<'t>> as MatchProducer>⟧ in
             IfOk result (IteratorBeginsSearches e (tree_of re.now)
             (utf8_text text.now (tree_of re.now).flags.unicode) start) }
@@ -368,8 +369,7 @@ impl<'r, 't> BoundedExecutor<'r, AsciiInput<'t>> {
         requires ascii { IsAscii text.now }
         requires start { IsBoundaryOrPastEnd (ascii_text text.now (tree_of re.now).flags.unicode) start }
         ensures yields { IfOk result (λ it. YieldsMatchesIfWorkSuffices (tree_of re.now)
-            (ascii_text text.now (tree_of re.now).flags.unicode)
-            start bound.now.per_unit work (without_costs it)) }
+            (ascii_text text.now (tree_of re.now).flags.unicode) start bound.now.per_unit work (without_costs it)) }
         ensures begins { let e = ⟦<BoundedExecutor<'r, AsciiInput<'t>> as MatchProducer>⟧ in
             IfOk result (IteratorBeginsSearches e (tree_of re.now)
             (ascii_text text.now (tree_of re.now).flags.unicode) start) }
@@ -416,8 +416,7 @@ impl<'r, 't> BoundedExecutor<'r, Utf16Input<'t>> {
         requires bound { TreeHasWorkBound (tree_of re.now) bound.now }
         requires start { IsBoundaryOrPastEnd (utf16_text text.now (tree_of re.now).flags.unicode) start }
         ensures yields { IfOk result (λ it. YieldsMatchesIfWorkSuffices (tree_of re.now)
-            (utf16_text text.now (tree_of re.now).flags.unicode)
-            start bound.now.per_unit work (without_costs it)) }
+            (utf16_text text.now (tree_of re.now).flags.unicode) start bound.now.per_unit work (without_costs it)) }
         ensures begins { let e = ⟦<BoundedExecutor<'r, Utf16Input<'t>> as MatchProducer>⟧ in
             IfOk result (IteratorBeginsSearches e (tree_of re.now)
             (utf16_text text.now (tree_of re.now).flags.unicode) start) }

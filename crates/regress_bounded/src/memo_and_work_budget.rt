@@ -44,8 +44,7 @@ impl MemoAndWorkBudget {
         ensures memo { self.new.memo ≡ self.old.memo }
         ensures left { self.new.left ≤ self.old.left }
         ensures spent { OnOk result (IsTakenFromBudget work self.old.left self.new.left) }
-        ensures over { IfErr result (λ e. (e ≡ Work) × WorkExceedsBudget work self.old.left
-            self.new.left) }
+        ensures over { IfErr result (λ e. (e ≡ Work) × WorkExceedsBudget work self.old.left self.new.left) }
     {
         if self.left < work {
             self.left = 0;

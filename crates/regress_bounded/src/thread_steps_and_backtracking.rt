@@ -3,7 +3,7 @@
 ghost use Rattle.std.specs.Prelude.{◌≡◌, ◌≤◌, List, IfErr, IfOk, IfSome, OnOk, [], ◌∷◌, ◌++◌, map, option_map};
 ghost use Rattle.regex_meaning.specs.{CodeUnitOffsets.{units}, Text.{rightwards}};
 ghost use Rattle.regex_pattern_front.specs.AstToSpecTree.{tree_of};
-ghost use Rattle.regress_memo.specs.MemoSearch.{tried};
+ghost use Rattle.regress_memo.specs.MemoSearch.{one_thread};
 ghost use Rattle.regress_machine.specs.{InsnEffects.{IsNotStuck}, Machine.{act, running}};
 ghost use Rattle.regress_memo.specs.MemoContents.{memo_key_as_spec, has_failure};
 ghost use Rattle.regress_program.specs.{CompilationOfTreesAsFunction.{compiled}, InsnsAsSpec.{insn_as_spec_insn}};
@@ -11,7 +11,7 @@ ghost use Rattle.regress_memo.specs.CheckedAnalysis.{IsRecordableMemoKey};
 ghost use Rattle.regress_bounded.specs.CostsOfSearchEvents.{LeavesThreads, threads_left, work_of};
 ghost use Rattle.regress_bounded.specs.BoundedState.{IsMemoRightForRegex, IsUnfailedStateKeyIfAny, char_loop_max, is_goal_insn};
 ghost use Rattle.regress_bounded.specs.BoundedState.{IsNotUnboundedCharLoop, is_known_key, min_and_greed_of_loop};
-ghost use Rattle.regress_bounded.specs.BoundedState.{HasAttemptState, PartResultFrom, StepResultFrom, HasTaken, HasTakenThreads, stack_with_record};
+ghost use Rattle.regress_bounded.specs.BoundedState.{HasAttemptState, PartResultFrom, StepResultFrom, HasTaken, TakesPreferredThread, stack_with_record};
 ghost use Rattle.regress_bounded.specs.BudgetSpending.{IsTakenFromBudget, IsWorkOrMoreThanLeft, WorkExceedsBudget};
 ghost use Rattle.regress_bounded.specs.declared.memo_and_work_budget.AttemptAbortReason.TheVariants.{Work};
 ghost use Rattle.regress_pikevm.specs.States.{state_of};
@@ -49,12 +49,13 @@ pub(crate) fn execute_thread_step<Input: InputIndexer>(
     requires code { map insn_as_spec_insn insns.now ≡ (compiled (tree_of searched.now.program.now)).insns }
     requires stands { let s = searched.now in
         HasAttemptState Input.Position.offset (compiled (tree_of s.program.now)) (Input.text s.input)
-        (tried (running (state_of Input.Position.offset state)) ∷ []) stack.old.items progress.old }
+        (one_thread (running (state_of Input.Position.offset state)) ∷ []) stack.old.items progress.old }
     ensures memo { progress.new.memo ≡ progress.old.memo }
     ensures left { progress.new.left ≤ progress.old.left }
     ensures continues { let at = Input.Position.offset in let s = searched.now in
         StepResultFrom at (compiled (tree_of s.program.now)) (Input.text s.input)
-        (tried (running (state_of at state)) ∷ []) stack.old.items progress.old result stack.new.items progress.new }
+        (one_thread (running (state_of at state)) ∷ []) stack.old.items progress.old result stack.new.items
+        progress.new }
 {
     let key = progress.key_at(state.ip, state.pos, &state);
     if is_known(key, progress) {
@@ -120,7 +121,7 @@ fn execute_with_record<Input: InputIndexer>(
     requires code { map insn_as_spec_insn insns.now ≡ (compiled (tree_of searched.now.program.now)).insns }
     requires stands { let s = searched.now in
         HasAttemptState Input.Position.offset (compiled (tree_of s.program.now)) (Input.text s.input)
-        (tried (running (state_of Input.Position.offset state)) ∷ []) stack.old.items progress.old }
+        (one_thread (running (state_of Input.Position.offset state)) ∷ []) stack.old.items progress.old }
     requires key { IsUnfailedStateKeyIfAny progress.old.memo (state_of Input.Position.offset state) key }
     requires limited { IsNotUnboundedCharLoop (compiled (tree_of searched.now.program.now)) state.ip }
     ensures memo { progress.new.memo ≡ progress.old.memo }
@@ -128,7 +129,8 @@ fn execute_with_record<Input: InputIndexer>(
     ensures refused { IfErr result (λ e. e ≡ Work → stack.new.items ≡ stack.old.items) }
     ensures continues { let at = Input.Position.offset in let s = searched.now in
         StepResultFrom at (compiled (tree_of s.program.now)) (Input.text s.input)
-        (tried (running (state_of at state)) ∷ []) stack.old.items progress.old result stack.new.items progress.new }
+        (one_thread (running (state_of at state)) ∷ []) stack.old.items progress.old result stack.new.items
+        progress.new }
 {
     if is_goal(insns[state.ip]) {
         return Ok(StepResult::End(state));
@@ -193,7 +195,7 @@ fn push_threads_of_step<Input: InputIndexer>(
     requires inside { Input.Position.offset state.pos ≤ units (Input.text searched.now.input) }
     requires leads { let s = searched.now in LeavesThreads (act (compiled (tree_of s.program.now)) (Input.text s.input)
         rightwards (state_of Input.Position.offset state)) }
-    ensures { let s = searched.now in IfOk result (λ next. HasTakenThreads Input.Position.offset
+    ensures { let s = searched.now in IfOk result (λ next. TakesPreferredThread Input.Position.offset
         (threads_left (act (compiled (tree_of s.program.now)) (Input.text s.input) rightwards
         (state_of Input.Position.offset state))) stack.old.items next stack.new.items) }
 {

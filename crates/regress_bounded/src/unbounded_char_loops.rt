@@ -3,13 +3,13 @@
 ghost use Rattle.std.specs.Prelude.{◌≡◌, ◌<◌, ◌≤◌, ◌^◌, ◌+◌, ◌-◌, ℕ, Bool, true, false, min, Some, IfOk, IfErr, IsSome, [], ◌∷◌, ◌++◌, map};
 ghost use Rattle.regex_meaning.specs.CodeUnitOffsets.{IsBoundary, place_at};
 ghost use Rattle.regex_pattern_front.specs.AstToSpecTree.{tree_of};
-ghost use Rattle.regress_memo.specs.{CharLoopExitThreadLists.{passing}, MemoSearch.{tried}};
+ghost use Rattle.regress_memo.specs.{CharLoopExitThreadLists.{passing}, MemoSearch.{one_thread}};
 ghost use Rattle.regress_machine.specs.Machine.{running};
 ghost use Rattle.regress_memo.specs.MemoContents.{has_failure};
 ghost use Rattle.regress_program.specs.{CompilationOfTreesAsFunction.{compiled}, InsnsAsSpec.{insn_as_spec_insn}};
 ghost use Rattle.regress_search.specs.OffsetsAfterMatchedInsns.{ByteInsnHasByteText, char_test_of_insn};
 ghost use Rattle.regress_bounded.specs.BoundedState.{IsMemoRightForRegex, IsAtCharLoop, HasAttemptState, PartResultFrom, ScansWithMemo, HasPassedOver, IsAfterChars};
-ghost use Rattle.regress_bounded.specs.BoundedState.{IsNearest};
+ghost use Rattle.regress_bounded.specs.BoundedState.{TakesNearestExit};
 ghost use Rattle.regress_bounded.specs.declared.memo_and_work_budget.AttemptAbortReason.TheVariants.{Work};
 ghost use Rattle.regress_bounded.specs.declared.pending_stack.StackEntry.TheVariants.{Run as AsRun};
 ghost use Rattle.regress_pikevm.specs.States.{state_of};
@@ -76,13 +76,14 @@ pub(crate) fn unbounded_char_loop_with_memo<Input: InputIndexer>(
     requires within { state.ip + 2 < 2 ^ 64 }
     requires stands { let s = searched.now in
         HasAttemptState Input.Position.offset (compiled (tree_of s.program.now)) (Input.text s.input)
-        (tried (running (state_of Input.Position.offset state)) ∷ []) stack.old.items progress.old }
+        (one_thread (running (state_of Input.Position.offset state)) ∷ []) stack.old.items progress.old }
     ensures memo { progress.new.memo ≡ progress.old.memo }
     ensures left { progress.new.left ≤ progress.old.left }
     ensures refused { IfErr result (λ e. e ≡ Work → run.greedy ≡ false → stack.new.items ≡ stack.old.items) }
     ensures continues { let at = Input.Position.offset in let s = searched.now in
         PartResultFrom at (compiled (tree_of s.program.now)) (Input.text s.input)
-        (tried (running (state_of at state)) ∷ []) stack.old.items progress.old result stack.new.items progress.new }
+        (one_thread (running (state_of at state)) ∷ []) stack.old.items progress.old result stack.new.items
+        progress.new }
 {
     let mut at = state.pos;
     let passed = read_chars_within_budget(searched, run.body, run.least, progress, &mut at);
@@ -165,7 +166,7 @@ fn nearest<Input: InputIndexer>(
     requires within { state.ip + 2 < 2 ^ 64 }
     ensures { let s = searched.now in let text = Input.text s.input in (test : ℕ → Bool) (place : ℕ)
         → char_test_of_insn s.program.now body ≡ Some test → place_at text (Input.Position.offset at) ≡ Some place
-        → IfOk result (λ here. IsNearest Input.Position.offset text test place at state here
+        → IfOk result (λ here. TakesNearestExit Input.Position.offset text test place at state here
         stack.old.items stack.new.items) }
 {
     let here = copy_state_after_char_loop(at, &state)?;

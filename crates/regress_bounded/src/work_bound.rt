@@ -7,7 +7,7 @@ ghost use Rattle.regex_pattern_front.specs.AstToSpecTree.{tree_of};
 ghost use Rattle.regress_memo.specs.CheckedAnalysis.{HasDisjointCodes};
 ghost use Rattle.regress_memo.specs.MemoContents.{IsEmptyMemo};
 ghost use Rattle.regress_program.specs.InsnsAsSpec.{insn_as_spec_insn};
-ghost use Rattle.regress_bounded.specs.Unboundedness.{IsPlain, IsUnboundedBy, is_sought_insn};
+ghost use Rattle.regress_bounded.specs.Unboundedness.{HasNoLookaroundOrBackreference, IsReasonForUnboundedness, is_unbounded_insn};
 ghost use Rattle.regress_bounded.specs.WorkBoundForAllMatches.{TreeHasWorkBound, most_memo_codes_per_insn, size_of_insn};
 
 use regress_memo::analysis_result::MemoAnalysis;
@@ -20,7 +20,7 @@ use thiserror::Error;
 
 // The largest bound that is accepted, per unit of program size and per code. With a larger one, no
 // bound is known.
-const PER_SIZE: u64 = 64;
+const MAX_BOUND_PER_SIZE_AND_CODE: u64 = 64;
 
 // A loop over one character with this maximum has no memo analysis.
 const LARGE_MAX: usize = 0x1_0000;
@@ -49,7 +49,7 @@ pub enum Unbounded {
     /// number of key codes, or the cost of an instruction does not fit in 31 bits. Many lazy loops in
     /// sequence are a cause.
     #[error("no work bound is known: the bound of the pattern is too large")]
-    Price,
+    BoundTooLarge,
 }
 
 impl From<AllocError> for Unbounded {
@@ -88,8 +88,8 @@ impl WorkBound {
     /// Why no bound is known. Lookarounds are looked for first, then backreferences.
     pub fn bound_for_bytes(re: &CompiledRegex) -> Result<WorkBound, Unbounded>
         ensures bound { IfOk result (TreeHasWorkBound (tree_of re.now)) }
-        ensures plain { OnOk result (IsPlain (tree_of re.now)) }
-        ensures refused { IfErr result (IsUnboundedBy (tree_of re.now)) }
+        ensures plain { OnOk result (HasNoLookaroundOrBackreference (tree_of re.now)) }
+        ensures refused { IfErr result (IsReasonForUnboundedness (tree_of re.now)) }
     {
         WorkBound::bound_of_program(re.common_program())
     }
@@ -101,8 +101,8 @@ impl WorkBound {
     /// The same as `bound_for_bytes`.
     pub fn bound_for_units(re: &CompiledRegexFor16BitUnits) -> Result<WorkBound, Unbounded>
         ensures bound { IfOk result (TreeHasWorkBound (tree_of re.now)) }
-        ensures plain { OnOk result (IsPlain (tree_of re.now)) }
-        ensures refused { IfErr result (IsUnboundedBy (tree_of re.now)) }
+        ensures plain { OnOk result (HasNoLookaroundOrBackreference (tree_of re.now)) }
+        ensures refused { IfErr result (IsReasonForUnboundedness (tree_of re.now)) }
     {
         WorkBound::bound_of_program(re.common_program())
     }
@@ -110,8 +110,8 @@ impl WorkBound {
     // Computes the bound of a program.
     fn bound_of_program(program: &Program) -> Result<WorkBound, Unbounded>
         ensures bound { IfOk result (TreeHasWorkBound (tree_of program.now)) }
-        ensures plain { OnOk result (IsPlain (tree_of program.now)) }
-        ensures refused { IfErr result (IsUnboundedBy (tree_of program.now)) }
+        ensures plain { OnOk result (HasNoLookaroundOrBackreference (tree_of program.now)) }
+        ensures refused { IfErr result (IsReasonForUnboundedness (tree_of program.now)) }
     {
         let alloc = program.allocator();
         let insns = program.insns();
@@ -125,20 +125,20 @@ impl WorkBound {
             if may_exceed_counts(insns) {
                 return Err(Unbounded::Count);
             }
-            return Err(Unbounded::Price);
+            return Err(Unbounded::BoundTooLarge);
         };
         let Some(work) = memo_analysis.work_per_position(insns) else {
-            return Err(Unbounded::Price);
+            return Err(Unbounded::BoundTooLarge);
         };
         let Some(per_unit) = with_one_more(work) else {
-            return Err(Unbounded::Price);
+            return Err(Unbounded::BoundTooLarge);
         };
         if !is_few(
             per_unit,
             program_size(insns),
             most_memo_codes_per_insn(&memo_analysis),
         ) {
-            return Err(Unbounded::Price);
+            return Err(Unbounded::BoundTooLarge);
         }
         let memo_analysis = Arc::new(alloc, memo_analysis)?;
         Ok(WorkBound {
@@ -181,7 +181,10 @@ fn with_one_more(work: u64) -> Option<u64>
 fn is_few(per_unit: u64, size: u64, codes: u64) -> bool
     ensures { result ≡ nat_le per_unit (64 * (size * codes)) }
 {
-    per_unit <= size.saturating_mul(codes).saturating_mul(PER_SIZE)
+    per_unit
+        <= size
+            .saturating_mul(codes)
+            .saturating_mul(MAX_BOUND_PER_SIZE_AND_CODE)
 }
 
 // Returns the size of a program, saturating at `u64::MAX`.
@@ -230,28 +233,28 @@ fn most_memo_codes_per_insn(memo_analysis: &MemoAnalysis) -> u64
 
 // Checks whether a program has a lookaround.
 fn has_lookaround(insns: &[Insn]) -> bool
-    ensures { result ≡ list_any (λ insn. is_sought_insn true (insn_as_spec_insn insn)) insns.now }
+    ensures { result ≡ list_any (λ insn. is_unbounded_insn true (insn_as_spec_insn insn)) insns.now }
 {
     insns.iter().any(|insn| is_lookaround(insn))
 }
 
 // Checks whether an instruction is a lookaround.
 fn is_lookaround(insn: &Insn) -> bool
-    ensures { result ≡ is_sought_insn true (insn_as_spec_insn insn.now) }
+    ensures { result ≡ is_unbounded_insn true (insn_as_spec_insn insn.now) }
 {
     matches!(insn, Insn::Lookahead { .. } | Insn::Lookbehind { .. })
 }
 
 // Checks whether a program has a backreference.
 fn has_backreference(insns: &[Insn]) -> bool
-    ensures { result ≡ list_any (λ insn. is_sought_insn false (insn_as_spec_insn insn)) insns.now }
+    ensures { result ≡ list_any (λ insn. is_unbounded_insn false (insn_as_spec_insn insn)) insns.now }
 {
     insns.iter().any(|insn| is_backreference(insn))
 }
 
 // Checks whether an instruction is a backreference.
 fn is_backreference(insn: &Insn) -> bool
-    ensures { result ≡ is_sought_insn false (insn_as_spec_insn insn.now) }
+    ensures { result ≡ is_unbounded_insn false (insn_as_spec_insn insn.now) }
 {
     matches!(insn, Insn::BackRef { .. })
 }

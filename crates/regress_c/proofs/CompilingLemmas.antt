@@ -1,4 +1,4 @@
--- What refuses a pattern, as a code.
+-- A compile error becomes the refusal that its cause requires.
 use Rattle.std.proofs.Common.{◌≡◌, ◌⊎◌, inl, inr, refl, sym, subst, Err}
 use Rattle.regex_parser.specs.SyntaxDialects.{spec_syntax_of}
 use Rattle.regex_parser.specs.declared.parse.ParseError.TheVariants as parse

@@ -1,4 +1,4 @@
--- Letters of flags are ASCII, and so they are a text.
+-- The letters of flags are ASCII, so they are valid UTF-8.
 use Rattle.std.proofs.Common.{ℕ, ◌<◌, List, IsTrue, IsUtf8, arith}
 use Rattle.std.proofs.lemmas.Bool.Decides.{nat_tests}
 use Rattle.std.proofs.lemmas.Str.{IsUtf8-from_ascii}

@@ -29,7 +29,7 @@ code_of_reason cause.Memory = 7
 code_of_reason cause.Lookaround = 19
 code_of_reason cause.Backreference = 22
 code_of_reason cause.Count = 23
-code_of_reason cause.Price = 24
+code_of_reason cause.BoundTooLarge = 24
 
 -- The code of each refusal.
 abbrev pub code_of : Refusal → ℕ
@@ -63,11 +63,11 @@ refused_as (error.Emit emit.TooManyInstructions) = TooManyInstructions
 refused_as _ = Memory
 
 -- The refusal for an error of a search.
-abbrev pub of_search : SearchError → Refusal
-of_search search.Memory = Memory
-of_search search.StepLimit = StepLimit
+abbrev pub refusal_of_search_error : SearchError → Refusal
+refusal_of_search_error search.Memory = Memory
+refusal_of_search_error search.StepLimit = StepLimit
 
 -- The refusal for an error of a search within a work budget.
-abbrev pub of_work : WorkError → Refusal
-of_work worked.Memory = Memory
-of_work worked.WorkLimit = WorkLimit
+abbrev pub refusal_of_work_error : WorkError → Refusal
+refusal_of_work_error worked.Memory = Memory
+refusal_of_work_error worked.WorkLimit = WorkLimit

@@ -28,7 +28,8 @@ pub record Given : Type 1 where
 
 -- The pattern with these fields.
 abbrev pub given_with_syntax : pattern.Syntax → (is_text : Type 0) → (characters flags : List ℕ) → Given
-given_with_syntax syntax is_text characters flags = record { syntax = syntax; is_text = is_text; characters = characters; flags = flags }
+given_with_syntax syntax is_text characters flags =
+    record { syntax = syntax; is_text = is_text; characters = characters; flags = flags }
 
 -- The pattern of the profile with these fields.
 abbrev pub given : (is_text : Type 0) → (characters flags : List ℕ) → Given
@@ -53,20 +54,24 @@ pub record IsWithin (bounds : Bounds) (characters : List ℕ) : Type 0 where
 abbrev pub RefusesPattern : pattern.Syntax → Flags → (characters : List ℕ) → Refusal → Type 0
 RefusesPattern syntax flags characters Syntax = HasNoTreeIn (spec_syntax_of syntax) flags characters
 RefusesPattern syntax flags characters TooManyGroups = OpensTooManyGroups characters
-RefusesPattern syntax flags characters TooManyLoops = ExceedsLimitWithSyntax (spec_syntax_of syntax) flags characters emit.TooManyLoops
-RefusesPattern syntax flags characters TooManyInstructions = ExceedsLimitWithSyntax (spec_syntax_of syntax) flags characters emit.TooManyInstructions
+RefusesPattern syntax flags characters TooManyLoops =
+    ExceedsLimitWithSyntax (spec_syntax_of syntax) flags characters emit.TooManyLoops
+RefusesPattern syntax flags characters TooManyInstructions =
+    ExceedsLimitWithSyntax (spec_syntax_of syntax) flags characters emit.TooManyInstructions
 RefusesPattern syntax flags characters _ = ⊥
 
 -- The result is the pattern compiled with these flags, or why it is refused.
 abbrev pub Compiles : Given → Bounds → Result Regex Refusal → Type 0
 Compiles g bounds (Ok re) =
-    IsReadable g × IsWithin bounds g.characters × IsCompiledWithSyntax (spec_syntax_of g.syntax) (flags_from_letters g.flags) g.characters re
+    IsReadable g × IsWithin bounds g.characters × IsCompiledWithSyntax (spec_syntax_of g.syntax)
+    (flags_from_letters g.flags) g.characters re
 Compiles g bounds (Err UnknownFlag) = ¬ AreFlags g.flags
 Compiles g bounds (Err NotUtf8) = ¬ g.is_text
 Compiles g bounds (Err Memory) = IsReadable g
 Compiles g bounds (Err TooLong) = IsReadable g × (bounds.length < length g.characters)
 Compiles g bounds (Err TooDeep) = IsReadable g × (bounds.nesting < greatest_parenthesis_depth_in g.characters)
-Compiles g bounds (Err refusal) = IsReadable g × IsWithin bounds g.characters × RefusesPattern g.syntax (flags_from_letters g.flags) g.characters refusal
+Compiles g bounds (Err refusal) = IsReadable g × IsWithin bounds g.characters
+    × RefusesPattern g.syntax (flags_from_letters g.flags) g.characters refusal
 
 -- The result of compiling into a handle that holds `held`; a handle that is not empty is refused.
 abbrev pub CompilesInto : (held : Option Regex) → Given → Bounds → Result Regex Refusal → Type 0
@@ -91,7 +96,8 @@ RepliesMade before g bounds after code = (made : Result Regex Refusal)
 -- The same for a pattern of this language. Without one, the language is refused, and the handle is
 -- unchanged.
 abbrev pub RepliesMadeWithSyntax :
-    (before : Option Regex) → Option pattern.Syntax → (pattern.Syntax → Given) → Bounds → (after : Option Regex) → (code : ℕ) → Type 0
+    (before : Option Regex) → Option pattern.Syntax → (pattern.Syntax → Given) → Bounds → (after : Option Regex)
+    → (code : ℕ) → Type 0
 RepliesMadeWithSyntax before None g bounds after code = (code ≡ code_of UnknownSyntax) × (after ≡ before)
 RepliesMadeWithSyntax before (Some syntax) g bounds after code = RepliesMade before (g syntax) bounds after code
 

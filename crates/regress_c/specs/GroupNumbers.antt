@@ -15,7 +15,8 @@ first_id_named name names = slice_get (ids_where (bytes_eq name) 0 names) 0
 -- group without a name.
 abbrev pub number_of_name : Regex → (name : List ℕ) → Option ℕ
 number_of_name re [] = None
-number_of_name re (c ∷ name) = option_map (λ id. id + 1) (first_id_named (c ∷ name) (group_names_by_id (tree_for_byte_units re).root))
+number_of_name re (c ∷ name) =
+    option_map (λ id. id + 1) (first_id_named (c ∷ name) (group_names_by_id (tree_for_byte_units re).root))
 
 -- The reply with a number, or `NoGroup` without one.
 abbrev pub numbered_reply : Option ℕ → Reply

@@ -37,8 +37,8 @@ reply_to (Err refusal) room = record { code = code_of refusal; count = 0 }
 
 -- The buffer after the result of a search. It is unchanged without a match, or without room for its
 -- ranges.
-abbrev pub left_by : Result (Option Match) Refusal → (before : List Span) → List Span
-left_by (Ok (Some m)) before = let spans = spans_of (answer_of m) in
+abbrev pub buffer_after_search : Result (Option Match) Refusal → (before : List Span) → List Span
+buffer_after_search (Ok (Some m)) before = let spans = spans_of (answer_of m) in
     if nat_le (length spans) (length before) then written_over spans before else before
-left_by (Ok None) before = before
-left_by (Err refusal) before = before
+buffer_after_search (Ok None) before = before
+buffer_after_search (Err refusal) before = before

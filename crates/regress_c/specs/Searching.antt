@@ -9,7 +9,7 @@ use Rattle.regress_search.specs.MatchesAsSpecAnswers.{answer_of}
 use Rattle.regress_search.specs.declared.exec.Match.{Match}
 use Rattle.regress_match.specs.ProgramTreesAndAnswers.{utf8_answers, utf16_answers, ucs2_answers}
 use Rattle.regress_match.specs.declared.api.regex.Regex.{Regex}
-use Rattle.regress_c.specs.Replies.{left_by, reply_to}
+use Rattle.regress_c.specs.Replies.{buffer_after_search, reply_to}
 use Rattle.regress_c.specs.declared.refusal.Refusal.{Refusal}
 use Rattle.regress_c.specs.declared.refusal.Refusal.TheVariants.{Empty, NotUtf8, NotBoundary, Memory, StepLimit}
 use Rattle.regress_c.specs.declared.reply.Reply.{Reply}
@@ -21,16 +21,16 @@ pub record MatchesToCome : Type 0 where
   pub limited : Bool
 
 -- The matches in a UTF-8 text from `start` on.
-abbrev pub utf8_coming : (text : List ℕ) → Regex → (start : ℕ) → MatchesToCome
-utf8_coming text re start = record { answers = utf8_answers re text start; limited = false }
+abbrev pub utf8_matches_to_come : (text : List ℕ) → Regex → (start : ℕ) → MatchesToCome
+utf8_matches_to_come text re start = record { answers = utf8_answers re text start; limited = false }
 
 -- The matches in a UTF-16 text from `start` on.
-abbrev pub utf16_coming : (text : List ℕ) → Regex → (start : ℕ) → MatchesToCome
-utf16_coming text re start = record { answers = utf16_answers re text start; limited = false }
+abbrev pub utf16_matches_to_come : (text : List ℕ) → Regex → (start : ℕ) → MatchesToCome
+utf16_matches_to_come text re start = record { answers = utf16_answers re text start; limited = false }
 
 -- The matches in a UCS-2 text from `start` on.
-abbrev pub ucs2_coming : (text : List ℕ) → Regex → (start : ℕ) → MatchesToCome
-ucs2_coming text re start = record { answers = ucs2_answers re text start; limited = false }
+abbrev pub ucs2_matches_to_come : (text : List ℕ) → Regex → (start : ℕ) → MatchesToCome
+ucs2_matches_to_come text re start = record { answers = ucs2_answers re text start; limited = false }
 
 -- A start in a UTF-8 text splits no character, or is past the end.
 abbrev pub can_start_utf8 : (text : List ℕ) → (start : ℕ) → Type 0
@@ -62,11 +62,14 @@ Starts bytes start (Err NotBoundary) = IsUtf8 bytes × ¬ can_start_utf8 bytes s
 Starts bytes start (Err _) = ⊥
 
 -- The result with the handle's pattern, which is refused if the handle is empty.
-abbrev pub FindsBy : (held : Option Regex) → (is_text can_start : Type 0) → (Regex → MatchesToCome) → Result (Option Match) Refusal → Type 0
+abbrev pub FindsBy : (held : Option Regex) → (is_text can_start : Type 0) → (Regex → MatchesToCome)
+    → Result (Option Match) Refusal → Type 0
 FindsBy None is_text can_start coming found = found ≡ Err Empty
 FindsBy (Some re) is_text can_start coming found = Finds is_text can_start (coming re) found
 
 -- The reply and the buffer afterwards are those of a result.
-abbrev pub Replies : (held : Option Regex) → (is_text can_start : Type 0) → (Regex → MatchesToCome) → (before after : List Span) → Reply → Type 0
+abbrev pub Replies : (held : Option Regex) → (is_text can_start : Type 0) → (Regex → MatchesToCome)
+    → (before after : List Span) → Reply → Type 0
 Replies held is_text can_start coming before after reply = (found : Result (Option Match) Refusal)
-    × FindsBy held is_text can_start coming found × (reply ≡ reply_to found (length before)) × (after ≡ left_by found before)
+    × FindsBy held is_text can_start coming found × (reply ≡ reply_to found (length before))
+    × (after ≡ buffer_after_search found before)

@@ -14,9 +14,9 @@ use Rattle.regress_c.specs.Codes.{code_of, done}
 use Rattle.regress_c.specs.Compiling.{Given, IsReadable}
 use Rattle.regress_c.specs.Reading.{AreFlags}
 use Rattle.regress_c.specs.Replies.{written_over}
-use Rattle.regress_c.specs.declared.answer.Told.{Told}
-use Rattle.regress_c.specs.declared.answer.Which.{Which}
-use Rattle.regress_c.specs.declared.answer.Which.TheVariants.{First, All}
+use Rattle.regress_c.specs.declared.text_replies.CauseAndOffset.{CauseAndOffset}
+use Rattle.regress_c.specs.declared.text_replies.ReplacedMatches.{ReplacedMatches}
+use Rattle.regress_c.specs.declared.text_replies.ReplacedMatches.TheVariants.{First, All}
 use Rattle.regress_c.specs.declared.refusal.Refusal.{Refusal}
 use Rattle.regress_c.specs.declared.refusal.Refusal.TheVariants.{Empty, NotUtf8, ShortBuffer, Memory, Syntax, UnknownFlag, UnknownSyntax, NoGroup}
 use Rattle.regress_c.specs.declared.reply.Reply.{Reply}
@@ -26,11 +26,15 @@ use Rattle.regress_c.specs.declared.reply.Reply.{Reply}
 -- The reply for a text. Its code is `code` only if there is room for the text; its count is the
 -- length of the text in any case.
 abbrev pub text_reply : (code : ℕ) → (text : List ℕ) → (room : ℕ) → Reply
-text_reply code text room = record { code = if nat_le (length text) room then code else code_of ShortBuffer; count = length text }
+text_reply code text room = record {
+  code = if nat_le (length text) room then code
+      else code_of ShortBuffer;
+  count = length text;
+}
 
 -- The buffer after a text. It is unchanged without room for the text.
-abbrev pub left_by_text : (text before : List ℕ) → List ℕ
-left_by_text text before = if nat_le (length text) (length before) then written_over text before else before
+abbrev pub buffer_after_text : (text before : List ℕ) → List ℕ
+buffer_after_text text before = if nat_le (length text) (length before) then written_over text before else before
 
 -- The reply for a produced text or a refusal.
 abbrev pub made_reply : Result (List ℕ) Refusal → (room : ℕ) → Reply
@@ -38,32 +42,34 @@ made_reply (Ok text) room = text_reply done text room
 made_reply (Err refusal) room = record { code = code_of refusal; count = 0 }
 
 -- The buffer after a produced text or a refusal.
-abbrev pub left_by_made : Result (List ℕ) Refusal → (before : List ℕ) → List ℕ
-left_by_made (Ok text) before = left_by_text text before
-left_by_made (Err refusal) before = before
+abbrev pub buffer_after_made_text : Result (List ℕ) Refusal → (before : List ℕ) → List ℕ
+buffer_after_made_text (Ok text) before = buffer_after_text text before
+buffer_after_made_text (Err refusal) before = before
 
 -- The reply and the buffer afterwards are those of a produced text or a refusal.
 abbrev pub RepliesText : (Result (List ℕ) Refusal → Type 0) → (before after : List ℕ) → Reply → Type 0
 RepliesText Makes before after reply = (made : Result (List ℕ) Refusal)
-    × Makes made × (reply ≡ made_reply made (length before)) × (after ≡ left_by_made made before)
+    × Makes made × (reply ≡ made_reply made (length before)) × (after ≡ buffer_after_made_text made before)
 
 -- ---- Produced texts
 
 -- The matches that are replaced.
-abbrev pub replaced_ones : Which → List Answer → List Answer
+abbrev pub replaced_ones : ReplacedMatches → List Answer → List Answer
 replaced_ones First ms = take 1 ms
 replaced_ones All ms = ms
 
 -- The result is the text with the first match or all matches replaced, or a refusal.
-abbrev pub Replaces : Regex → (text replacement : List ℕ) → Which → Result (List ℕ) Refusal → Type 0
+abbrev pub Replaces : Regex → (text replacement : List ℕ) → ReplacedMatches → Result (List ℕ) Refusal → Type 0
 Replaces re text replacement which (Ok made) =
-    (IsUtf8 text × IsUtf8 replacement) × (made ≡ replaced text 0 (matches_with_expansions text replacement (replaced_ones which (utf8_answers re text 0))))
+    (IsUtf8 text × IsUtf8 replacement) × (made ≡ replaced text 0
+    (matches_with_expansions text replacement (replaced_ones which (utf8_answers re text 0))))
 Replaces re text replacement which (Err NotUtf8) = ¬ (IsUtf8 text × IsUtf8 replacement)
 Replaces re text replacement which (Err Memory) = IsUtf8 text × IsUtf8 replacement
 Replaces re text replacement which (Err _) = ⊥
 
 -- The result with the handle's pattern, which is refused if the handle is empty.
-abbrev pub ReplacesBy : (held : Option Regex) → (text replacement : List ℕ) → Which → Result (List ℕ) Refusal → Type 0
+abbrev pub ReplacesBy : (held : Option Regex) → (text replacement : List ℕ) → ReplacedMatches → Result (List ℕ) Refusal
+    → Type 0
 ReplacesBy None text replacement which made = made ≡ Err Empty
 ReplacesBy (Some re) text replacement which made = Replaces re text replacement which made
 
@@ -88,7 +94,8 @@ count_reply (Some re) = record { code = done; count = range_count re }
 -- The result is the name of a group, which is empty if it has none, or `NoGroup` if there is no
 -- such group.
 abbrev pub Names : Regex → (number : ℕ) → Result (List ℕ) Refusal → Type 0
-Names re number (Ok name) = (1 ≤ number) × (number ≤ length (group_ids (tree_for_byte_units re).root)) × (name ≡ get_or (group_names_by_id (tree_for_byte_units re).root) (number - 1) [])
+Names re number (Ok name) = (1 ≤ number) × (number ≤ length (group_ids (tree_for_byte_units re).root))
+    × (name ≡ get_or (group_names_by_id (tree_for_byte_units re).root) (number - 1) [])
 Names re number (Err NoGroup) = ¬ ((1 ≤ number) × (number ≤ length (group_ids (tree_for_byte_units re).root)))
 Names re number (Err _) = ⊥
 
@@ -103,9 +110,9 @@ NamesBy (Some re) number made = Names re number made
 abbrev pub IsPlaceIn : (width : ℕ → ℕ) → (characters : List ℕ) → (at : ℕ) → Type 0
 IsPlaceIn width characters at = (n : ℕ) × (n ≤ length characters) × (at ≡ sum_by width (take n characters))
 
--- The result is a diagnosis with an offset in the pattern, none, or a refusal. Which diagnosis it
+-- The result is a diagnosis with an offset in the pattern, none, or a refusal. ReplacedMatches diagnosis it
 -- is, in which words, and whether there is one, is not specified.
-abbrev pub Diagnoses : Given → (width : ℕ → ℕ) → Result (Option Told) Refusal → Type 0
+abbrev pub Diagnoses : Given → (width : ℕ → ℕ) → Result (Option CauseAndOffset) Refusal → Type 0
 Diagnoses given width (Ok (Some told)) = IsReadable given × IsPlaceIn width given.characters told.at
 Diagnoses given width (Ok None) = IsReadable given
 Diagnoses given width (Err UnknownFlag) = ¬ AreFlags given.flags
@@ -114,33 +121,35 @@ Diagnoses given width (Err Memory) = IsReadable given
 Diagnoses given width (Err _) = ⊥
 
 -- The reply for a diagnosis, for none, or for a refusal.
-abbrev pub told_reply : Result (Option Told) Refusal → (room : ℕ) → Reply
-told_reply (Ok (Some told)) room = text_reply (code_of Syntax) (string_bytes told.cause) room
-told_reply (Ok None) room = record { code = done; count = 0 }
-told_reply (Err refusal) room = record { code = code_of refusal; count = 0 }
+abbrev pub diagnosis_reply : Result (Option CauseAndOffset) Refusal → (room : ℕ) → Reply
+diagnosis_reply (Ok (Some told)) room = text_reply (code_of Syntax) (string_bytes told.cause) room
+diagnosis_reply (Ok None) room = record { code = done; count = 0 }
+diagnosis_reply (Err refusal) room = record { code = code_of refusal; count = 0 }
 
 -- The buffer after a diagnosis, after none, or after a refusal.
-abbrev pub left_by_told : Result (Option Told) Refusal → (before : List ℕ) → List ℕ
-left_by_told (Ok (Some told)) before = left_by_text (string_bytes told.cause) before
-left_by_told (Ok None) before = before
-left_by_told (Err refusal) before = before
+abbrev pub buffer_after_diagnosis : Result (Option CauseAndOffset) Refusal → (before : List ℕ) → List ℕ
+buffer_after_diagnosis (Ok (Some told)) before = buffer_after_text (string_bytes told.cause) before
+buffer_after_diagnosis (Ok None) before = before
+buffer_after_diagnosis (Err refusal) before = before
 
 -- The caller's variable for the offset after a diagnosis, after none, or after a refusal.
-abbrev pub place_after : Result (Option Told) Refusal → (at : ℕ) → ℕ
+abbrev pub place_after : Result (Option CauseAndOffset) Refusal → (at : ℕ) → ℕ
 place_after (Ok (Some told)) at = told.at
 place_after (Ok None) at = at
 place_after (Err refusal) at = at
 
 -- The reply, the caller's variable for the offset and the buffer afterwards are those of a result.
-abbrev pub RepliesTold : Given → (width : ℕ → ℕ) → (at : ℕ) → (before : List ℕ) → (at' : ℕ) → (after : List ℕ) → Reply → Type 0
-RepliesTold given width at before at' after reply = (told : Result (Option Told) Refusal)
-    × Diagnoses given width told × (reply ≡ told_reply told (length before)) × (at' ≡ place_after told at) × (after ≡ left_by_told told before)
+abbrev pub RepliesDiagnosis : Given → (width : ℕ → ℕ) → (at : ℕ) → (before : List ℕ) → (at' : ℕ) → (after : List ℕ)
+    → Reply → Type 0
+RepliesDiagnosis given width at before at' after reply = (told : Result (Option CauseAndOffset) Refusal)
+    × Diagnoses given width told × (reply ≡ diagnosis_reply told (length before)) × (at' ≡ place_after told at)
+    × (after ≡ buffer_after_diagnosis told before)
 
 -- The same for a pattern of this language. Without one, the language is refused, and nothing is
 -- written.
-abbrev pub RepliesToldWithSyntax : Option pattern.Syntax → (pattern.Syntax → Given) → (width : ℕ → ℕ)
+abbrev pub RepliesDiagnosisWithSyntax : Option pattern.Syntax → (pattern.Syntax → Given) → (width : ℕ → ℕ)
     → (at : ℕ) → (before : List ℕ) → (at' : ℕ) → (after : List ℕ) → Reply → Type 0
-RepliesToldWithSyntax None given width at before at' after reply =
+RepliesDiagnosisWithSyntax None given width at before at' after reply =
     (reply ≡ record { code = code_of UnknownSyntax; count = 0 }) × (at' ≡ at) × (after ≡ before)
-RepliesToldWithSyntax (Some syntax) given width at before at' after reply =
-    RepliesTold (given syntax) width at before at' after reply
+RepliesDiagnosisWithSyntax (Some syntax) given width at before at' after reply =
+    RepliesDiagnosis (given syntax) width at before at' after reply

@@ -3,7 +3,7 @@
 ghost use Rattle.std.specs.Prelude.{◌≡◌, ◌<◌, Some, length};
 ghost use Rattle.regex_meaning.specs.Laws.{Each};
 ghost use Rattle.regress_search.specs.CostsOfCalls.{without_costs};
-ghost use Rattle.regress_c.specs.{AllInWork.{FillsInWork, RepliesAllInWork, RepliesOutcome, WritesInWork}, Replies.{spans_of}};
+ghost use Rattle.regress_c.specs.{AllMatchesInWork.{FillsInWork, RepliesAllInWork, RepliesOutcome, WritesInWork}, Replies.{spans_of}};
 ghost use Rattle.regress_c.specs.{Searching.{can_start_utf8}, Texts.{range_count}};
 
 use crate::pattern::Pattern;
@@ -24,8 +24,7 @@ pub(crate) fn find_all(
     work: &mut u64,
     spans: &mut [Span],
 ) -> Reply
-    ensures replies { RepliesAllInWork pattern.old.held bytes.now start work.old work.new spans.old
-        spans.new result }
+    ensures replies { RepliesAllInWork pattern.old.held bytes.now start work.old work.new spans.old spans.new result }
     ensures kept { pattern.new.held ≡ pattern.old.held }
 {
     let Some(re) = pattern.take(alloc) else {

@@ -4,7 +4,7 @@ ghost use Rattle.std.specs.Prelude.{◌≡◌, IsUtf8};
 ghost use Rattle.regress_c.specs.Searching.{can_start_utf16, can_start_utf8};
 ghost use Rattle.regress_c.specs.MatchesAt.{ucs2_coming_at, utf16_coming_at, utf8_coming_at};
 
-use crate::opening::cuts_utf16;
+use crate::opening::splits_surrogate_pair;
 use crate::refusal::Refusal;
 use crate::subject::{Subject, text_from};
 use regress_match::{Match, Regex};
@@ -42,7 +42,7 @@ impl Subject for AnchoredUtf16<'_> {
     ghost coming = { λ s re at. utf16_coming_at s.units.now re at };
 
     fn first(&self, re: &Regex, at: usize) -> Result<Option<Match>, Refusal> {
-        if cuts_utf16(self.units, at) {
+        if splits_surrogate_pair(self.units, at) {
             return Err(Refusal::NotBoundary);
         }
         Ok(re.match_at_utf16(self.units, at)?)

@@ -9,49 +9,49 @@
 ghost use Rattle.std.specs.Prelude.{◌≡◌, IsUtf8, None, Some, chars, length};
 ghost use Rattle.std.specs.Char.{len_utf8};
 ghost use Rattle.regex_meaning.specs.Text.{utf16_characters, utf16_width};
-ghost use Rattle.regress_c.specs.{Compiling.{RepliesCloned, RepliesMade, RepliesMadeWithSyntax, given, given_with_syntax, unbounded}, Going.{RepliesNext}};
-ghost use Rattle.regress_c.specs.{InWork.{RepliesInWork, RepliesReckoned}, Opening.{OpensUcs2, OpensUtf8, OpensUtf16, RepliesOpened}};
+ghost use Rattle.regress_c.specs.{Compiling.{RepliesCloned, RepliesMade, RepliesMadeWithSyntax, given, given_with_syntax, unbounded}, NextMatches.{RepliesNext}};
+ghost use Rattle.regress_c.specs.{FirstMatchInWork.{RepliesInWork, RepliesWorkBound}, Opening.{OpensUcs2, OpensUtf8, OpensUtf16, RepliesOpened}};
 ghost use Rattle.regress_c.specs.Reading.{syntax_of_number};
-ghost use Rattle.regress_c.specs.Searching.{Replies, can_start_utf8, can_start_utf16, ucs2_coming, utf8_coming, utf16_coming};
-ghost use Rattle.regress_c.specs.{AllInWork.{RepliesAllInWork}, Codes.{done}, GroupNumbers.{number_reply}};
+ghost use Rattle.regress_c.specs.Searching.{Replies, can_start_utf8, can_start_utf16, ucs2_matches_to_come, utf8_matches_to_come, utf16_matches_to_come};
+ghost use Rattle.regress_c.specs.{AllMatchesInWork.{RepliesAllInWork}, Codes.{done}, GroupNumbers.{number_reply}};
 ghost use Rattle.regress_c.specs.{MatchesAt.{ucs2_coming_at, utf16_coming_at, utf8_coming_at}, Messages.{message_of}};
-ghost use Rattle.regress_c.specs.Texts.{Escapes, NamesBy, ReplacesBy, RepliesText, RepliesTold, RepliesToldWithSyntax, count_reply, left_by_text, text_reply};
-ghost use Rattle.regress_c.specs.declared.answer.Which.TheVariants.{First, All};
+ghost use Rattle.regress_c.specs.Texts.{Escapes, NamesBy, ReplacesBy, RepliesText, RepliesDiagnosis, RepliesDiagnosisWithSyntax, count_reply, buffer_after_text, text_reply};
+ghost use Rattle.regress_c.specs.declared.text_replies.ReplacedMatches.TheVariants.{First, All};
 
 mod all_in_work;
 mod anchored;
-mod answer;
 mod cloning;
 mod compiling;
+mod first_match;
+mod first_match_in_work;
 mod flags;
-mod going;
-mod loose;
 mod message;
+mod next_matches;
 mod opening;
 mod pattern;
+mod raw_box;
 mod refusal;
 mod reply;
 mod search;
-mod searching;
 mod source;
 mod subject;
 mod syntax;
-mod worked;
+mod text_replies;
 
 use crate::all_in_work::find_all;
 use crate::anchored::{AnchoredUcs2, AnchoredUtf8, AnchoredUtf16};
-use crate::answer::{Which, named, numbered};
 use crate::compiling::{Bounds, compile, compile_with_syntax};
-use crate::going::go_on;
+use crate::first_match::search;
+use crate::first_match_in_work::{find, write_work_bound};
+use crate::next_matches::write_next_matches;
 use crate::opening::open;
 use crate::pattern::Pattern;
 use crate::refusal::Refusal;
 use crate::reply::{Reply, Span, reply_with};
 use crate::search::Search;
-use crate::searching::search;
 use crate::source::{Utf8Source, Utf16Source};
 use crate::subject::{Ucs2, Utf8, Utf16};
-use crate::worked::{find, reckon};
+use crate::text_replies::{ReplacedMatches, named, numbered};
 use regress_match::Syntax;
 use std::alloc::Global;
 
@@ -167,8 +167,7 @@ pub extern "C" fn regress_c_compile_utf8_with_syntax(
     bounds: &Bounds,
 ) -> u32
     ensures { RepliesMadeWithSyntax pattern.old.held (syntax_of_number syntax)
-        (λ s. given_with_syntax s (IsUtf8 text.now) (chars text.now) flags.now) bounds.now
-        pattern.new.held result }
+        (λ s. given_with_syntax s (IsUtf8 text.now) (chars text.now) flags.now) bounds.now pattern.new.held result }
 {
     compile_with_syntax(
         alloc,
@@ -191,8 +190,7 @@ pub extern "C" fn regress_c_compile_utf16_with_syntax(
     bounds: &Bounds,
 ) -> u32
     ensures { RepliesMadeWithSyntax pattern.old.held (syntax_of_number syntax)
-        (λ s. given_with_syntax s (Unit {0}) (utf16_characters text.now) flags.now) bounds.now
-        pattern.new.held result }
+        (λ s. given_with_syntax s (Unit {0}) (utf16_characters text.now) flags.now) bounds.now pattern.new.held result }
 {
     compile_with_syntax(
         alloc,
@@ -214,10 +212,10 @@ pub extern "C" fn regress_c_diagnose_utf8(
     at: &mut usize,
     cause: &mut [u8],
 ) -> Reply
-    ensures { RepliesTold (given (IsUtf8 text.now) (chars text.now) flags.now) len_utf8 at.old cause.old
+    ensures { RepliesDiagnosis (given (IsUtf8 text.now) (chars text.now) flags.now) len_utf8 at.old cause.old
         at.new cause.new result }
 {
-    answer::diagnosis(
+    text_replies::diagnosis(
         alloc,
         &Utf8Source { bytes: text },
         flags,
@@ -237,10 +235,10 @@ pub extern "C" fn regress_c_diagnose_utf16(
     at: &mut usize,
     cause: &mut [u8],
 ) -> Reply
-    ensures { RepliesTold (given (Unit {0}) (utf16_characters text.now) flags.now) utf16_width at.old
+    ensures { RepliesDiagnosis (given (Unit {0}) (utf16_characters text.now) flags.now) utf16_width at.old
         cause.old at.new cause.new result }
 {
-    answer::diagnosis(
+    text_replies::diagnosis(
         alloc,
         &Utf16Source { units: text },
         flags,
@@ -261,11 +259,18 @@ pub extern "C" fn regress_c_diagnose_utf8_with_syntax(
     at: &mut usize,
     cause: &mut [u8],
 ) -> Reply
-    ensures { RepliesToldWithSyntax (syntax_of_number syntax)
+    ensures { RepliesDiagnosisWithSyntax (syntax_of_number syntax)
         (λ s. given_with_syntax s (IsUtf8 text.now) (chars text.now) flags.now) len_utf8 at.old cause.old
         at.new cause.new result }
 {
-    answer::diagnosis_with_syntax(alloc, &Utf8Source { bytes: text }, flags, syntax, at, cause)
+    text_replies::diagnosis_with_syntax(
+        alloc,
+        &Utf8Source { bytes: text },
+        flags,
+        syntax,
+        at,
+        cause,
+    )
 }
 
 /// Writes what is wrong with a UTF-16 pattern, like `regress_c_diagnose_utf8_with_syntax`.
@@ -278,11 +283,11 @@ pub extern "C" fn regress_c_diagnose_utf16_with_syntax(
     at: &mut usize,
     cause: &mut [u8],
 ) -> Reply
-    ensures { RepliesToldWithSyntax (syntax_of_number syntax)
+    ensures { RepliesDiagnosisWithSyntax (syntax_of_number syntax)
         (λ s. given_with_syntax s (Unit {0}) (utf16_characters text.now) flags.now) utf16_width at.old
         cause.old at.new cause.new result }
 {
-    answer::diagnosis_with_syntax(
+    text_replies::diagnosis_with_syntax(
         alloc,
         &Utf16Source { units: text },
         flags,
@@ -315,7 +320,7 @@ pub extern "C" fn regress_c_range_count(alloc: Global, pattern: &mut Pattern) ->
     ensures reply { result ≡ count_reply pattern.old.held }
     ensures kept { pattern.new.held ≡ pattern.old.held }
 {
-    answer::range_count(alloc, pattern)
+    text_replies::range_count(alloc, pattern)
 }
 
 /// Writes the name of a group, in UTF-8.
@@ -363,7 +368,7 @@ pub extern "C" fn regress_c_find_utf8(
     spans: &mut [Span],
 ) -> Reply
     ensures replies { Replies pattern.old.held (IsUtf8 text.now) (can_start_utf8 text.now start)
-        (λ re. utf8_coming text.now re start) spans.old spans.new result }
+        (λ re. utf8_matches_to_come text.now re start) spans.old spans.new result }
     ensures kept { pattern.new.held ≡ pattern.old.held }
 {
     search(alloc, pattern, &Utf8 { bytes: text }, start, spans)
@@ -379,7 +384,7 @@ pub extern "C" fn regress_c_find_utf16(
     spans: &mut [Span],
 ) -> Reply
     ensures replies { Replies pattern.old.held (Unit {0}) (can_start_utf16 text.now start)
-        (λ re. utf16_coming text.now re start) spans.old spans.new result }
+        (λ re. utf16_matches_to_come text.now re start) spans.old spans.new result }
     ensures kept { pattern.new.held ≡ pattern.old.held }
 {
     search(alloc, pattern, &Utf16 { units: text }, start, spans)
@@ -394,7 +399,7 @@ pub extern "C" fn regress_c_find_ucs2(
     start: usize,
     spans: &mut [Span],
 ) -> Reply
-    ensures replies { Replies pattern.old.held (Unit {0}) (Unit {0}) (λ re. ucs2_coming text.now re start)
+    ensures replies { Replies pattern.old.held (Unit {0}) (Unit {0}) (λ re. ucs2_matches_to_come text.now re start)
         spans.old spans.new result }
     ensures kept { pattern.new.held ≡ pattern.old.held }
 {
@@ -461,10 +466,10 @@ pub extern "C" fn regress_c_work_per_unit(
     pattern: &mut Pattern,
     per_unit: &mut u64,
 ) -> u32
-    ensures replies { RepliesReckoned pattern.old.held per_unit.old per_unit.new result }
+    ensures replies { RepliesWorkBound pattern.old.held per_unit.old per_unit.new result }
     ensures kept { pattern.new.held ≡ pattern.old.held }
 {
-    reckon(alloc, pattern, per_unit)
+    write_work_bound(alloc, pattern, per_unit)
 }
 
 /// Finds the first match in a UTF-8 text from `start` on, an offset in bytes, with at most `work`
@@ -495,8 +500,7 @@ pub extern "C" fn regress_c_find_all_utf8_in_work(
     work: &mut u64,
     spans: &mut [Span],
 ) -> Reply
-    ensures replies { RepliesAllInWork pattern.old.held text.now start work.old work.new spans.old
-        spans.new result }
+    ensures replies { RepliesAllInWork pattern.old.held text.now start work.old work.new spans.old spans.new result }
     ensures kept { pattern.new.held ≡ pattern.old.held }
 {
     find_all(alloc, pattern, text, start, work, spans)
@@ -552,7 +556,7 @@ pub extern "C" fn regress_c_next(
     ensures replies { RepliesNext pattern.old.held search.old search.new None None spans.old spans.new result }
     ensures kept { pattern.new.held ≡ pattern.old.held }
 {
-    go_on(alloc, pattern, search, None, spans).reply
+    write_next_matches(alloc, pattern, search, None, spans).reply
 }
 
 /// Writes the next matches of a search, with at most `steps` steps. Sets `steps` to the steps that
@@ -569,7 +573,7 @@ pub extern "C" fn regress_c_next_within(
         spans.old spans.new result }
     ensures kept { pattern.new.held ≡ pattern.old.held }
 {
-    let went = go_on(alloc, pattern, search, Some(*steps), spans);
+    let went = write_next_matches(alloc, pattern, search, Some(*steps), spans);
     if let Some(left) = went.left {
         *steps = left;
     }
@@ -599,7 +603,14 @@ pub extern "C" fn regress_c_replace_utf8(
         made.new result }
     ensures kept { pattern.new.held ≡ pattern.old.held }
 {
-    answer::replace(alloc, pattern, text, replacement, Which::First, made)
+    text_replies::replace(
+        alloc,
+        pattern,
+        text,
+        replacement,
+        ReplacedMatches::First,
+        made,
+    )
 }
 
 /// Writes a UTF-8 text with each match replaced by the replacement.
@@ -614,7 +625,14 @@ pub extern "C" fn regress_c_replace_all_utf8(
     ensures replies { RepliesText (ReplacesBy pattern.old.held text.now replacement.now All) made.old made.new result }
     ensures kept { pattern.new.held ≡ pattern.old.held }
 {
-    answer::replace(alloc, pattern, text, replacement, Which::All, made)
+    text_replies::replace(
+        alloc,
+        pattern,
+        text,
+        replacement,
+        ReplacedMatches::All,
+        made,
+    )
 }
 
 /// Writes a UTF-8 text with its syntax characters escaped, so that a pattern matches it literally.
@@ -622,7 +640,7 @@ pub extern "C" fn regress_c_replace_all_utf8(
 pub extern "C" fn regress_c_escape_utf8(alloc: Global, text: &[u8], escaped: &mut [u8]) -> Reply
     ensures { RepliesText (Escapes text.now) escaped.old escaped.new result }
 {
-    answer::escaped(alloc, text, escaped)
+    text_replies::escaped(alloc, text, escaped)
 }
 
 // ---- Messages
@@ -631,7 +649,7 @@ pub extern "C" fn regress_c_escape_utf8(alloc: Global, text: &[u8], escaped: &mu
 #[unsafe(no_mangle)]
 pub extern "C" fn regress_c_message_utf8(code: u32, message: &mut [u8]) -> Reply
     ensures reply { result ≡ text_reply done (message_of code) (length message.old) }
-    ensures written { message.new ≡ left_by_text (message_of code) message.old }
+    ensures written { message.new ≡ buffer_after_text (message_of code) message.old }
 {
-    answer::message(code, message)
+    text_replies::message(code, message)
 }

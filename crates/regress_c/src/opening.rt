@@ -23,7 +23,7 @@ pub(crate) fn open<'t>(search: &mut Search<'t>, opened: Result<Search<'t>, Refus
 }
 
 /// Checks whether a start is within a UTF-8 text and splits a character.
-pub(crate) fn cuts_utf8(text: &str, start: usize) -> bool
+pub(crate) fn splits_utf8_character(text: &str, start: usize) -> bool
     ensures cut { result ≡ true → ¬ can_start_utf8 text.now start }
     ensures whole { result ≡ false → can_start_utf8 text.now start }
 {
@@ -31,7 +31,7 @@ pub(crate) fn cuts_utf8(text: &str, start: usize) -> bool
 }
 
 /// Checks whether a start is within a UTF-16 text and splits a surrogate pair.
-pub(crate) fn cuts_utf16(units: &[u16], start: usize) -> bool
+pub(crate) fn splits_surrogate_pair(units: &[u16], start: usize) -> bool
     ensures cut { result ≡ true → ¬ can_start_utf16 units.now start }
     ensures whole { result ≡ false → can_start_utf16 units.now start }
 {

@@ -3,10 +3,10 @@
 ghost use Rattle.std.specs.Prelude.{◌≡◌, None, Option, Some, option_map};
 ghost use Rattle.std.specs.Coded.{coded_option};
 ghost use Rattle.std.specs.Option.{MatchOption};
-ghost use Rattle.regress_c.specs.Held.{held_owns};
+ghost use Rattle.regress_c.specs.HeldPattern.{held_owns};
 ghost use Rattle.regress_match.specs.{contracts.api.regex.Regex.{the_row}, declared.api.regex.Regex.{Regex as Compiled}};
 
-use crate::loose::Loose;
+use crate::raw_box::RawBox;
 use regress_match::Regex;
 use std::alloc::Global;
 use std::marker::Model;
@@ -28,10 +28,10 @@ impl Model for Pattern {
 
 impl Pattern {
     // Returns a handle that holds a pattern, from its pointer.
-    fn of(loose: Loose<Regex, Global>) -> Pattern
+    fn of(loose: RawBox<Regex, Global>) -> Pattern
         ensures { result.held ≡ Some loose.value }
     {
-        let Loose { at, alloc: _ } = loose;
+        let RawBox { at, alloc: _ } = loose;
         Pattern { at: at as *mut u8 }
     }
 
@@ -43,14 +43,14 @@ impl Pattern {
     }
 
     // Returns the pointer and the allocator of the pattern, or `None` if the handle is empty.
-    fn into_loose(self, alloc: Global) -> Option<Loose<Regex, Global>>
+    fn into_loose(self, alloc: Global) -> Option<RawBox<Regex, Global>>
         ensures { MatchOption result (self.held ≡ None) (λ l. self.held ≡ Some l.value) }
     {
         let Pattern { at } = self;
         if at.is_null() {
             None
         } else {
-            Some(Loose {
+            Some(RawBox {
                 at: at as *mut Regex,
                 alloc,
             })
@@ -74,6 +74,6 @@ impl Pattern {
         requires { self.old.held ≡ None }
         ensures { self.new.held ≡ Some re.value }
     {
-        *self = Pattern::of(Loose::of(re));
+        *self = Pattern::of(RawBox::of(re));
     }
 }

@@ -123,7 +123,7 @@ fn code_of_reason(reason: Unbounded) -> u32
         Unbounded::Lookaround => 19,
         Unbounded::Backreference => 22,
         Unbounded::Count => 23,
-        Unbounded::Price => 24,
+        Unbounded::BoundTooLarge => 24,
     }
 }
 
@@ -138,9 +138,9 @@ impl From<Unbounded> for Refusal {
 }
 
 impl From<SearchError> for Refusal {
-    ghost use Rattle.regress_c.specs.Codes.{of_search};
+    ghost use Rattle.regress_c.specs.Codes.{refusal_of_search_error};
 
-    ghost from_gives = { λ error refusal. refusal ≡ of_search error };
+    ghost from_gives = { λ error refusal. refusal ≡ refusal_of_search_error error };
 
     fn from(error: SearchError) -> Refusal {
         match error {
@@ -151,9 +151,9 @@ impl From<SearchError> for Refusal {
 }
 
 impl From<WorkError> for Refusal {
-    ghost use Rattle.regress_c.specs.Codes.{of_work};
+    ghost use Rattle.regress_c.specs.Codes.{refusal_of_work_error};
 
-    ghost from_gives = { λ error refusal. refusal ≡ of_work error };
+    ghost from_gives = { λ error refusal. refusal ≡ refusal_of_work_error error };
 
     fn from(error: WorkError) -> Refusal {
         match error {

@@ -1,7 +1,7 @@
 //! The reply of a search, and the ranges that it writes into the caller's buffer.
 
 ghost use Rattle.std.specs.Prelude.{◌≡◌, ◌≤◌, ◌+◌, ◌++◌, Ok, Some, drop, length, option_map, take};
-ghost use Rattle.regress_c.specs.Replies.{left_by, reply_to, span_of, spans_of, written_over};
+ghost use Rattle.regress_c.specs.Replies.{buffer_after_search, reply_to, span_of, spans_of, written_over};
 ghost use Rattle.regress_search.specs.MatchesAsSpecAnswers.{answer_of, range_as_pair};
 
 use crate::refusal::{DONE, NO_MATCH, Refusal};
@@ -64,7 +64,7 @@ pub(crate) fn write_at(found: &Match, count: usize, at: usize, spans: &mut [Span
 /// there is room for all of them.
 pub(crate) fn reply_with(found: Result<Option<Match>, Refusal>, spans: &mut [Span]) -> Reply
     ensures reply { result ≡ reply_to found (length spans.old) }
-    ensures written { spans.new ≡ left_by found spans.old }
+    ensures written { spans.new ≡ buffer_after_search found spans.old }
 {
     match found {
         Ok(Some(found)) => matched(&found, spans),
@@ -77,10 +77,10 @@ pub(crate) fn reply_with(found: Result<Option<Match>, Refusal>, spans: &mut [Spa
 }
 
 // Replies to a match.
-#[tactic(auto, using(crate::proofs::Spans::count_is, crate::proofs::Spans::done_reply, crate::proofs::Spans::short_reply, crate::proofs::Spans::done_left, crate::proofs::Spans::short_left))]
+#[tactic(auto, using(crate::proofs::ReplyLemmas::count_is, crate::proofs::ReplyLemmas::done_reply, crate::proofs::ReplyLemmas::short_reply, crate::proofs::ReplyLemmas::done_left, crate::proofs::ReplyLemmas::short_left))]
 fn matched(found: &Match, spans: &mut [Span]) -> Reply
     ensures reply { result ≡ reply_to (Ok (Some found.now)) (length spans.old) }
-    ensures written { spans.new ≡ left_by (Ok (Some found.now)) spans.old }
+    ensures written { spans.new ≡ buffer_after_search (Ok (Some found.now)) spans.old }
 {
     let count = found.captures.len() + 1;
     if spans.len() < count {

@@ -4,7 +4,7 @@
 ghost use Rattle.std.specs.Prelude.{◌≡◌, IsUtf8};
 ghost use Rattle.std.proofs.Props.{props};
 
-use crate::opening::{cuts_utf8, cuts_utf16};
+use crate::opening::{splits_surrogate_pair, splits_utf8_character};
 use crate::refusal::Refusal;
 
 /// How a text is read.
@@ -72,7 +72,7 @@ impl<'t> Search<'t> {
         ensures { OpensUtf8 bytes.now start result }
     {
         let text = str::from_utf8(bytes)?;
-        if cuts_utf8(text, start) {
+        if splits_utf8_character(text, start) {
             return Err(Refusal::NotBoundary);
         }
         Ok(Search {
@@ -88,7 +88,7 @@ impl<'t> Search<'t> {
     pub(crate) fn in_utf16(units: &'t [u16], start: usize) -> Result<Self, Refusal>
         ensures { OpensUtf16 units.now start result }
     {
-        if cuts_utf16(units, start) {
+        if splits_surrogate_pair(units, start) {
             return Err(Refusal::NotBoundary);
         }
         Ok(Search {

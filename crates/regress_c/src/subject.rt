@@ -2,7 +2,7 @@
 
 ghost use Rattle.std.specs.Prelude.{◌≡◌, ◌<◌, ◌↔◌, ◌⊎◌, ℕ, IsTrue, IsUtf8, length};
 ghost use Rattle.regex_meaning.specs.Text.{is_unit_boundary as is_boundary_of};
-ghost use Rattle.regress_c.specs.Searching.{MatchesToCome, Finds, IsFirst, Starts, can_start_utf16, can_start_utf8, ucs2_coming, utf16_coming, utf8_coming};
+ghost use Rattle.regress_c.specs.Searching.{MatchesToCome, Finds, IsFirst, Starts, can_start_utf16, can_start_utf8, ucs2_matches_to_come, utf16_matches_to_come, utf8_matches_to_come};
 ghost use Rattle.regress_match.specs.declared.api.regex.Regex.{Regex as Compiled};
 
 use crate::refusal::Refusal;
@@ -54,7 +54,7 @@ impl Subject for Utf8<'_> {
 
     ghost can_start = { λ s start. can_start_utf8 s.bytes.now start };
 
-    ghost coming = { λ s re start. utf8_coming s.bytes.now re start };
+    ghost coming = { λ s re start. utf8_matches_to_come s.bytes.now re start };
 
     fn first(&self, re: &Regex, start: usize) -> Result<Option<Match>, Refusal> {
         let text = text_from(self.bytes, start)?;
@@ -73,7 +73,7 @@ impl Subject for Utf16<'_> {
 
     ghost can_start = { λ s start. can_start_utf16 s.units.now start };
 
-    ghost coming = { λ s re start. utf16_coming s.units.now re start };
+    ghost coming = { λ s re start. utf16_matches_to_come s.units.now re start };
 
     fn first(&self, re: &Regex, start: usize) -> Result<Option<Match>, Refusal> {
         if !is_unit_boundary(self.units, start) && start <= self.units.len() {
@@ -94,7 +94,7 @@ impl Subject for Ucs2<'_> {
 
     ghost can_start = { λ _ _. Unit {0} };
 
-    ghost coming = { λ s re start. ucs2_coming s.units.now re start };
+    ghost coming = { λ s re start. ucs2_matches_to_come s.units.now re start };
 
     fn first(&self, re: &Regex, start: usize) -> Result<Option<Match>, Refusal> {
         first_of(re.find_from_ucs2(self.units, start)?)

@@ -1,4 +1,4 @@
--- Characters in UTF-16, read from their units.
+-- Reading at a boundary of a UTF-16 text yields the character that its code units encode.
 use Rattle.std.proofs.Common.{◌≡◌, ◌≢◌, ℕ, zero, suc, ◌+◌, ◌-◌, ◌/◌, ◌%◌, ◌<◌, ◌≤◌, ◌⊎◌, inl, inr, Bool, true, false, cond, if◌then◌else◌, not, ◌&&◌}
 use Rattle.std.proofs.Common.{List, [], ◌∷◌, ◌++◌, length, get_or, take, drop, flat_map, slice_get, slice_index, nat_le, nat_eq, Some, None, refl}
 use Rattle.std.proofs.Common.{sym, ◌∙◌, ap, ap₂, subst, arith, add-one, eq-eqb, ne_eqb, le-leb, leb-true, lt-ltb, le-ltb, get_or-drop}
@@ -9,12 +9,12 @@ use Rattle.regex_meaning.specs.Text.{utf16_characters, utf16_text, is_unit_bound
 use Rattle.regex_meaning.specs.CodeUnitOffsets.{IsBoundary, units, read}
 use Rattle.regex_meaning.specs.CodeUnits.{utf16, spelled_in}
 use Rattle.regex_meaning.specs.Laws.{is_within_pair}
-use Rattle.regex_meaning.proofs.TextLemmas.{utf16_text-IsText}
-use Rattle.regex_meaning.proofs.UnitLemmas.{unit_boundary-place_at, unit_boundary-between, units-utf16}
+use Rattle.regex_meaning.proofs.CodeUnitOffsetsLemmas.{utf16_text-IsText}
+use Rattle.regex_meaning.proofs.UnitBoundaryLemmas.{unit_boundary-place_at, unit_boundary-between, units-utf16}
 use Rattle.regress_input.specs.TextSpellingAndOffsetLimit.{sized_utf16}
-use Rattle.regress_input.specs.Utf16CharactersAtOffsets.{AreU16Units, is_surrogate_pair_at, pair_at, character_starting_at, character_before}
-use Rattle.regress_input.proofs.Places.{pair, right_boundary, left_boundary, boundary_inside}
-use Rattle.regress_input.proofs.Spelled.{ReadsRight, ReadsLeft, reads_right, reads_left, at_end, before_character, at_start, behind_character}
+use Rattle.regress_input.specs.Utf16CharactersAtOffsets.{AreU16Units, is_surrogate_pair_at, char_of_surrogate_pair_at, character_starting_at, character_before}
+use Rattle.regress_input.proofs.BoundaryPositions.{pair, right_boundary, left_boundary, boundary_inside}
+use Rattle.regress_input.proofs.SpelledTextLemmas.{ReadsRight, ReadsLeft, reads_right, reads_left, at_end, before_character, at_start, behind_character}
 
 -- ---- The units of a character
 
@@ -293,7 +293,7 @@ module _ (us : List ℕ) (small : AreU16Units us) where
     is_one : (at c : ℕ) (rest : List ℕ) → c < 0x1_0000 → drop at us ≡ spell c ++ rest → slice_index us at ≡ c
     is_one at c rest l e = seen_first at (c ∷ []) rest (e ∙ ap (λ (p : List ℕ). p ++ rest) (spell-one c l))
 
-    is_two : (at c : ℕ) (rest : List ℕ) → 0x1_0000 ≤ c → c < 0x11_0000 → drop at us ≡ spell c ++ rest → (is_surrogate_pair_at us at ≡ true) × (pair_at us at ≡ c)
+    is_two : (at c : ℕ) (rest : List ℕ) → 0x1_0000 ≤ c → c < 0x11_0000 → drop at us ≡ spell c ++ rest → (is_surrogate_pair_at us at ≡ true) × (char_of_surrogate_pair_at us at ≡ c)
     is_two at c rest l m e =
         let spells : drop at us ≡ (high_of c ∷ low_of c ∷ []) ++ rest = e ∙ ap (λ (p : List ℕ). p ++ rest) (spell-two c l) in
         let h : slice_index us at ≡ high_of c = seen_first at (high_of c ∷ low_of c ∷ []) rest spells in
@@ -324,12 +324,12 @@ module _ (us : List ℕ) (small : AreU16Units us) where
             let to : at + utf16_width c ≡ at + 1 = ap (λ w. at + w) (width-one c l) in
             let none : is_surrogate_pair_at us at ≡ false = none_around at (subst (IsBoundary text) to (right_boundary text (utf16_text-IsText us unicode) at c (at + utf16_width c) r)) in
             r ∙ ap₂ (λ x y. Some (pair x y)) (sym (is_one at c rest l s)) to
-            ∙ ap Some (sym (choice (is_surrogate_pair_at us at) false (pair_at us at, at + 2) (slice_index us at, at + 1) none))
+            ∙ ap Some (sym (choice (is_surrogate_pair_at us at) false (char_of_surrogate_pair_at us at, at + 2) (slice_index us at, at + 1) none))
         by k c rest g s r (inr l) =
             let to : at + utf16_width c ≡ at + 2 = ap (λ w. at + w) (width-two c l) in
             let two = is_two at c rest l (code_point k c g) s in
             r ∙ ap₂ (λ x y. Some (pair x y)) (sym two.1) to
-            ∙ ap Some (sym (choice (is_surrogate_pair_at us at) true (pair_at us at, at + 2) (slice_index us at, at + 1) two.0))
+            ∙ ap Some (sym (choice (is_surrogate_pair_at us at) true (char_of_surrogate_pair_at us at, at + 2) (slice_index us at, at + 1) two.0))
 
     pub read-start : (at : ℕ) → IsBoundary text at → at ≡ 0 → read text leftwards at ≡ None
     read-start at b e = elim (left at b) [
@@ -350,7 +350,7 @@ module _ (us : List ℕ) (small : AreU16Units us) where
             let there : IsBoundary text start = left_boundary text (utf16_text-IsText us unicode) at c start r in
             let value : c ≡ slice_index us (at - 1) = sym (is_one start c rest l s) ∙ ap (slice_index us) from in
             r ∙ ap₂ (λ x y. Some (pair x y)) value from
-            ∙ ap Some (sym (choice (nat_le 2 at && is_surrogate_pair_at us (at - 2)) false (pair_at us (at - 2), at - 2) (slice_index us (at - 1), at - 1) (none there from (cases_lt at 2))))
+            ∙ ap Some (sym (choice (nat_le 2 at && is_surrogate_pair_at us (at - 2)) false (char_of_surrogate_pair_at us (at - 2), at - 2) (slice_index us (at - 1), at - 1) (none there from (cases_lt at 2))))
           where
             none : IsBoundary text start → start ≡ at - 1 → (at < 2) ⊎ (2 ≤ at) → (nat_le 2 at && is_surrogate_pair_at us (at - 2)) ≡ false
             none there from (inl o) = ap (λ (t : Bool). t && is_surrogate_pair_at us (at - 2)) (lt-leb 2 at o)
@@ -361,10 +361,10 @@ module _ (us : List ℕ) (small : AreU16Units us) where
             let from : start ≡ at - 2 = omega (arith, m, width-two c l) in
             let two = is_two start c rest l (code_point k c g) s in
             let stands : is_surrogate_pair_at us (at - 2) ≡ true = ap (is_surrogate_pair_at us) (sym from) ∙ two.0 in
-            let value : c ≡ pair_at us (at - 2) = sym two.1 ∙ ap (pair_at us) from in
+            let value : c ≡ char_of_surrogate_pair_at us (at - 2) = sym two.1 ∙ ap (char_of_surrogate_pair_at us) from in
             let far : 2 ≤ at = omega (arith, m, width-two c l) in
             r ∙ ap₂ (λ x y. Some (pair x y)) value from
-            ∙ ap Some (sym (choice (nat_le 2 at && is_surrogate_pair_at us (at - 2)) true (pair_at us (at - 2), at - 2) (slice_index us (at - 1), at - 1) (and_from _ _ (le-leb 2 at far) stands)))
+            ∙ ap Some (sym (choice (nat_le 2 at && is_surrogate_pair_at us (at - 2)) true (char_of_surrogate_pair_at us (at - 2), at - 2) (slice_index us (at - 1), at - 1) (and_from _ _ (le-leb 2 at far) stands)))
 
     -- ---- As what readers answer
 

@@ -1,24 +1,24 @@
--- Ranges of texts in UTF-16.
+-- A range between boundaries of a UTF-16 text is the text of its code units.
 use Rattle.std.proofs.Common.{◌≡◌, ℕ, ◌-◌, ◌≤◌, List, drop, slice_range, Bool, true, cond, nat_eq, Option, Some, None, sym, ◌∙◌, ap}
 use Rattle.regex_meaning.specs.Text.{Text, Direction, rightwards, leftwards, utf16_width, utf16_characters, utf16_text, is_unit_boundary}
 use Rattle.regex_meaning.specs.Text.{fold_code_point}
 use Rattle.regex_meaning.specs.CodeUnitOffsets.{IsBoundary}
-use Rattle.regress_input.specs.CharAndByteReadsFromOffset.{part, characters_between, past_spelled_if_next, past_bytes_if_next}
-use Rattle.regress_input.specs.Utf16CharactersAtOffsets.{AreU16Units, if_boundary}
-use Rattle.regress_input.proofs.Spelled.{text_of}
-use Rattle.regress_input.proofs.Slices.{range-units, part-is, found-right, found-left, IsInjective, past_bytes-right, right-past_bytes}
-use Rattle.regress_input.proofs.Slices.{past_bytes-left, left-past_bytes, chosen}
+use Rattle.regress_input.specs.CharAndByteReadsFromOffset.{part, characters_between, past_spelled_if_next, past_numbers_if_next}
+use Rattle.regress_input.specs.Utf16CharactersAtOffsets.{AreU16Units, if_utf16_boundary}
+use Rattle.regress_input.proofs.SpelledTextLemmas.{text_of}
+use Rattle.regress_input.proofs.TextSlices.{range-units, part-is, found-right, found-left, IsInjective, past_bytes-right, right-past_bytes}
+use Rattle.regress_input.proofs.TextSlices.{past_bytes-left, left-past_bytes, chosen}
 use Rattle.regress_input.proofs.Utf16Reads.{spell, sized, spelled, Decoded, decoded, decoded-take, decoded-drop, decode, unit_boundary}
 use Rattle.regress_input.proofs.Utf16Reads.{boundary_of_units}
-use Rattle.regex_meaning.proofs.TextLemmas.{utf16_width-positive}
+use Rattle.regex_meaning.proofs.CodeUnitOffsetsLemmas.{utf16_width-positive}
 
 -- what a test of the boundary leaves
-kept : (us : List ℕ) (o : Option ℕ) (to : ℕ) → if_boundary us o ≡ Some to → (o ≡ Some to) × (is_unit_boundary us to ≡ true)
+kept : (us : List ℕ) (o : Option ℕ) (to : ℕ) → if_utf16_boundary us o ≡ Some to → (o ≡ Some to) × (is_unit_boundary us to ≡ true)
 kept us None to e = absurd (cc)
 kept us (Some x) to e = let made = chosen (is_unit_boundary us x) x to e in (ap Some (sym made.1), ap (is_unit_boundary us) made.1 ∙ made.0)
 
-keeps : (us : List ℕ) (o : Option ℕ) (to : ℕ) → o ≡ Some to → is_unit_boundary us to ≡ true → if_boundary us o ≡ Some to
-keeps us o to e b = ap (if_boundary us) e ∙ ap (λ (t : Bool). cond t (Some to) None) b
+keeps : (us : List ℕ) (o : Option ℕ) (to : ℕ) → o ≡ Some to → is_unit_boundary us to ≡ true → if_utf16_boundary us o ≡ Some to
+keeps us o to e b = ap (if_utf16_boundary us) e ∙ ap (λ (t : Bool). cond t (Some to) None) b
 
 module _ (us : List ℕ) (small : AreU16Units us) (unicode : Bool) where
   abbrev cs : List ℕ
@@ -44,14 +44,14 @@ module _ (us : List ℕ) (small : AreU16Units us) (unicode : Bool) where
 
   -- the units of a range stand beside a boundary, up to another one, just where its characters do
   pub literal : (d : Direction) (at a b : ℕ) → IsBoundary text at → IsBoundary text a → IsBoundary text b → a ≤ b
-      → if_boundary us (past_bytes_if_next us (slice_range us a b) d at) ≡ past_spelled_if_next text nat_eq (characters_between text a b) d at
+      → if_utf16_boundary us (past_numbers_if_next us (slice_range us a b) d at) ≡ past_spelled_if_next text nat_eq (characters_between text a b) d at
   literal rightwards at a b at_b f g l =
-      let found = past_bytes_if_next us (slice_range us a b) rightwards at in
-      found-right spell utf16_width sized cs us unicode (fold_code_point unicode) (spelled us small) utf16_width-positive injective at a b at_b f g l (if_boundary us found)
+      let found = past_numbers_if_next us (slice_range us a b) rightwards at in
+      found-right spell utf16_width sized cs us unicode (fold_code_point unicode) (spelled us small) utf16_width-positive injective at a b at_b f g l (if_utf16_boundary us found)
       (λ to e. let h = kept us found to e in (past_bytes-right us (slice_range us a b) at to h.0, boundary_of_units us small unicode to h.1))
       (λ to h b'. keeps us found to (right-past_bytes us (slice_range us a b) at to h) (unit_boundary us small unicode to b'))
   literal leftwards at a b at_b f g l =
-      let found = past_bytes_if_next us (slice_range us a b) leftwards at in
-      found-left spell utf16_width sized cs us unicode (fold_code_point unicode) (spelled us small) utf16_width-positive injective at a b at_b f g l (if_boundary us found)
+      let found = past_numbers_if_next us (slice_range us a b) leftwards at in
+      found-left spell utf16_width sized cs us unicode (fold_code_point unicode) (spelled us small) utf16_width-positive injective at a b at_b f g l (if_utf16_boundary us found)
       (λ to e. let h = kept us found to e in (past_bytes-left us (slice_range us a b) at to h.0, boundary_of_units us small unicode to h.1))
       (λ to h b'. keeps us found to (left-past_bytes us (slice_range us a b) at to h) (unit_boundary us small unicode to b'))

@@ -1,4 +1,4 @@
--- Characters in UTF-8, read from their bytes.
+-- Reading at a boundary of a UTF-8 text yields the character that its bytes encode.
 use Rattle.std.proofs.Common.{◌≡◌, ℕ, zero, suc, ◌+◌, ◌-◌, ◌*◌, ◌<◌, ◌≤◌, ◌≢◌, ◌/◌, ◌⊎◌, inl, inr, ⊎_elim, ltb, lt-ltb, le-ltb, List, [], ◌∷◌, ◌++◌}
 use Rattle.std.proofs.Common.{◌&&◌, Some, None, length, get_or, flat_map, slice_get, Bool, true, false, IsUtf8, chars, refl, sym, ◌∙◌, ap, ap₂}
 use Rattle.std.proofs.Common.{subst, arith, length-append, length-drop, get_or-drop}
@@ -8,9 +8,9 @@ use Rattle.std.proofs.lemmas.Str.{encodes-chars, scalars-chars, IsUtf8-had, leng
 use lib.Utf8.{scalar, scalars, encode, encodes, next, scalar_cases}
 use Rattle.regex_meaning.specs.Text.{Text, utf8_text, rightwards, leftwards, fold_char}
 use Rattle.regex_meaning.specs.CodeUnitOffsets.{IsBoundary, units, read}
-use Rattle.regress_input.specs.Utf8.{IsEncodedAt, IsEncodedBefore}
-use Rattle.regress_input.proofs.Spelled.{ReadsRight, ReadsLeft, reads_right, reads_left, at_end, before_character, at_start, behind_character}
-use Rattle.regex_meaning.proofs.UnitLengths.{utf8_text-units}
+use Rattle.regress_input.specs.Utf8.{IsEncodedAt, IsEncodedBetween}
+use Rattle.regress_input.proofs.SpelledTextLemmas.{ReadsRight, ReadsLeft, reads_right, reads_left, at_end, before_character, at_start, behind_character}
+use Rattle.regex_meaning.proofs.CodeUnitLengthLemmas.{utf8_text-units}
 
 -- a byte that continues a character
 abbrev pub Follows : ℕ → Type 0
@@ -160,7 +160,7 @@ data Back (bytes : List ℕ) (end start c : ℕ) : Type 0 where
   four_back : end ≡ start + 4 → end ≤ length bytes → 128 ≤ get_or bytes (end - 1) 0 → get_or bytes (end - 2) 0 < 192 → get_or bytes (end - 3) 0 < 192
       → c + 63447168 ≡ get_or bytes (end - 4) 0 * 262144 + get_or bytes (end - 3) 0 * 4096 + get_or bytes (end - 2) 0 * 64 + get_or bytes (end - 1) 0 → Back bytes end start c
 
-back : (bytes : List ℕ) (end start c : ℕ) → IsEncodedBefore bytes end start c → Back bytes end start c
+back : (bytes : List ℕ) (end start c : ℕ) → IsEncodedBetween bytes end start c → Back bytes end start c
 back bytes end start c s = elim (bytes_at bytes start c s.stands) [
   | one l n h e ↦
       let z : get_or bytes (end - 1) 0 ≡ get_or bytes start 0 = at_same (end - 1) start (omega (arith, s.ends)) in
@@ -187,7 +187,7 @@ back bytes end start c s = elim (bytes_at bytes start c s.stands) [
 
 -- a character ends there
 abbrev Ends : List ℕ → ℕ → Type 0
-Ends bytes end = (start : ℕ) × (c : ℕ) × IsEncodedBefore bytes end start c
+Ends bytes end = (start : ℕ) × (c : ℕ) × IsEncodedBetween bytes end start c
 
 pub last_inside : (bytes : List ℕ) (end : ℕ) → Ends bytes end → (1 ≤ end) × (end ≤ length bytes)
 last_inside bytes end (start, c, s) = elim (back bytes end start c s) [
@@ -221,7 +221,7 @@ fourth_back bytes end (start, c, s) m n o = elim (back bytes end start c s) [
   | four_back e l h i f g ↦ omega arith
 ]
 
-pub back_one : (bytes : List ℕ) (end start c : ℕ) → IsEncodedBefore bytes end start c → get_or bytes (end - 1) 0 < 128 → (get_or bytes (end - 1) 0 ≡ c) × (end - 1 ≡ start)
+pub back_one : (bytes : List ℕ) (end start c : ℕ) → IsEncodedBetween bytes end start c → get_or bytes (end - 1) 0 < 128 → (get_or bytes (end - 1) 0 ≡ c) × (end - 1 ≡ start)
 back_one bytes end start c s m = elim (back bytes end start c s) [
   | one_back e l h i ↦ (i, omega arith)
   | two_back e l h i f ↦ absurd (omega arith)
@@ -229,7 +229,7 @@ back_one bytes end start c s m = elim (back bytes end start c s) [
   | four_back e l h i f g ↦ absurd (omega arith)
 ]
 
-pub back_two : (bytes : List ℕ) (end start c : ℕ) → IsEncodedBefore bytes end start c → 128 ≤ get_or bytes (end - 1) 0 → 192 ≤ get_or bytes (end - 2) 0
+pub back_two : (bytes : List ℕ) (end start c : ℕ) → IsEncodedBetween bytes end start c → 128 ≤ get_or bytes (end - 1) 0 → 192 ≤ get_or bytes (end - 2) 0
     → (c + 12416 ≡ get_or bytes (end - 2) 0 * 64 + get_or bytes (end - 1) 0) × (end - 2 ≡ start)
 back_two bytes end start c s m n = elim (back bytes end start c s) [
   | one_back e l h i ↦ absurd (omega arith)
@@ -238,7 +238,7 @@ back_two bytes end start c s m n = elim (back bytes end start c s) [
   | four_back e l h i f g ↦ absurd (omega arith)
 ]
 
-pub back_three : (bytes : List ℕ) (end start c : ℕ) → IsEncodedBefore bytes end start c → 128 ≤ get_or bytes (end - 1) 0 → get_or bytes (end - 2) 0 < 192 → 192 ≤ get_or bytes (end - 3) 0
+pub back_three : (bytes : List ℕ) (end start c : ℕ) → IsEncodedBetween bytes end start c → 128 ≤ get_or bytes (end - 1) 0 → get_or bytes (end - 2) 0 < 192 → 192 ≤ get_or bytes (end - 3) 0
     → (c + 925824 ≡ get_or bytes (end - 3) 0 * 4096 + get_or bytes (end - 2) 0 * 64 + get_or bytes (end - 1) 0) × (end - 3 ≡ start)
 back_three bytes end start c s m n o = elim (back bytes end start c s) [
   | one_back e l h i ↦ absurd (omega arith)
@@ -247,7 +247,7 @@ back_three bytes end start c s m n o = elim (back bytes end start c s) [
   | four_back e l h i f g ↦ absurd (omega arith)
 ]
 
-pub back_four : (bytes : List ℕ) (end start c : ℕ) → IsEncodedBefore bytes end start c → 128 ≤ get_or bytes (end - 1) 0 → get_or bytes (end - 2) 0 < 192 → get_or bytes (end - 3) 0 < 192
+pub back_four : (bytes : List ℕ) (end start c : ℕ) → IsEncodedBetween bytes end start c → 128 ≤ get_or bytes (end - 1) 0 → get_or bytes (end - 2) 0 < 192 → get_or bytes (end - 3) 0 < 192
     → (c + 63447168 ≡ get_or bytes (end - 4) 0 * 262144 + get_or bytes (end - 3) 0 * 4096 + get_or bytes (end - 2) 0 * 64 + get_or bytes (end - 1) 0) × (end - 4 ≡ start)
 back_four bytes end start c s m n o = elim (back bytes end start c s) [
   | one_back e l h i ↦ absurd (omega arith)
@@ -287,7 +287,7 @@ pub data Right (bytes : List ℕ) (unicode : Bool) (at : ℕ) : Type 0 where
 -- what is read to the left of a boundary
 pub data Left (bytes : List ℕ) (unicode : Bool) (at : ℕ) : Type 0 where
   at_the_start : at ≡ 0 → read (utf8_text bytes unicode) leftwards at ≡ None → Left bytes unicode at
-  character_before : (start c : ℕ) → IsEncodedBefore bytes at start c → at ≤ length bytes → 0 < at
+  character_before : (start c : ℕ) → IsEncodedBetween bytes at start c → at ≤ length bytes → 0 < at
       → read (utf8_text bytes unicode) leftwards at ≡ Some (c, start) → Left bytes unicode at
 
 module _ (bytes : List ℕ) (unicode : Bool) (is_utf8 : ∥ IsUtf8 bytes ∥₁) where
@@ -348,14 +348,14 @@ module _ (bytes : List ℕ) (unicode : Bool) (is_utf8 : ∥ IsUtf8 bytes ∥₁)
     ]
 
     -- a boundary that is not the left end has a character before it
-    pub ends_at : (at : ℕ) → IsBoundary text at → at ≢ 0 → (start : ℕ) × (c : ℕ) × IsEncodedBefore bs at start c
+    pub ends_at : (at : ℕ) → IsBoundary text at → at ≢ 0 → (start : ℕ) × (c : ℕ) × IsEncodedBetween bs at start c
     ends_at at b n = elim (left at b) [
       | at_the_start e r ↦ absurd (n e)
-      | character_before start c s l i r ↦ (start, c, subst (λ l. IsEncodedBefore l at start c) (sym same) s)
+      | character_before start c s l i r ↦ (start, c, subst (λ l. IsEncodedBetween l at start c) (sym same) s)
     ]
 
-    pub read-character-left : (at x y : ℕ) → IsBoundary text at → at ≢ 0 → ((start c : ℕ) → IsEncodedBefore bs at start c → (x ≡ c) × (y ≡ start)) → Some (x, y) ≡ read text leftwards at
+    pub read-character-left : (at x y : ℕ) → IsBoundary text at → at ≢ 0 → ((start c : ℕ) → IsEncodedBetween bs at start c → (x ≡ c) × (y ≡ start)) → Some (x, y) ≡ read text leftwards at
     read-character-left at x y b n is = elim (left at b) [
       | at_the_start e r ↦ absurd (n e)
-      | character_before start c s l i r ↦ let both = is start c (subst (λ l. IsEncodedBefore l at start c) (sym same) s) in ap₂ (λ v w. Some (v, w)) both.0 both.1 ∙ sym r
+      | character_before start c s l i r ↦ let both = is start c (subst (λ l. IsEncodedBetween l at start c) (sym same) s) in ap₂ (λ v w. Some (v, w)) both.0 both.1 ∙ sym r
     ]

@@ -1,4 +1,4 @@
--- Boundaries and ranges of texts in UTF-8.
+-- The boundaries of a UTF-8 text are those of its bytes, and a range between two is the text of its bytes.
 use Rattle.std.proofs.Common.{◌≡◌, ℕ, zero, suc, ◌≤◌, List, [], ◌∷◌, ◌++◌, ◌&&◌, length, take, drop, flat_map, slice_range, Bool, true, chars}
 use Rattle.std.proofs.Common.{IsUtf8, IsCharBoundary, nat_eq, refl, sym, ◌∙◌, ap, subst, arith, length-take, take-append-drop}
 use Rattle.std.specs.Char.{len_utf8}
@@ -8,11 +8,11 @@ use Rattle.std.proofs.lemmas.List.Folds.{drop_split}
 use lib.Utf8.{scalars, encode, encodes}
 use Rattle.regex_meaning.specs.Text.{Text, Direction, rightwards, leftwards, utf8_text, fold_char}
 use Rattle.regex_meaning.specs.CodeUnitOffsets.{IsBoundary, offset}
-use Rattle.regex_meaning.proofs.TextLemmas.{utf8_text-IsText, offset-IsBoundary, len_utf8-positive}
-use Rattle.regress_input.specs.CharAndByteReadsFromOffset.{part, characters_between, past_spelled_if_next, past_bytes_if_next}
-use Rattle.regress_input.proofs.Places.{HasPlace}
-use Rattle.regress_input.proofs.Spelled.{text_of, cut_at, offset-spelling, Cut}
-use Rattle.regress_input.proofs.Slices.{StandBehind, StandBefore, range-units, part-is, literal-right, literal-left, IsInjective, take-slice}
+use Rattle.regex_meaning.proofs.CodeUnitOffsetsLemmas.{utf8_text-IsText, offset-IsBoundary, len_utf8-positive}
+use Rattle.regress_input.specs.CharAndByteReadsFromOffset.{part, characters_between, past_spelled_if_next, past_numbers_if_next}
+use Rattle.regress_input.proofs.BoundaryPositions.{HasPlace}
+use Rattle.regress_input.proofs.SpelledTextLemmas.{text_of, cut_at, offset-spelling, Cut}
+use Rattle.regress_input.proofs.TextSlices.{StandBehind, StandBefore, range-units, part-is, literal-right, literal-left, IsInjective, take-slice}
 use Rattle.regress_input.proofs.Utf8Reads.{encodes-flat_map, spelled_by, scalar_first}
 
 scalars-take : (cs : List ℕ) (n : ℕ) → scalars cs ≡ true → scalars (take n cs) ≡ true
@@ -114,7 +114,7 @@ module _ (bytes : List ℕ) (unicode : Bool) (is_utf8 : ∥ IsUtf8 bytes ∥₁)
 
   -- the bytes of a range stand beside a boundary just where its characters do
   pub literal : (d : Direction) (at a b : ℕ) → IsBoundary text at → IsBoundary text a → IsBoundary text b → a ≤ b
-      → past_bytes_if_next bytes (slice_range bytes a b) d at ≡ past_spelled_if_next text nat_eq (characters_between text a b) d at
+      → past_numbers_if_next bytes (slice_range bytes a b) d at ≡ past_spelled_if_next text nat_eq (characters_between text a b) d at
   literal rightwards at a b at_b f g l =
       literal-right encode len_utf8 length-encode (chars bytes) bytes unicode (fold_char unicode) (spelled_by bytes u) len_utf8-positive injective at a b at_b f g l
       (λ to h. ends_behind at to (slice_range bytes a b) at_b (slice_is_utf8 a b f g l) h)

@@ -40,8 +40,8 @@ module _ (text : Text) where
 
   -- A read in one direction and then in the other one yields the same character, and the offset at
   -- which the first read began.
-  abbrev pub IsReadBack : (there back : Direction) → Type 0
-  IsReadBack there back = (at c to : ℕ) → read text there at ≡ Some (c, to) → read text back to ≡ Some (c, at)
+  abbrev pub ReadsAreInverse : (there back : Direction) → Type 0
+  ReadsAreInverse there back = (at c to : ℕ) → read text there at ≡ Some (c, to) → read text back to ≡ Some (c, at)
 
   -- The place (number of characters from the left) of a boundary.
   abbrev pub place : (at : ℕ) → ℕ
@@ -56,7 +56,8 @@ module _ (text : Text) where
   abbrev pub past_spelled_if_next : (same : ℕ → ℕ → Bool) → List ℕ → Direction → (at : ℕ) → Option ℕ
   past_spelled_if_next same cs direction at =
       let n = length cs in
-      if nat_le n (characters_ahead text direction (place at)) && pointwise same cs (next_characters text direction n (place at))
+      if nat_le n (characters_ahead text direction (place at)) && pointwise same cs
+      (next_characters text direction n (place at))
       then Some (offset text (moved text direction n (place at))) else None
 
   -- The offset past the characters between two boundaries if they occur again next to `at`.
@@ -64,12 +65,12 @@ module _ (text : Text) where
   past_repeated_range_if_next from to = past_spelled_if_next nat_eq (characters_between from to)
 
   -- Like `past_repeated_range_if_next`, but characters are also equal if their folds are equal.
-  abbrev pub past_repeated_range_icase : (from to : ℕ) → Direction → (at : ℕ) → Option ℕ
-  past_repeated_range_icase from to = past_spelled_if_next (same_fold text.fold) (characters_between from to)
+  abbrev pub past_folded_range_if_next : (from to : ℕ) → Direction → (at : ℕ) → Option ℕ
+  past_folded_range_if_next from to = past_spelled_if_next (same_fold text.fold) (characters_between from to)
 
   -- Like `past_repeated_range_if_next`, for characters that are the same in this sense.
-  abbrev pub past_range_same : Sameness → (from to : ℕ) → Direction → (at : ℕ) → Option ℕ
-  past_range_same same from to = past_spelled_if_next (is_same text same) (characters_between from to)
+  abbrev pub past_same_range_if_next : Sameness → (from to : ℕ) → Direction → (at : ℕ) → Option ℕ
+  past_same_range_if_next same from to = past_spelled_if_next (is_same text same) (characters_between from to)
 
   -- The text between two boundaries, with offsets counted from 0.
   abbrev pub part : (from to : ℕ) → Text
@@ -93,11 +94,11 @@ is_byte_encoding utf16 = false
 is_byte_encoding ucs2 = false
 
 -- The bytes of the text if its code units are bytes, else `None`.
-abbrev pub bytes_if : (are_bytes : Bool) → Text → Option (List ℕ)
-bytes_if are_bytes text = if are_bytes then Some (bytes_of text) else None
+abbrev pub bytes_if_byte_units : (are_bytes : Bool) → Text → Option (List ℕ)
+bytes_if_byte_units are_bytes text = if are_bytes then Some (bytes_of text) else None
 
 -- The text is encoded in UTF-8: its offsets are those of the bytes of its characters.
-pub record IsInUtf8 (text : Text) : Type 0 where
+pub record IsEncodedInUtf8 (text : Text) : Type 0 where
   pub bytes : IsUtf8 (bytes_of text)
   pub offsets : text.offsets ≡ offsets_from 0 (map len_utf8 text.characters)
 
@@ -117,7 +118,8 @@ moved_by_units all rightwards n at = if nat_le (at + n) all then Some (at + n) e
 moved_by_units all leftwards n at = if nat_le n at && nat_le (at - n) all then Some (at - n) else None
 
 -- The offset past the units `these` if they occur next to `at` in the direction, else `None`.
-abbrev pub past_units_if_next : {Unit : Type 0} → (same : Unit → Unit → Bool) → (all : List Unit) → (these : List Unit) → Direction → (at : ℕ) → Option ℕ
+abbrev pub past_units_if_next : {Unit : Type 0} → (same : Unit → Unit → Bool) → (all : List Unit) → (these : List Unit)
+    → Direction → (at : ℕ) → Option ℕ
 past_units_if_next same all these rightwards at =
     let to = at + length these in
     if nat_le to (length all) && pointwise same (slice_range all at to) these then Some to else None
@@ -126,8 +128,8 @@ past_units_if_next same all these leftwards at =
     if nat_le (length these) at && pointwise same (slice_range all to at) these then Some to else None
 
 -- `past_units_if_next` for units that are numbers.
-abbrev pub past_bytes_if_next : (all : List ℕ) → (bytes : List ℕ) → Direction → (at : ℕ) → Option ℕ
-past_bytes_if_next = past_units_if_next nat_eq
+abbrev pub past_numbers_if_next : (all : List ℕ) → (bytes : List ℕ) → Direction → (at : ℕ) → Option ℕ
+past_numbers_if_next = past_units_if_next nat_eq
 
 -- What is read in bytes if code units are bytes, else `None`.
 abbrev pub read_if_units_are_bytes : (are_bytes : Bool) → Option ℕ → Option ℕ
@@ -136,12 +138,14 @@ read_if_units_are_bytes false read = None
 
 -- The result is the first offset from `at` on at which the searched bytes occur in the remaining
 -- bytes. It is `None` if there is none or if code units are not bytes.
-abbrev pub IsFoundFrom : (are_bytes : Bool) → (stands_at : List ℕ → ℕ → Bool) → (all : List ℕ) → (at : ℕ) → Option ℕ → Type 0
-IsFoundFrom false stands_at all at found = found ≡ None
-IsFoundFrom true stands_at all at found =
-    (index : Option ℕ) × FindsFirstPassingIndex (stands_at (drop at all)) (length (drop at all)) index × (found ≡ option_map (λ i. at + i) index)
+abbrev pub IsFirstOccurrenceFrom : (are_bytes : Bool) → (stands_at : List ℕ → ℕ → Bool) → (all : List ℕ) → (at : ℕ)
+    → Option ℕ → Type 0
+IsFirstOccurrenceFrom false stands_at all at found = found ≡ None
+IsFirstOccurrenceFrom true stands_at all at found =
+    (index : Option ℕ) × FindsFirstPassingIndex (stands_at (drop at all)) (length (drop at all)) index
+    × (found ≡ option_map (λ i. at + i) index)
 
 -- The offset one unit further in the direction.
-abbrev pub moved_by_unit : Direction → (at : ℕ) → ℕ
-moved_by_unit rightwards at = at + 1
-moved_by_unit leftwards at = at - 1
+abbrev pub offset_after_one_unit : Direction → (at : ℕ) → ℕ
+offset_after_one_unit rightwards at = at + 1
+offset_after_one_unit leftwards at = at - 1

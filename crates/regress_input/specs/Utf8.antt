@@ -10,7 +10,7 @@ pub record IsEncodedAt (bytes : List ℕ) (at c : ℕ) : Type 0 where
   pub spelled : drop at bytes ≡ encode_utf8 c ++ rest
 
 -- The UTF-8 bytes of the character `c` are at offset `start` and end at offset `end`.
-pub record IsEncodedBefore (bytes : List ℕ) (end start c : ℕ) : Type 0 where
+pub record IsEncodedBetween (bytes : List ℕ) (end start c : ℕ) : Type 0 where
   pub stands : IsEncodedAt bytes start c
   pub ends : start + len_utf8 c ≡ end
 

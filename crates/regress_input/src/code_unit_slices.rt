@@ -4,7 +4,7 @@ ghost use Rattle.std.specs.Prelude.{◌≡◌, ◌≤◌, ℕ, true, length, dro
 ghost use Rattle.regex_meaning.specs.Text.{rightwards, leftwards};
 ghost use Rattle.regress_input.specs.CharAndByteReadsFromOffset.{direction_of_forward_flag, end_if_matched, adjacent_byte, moved_by_units};
 ghost use Rattle.regress_input.specs.CharAndByteReadsFromOffset.{past_units_if_next as past_units_of};
-ghost use Rattle.regress_input.specs.CharAndByteReadsFromOffset.{IsFoundFrom};
+ghost use Rattle.regress_input.specs.CharAndByteReadsFromOffset.{IsFirstOccurrenceFrom};
 
 use crate::front::ByteSearcher;
 use crate::position::PositionType;
@@ -109,7 +109,7 @@ pub(crate) fn find_by_byte_searcher_from<Search: ByteSearcher>(
     search: &Search,
 ) -> Option<usize>
     requires { at ≤ length all.now }
-    ensures { IsFoundFrom true (Search.stands_at search.now) all.now at result }
+    ensures { IsFirstOccurrenceFrom true (Search.stands_at search.now) all.now at result }
 {
     let found = search.find_in(rest_from(all, at))?;
     Some(at + found)

@@ -2,9 +2,9 @@
 
 ghost use Rattle.std.specs.Prelude.{◌≡◌, ◌≤◌, ℕ, IfSome, IfNone, option_map};
 ghost use Rattle.regex_meaning.specs.CodeUnitOffsets.{IsBoundary, units, read};
-ghost use Rattle.regress_input.specs.CharAndByteReadsFromOffset.{direction_of_forward_flag, end_if_matched, bytes_of, adjacent_byte, past_bytes_if_next};
+ghost use Rattle.regress_input.specs.CharAndByteReadsFromOffset.{direction_of_forward_flag, end_if_matched, bytes_of, adjacent_byte, past_numbers_if_next};
 ghost use Rattle.regress_input.specs.CharAndByteReadsFromOffset.{read_if_units_are_bytes};
-ghost use Rattle.regress_input.specs.CharAndByteReadsFromOffset.{moved_by_unit};
+ghost use Rattle.regress_input.specs.CharAndByteReadsFromOffset.{offset_after_one_unit};
 
 use crate::indexing::InputIndexer;
 pub use crate::position::{Backward, Direction, Forward};
@@ -45,7 +45,7 @@ pub fn next_byte<Input: InputIndexer, Dir: Direction>(
     ensures byte { result ≡ read_if_units_are_bytes Input.Units.ARE_BYTES (adjacent_byte
         (bytes_of (Input.text input.now)) (direction_of_forward_flag Dir.FORWARD) (Input.Position.offset pos.old)) }
     ensures moves { let at = Input.Position.offset in
-        IfSome result (λ _. at pos.new ≡ moved_by_unit (direction_of_forward_flag Dir.FORWARD) (at pos.old)) }
+        IfSome result (λ _. at pos.new ≡ offset_after_one_unit (direction_of_forward_flag Dir.FORWARD) (at pos.old)) }
     ensures stays { IfNone result (pos.new ≡ pos.old) }
 {
     if Dir::FORWARD {
@@ -71,8 +71,8 @@ pub fn try_match_lit<const N: usize, Input: InputIndexer, Dir: Direction>(
 ) -> bool
     requires inside { Input.Position.offset pos.old ≤ units (Input.text input.now) }
     ensures { end_if_matched result (Input.Position.offset pos.new)
-        ≡ read_if_units_are_bytes Input.Units.ARE_BYTES (past_bytes_if_next (bytes_of (Input.text input.now)) bytes.now
-        (direction_of_forward_flag Dir.FORWARD) (Input.Position.offset pos.old)) }
+        ≡ read_if_units_are_bytes Input.Units.ARE_BYTES (past_numbers_if_next (bytes_of (Input.text input.now))
+        bytes.now (direction_of_forward_flag Dir.FORWARD) (Input.Position.offset pos.old)) }
 {
     input.match_bytes(dir, pos, bytes)
 }

@@ -6,9 +6,9 @@ ghost use Rattle.regex_meaning.specs.{Text.{Text, rightwards, leftwards}, CodeUn
 ghost use Rattle.regex_meaning.specs.CodeUnits.{text_units_in_encoding, IsSpelledIn, is_character_in_encoding};
 ghost use Rattle.regress_input.specs.CharAndByteReadsFromOffset.{direction_of_forward_flag, end_if_matched, same_fold, character, past as past_character};
 ghost use Rattle.regress_input.specs.CharAndByteReadsFromOffset.{past_repeated_range_if_next, part};
-ghost use Rattle.regress_input.specs.CharAndByteReadsFromOffset.{IsReadBack, moved_by_units};
+ghost use Rattle.regress_input.specs.CharAndByteReadsFromOffset.{ReadsAreInverse, moved_by_units};
 ghost use Rattle.regress_input.specs.TextCodeUnits.{UnitsOccurWhereCharactersDo};
-ghost use Rattle.regress_input.specs.CharAndByteReadsFromOffset.{bytes_of, bytes_if, IsInUtf8, adjacent_byte, past_bytes_if_next, read_if_units_are_bytes, IsFoundFrom};
+ghost use Rattle.regress_input.specs.CharAndByteReadsFromOffset.{bytes_of, bytes_if_byte_units, IsEncodedInUtf8, adjacent_byte, past_numbers_if_next, read_if_units_are_bytes, IsFirstOccurrenceFrom};
 
 mod ascii_input;
 mod ucs2_input;
@@ -86,10 +86,11 @@ pub trait InputIndexer: Copy + Debug + DeclaresWhetherUnitsAreBytes {
 
     ghost spelled: { (it : Self) → IsSpelledIn Self.Units.encoding (text it) };
 
-    ghost characters: { (it : Self) → IsTrue (list_all (is_character_in_encoding Self.Units.encoding) (text it).characters) };
+    ghost characters: { (it : Self) → IsTrue (list_all (is_character_in_encoding Self.Units.encoding)
+        (text it).characters) };
 
     // If code units are bytes, they are those of UTF-8.
-    ghost in_utf8: { (it : Self) → IsTrue Self.Units.ARE_BYTES → IsInUtf8 (text it) };
+    ghost in_utf8: { (it : Self) → IsTrue Self.Units.ARE_BYTES → IsEncodedInUtf8 (text it) };
 
     ghost folds: { (it : Self) → (text it).fold ≡ Self.CharProps.folded (text it).unicode };
 
@@ -112,7 +113,7 @@ pub trait InputIndexer: Copy + Debug + DeclaresWhetherUnitsAreBytes {
     /// Returns the bytes, or `None` if code units are not bytes.
     #[inline(always)]
     final fn as_bytes(&self) -> Option<&[u8]>
-        ensures { option_map (λ all. all.now) result ≡ bytes_if Self.Units.ARE_BYTES (text self.now) }
+        ensures { option_map (λ all. all.now) result ≡ bytes_if_byte_units Self.Units.ARE_BYTES (text self.now) }
     {
         <Self::Units as CodeUnitEncoding>::Unit::as_bytes(self.code_units())
     }
@@ -188,8 +189,7 @@ pub trait InputIndexer: Copy + Debug + DeclaresWhetherUnitsAreBytes {
     /// Checks whether two characters are equal or have equal folds.
     #[inline(always)]
     final fn fold_equals(&self, c1: Self::Element, c2: Self::Element) -> bool
-        ensures { result ≡ same_fold (text self.now).fold
-            (Self.Element.number c1) (Self.Element.number c2) }
+        ensures { result ≡ same_fold (text self.now).fold (Self.Element.number c1) (Self.Element.number c2) }
     {
         c1.as_u32() == c2.as_u32() || self.fold(c1).as_u32() == self.fold(c2).as_u32()
     }
@@ -400,7 +400,7 @@ pub trait InputIndexer: Copy + Debug + DeclaresWhetherUnitsAreBytes {
     ) -> Option<Self::Position>
         requires inside { Self.Position.offset pos ≤ units (text self.now) }
         ensures { let at = Self.Position.offset in
-            IsFoundFrom Self.Units.ARE_BYTES (Search.stands_at search.now)
+            IsFirstOccurrenceFrom Self.Units.ARE_BYTES (Search.stands_at search.now)
             (bytes_of (text self.now)) (at pos) (option_map at result) }
     {
         match self.as_bytes() {
@@ -447,7 +447,7 @@ pub trait InputIndexer: Copy + Debug + DeclaresWhetherUnitsAreBytes {
         requires inside { Self.Position.offset pos.old ≤ units (text self.now) }
         ensures { let at = Self.Position.offset in
             end_if_matched result (at pos.new) ≡ read_if_units_are_bytes Self.Units.ARE_BYTES
-            (past_bytes_if_next (bytes_of (text self.now)) bytes.now (direction_of_forward_flag Dir.FORWARD)
+            (past_numbers_if_next (bytes_of (text self.now)) bytes.now (direction_of_forward_flag Dir.FORWARD)
             (at pos.old)) }
     {
         let Some(all) = self.as_bytes() else {
@@ -462,6 +462,6 @@ pub trait InputIndexer: Copy + Debug + DeclaresWhetherUnitsAreBytes {
 /// other. Each returns the character that the other returned, and goes back to where the other
 /// began.
 pub fn law_reads_are_inverse<Input: InputIndexer>(_input: &Input)
-    ensures right_then_left { IsReadBack (Input.text _input.now) rightwards leftwards }
-    ensures left_then_right { IsReadBack (Input.text _input.now) leftwards rightwards }
+    ensures right_then_left { ReadsAreInverse (Input.text _input.now) rightwards leftwards }
+    ensures left_then_right { ReadsAreInverse (Input.text _input.now) leftwards rightwards }
 {}

@@ -2,9 +2,9 @@
 
 ghost use Rattle.std.specs.Prelude.{◌≡◌, ◌≤◌};
 ghost use Rattle.regex_meaning.specs.{CodeUnitOffsets.{IsBoundary}, Outcomes.{is_same}, Tree.{alike}};
-ghost use Rattle.regex_pattern_front.specs.AstToSpecTree.{sameness_of};
-ghost use Rattle.regress_input.specs.CharAndByteReadsFromOffset.{direction_of_forward_flag, end_if_matched, past_repeated_range_if_next, past_repeated_range_icase};
-ghost use Rattle.regress_input.specs.CharAndByteReadsFromOffset.{past_range_same};
+ghost use Rattle.regex_pattern_front.specs.AstToSpecTree.{spec_sameness_of};
+ghost use Rattle.regress_input.specs.CharAndByteReadsFromOffset.{direction_of_forward_flag, end_if_matched, past_repeated_range_if_next, past_folded_range_if_next};
+ghost use Rattle.regress_input.specs.CharAndByteReadsFromOffset.{past_same_range_if_next};
 
 use crate::cursor::{self, Direction};
 use crate::front::{Sameness, are_alike};
@@ -49,7 +49,7 @@ pub fn backref_icase<Input: InputIndexer, Dir: Direction>(
     requires to { IsBoundary (Input.text input.now) (Input.Position.offset orig_range.end) }
     requires in_order { Input.Position.offset orig_range.start ≤ Input.Position.offset orig_range.end }
     ensures { let at = Input.Position.offset in
-        end_if_matched result (at pos.new) ≡ past_repeated_range_icase (Input.text input.now)
+        end_if_matched result (at pos.new) ≡ past_folded_range_if_next (Input.text input.now)
         (at orig_range.start) (at orig_range.end) (direction_of_forward_flag Dir.FORWARD) (at pos.old) }
 {
     chars_match(input, dir, orig_range, Sameness::Folded, pos)
@@ -70,7 +70,7 @@ pub fn backref_alike<Input: InputIndexer, Dir: Direction>(
     requires to { IsBoundary (Input.text input.now) (Input.Position.offset orig_range.end) }
     requires in_order { Input.Position.offset orig_range.start ≤ Input.Position.offset orig_range.end }
     ensures { let at = Input.Position.offset in
-        end_if_matched result (at pos.new) ≡ past_range_same (Input.text input.now) (alike unicode)
+        end_if_matched result (at pos.new) ≡ past_same_range_if_next (Input.text input.now) (alike unicode)
         (at orig_range.start) (at orig_range.end) (direction_of_forward_flag Dir.FORWARD) (at pos.old) }
 {
     chars_match(input, dir, orig_range, Sameness::Alike { unicode }, pos)
@@ -90,7 +90,7 @@ fn chars_match<Input: InputIndexer, Dir: Direction>(
     requires to { IsBoundary (Input.text input.now) (Input.Position.offset orig_range.end) }
     requires in_order { Input.Position.offset orig_range.start ≤ Input.Position.offset orig_range.end }
     ensures { let at = Input.Position.offset in
-        end_if_matched result (at pos.new) ≡ past_range_same (Input.text input.now) (sameness_of same)
+        end_if_matched result (at pos.new) ≡ past_same_range_if_next (Input.text input.now) (spec_sameness_of same)
         (at orig_range.start) (at orig_range.end) (direction_of_forward_flag Dir.FORWARD) (at pos.old) }
 {
     let start = orig_range.start;
@@ -121,7 +121,7 @@ fn are_same<Input: InputIndexer>(
     c2: Input::Element,
     same: Sameness,
 ) -> bool
-    ensures { result ≡ is_same (Input.text input.now) (sameness_of same)
+    ensures { result ≡ is_same (Input.text input.now) (spec_sameness_of same)
         (Input.Element.number c1) (Input.Element.number c2) }
 {
     match same {

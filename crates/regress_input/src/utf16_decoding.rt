@@ -2,7 +2,7 @@
 
 ghost use Rattle.std.specs.Prelude.{◌≡◌, ◌<◌, ◌≤◌, length};
 ghost use Rattle.regex_meaning.specs.Text.{is_high_surrogate, is_low_surrogate, decode_surrogate_pair, is_unit_boundary as is_boundary_of};
-ghost use Rattle.regress_input.specs.Utf16CharactersAtOffsets.{is_surrogate_pair_at, character_starting_at, character_before as character_ahead_of, if_boundary};
+ghost use Rattle.regress_input.specs.Utf16CharactersAtOffsets.{is_surrogate_pair_at, character_starting_at, character_before as character_ahead_of, if_utf16_boundary};
 
 /// Checks whether `i` is a boundary of the text in UTF-16: at most the length, and not inside a
 /// surrogate pair.
@@ -22,7 +22,7 @@ pub fn is_unit_boundary(units: &[u16], i: usize) -> bool
 /// Returns the offset if it is a boundary, and `None` otherwise.
 #[inline(always)]
 pub(crate) fn offset_if_boundary(units: &[u16], to: Option<usize>) -> Option<usize>
-    ensures { result ≡ if_boundary units.now to }
+    ensures { result ≡ if_utf16_boundary units.now to }
 {
     match to {
         Some(at) => {

@@ -2,7 +2,7 @@
 
 ghost use Rattle.std.specs.Prelude.{◌≡◌, ◌+◌, ◌*◌, ℕ};
 ghost use Rattle.std.specs.Char.{IsScalar, len_utf8};
-ghost use Rattle.regress_input.specs.Utf8.{IsEncodedAt, IsEncodedBefore};
+ghost use Rattle.regress_input.specs.Utf8.{IsEncodedAt, IsEncodedBetween};
 
 /// Returns the character that begins at offset `at`, and the offset at which it ends.
 #[inline(always)]
@@ -31,8 +31,8 @@ pub(crate) fn character_at(bytes: &[u8], at: usize) -> (char, usize)
 /// Returns the character that ends at offset `end`, and the offset at which it begins.
 #[inline(always)]
 pub(crate) fn character_before(bytes: &[u8], end: usize) -> (char, usize)
-    requires { (start : ℕ) × (c : ℕ) × IsEncodedBefore bytes.now end start c }
-    ensures { (start c : ℕ) → IsEncodedBefore bytes.now end start c → (result.0 ≡ c) × (result.1 ≡ start) }
+    requires { (start : ℕ) × (c : ℕ) × IsEncodedBetween bytes.now end start c }
+    ensures { (start c : ℕ) → IsEncodedBetween bytes.now end start c → (result.0 ≡ c) × (result.1 ≡ start) }
 {
     let last = bytes[end - 1];
     if last < 0x80 {

@@ -17,9 +17,9 @@ module _ (text : Text) (at : ℕ) where
   holds_there holds = is_some_and (place_at text at) holds
 
   -- Whether a character that passes the test begins at the offset.
-  abbrev pub accepted_there : Option (ℕ → Bool) → Bool
-  accepted_there None = false
-  accepted_there (Some test) = holds_there (λ p. is_some_and (next_character text rightwards p) test)
+  abbrev pub accepts_char_at_offset : Option (ℕ → Bool) → Bool
+  accepts_char_at_offset None = false
+  accepts_char_at_offset (Some test) = holds_there (λ p. is_some_and (next_character text rightwards p) test)
 
 module _ (program : Program) (text : Text) (at : ℕ) (may : ℕ → Bool) where
   -- Whether a loop may find something at its start, after an iteration.
@@ -29,42 +29,48 @@ module _ (program : Program) (text : Text) (at : ℕ) (may : ℕ → Bool) where
 
   -- Whether an instruction may find something at the offset, if `may` decides this for its
   -- successors at that offset.
-  abbrev pub may_at : Option Insn → (ip : ℕ) → Bool
-  may_at (Some Goal) ip = true
-  may_at (Some (Char c)) ip = accepted_there text at (test_of program (Some (Char c)))
-  may_at (Some (CharSet members)) ip = accepted_there text at (test_of program (Some (CharSet members)))
-  may_at (Some (ByteSet members)) ip = accepted_there text at (test_of program (Some (ByteSet members)))
-  may_at (Some (ByteSeq bytes)) ip = has_bytes (encode_utf8_all text.characters) rightwards bytes at
-  may_at (Some (AsciiBracket members)) ip = accepted_there text at (test_of program (Some (AsciiBracket members)))
-  may_at (Some (Bracket index)) ip = accepted_there text at (test_of program (Some (Bracket index)))
-  may_at (Some MatchAny) ip = accepted_there text at (test_of program (Some MatchAny))
-  may_at (Some MatchAnyExceptLineTerminator) ip = accepted_there text at (test_of program (Some MatchAnyExceptLineTerminator))
-  may_at (Some (StartOfLine multiline)) ip = holds_there text at (anchor_holds text start_of_line multiline) && may (ip + 1)
-  may_at (Some (EndOfLine multiline)) ip = holds_there text at (anchor_holds text end_of_line multiline) && may (ip + 1)
-  may_at (Some (WordBoundary invert)) ip =
+  abbrev pub insn_may_find : Option Insn → (ip : ℕ) → Bool
+  insn_may_find (Some Goal) ip = true
+  insn_may_find (Some (Char c)) ip = accepts_char_at_offset text at (test_of program (Some (Char c)))
+  insn_may_find (Some (CharSet members)) ip = accepts_char_at_offset text at (test_of program (Some (CharSet members)))
+  insn_may_find (Some (ByteSet members)) ip = accepts_char_at_offset text at (test_of program (Some (ByteSet members)))
+  insn_may_find (Some (ByteSeq bytes)) ip = has_bytes (encode_utf8_all text.characters) rightwards bytes at
+  insn_may_find (Some (AsciiBracket members)) ip =
+      accepts_char_at_offset text at (test_of program (Some (AsciiBracket members)))
+  insn_may_find (Some (Bracket index)) ip = accepts_char_at_offset text at (test_of program (Some (Bracket index)))
+  insn_may_find (Some MatchAny) ip = accepts_char_at_offset text at (test_of program (Some MatchAny))
+  insn_may_find (Some MatchAnyExceptLineTerminator) ip =
+      accepts_char_at_offset text at (test_of program (Some MatchAnyExceptLineTerminator))
+  insn_may_find (Some (StartOfLine multiline)) ip =
+      holds_there text at (anchor_holds text start_of_line multiline) && may (ip + 1)
+  insn_may_find (Some (EndOfLine multiline)) ip =
+      holds_there text at (anchor_holds text end_of_line multiline) && may (ip + 1)
+  insn_may_find (Some (WordBoundary invert)) ip =
       holds_there text at (λ p. exclusive_or invert (is_at_word_boundary text false p)) && may (ip + 1)
-  may_at (Some (WordBoundaryUnicodeICase invert)) ip =
+  insn_may_find (Some (WordBoundaryUnicodeICase invert)) ip =
       holds_there text at (λ p. exclusive_or invert (is_at_word_boundary text true p)) && may (ip + 1)
-  may_at (Some (Alt secondary)) ip = may (ip + 1) || may secondary
-  may_at (Some (Jump target)) ip = may target
-  may_at (Some (EnterLoop f)) ip = may (ip + 1) || f.min_iters == 0 && may f.exit
-  may_at (Some (LoopAgain begin)) ip = may_repeat (slice_get program.insns begin) begin
-  may_at (Some (ResetCaptureGroup id)) ip = may (ip + 1)
-  may_at (Some (Loop1CharBody min_iters max_iters greedy)) ip =
-      nat_lt 0 max_iters && accepted_there text at (test_of program (slice_get program.insns (ip + 1)))
+  insn_may_find (Some (Alt secondary)) ip = may (ip + 1) || may secondary
+  insn_may_find (Some (Jump target)) ip = may target
+  insn_may_find (Some (EnterLoop f)) ip = may (ip + 1) || f.min_iters == 0 && may f.exit
+  insn_may_find (Some (LoopAgain begin)) ip = may_repeat (slice_get program.insns begin) begin
+  insn_may_find (Some (ResetCaptureGroup id)) ip = may (ip + 1)
+  insn_may_find (Some (Loop1CharBody min_iters max_iters greedy)) ip =
+      nat_lt 0 max_iters && accepts_char_at_offset text at (test_of program (slice_get program.insns (ip + 1)))
       || min_iters == 0 && may (ip + 2)
-  may_at (Some (BeginCaptureGroup id)) ip = may (ip + 1)
-  may_at (Some (EndCaptureGroup id)) ip = may (ip + 1)
-  may_at (Some (BackRef group sameness)) ip = true
-  may_at (Some (Lookahead negate start_group end_group continuation)) ip = may continuation && (negate || may (ip + 1))
-  may_at (Some (Lookbehind negate start_group end_group continuation)) ip = may continuation
-  may_at _ ip = false
+  insn_may_find (Some (BeginCaptureGroup id)) ip = may (ip + 1)
+  insn_may_find (Some (EndCaptureGroup id)) ip = may (ip + 1)
+  insn_may_find (Some (BackRef group sameness)) ip = true
+  insn_may_find (Some (Lookahead negate start_group end_group continuation)) ip =
+      may continuation && (negate || may (ip + 1))
+  insn_may_find (Some (Lookbehind negate start_group end_group continuation)) ip = may continuation
+  insn_may_find _ ip = false
 
--- `may` is closed: each instruction that it excludes at the offset is also excluded by `may_at`.
+-- `may` is closed: each instruction that it excludes at the offset is also excluded by `insn_may_find`.
 pub record IsClosed (program : Program) (text : Text) (at : ℕ) (may : ℕ → Bool) : Type 0 where
-  pub closed : (ip : ℕ) → may ip ≡ false → may_at program text at may (slice_get program.insns ip) ip ≡ false
+  pub closed : (ip : ℕ) → may ip ≡ false → insn_may_find program text at may (slice_get program.insns ip) ip ≡ false
 
 -- A state whose instruction is excluded at its offset finds nothing, whatever its groups and loops.
 abbrev pub InsnsExcludedAtOffsetFindNothing : Type 0
-InsnsExcludedAtOffsetFindNothing = (program : Program) (text : Text) → HasRisingPlaceOffsets text → (may : ℕ → Bool) (s : State)
+InsnsExcludedAtOffsetFindNothing = (program : Program) (text : Text) → HasRisingPlaceOffsets text
+    → (may : ℕ → Bool) (s : State)
     → IsClosed program text s.pos may → may s.ip ≡ false → FindsNothing program text rightwards (running s)

@@ -8,7 +8,8 @@ IsArmKeptIfLive may arm others all = (all ≡ arm ∷ others) ⊎ ((all ≡ othe
 
 -- The live arms of a chain of `count` alternations, the first of which is at `ip`. The last arm is
 -- what follows the chain.
-abbrev pub AreArms : Program → (may : ℕ → Bool) → (count ip : ℕ) → List ℕ → Type 0
-AreArms program may zero ip arms = IsArmKeptIfLive may ip [] arms
-AreArms program may (suc count) ip arms =
-    (other : ℕ) × (others : List ℕ) × (slice_get program.insns ip ≡ Some (Alt other)) × IsArmKeptIfLive may (ip + 1) others arms × AreArms program may count other others
+abbrev pub AreLiveArms : Program → (may : ℕ → Bool) → (count ip : ℕ) → List ℕ → Type 0
+AreLiveArms program may zero ip arms = IsArmKeptIfLive may ip [] arms
+AreLiveArms program may (suc count) ip arms =
+    (other : ℕ) × (others : List ℕ) × (slice_get program.insns ip ≡ Some (Alt other))
+    × IsArmKeptIfLive may (ip + 1) others arms × AreLiveArms program may count other others

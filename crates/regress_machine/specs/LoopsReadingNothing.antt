@@ -15,7 +15,8 @@ LeadsTo stop ip insn = (to : ℕ) × (insn ≡ Jump to) × (ip < to) × (to ≤ 
 -- otherwise it resets, begins or ends a group.
 abbrev pub ForksOrChanges : (forks : Bool) → (stop ip : ℕ) → Insn → Type 0
 ForksOrChanges true stop ip insn = (other : ℕ) × (insn ≡ Alt other) × (ip < other) × (other ≤ stop)
-ForksOrChanges false stop ip insn = (id : ℕ) × ((insn ≡ ResetCaptureGroup id) ⊎ ((insn ≡ BeginCaptureGroup id) ⊎ (insn ≡ EndCaptureGroup id)))
+ForksOrChanges false stop ip insn = (id : ℕ) × ((insn ≡ ResetCaptureGroup id)
+    ⊎ ((insn ≡ BeginCaptureGroup id) ⊎ (insn ≡ EndCaptureGroup id)))
 
 -- The instruction is one of these, so a thread stays at its position in the text.
 abbrev pub ReadsNothingAndLeadsOnward : (forks : Bool) → (stop ip : ℕ) → Insn → Type 0
@@ -25,7 +26,8 @@ ReadsNothingAndLeadsOnward forks stop ip insn = LeadsTo stop ip insn ⊎ ForksOr
 -- alternation, or no group is changed.
 abbrev pub ReadsNothingUntil : (forks : Bool) → Program → (from stop : ℕ) → Type 0
 ReadsNothingUntil forks program from stop =
-    (ip : ℕ) → from ≤ ip → ip < stop → (insn : Insn) → slice_get program.insns ip ≡ Some insn → ReadsNothingAndLeadsOnward forks stop ip insn
+    (ip : ℕ) → from ≤ ip → ip < stop → (insn : Insn) → slice_get program.insns ip ≡ Some insn
+    → ReadsNothingAndLeadsOnward forks stop ip insn
 
 -- The loop that begins at `begin` has such a body.
 pub record HasEmptyBody (program : Program) (begin : ℕ) (f : LoopFields) : Type 0 where
@@ -38,6 +40,8 @@ pub record HasEmptyBody (program : Program) (begin : ℕ) (f : LoopFields) : Typ
 
 -- The last required iteration of such a loop may replace any required one.
 abbrev pub LastRequiredEmptyIterationReplacesOthers : Type 0
-LastRequiredEmptyIterationReplacesOthers = (program : Program) (text : Text) (d : Direction) (begin : ℕ) (f : LoopFields) → HasEmptyBody program begin f → f.min_iters ≤ f.max_iters
+LastRequiredEmptyIterationReplacesOthers = (program : Program) (text : Text) (d : Direction) (begin : ℕ)
+    (f : LoopFields) → HasEmptyBody program begin f → f.min_iters ≤ f.max_iters
     → (k : ℕ) → k < f.min_iters → (s : State)
-    → Simulates program text false d 0 (running (body_entered_with_iteration_count f.loop_id begin (f.min_iters - 1) s) ∷ []) (running (body_entered_with_iteration_count f.loop_id begin k s) ∷ [])
+    → Simulates program text false d 0 (running (body_entered_with_iteration_count f.loop_id begin (f.min_iters - 1) s)
+    ∷ []) (running (body_entered_with_iteration_count f.loop_id begin k s) ∷ [])

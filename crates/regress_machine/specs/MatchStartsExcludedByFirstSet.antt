@@ -12,7 +12,9 @@ use Rattle.regress_machine.specs.FirstSetTables.{AllowedNextKeys, table_allows_k
 -- No match begins at a place where the table of the first instruction excludes the code unit or the
 -- end.
 abbrev pub FirstSetExcludesMatchStarts : Type 0
-FirstSetExcludesMatchStarts = (e : Encoding) (key : ℕ → ℕ) (program : Program) (tree : Tree) (text : Text) (tables : ℕ → AllowedNextKeys)
+FirstSetExcludesMatchStarts =
+    (e : Encoding) (key : ℕ → ℕ) (program : Program) (tree : Tree) (text : Text) (tables : ℕ → AllowedNextKeys)
     → TreeProgramCanSearchText program tree text → HasUnitsForTables e text → AreCovered e key program tables
     → (place : ℕ) → place ≤ last_place text
-    → table_allows_key_or_end (tables 0) (unit_key_at e key text (offset text place)) ≡ false → match_at tree.root text place ≡ None
+    → table_allows_key_or_end (tables 0) (unit_key_at e key text (offset text place)) ≡ false
+    → match_at tree.root text place ≡ None

@@ -12,22 +12,27 @@ use Rattle.regress_machine.specs.ThreadSimulation.{FindsNothing}
 use Rattle.regress_machine.specs.FirstSetTables.{HasUnitsForTables, unit_key_at}
 
 -- Whether a unit with the key `key` may occur `ahead` units further on.
-abbrev pub Allowed : Type 0
-Allowed = (ahead key : ℕ) → Bool
+abbrev pub AllowedUnitsAhead : Type 0
+AllowedUnitsAhead = (ahead key : ℕ) → Bool
 
 -- Whether the unit that is `ahead` units further on is allowed there. It must exist.
-abbrev pub unit_is_allowed : Allowed → (ahead : ℕ) → Option ℕ → Bool
+abbrev pub unit_is_allowed : AllowedUnitsAhead → (ahead : ℕ) → Option ℕ → Bool
 unit_is_allowed allowed ahead None = false
 unit_is_allowed allowed ahead (Some key) = allowed ahead key
 
 -- A state at instruction `ip` finds nothing if one of the next `len` units is not allowed.
-pub record IsPrefix (e : Encoding) (key : ℕ → ℕ) (program : Program) (ip len : ℕ) (allowed : Allowed) : Type 0 where
+pub record IsRequiredPrefix (e : Encoding) (key : ℕ → ℕ) (program : Program) (ip len : ℕ)
+    (allowed : AllowedUnitsAhead) : Type 0 where
   pub excludes : (text : Text) → HasUnitsForTables e text → (s : State) → s.ip ≡ ip → (ahead : ℕ) → ahead < len
-      → unit_is_allowed allowed ahead (unit_key_at e key text (s.pos + ahead)) ≡ false → FindsNothing program text rightwards (running s)
+      → unit_is_allowed allowed ahead (unit_key_at e key text (s.pos + ahead)) ≡ false
+      → FindsNothing program text rightwards (running s)
 
 -- No match begins at a place if one of the next `len` units is not allowed.
 abbrev pub RequiredPrefixesExclude : Type 0
-RequiredPrefixesExclude = (e : Encoding) (key : ℕ → ℕ) (program : Program) (tree : Tree) (text : Text) (len : ℕ) (allowed : Allowed)
-    → TreeProgramCanSearchText program tree text → HasUnitsForTables e text → IsPrefix e key program 0 len allowed
+RequiredPrefixesExclude =
+    (e : Encoding) (key : ℕ → ℕ) (program : Program) (tree : Tree) (text : Text) (len : ℕ) (allowed : AllowedUnitsAhead)
+    → TreeProgramCanSearchText program tree text → HasUnitsForTables e text
+    → IsRequiredPrefix e key program 0 len allowed
     → (place : ℕ) → place ≤ last_place text → (ahead : ℕ) → ahead < len
-    → unit_is_allowed allowed ahead (unit_key_at e key text (offset text place + ahead)) ≡ false → match_at tree.root text place ≡ None
+    → unit_is_allowed allowed ahead (unit_key_at e key text (offset text place + ahead)) ≡ false
+    → match_at tree.root text place ≡ None

@@ -49,14 +49,15 @@ pub record TreeProgramCanSearchText (program : Program) (tree : Tree) (text : Te
 
 -- A number of operations that suffices at a place: one for each step to the first outcome, and one
 -- more.
-abbrev pub turns_at : Tree → Text → (place : ℕ) → ℕ
-turns_at tree text place = ticks_to_first (items_at tree text place) + 1
+abbrev pub sufficient_turns_at : Tree → Text → (place : ℕ) → ℕ
+sufficient_turns_at tree text place = ticks_to_first (items_at tree text place) + 1
 
 -- A search from a place takes one step for each tick of the tree's list up to the first outcome,
 -- and ends with that outcome.
 pub record FindsFirstOutcome (program : Program) (tree : Tree) (text : Text) (place : ℕ) : Type 0 where
   pub found : Found
-  pub searches : search program text (turns_at tree text place) rightwards (running (state_before_first_insn program (offset text place)) ∷ []) ≡ Some found
+  pub searches : search program text (sufficient_turns_at tree text place) rightwards
+      (running (state_before_first_insn program (offset text place)) ∷ []) ≡ Some found
   pub steps : found.steps ≡ ticks_to_first (items_at tree text place)
   pub end : option_map end_of found.end ≡ option_map (end_in_offsets text) (first_pair (items_at tree text place))
 
@@ -73,7 +74,8 @@ match_in_offsets text m = (offset text m.end, groups_in_offsets text m.groups)
 
 -- With any number of operations that suffices, a search from a place ends with the match there.
 abbrev pub SearchResultIsMatchAtPlace : Type 0
-SearchResultIsMatchAtPlace = (program : Program) (tree : Tree) (text : Text) → TreeProgramCanSearchText program tree text
+SearchResultIsMatchAtPlace = (program : Program) (tree : Tree) (text : Text)
+    → TreeProgramCanSearchText program tree text
     → (place : ℕ) → place ≤ last_place text → (turns : ℕ) (f : Found)
     → search program text turns rightwards (running (state_before_first_insn program (offset text place)) ∷ []) ≡ Some f
     → option_map end_of f.end ≡ option_map (match_in_offsets text) (match_at tree.root text place)

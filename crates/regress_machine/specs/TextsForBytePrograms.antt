@@ -15,4 +15,5 @@ pub record HasUtf8CharactersAndOffsets (text : Text) : Type 0 where
 -- Texts of UTF-8 bytes and texts of ASCII bytes satisfy `HasUtf8CharactersAndOffsets`.
 abbrev pub ByteTextsHaveUtf8Offsets : Type 0
 ByteTextsHaveUtf8Offsets = (bytes : List ℕ) (unicode : Bool)
-    → (is_utf8 bytes ≡ true → HasUtf8CharactersAndOffsets (utf8_text bytes unicode)) × (list_all (λ b. nat_lt b 128) bytes ≡ true → HasUtf8CharactersAndOffsets (ascii_text bytes unicode))
+    → (is_utf8 bytes ≡ true → HasUtf8CharactersAndOffsets (utf8_text bytes unicode))
+    × (list_all (λ b. nat_lt b 128) bytes ≡ true → HasUtf8CharactersAndOffsets (ascii_text bytes unicode))

@@ -1,12 +1,12 @@
--- Texts that are escaped one character after another.
+-- Escaping one character after another writes the escaped text.
 use Rattle.std.proofs.Common.{◌≡◌, ℕ, true, false, List, ◌++◌, length, sym, ap, ◌∙◌, append_assoc, append-nil, lit<}
 use Rattle.std.specs.Char.{encode_utf8}
 use Rattle.std.proofs.lemmas.Str.{encode_ascii}
 use Rattle.std.proofs.lemmas.List.{nil_from_length}
 use Rattle.regex_meaning.specs.NumberListHelpers.{contains}
 use Rattle.regex_meaning.specs.FlagLettersAndEscaping.{syntax_characters, escape}
-use Rattle.regex_meaning.proofs.EscapedBytes.{escape-next}
-pub use Rattle.regex_meaning.proofs.EscapedBytes.{mark}
+use Rattle.regex_meaning.proofs.EscapedUtf8Reading.{escape-next}
+pub use Rattle.regex_meaning.proofs.EscapedUtf8Reading.{mark}
 
 -- what is written before a character is its mark
 pub behind-mark : (out : List ℕ) (c : ℕ) → true ≡ contains syntax_characters c → out ++ encode_utf8 92 ≡ out ++ mark c

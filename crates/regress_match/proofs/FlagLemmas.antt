@@ -1,4 +1,4 @@
--- Flags of letters, and results that are told more of.
+-- Flags are read from their letters one by one, and written as the letters of those that are set.
 use Rattle.std.proofs.Common.{◌≡◌, ℕ, List, [], ◌∷◌, ◌++◌, Bool, true, false, refl, ap, ap₂, sym, ◌∙◌, nat_eq, eq-eqb, ne_eqb, eqb-true, append_assoc}
 use Rattle.std.proofs.lemmas.Bool.{eqb-false}
 use Rattle.std.specs.Prelude.{◌||◌, Result, Ok, Err, IfOk, IfErr}

@@ -1,4 +1,4 @@
--- A tree has as many groups as the scan of the pattern counts, in both languages.
+-- A tree has as many groups as the scan of its pattern counts, in both languages.
 use Rattle.std.proofs.Common.{◌≡◌, ℕ, suc, Bool, true, false, not, ◌&&◌, List, [], ◌∷◌, ◌++◌, length, true≢false, nat_eq, refl, sym, ap, ◌∙◌, eqb-true}
 use Rattle.std.specs.Prelude.{codes, if◌then◌else◌, flat_map}
 use Rattle.std.proofs.lemmas.Bool.{false_from_ne_true}
@@ -9,10 +9,10 @@ use Rattle.regex_meaning.specs.EcmaGrammarWithAnnexB.{ecmascript}
 use Rattle.regex_meaning.specs.GroupNameScan.{name_of_opened_group, scanned_names_per_capturing_group}
 use Rattle.regex_meaning.specs.GroupOpeningScanWithoutParsing.{texts_after_parentheses, OpensGroups, no_parenthesis, opens_plain_group, opens_lookaround}
 use Rattle.regex_meaning.specs.GroupOpeningScanWithoutParsing.{opens_group, opens_named_group}
-use Rattle.regex_meaning.proofs.OneTree.{IsReadInOneWay, rest_of}
-use Rattle.regex_meaning.proofs.EcmaMembers.{ecmascript-reads}
-use Rattle.regex_meaning.proofs.EcmaTrees.{groups-are-found, groups-are-named}
-use Rattle.regex_meaning.proofs.Trees.{scan_counts_pattern_groups}
+use Rattle.regex_meaning.proofs.DisjunctionReadingLemmas.{IsReadInOneWay, rest_of}
+use Rattle.regex_meaning.proofs.EcmaClassAndAtomLemmas.{ecmascript-reads}
+use Rattle.regex_meaning.proofs.EcmaGrammarLemmas.{groups-are-found, groups-are-named}
+use Rattle.regex_meaning.proofs.PatternTreeLemmas.{scan_counts_pattern_groups}
 use Rattle.regex_parser.specs.SyntaxDialects.{spec_syntax_of}
 use Rattle.regex_parser.specs.ParserInvariants.{group_names_found_by_scan}
 use Rattle.regex_parser.specs.declared.syntax.Syntax.{Syntax}

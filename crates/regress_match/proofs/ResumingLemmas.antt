@@ -1,4 +1,4 @@
--- A search that is gone on with from a number.
+-- A search that resumes from an offset finds the next match and takes exactly the steps that it needs.
 use Rattle.std.proofs.Common.{◌≡◌, ℕ, ◌-◌, ◌^◌, ◌<◌, ◌⊎◌, inl, inr, [], ◌∷◌, ◌++◌, List, length, Option, Some, None, Result, Ok, Err, Bool, true}
 use Rattle.std.proofs.Common.{false, refl, sym, ap, ◌∙◌, subst, arith, IsTrue}
 use Rattle.std.proofs.lemmas.Bool.{leb-false, lt-leb}
@@ -10,21 +10,21 @@ use Rattle.regex_meaning.specs.Laws.{Each, IsAnswerOf}
 use Rattle.regex_meaning.specs.MatchGroupsByNumberAndName.{Answer, answers_from}
 use Rattle.regex_meaning.specs.CodeUnitOffsets.{IsBoundary, HasRisingPlaceOffsets, place_at, units, IsBoundaryOrPastEnd}
 use Rattle.regex_meaning.specs.OutcomesWithStepTicks.{need}
-use Rattle.regex_meaning.specs.StepBudget.{answers_next, answers_within, end_next, finishes_within, is_within, remaining_budget, need_from}
+use Rattle.regex_meaning.specs.StepBudget.{answers_within_from_next, answers_within, finishes_from_next, finishes_within, is_within, remaining_budget, need_from}
 use Rattle.regex_meaning.specs.Text.{Text}
 use Rattle.regex_meaning.specs.Tree.{Tree, group_ids}
-use Rattle.regex_meaning.proofs.AnswerLemmas.{answers-go_on, next_start-ahead}
-use Rattle.regex_meaning.proofs.Ordered.{answers-IsAnswerOf}
-use Rattle.regex_meaning.proofs.StepLemmas.{within-some, within-none, beyond}
-use Rattle.regex_meaning.proofs.TextLemmas.{place_at-past}
+use Rattle.regex_meaning.proofs.SearchAnswersLemmas.{answers-go_on, next_start-ahead}
+use Rattle.regex_meaning.proofs.MatchOrderLemmas.{answers-IsAnswerOf}
+use Rattle.regex_meaning.proofs.StepBudgetLemmas.{within-some, within-none, beyond}
+use Rattle.regex_meaning.proofs.CodeUnitOffsetsLemmas.{place_at-past}
 use Rattle.regress_search.specs.MatchesAsSpecAnswers.{answer_of}
 use Rattle.regress_search.specs.SearchEffects.{SpendsNeedOrReachesLimit}
 use Rattle.regress_search.specs.declared.exec.Match.{Match}
 use Rattle.regress_search.specs.declared.exec.SearchError.{SearchError}
 use Rattle.regress_search.specs.declared.exec.SearchError.TheVariants.{Memory, StepLimit}
-use Rattle.regress_search.proofs.Budget.{handed}
-use Rattle.regress_search.proofs.Coming.{new-comes}
-use Rattle.regress_match.specs.Resuming.{ResumesFrom, IsExhaustedFrom, FindInTurn, FindsNext, budget_after}
+use Rattle.regress_search.proofs.StepBudgetLemmas.{handed}
+use Rattle.regress_search.proofs.RemainingAnswerLemmas.{new-comes}
+use Rattle.regress_match.specs.Resuming.{ResumesFrom, IsExhaustedFrom, AreFoundInOrder, FindsNext, budget_after}
 use Rattle.regress_match.specs.declared.api.searches_resumed_at_offsets.Step.{Step}
 
 abbrev pub greatest : ℕ
@@ -71,8 +71,8 @@ module _ (tree : Tree) (text : Text) (is : HasRisingPlaceOffsets text) where
   -- where the list goes on, as a number
   module _ (fits : units text < greatest) where
     comes-next : (budget next : Option ℕ)
-        → (answers_next tree text budget next ≡ answers_within tree text budget (unwrap_or next greatest))
-        × (end_next tree text budget next ≡ finishes_within tree text budget (unwrap_or next greatest))
+        → (answers_within_from_next tree text budget next ≡ answers_within tree text budget (unwrap_or next greatest))
+        × (finishes_from_next tree text budget next ≡ finishes_within tree text budget (unwrap_or next greatest))
     comes-next budget (Some q) = (refl, refl)
     comes-next budget None = new-comes tree text is budget greatest None (ap (λ b. if b then Some greatest else None) (sym (lt-leb greatest (units text) fits)))
 
@@ -93,12 +93,12 @@ module _ (tree : Tree) (text : Text) (is : HasRisingPlaceOffsets text) where
         let w = within-some tree text is budget start (answer_of m) (sym found) within in
         let here = comes-next after next in
         let a : answers_within tree text budget start ≡ answer_of m ∷ answers_within tree text after n =
-        w.0 ∙ ap (λ l. answer_of m ∷ answers_next tree text l (next_start tree.root text start)) (sym left)
-        ∙ ap (λ p. answer_of m ∷ answers_next tree text after p) (sym on) ∙ ap (λ l. answer_of m ∷ l) here.0
+        w.0 ∙ ap (λ l. answer_of m ∷ answers_within_from_next tree text l (next_start tree.root text start)) (sym left)
+        ∙ ap (λ p. answer_of m ∷ answers_within_from_next tree text after p) (sym on) ∙ ap (λ l. answer_of m ∷ l) here.0
         ∙ ap (λ k. answer_of m ∷ answers_within tree text after k) (sym e) in
         let l : finishes_within tree text budget start ≡ finishes_within tree text after n =
-        w.1 ∙ ap (λ l. end_next tree text l (next_start tree.root text start)) (sym left)
-        ∙ ap (λ p. end_next tree text after p) (sym on) ∙ here.1 ∙ ap (λ k. finishes_within tree text after k) (sym e) in
+        w.1 ∙ ap (λ l. finishes_from_next tree text l (next_start tree.root text start)) (sym left)
+        ∙ ap (λ p. finishes_from_next tree text after p) (sym on) ∙ here.1 ∙ ap (λ k. finishes_within tree text after k) (sym e) in
         record {
           answers = a;
           limit = l;
@@ -120,7 +120,7 @@ module _ (tree : Tree) (text : Text) (is : HasRisingPlaceOffsets text) where
 
 -- one match more
 pub turn-more : (tree : Tree) (text : Text) (budget : Option ℕ) (start : ℕ) (ms : List Answer) (m : Answer) (left left' : Option ℕ) (next next' : ℕ)
-    → FindInTurn tree text budget start ms left next → FindsNext tree text left next m next' left' → FindInTurn tree text budget start (ms ++ m ∷ []) left' next'
+    → AreFoundInOrder tree text budget start ms left next → FindsNext tree text left next m next' left' → AreFoundInOrder tree text budget start (ms ++ m ∷ []) left' next'
 turn-more tree text budget start [] m left left' next next' (e, f) s =
     let here : FindsNext tree text budget start m next' left' =
     subst (λ b. FindsNext tree text b start m next' left') e (subst (λ n. FindsNext tree text left n m next' left') f s) in

@@ -24,27 +24,27 @@ module _ {T E : Type 0} (says : Bor Match → Result T E → Type 0) where
   -- `units` gives the text of a closure result, as its units.
   module _ (units : T → List ℕ) where
     -- Each match is paired with a text that the closure returned for it.
-    abbrev pub AllAnswered : List (Answer × List ℕ) → Type 0
-    AllAnswered pieces = Each (λ p. (answer : T) × (units answer ≡ p.1) × Answered p.0 (Ok answer)) pieces
+    abbrev pub AreClosureResults : List (Answer × List ℕ) → Type 0
+    AreClosureResults pieces = Each (λ p. (answer : T) × (units answer ≡ p.1) × Answered p.0 (Ok answer)) pieces
 
     -- `made` is the text with each of these matches replaced by the closure's result for it.
     pub record IsReplacedBy (text : List ℕ) (ms : List Answer) (made : List ℕ) : Type 0 where
       pub pieces : List (Answer × List ℕ)
       pub matches : map (λ p. p.0) pieces ≡ ms
-      pub answered : AllAnswered pieces
+      pub answered : AreClosureResults pieces
       pub made_is : made ≡ replaced text 0 pieces
 
     -- The closure returned the error `e` at one of these matches, and a text at each match before
     -- it.
-    pub record IsRefusedAt (ms : List Answer) (e : E) : Type 0 where
+    pub record ClosureFailedAtMatch (ms : List Answer) (e : E) : Type 0 where
       pub before : List (Answer × List ℕ)
       pub at : Answer
       pub behind : List Answer
       pub matches : map (λ p. p.0) before ++ at ∷ behind ≡ ms
-      pub answered : AllAnswered before
+      pub answered : AreClosureResults before
       pub refused : Answered at (Err e)
 
     -- The error of a replacement by the closure: `Memory`, or an error that the closure returned.
     abbrev pub CanRefuseWith : List Answer → ReplaceError E → Type 0
     CanRefuseWith ms (Search e) = IsOutOfMemory e
-    CanRefuseWith ms (Closure e) = IsRefusedAt ms e
+    CanRefuseWith ms (Closure e) = ClosureFailedAtMatch ms e

@@ -50,8 +50,10 @@ IsPatternRefusedWithSyntax s flags pattern (Parse (parse.Syntax d)) = IsDiagnosi
 IsPatternRefusedWithSyntax s flags pattern (Parse parse.TooManyGroups) = ⊥
 IsPatternRefusedWithSyntax s flags pattern (Parse parse.Memory) = ⊥
 IsPatternRefusedWithSyntax s flags pattern (Emit emit.TooManyGroups) = OpensTooManyGroups pattern
-IsPatternRefusedWithSyntax s flags pattern (Emit emit.TooManyLoops) = ExceedsLimitWithSyntax s flags pattern emit.TooManyLoops
-IsPatternRefusedWithSyntax s flags pattern (Emit emit.TooManyInstructions) = ExceedsLimitWithSyntax s flags pattern emit.TooManyInstructions
+IsPatternRefusedWithSyntax s flags pattern (Emit emit.TooManyLoops) =
+    ExceedsLimitWithSyntax s flags pattern emit.TooManyLoops
+IsPatternRefusedWithSyntax s flags pattern (Emit emit.TooManyInstructions) =
+    ExceedsLimitWithSyntax s flags pattern emit.TooManyInstructions
 IsPatternRefusedWithSyntax s flags pattern (Emit emit.NotWellFormed) = ⊥
 IsPatternRefusedWithSyntax s flags pattern (Emit emit.BytesInUnits) = ⊥
 IsPatternRefusedWithSyntax s flags pattern (Emit emit.Memory) = ⊥

@@ -20,7 +20,8 @@ pub record MatchFitsText (text : List ℕ) (m : Answer) : Type 0 where
 -- Each match fits the text, and begins no earlier than `from` or the end of the match before it.
 abbrev pub MatchesFitTextInOrderFrom : (text : List ℕ) → (from : ℕ) → List Answer → Type 0
 MatchesFitTextInOrderFrom text from [] = Unit {0}
-MatchesFitTextInOrderFrom text from (m ∷ ms) = (from ≤ m.range.0) × MatchFitsText text m × MatchesFitTextInOrderFrom text m.range.1 ms
+MatchesFitTextInOrderFrom text from (m ∷ ms) = (from ≤ m.range.0) × MatchFitsText text m
+    × MatchesFitTextInOrderFrom text m.range.1 ms
 
 -- The range lies within the code units of a text.
 abbrev pub IsRangeWithinUnits : (units : List ℕ) → ℕ × ℕ → Type 0

@@ -10,10 +10,11 @@ use Rattle.regress_match.specs.ExpansionsAndMatchRanges.{MatchesFitTextInOrderFr
 use Rattle.regress_match.specs.declared.api.regex.Regex.{Regex}
 
 -- Replacing the first match, or all matches, by `$0` gives the text back.
-abbrev pub WholeMatchesGiveBack : Type 0
-WholeMatchesGiveBack = (re : Regex) (text : List ℕ)
+abbrev pub ReplacingByMatchKeepsText : Type 0
+ReplacingByMatchKeepsText = (re : Regex) (text : List ℕ)
     → let answers = utf8_answers re text 0 in
-    (replaced text 0 (matches_with_expansions text (codes "$0") (take 1 answers)) ≡ text) × (replaced text 0 (matches_with_expansions text (codes "$0") answers) ≡ text)
+    (replaced text 0 (matches_with_expansions text (codes "$0") (take 1 answers)) ≡ text)
+    × (replaced text 0 (matches_with_expansions text (codes "$0") answers) ≡ text)
 
 -- The matches in a text, in each encoding, are those of the tree that the grammar gives to the
 -- pattern of this syntax.
@@ -31,5 +32,6 @@ SearchesFollowThePattern = SearchesFollowGrammar profile
 
 -- The matches from a start on lie in the text, in order and without overlap, and each match and
 -- each of its groups is a range of whole characters.
-abbrev pub MatchesStandInText : Type 0
-MatchesStandInText = (re : Regex) (text : List ℕ) (start : ℕ) → IsUtf8 text → MatchesFitTextInOrderFrom text start (utf8_answers re text start)
+abbrev pub MatchesLieInTextInOrder : Type 0
+MatchesLieInTextInOrder = (re : Regex) (text : List ℕ) (start : ℕ) → IsUtf8 text
+    → MatchesFitTextInOrderFrom text start (utf8_answers re text start)

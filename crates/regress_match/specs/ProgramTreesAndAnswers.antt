@@ -57,27 +57,33 @@ units_as_ucs2_text re units = ucs2_text units (tree_for_16_bit_units re).flags.u
 
 -- The list of matches in a UTF-8 text from an offset on.
 abbrev pub utf8_answers : Regex → (bytes : List ℕ) → (start : ℕ) → List Answer
-utf8_answers re bytes start = answers_from (tree_for_byte_units re).root (utf8_text bytes (tree_for_byte_units re).flags.unicode) start
+utf8_answers re bytes start =
+    answers_from (tree_for_byte_units re).root (utf8_text bytes (tree_for_byte_units re).flags.unicode) start
 
 -- The matches of that list that `steps` steps are enough for.
 abbrev pub utf8_answers_within_steps : (steps : ℕ) → Regex → (bytes : List ℕ) → (start : ℕ) → List Answer
-utf8_answers_within_steps steps re bytes start = answers_within (tree_for_byte_units re) (utf8_text bytes (tree_for_byte_units re).flags.unicode) (Some steps) start
+utf8_answers_within_steps steps re bytes start =
+    answers_within (tree_for_byte_units re) (utf8_text bytes (tree_for_byte_units re).flags.unicode) (Some steps) start
 
 -- `steps` steps are enough for the whole list and its end.
 abbrev pub utf8_steps_suffice : (steps : ℕ) → Regex → (bytes : List ℕ) → (start : ℕ) → Bool
-utf8_steps_suffice steps re bytes start = finishes_within (tree_for_byte_units re) (utf8_text bytes (tree_for_byte_units re).flags.unicode) (Some steps) start
+utf8_steps_suffice steps re bytes start =
+    finishes_within (tree_for_byte_units re) (utf8_text bytes (tree_for_byte_units re).flags.unicode) (Some steps) start
 
 -- The list of matches in an ASCII text from an offset on.
 abbrev pub ascii_answers : Regex → (bytes : List ℕ) → (start : ℕ) → List Answer
-ascii_answers re bytes start = answers_from (tree_for_byte_units re).root (ascii_text bytes (tree_for_byte_units re).flags.unicode) start
+ascii_answers re bytes start =
+    answers_from (tree_for_byte_units re).root (ascii_text bytes (tree_for_byte_units re).flags.unicode) start
 
 -- The list of matches in a UTF-16 text from an offset on.
 abbrev pub utf16_answers : Regex → (units : List ℕ) → (start : ℕ) → List Answer
-utf16_answers re units start = answers_from (tree_for_16_bit_units re).root (utf16_text units (tree_for_16_bit_units re).flags.unicode) start
+utf16_answers re units start =
+    answers_from (tree_for_16_bit_units re).root (utf16_text units (tree_for_16_bit_units re).flags.unicode) start
 
 -- The list of matches in a UCS-2 text from an offset on.
 abbrev pub ucs2_answers : Regex → (units : List ℕ) → (start : ℕ) → List Answer
-ucs2_answers re units start = answers_from (tree_for_16_bit_units re).root (ucs2_text units (tree_for_16_bit_units re).flags.unicode) start
+ucs2_answers re units start =
+    answers_from (tree_for_16_bit_units re).root (ucs2_text units (tree_for_16_bit_units re).flags.unicode) start
 
 -- The match of highest priority that begins at an offset of a UTF-8 text, if there is one.
 abbrev pub utf8_answer_beginning_at : Regex → (bytes : List ℕ) → (at : ℕ) → Option Answer

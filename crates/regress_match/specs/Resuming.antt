@@ -18,7 +18,8 @@ module _ (tree : Tree) (text : Text) where
 
   -- No match remains from an offset on, and the budget is enough to find that out.
   abbrev pub IsExhaustedFrom : (budget : Option ℕ) → (start : ℕ) → Type 0
-  IsExhaustedFrom budget start = (answers_within tree text budget start ≡ []) × (finishes_within tree text budget start ≡ true)
+  IsExhaustedFrom budget start = (answers_within tree text budget start ≡ [])
+      × (finishes_within tree text budget start ≡ true)
 
   -- A match remains, and after it the matches from `next` on within the budget that is left. The
   -- match has an entry for each group.
@@ -31,16 +32,19 @@ module _ (tree : Tree) (text : Text) where
 
   -- These matches are found one after another from an offset on. They take the budget to `left` and
   -- the search to the offset `next`.
-  abbrev pub FindInTurn : (budget : Option ℕ) → (start : ℕ) → List Answer → (left : Option ℕ) → (next : ℕ) → Type 0
-  FindInTurn budget start [] left next = (left ≡ budget) × (next ≡ start)
-  FindInTurn budget start (m ∷ ms) left next =
-      (to : ℕ) × FindsNext budget start m to (budget_after budget start) × FindInTurn (budget_after budget start) to ms left next
+  abbrev pub AreFoundInOrder : (budget : Option ℕ) → (start : ℕ) → List Answer → (left : Option ℕ) → (next : ℕ) → Type 0
+  AreFoundInOrder budget start [] left next = (left ≡ budget) × (next ≡ start)
+  AreFoundInOrder budget start (m ∷ ms) left next =
+      (to : ℕ) × FindsNext budget start m to (budget_after budget start)
+      × AreFoundInOrder (budget_after budget start) to ms left next
 
   -- The result of a call from an offset on, and the budget that is left after it. Allocation failure
   -- may occur at any step: it leaves no more than there was, and no less than a result would leave.
-  abbrev pub ResumesFrom : (budget : Option ℕ) → (start : ℕ) → Result (Option Step) SearchError → (left : Option ℕ) → Type 0
+  abbrev pub ResumesFrom : (budget : Option ℕ) → (start : ℕ) → Result (Option Step) SearchError → (left : Option ℕ)
+      → Type 0
   ResumesFrom budget start (Ok (Some step)) left = FindsNext budget start (answer_of step.found) step.next left
   ResumesFrom budget start (Ok None) left = IsExhaustedFrom budget start × (left ≡ budget_after budget start)
-  ResumesFrom budget start (Err Memory) left = IsBudgetAtMost left budget × IsBudgetAtMost (budget_after budget start) left
+  ResumesFrom budget start (Err Memory) left = IsBudgetAtMost left budget
+      × IsBudgetAtMost (budget_after budget start) left
   ResumesFrom budget start (Err StepLimit) left =
       (answers_within tree text budget start ≡ []) × (finishes_within tree text budget start ≡ false) × (left ≡ Some 0)

@@ -28,7 +28,8 @@ NextResult = Option (Result Match SearchError)
 -- the view `behind`.
 abbrev pub NextCallsYield : (before : RemainingView) → List NextResult → (behind : RemainingView) → Type 0
 NextCallsYield before [] behind = behind ≡ before
-NextCallsYield before (r ∷ rs) behind = (next : RemainingView) × NextYields before r next × NextCallsYield next rs behind
+NextCallsYield before (r ∷ rs) behind = (next : RemainingView) × NextYields before r next
+    × NextCallsYield next rs behind
 
 -- All results are `None`.
 abbrev pub AllNone : {A : Type 0} → List (Option A) → Type 0
@@ -38,13 +39,16 @@ AllNone (r ∷ rs) = (r ≡ None) × AllNone rs
 -- The results are the matches of the list one after another. `None` is returned at the end of the
 -- list and nowhere else, and then for good. An error is an allocation failure. The matches before
 -- it are a prefix of the list, and `None` follows it for good.
-abbrev pub AnswerInTurn : List Answer → List NextResult → Type 0
-AnswerInTurn matches [] = Unit {0}
-AnswerInTurn matches (Some (Ok m) ∷ rs) = (rest : List Answer) × (matches ≡ answer_of m ∷ rest) × AnswerInTurn rest rs
-AnswerInTurn matches (None ∷ rs) = (matches ≡ []) × AllNone rs
-AnswerInTurn matches (Some (Err e) ∷ rs) = IsOutOfMemory e × AllNone rs
+abbrev pub ResultsAreMatchesInOrder : List Answer → List NextResult → Type 0
+ResultsAreMatchesInOrder matches [] = Unit {0}
+ResultsAreMatchesInOrder matches (Some (Ok m) ∷ rs) = (rest : List Answer) × (matches ≡ answer_of m ∷ rest)
+    × ResultsAreMatchesInOrder rest rs
+ResultsAreMatchesInOrder matches (None ∷ rs) = (matches ≡ []) × AllNone rs
+ResultsAreMatchesInOrder matches (Some (Err e) ∷ rs) = IsOutOfMemory e × AllNone rs
 
 -- The results of a search, however often it is called.
-abbrev pub SearchesAnswerInTurn : Type 0
-SearchesAnswerInTurn = (tree : Tree) (text : Text) (start : ℕ) (it behind : RemainingView) (rs : List NextResult)
-    → YieldsMatches tree text start it → NextCallsYield it rs behind → AnswerInTurn (answers_from tree.root text start) rs
+abbrev pub SearchesReturnMatchesInOrder : Type 0
+SearchesReturnMatchesInOrder =
+    (tree : Tree) (text : Text) (start : ℕ) (it behind : RemainingView) (rs : List NextResult)
+    → YieldsMatches tree text start it → NextCallsYield it rs behind
+    → ResultsAreMatchesInOrder (answers_from tree.root text start) rs

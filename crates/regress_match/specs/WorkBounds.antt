@@ -14,7 +14,7 @@ use Rattle.regress_search.specs.declared.exec.work_matches.WorkError.TheVariants
 use Rattle.regress_program.specs.CompilationOfTreesAsFunction.{compiled}
 use Rattle.regress_bounded.specs.WorkBoundForAllMatches.{TreeHasWorkBound, program_size}
 pub use Rattle.regress_bounded.specs.WorkBoundForAllMatches.{YieldsMatchesIfWorkSuffices, enough_work_for_text}
-use Rattle.regress_bounded.specs.Unboundedness.{IsPlain, IsUnboundedBy}
+use Rattle.regress_bounded.specs.Unboundedness.{HasNoLookaroundOrBackreference, IsReasonForUnboundedness}
 use Rattle.regress_bounded.specs.declared.work_bound.Unbounded.{Unbounded}
 use Rattle.regress_bounded.specs.declared.work_bound.WorkBound.{WorkBound}
 use Rattle.regress_match.specs.declared.api.regex.Regex.{Regex}
@@ -34,8 +34,8 @@ abbrev pub higher : ℕ → ℕ → ℕ
 higher a b = if nat_lt a b then b else a
 
 -- The higher of the bounds for texts of bytes and for texts of 16-bit code units.
-abbrev pub higher_of : (bytes units : WorkBound) → ℕ
-higher_of bytes units = higher bytes.per_unit units.per_unit
+abbrev pub higher_bound_of : (bytes units : WorkBound) → ℕ
+higher_bound_of bytes units = higher bytes.per_unit units.per_unit
 
 -- The bounds are those of the pattern's two programs.
 pub record AreBoundsOf (re : Regex) (bytes units : WorkBound) : Type 0 where
@@ -44,86 +44,102 @@ pub record AreBoundsOf (re : Regex) (bytes units : WorkBound) : Type 0 where
 
 -- The number is the higher of the bounds of the pattern's two programs.
 abbrev pub IsHigherOfProgramWorkBounds : Regex → ℕ → Type 0
-IsHigherOfProgramWorkBounds re per_unit = (bytes : WorkBound) × (units : WorkBound) × AreBoundsOf re bytes units × (per_unit ≡ higher_of bytes units)
+IsHigherOfProgramWorkBounds re per_unit = (bytes : WorkBound) × (units : WorkBound) × AreBoundsOf re bytes units
+    × (per_unit ≡ higher_bound_of bytes units)
 
 -- Neither tree of the pattern has a lookaround or a backreference.
-pub record IsPatternPlain (re : Regex) : Type 0 where
-  pub units : IsPlain (tree_for_16_bit_units re)
-  pub bytes : IsPlain (tree_for_byte_units re)
+pub record HasNoLookaroundOrBackref (re : Regex) : Type 0 where
+  pub units : HasNoLookaroundOrBackreference (tree_for_16_bit_units re)
+  pub bytes : HasNoLookaroundOrBackreference (tree_for_byte_units re)
 
 -- When a pattern is refused with this reason: if its tree for 16-bit units, which is that of the
 -- pattern as it is written, is, or if that has a bound and the tree for bytes is refused.
 abbrev pub IsPatternUnboundedBy : Regex → Unbounded → Type 0
-IsPatternUnboundedBy re reason = IsUnboundedBy (tree_for_16_bit_units re) reason
-    ⊎ (IsPlain (tree_for_16_bit_units re) × IsUnboundedBy (tree_for_byte_units re) reason)
+IsPatternUnboundedBy re reason = IsReasonForUnboundedness (tree_for_16_bit_units re) reason
+    ⊎ (HasNoLookaroundOrBackreference (tree_for_16_bit_units re)
+    × IsReasonForUnboundedness (tree_for_byte_units re) reason)
 
 -- A number that no bound of the pattern exceeds, by its two programs alone: 64 for each unit of the
 -- greater program's size, for each of the 64 codes that an instruction may have.
 abbrev pub work_per_unit_limit : Regex → ℕ
-work_per_unit_limit re = 64 * (64 * higher (program_size (compiled (tree_for_byte_units re))) (program_size (compiled (tree_for_16_bit_units re))))
+work_per_unit_limit re = 64 * (64 * higher (program_size (compiled (tree_for_byte_units re)))
+    (program_size (compiled (tree_for_16_bit_units re))))
 
 -- Whatever bound of the pattern a search answers by, this much work for each unit of a text, and
 -- once more, is enough.
 abbrev pub WorkPerUnitLimitSuffices : Type 0
 WorkPerUnitLimitSuffices = (re : Regex) (per_unit : ℕ) → IsHigherOfProgramWorkBounds re per_unit
-    → (per_unit ≤ work_per_unit_limit re) × ((text : Text) → enough_work_for_text per_unit text ≤ enough_work_for_text (work_per_unit_limit re) text)
+    → (per_unit ≤ work_per_unit_limit re) × ((text : Text)
+    → enough_work_for_text per_unit text ≤ enough_work_for_text (work_per_unit_limit re) text)
 
 -- ---- Results of its calls
 
 -- The result of one call of `next`.
-abbrev pub WorkMatchesNextResultType : Type 0
-WorkMatchesNextResultType = Option (Result Match WorkError)
+abbrev pub WorkLimitedNextResult : Type 0
+WorkLimitedNextResult = Option (Result Match WorkError)
 
 -- Successive calls of `next` return these results, and take the iterator from the view `before` to
 -- the view `behind`.
-abbrev pub NextCallsYieldWithinWork : (before : RemainingAnswersAndWork) → List WorkMatchesNextResultType → (behind : RemainingAnswersAndWork) → Type 0
+abbrev pub NextCallsYieldWithinWork : (before : RemainingAnswersAndWork) → List WorkLimitedNextResult
+    → (behind : RemainingAnswersAndWork) → Type 0
 NextCallsYieldWithinWork before [] behind = behind ≡ before
-NextCallsYieldWithinWork before (r ∷ rs) behind = (next : RemainingAnswersAndWork) × NextYieldsWithinWork before r next × NextCallsYieldWithinWork next rs behind
+NextCallsYieldWithinWork before (r ∷ rs) behind = (next : RemainingAnswersAndWork) × NextYieldsWithinWork before r next
+    × NextCallsYieldWithinWork next rs behind
 
 -- The results are the matches of the list one after another. `None` is returned at the end of the
 -- list, or after an error, and nowhere else, and then for good. The error is an allocation failure,
 -- or `WorkLimit` where `too_little` holds.
-abbrev pub AnswerInWork : (too_little : Type 0) → List Answer → List WorkMatchesNextResultType → Type 0
-AnswerInWork too_little matches [] = Unit {0}
-AnswerInWork too_little matches (Some (Ok m) ∷ rs) =
-    (rest : List Answer) × (matches ≡ answer_of m ∷ rest) × AnswerInWork too_little rest rs
-AnswerInWork too_little matches (None ∷ rs) = (matches ≡ []) × AllNone rs
-AnswerInWork too_little matches (Some (Err Memory) ∷ rs) = AllNone rs
-AnswerInWork too_little matches (Some (Err WorkLimit) ∷ rs) = too_little × AllNone rs
+abbrev pub ResultsAreMatchesWithinWork : (too_little : Type 0) → List Answer → List WorkLimitedNextResult → Type 0
+ResultsAreMatchesWithinWork too_little matches [] = Unit {0}
+ResultsAreMatchesWithinWork too_little matches (Some (Ok m) ∷ rs) =
+    (rest : List Answer) × (matches ≡ answer_of m ∷ rest) × ResultsAreMatchesWithinWork too_little rest rs
+ResultsAreMatchesWithinWork too_little matches (None ∷ rs) = (matches ≡ []) × AllNone rs
+ResultsAreMatchesWithinWork too_little matches (Some (Err Memory) ∷ rs) = AllNone rs
+ResultsAreMatchesWithinWork too_little matches (Some (Err WorkLimit) ∷ rs) = too_little × AllNone rs
 
 -- The results of a search within a work budget, however often it is called. No more work is left
 -- than it had.
-abbrev pub SearchesAnswerInWork : Type 0
-SearchesAnswerInWork = (tree : Tree) (text : Text) (start per_unit work : ℕ) (it behind : RemainingAnswersAndWork) (rs : List WorkMatchesNextResultType)
+abbrev pub SearchesReturnMatchesWithinWork : Type 0
+SearchesReturnMatchesWithinWork = (tree : Tree) (text : Text) (start per_unit work : ℕ)
+    (it behind : RemainingAnswersAndWork) (rs : List WorkLimitedNextResult)
     → YieldsMatchesIfWorkSuffices tree text start per_unit work it → NextCallsYieldWithinWork it rs behind
-    → AnswerInWork (work < enough_work_for_text per_unit text) (answers_from tree.root text start) rs × (behind.left ≤ work)
+    → ResultsAreMatchesWithinWork (work < enough_work_for_text per_unit text) (answers_from tree.root text start) rs
+    × (behind.left ≤ work)
 
 -- ---- Costs of its calls
 
 -- The call returns no allocation failure.
-abbrev pub IsNoAllocationFailure : WorkMatchesNextResultType → Type 0
+abbrev pub IsNoAllocationFailure : WorkLimitedNextResult → Type 0
 IsNoAllocationFailure (Some (Err Memory)) = ⊥
 IsNoAllocationFailure _ = Unit {0}
 
-module _ {P : Type 0} (attempt_costs : Tree → Text → (before : Failures) → (at cost : ℕ) → (after : Option Failures) → Type 0) (tree_of : P → Tree) (text_of : P → Text) (failures_of : P → Failures) where
+module _ {P : Type 0} (attempt_costs : Tree → Text → (before : Failures) → (at cost : ℕ) → (after : Option Failures)
+    → Type 0) (tree_of : P → Tree) (text_of : P → Text) (failures_of : P → Failures) where
   -- Successive calls of `next` return these results, and take the iterator from the view `before` to
   -- the view `behind`.
-  abbrev pub NextCallsYieldAtCost : (before : WorkMatchesView P) → List WorkMatchesNextResultType → (behind : WorkMatchesView P) → Type 0
+  abbrev pub NextCallsYieldAtCost : (before : WorkMatchesView P) → List WorkLimitedNextResult
+      → (behind : WorkMatchesView P) → Type 0
   NextCallsYieldAtCost before [] behind = behind ≡ before
   NextCallsYieldAtCost before (r ∷ rs) behind =
-      (next : WorkMatchesView P) × NextYieldsAtCost attempt_costs tree_of text_of failures_of before r next × NextCallsYieldAtCost next rs behind
+      (next : WorkMatchesView P) × NextYieldsAtCost attempt_costs tree_of text_of failures_of before r next
+      × NextCallsYieldAtCost next rs behind
 
   -- The same, where the searches of the calls cost `cost` together.
-  abbrev pub CallsCost : (before : WorkMatchesView P) → List WorkMatchesNextResultType → (cost : ℕ) → (behind : WorkMatchesView P) → Type 0
+  abbrev pub CallsCost : (before : WorkMatchesView P) → List WorkLimitedNextResult → (cost : ℕ)
+      → (behind : WorkMatchesView P) → Type 0
   CallsCost before [] cost behind = (behind ≡ before) × (cost ≡ 0)
   CallsCost before (r ∷ rs) cost behind =
-      (next : WorkMatchesView P) × (first later : ℕ) × NextYieldsAtCost attempt_costs tree_of text_of failures_of before r next
-      × NextCosts attempt_costs tree_of text_of failures_of before first (Some (failures_of next.producer)) × CallsCost next rs later behind × (cost ≡ first + later)
+      (next : WorkMatchesView P) × (first later : ℕ)
+      × NextYieldsAtCost attempt_costs tree_of text_of failures_of before r next
+      × NextCosts attempt_costs tree_of text_of failures_of before first (Some (failures_of next.producer))
+      × CallsCost next rs later behind × (cost ≡ first + later)
 
   -- With a budget that is enough, the calls of a search cost together what the budget falls by, unless
   -- an allocation fails. So with the least budget that is enough, they cost at most that.
-  abbrev pub SearchesCostInWork : Type 0
-  SearchesCostInWork = (tree : Tree) (text : Text) (start per_unit work : ℕ) (it behind : WorkMatchesView P) (rs : List WorkMatchesNextResultType)
-      → YieldsMatchesIfWorkSuffices tree text start per_unit work (without_costs it) → enough_work_for_text per_unit text ≤ work
+  abbrev pub CallCostsAreWorkSpent : Type 0
+  CallCostsAreWorkSpent = (tree : Tree) (text : Text) (start per_unit work : ℕ) (it behind : WorkMatchesView P)
+      (rs : List WorkLimitedNextResult)
+      → YieldsMatchesIfWorkSuffices tree text start per_unit work (without_costs it)
+      → enough_work_for_text per_unit text ≤ work
       → NextCallsYieldAtCost it rs behind → Each IsNoAllocationFailure rs
       → (cost : ℕ) × CallsCost it rs cost behind × (work ≡ cost + behind.left)

@@ -17,11 +17,13 @@ pub use self::compile_and_replace_errors::{Error, ReplaceError};
 pub use self::escaping::escape;
 pub use self::flags::Flags;
 pub use self::laws::{
-    matches_stand_in_text, searches_answer_in_turn, searches_answer_in_work, searches_cost_in_work,
-    searches_follow_the_ecmascript_pattern, searches_follow_the_pattern, work_bounds_are_limited,
+    call_costs_are_work_spent, matches_lie_in_text_in_order,
+    searches_follow_the_ecmascript_pattern, searches_follow_the_pattern,
+    searches_return_matches_in_order, searches_return_matches_within_work,
+    work_per_unit_limit_suffices,
 };
 pub use self::regex::{AsciiMatches, LimitedMatches, Matches, Regex};
-pub use self::replace::whole_matches_give_back;
+pub use self::replace::replacing_by_match_keeps_text;
 pub use self::searches_resumed_at_offsets::{Step, next_from};
 pub use self::work_budget_searches::{BoundedRegex, MatchesInWork};
 pub use regex_parser::diagnosis::{CaretDiagnosis, Cause, Diagnosis};

@@ -6,37 +6,50 @@ use Rattle.regex_meaning.specs.CodeUnitOffsets.{units}
 use Rattle.regex_meaning.specs.CompilationRelation.{Program}
 use Rattle.regress_machine.specs.Machine.{State, Thread, Found, search}
 use Rattle.regress_memo.specs.Liveness.{Liveness, IsLivenessFor}
-use Rattle.regress_memo.specs.MemoKeys.{AsksNoGroups}
-use Rattle.regress_memo.specs.MemoSearch.{Key, Keys, Entry, tried, tries, at_of, entry_potential, AreOnward, AreKeys, ReachesBySteps}
+use Rattle.regress_memo.specs.MemoKeys.{NoGroupsAreLive}
+use Rattle.regress_memo.specs.MemoSearch.{Key, Keys, Entry, one_thread, thread_entries, at_of, entry_potential, AreOnward, AreKeys, ReachesBySteps}
 use Rattle.regress_memo.specs.ThreadPotentials.{Shape, Distinguishes, place_keys}
 
-module _ (program : Program) (text : Text) (a : Liveness) (keys : Keys) (price : Key → ℕ) (weight : List Thread → ℕ) where
-  -- Successive searches, up to a memo table. The next match is searched from offset `from` on,
-  -- `work` was done, and `ready` is the sum of the initial potentials.
-  pub data Searched : (from work ready : ℕ) (memory : List Key) → Type 0 where
-    at_first : Searched 0 0 0 []
-    -- A search from a position at which no match begins.
-    failed : (from work ready more : ℕ) (memory now : List Key) (ts : List Thread) (turns : ℕ) (f : Found) → Searched from work ready memory
-        → search program text turns rightwards ts ≡ Some f → ReachesBySteps program text a keys rightwards price weight memory (tries ts) more now [] → Searched from (work + more) (ready + sum_by (entry_potential weight) (tries ts)) now
-    -- A search whose current thread ends at an offset. Waiting threads and records are discarded.
-    -- The next search begins at that offset, or further on if this one began there.
-    found : (from next work ready more : ℕ) (memory now : List Key) (t : Thread) (rest : List Entry) (ts : List Thread) (turns : ℕ) (f : Found) → Searched from work ready memory
-        → search program text turns rightwards ts ≡ Some f → AreOnward from (tries ts) → ReachesBySteps program text a keys rightwards price weight memory (tries ts) more now (tried t ∷ rest)
-        → at_of t ≤ next → from < next → Searched next (work + more) (ready + sum_by (entry_potential weight) (tries ts)) now
+module _ (program : Program) (text : Text) (a : Liveness) (keys : Keys) (price : Key → ℕ) (weight : List Thread → ℕ)
+  where
+    -- Successive searches, up to a memo table. The next match is searched from offset `from` on,
+    -- `work` was done, and `ready` is the sum of the initial potentials.
+    pub data Searched : (from work ready : ℕ) (memory : List Key) → Type 0 where
+      at_first : Searched 0 0 0 []
+      -- A search from a position at which no match begins.
+      failed : (from work ready more : ℕ) (memory now : List Key) (ts : List Thread) (turns : ℕ) (f : Found)
+          → Searched from work ready memory
+          → search program text turns rightwards ts ≡ Some f
+          → ReachesBySteps program text a keys rightwards price weight memory (thread_entries ts) more now []
+          → Searched from (work + more) (ready + sum_by (entry_potential weight) (thread_entries ts)) now
+      -- A search whose current thread ends at an offset. Waiting threads and records are discarded.
+      -- The next search begins at that offset, or further on if this one began there.
+      found : (from next work ready more : ℕ) (memory now : List Key) (t : Thread) (rest : List Entry) (ts : List Thread)
+          (turns : ℕ) (f : Found) → Searched from work ready memory
+          → search program text turns rightwards ts ≡ Some f → AreOnward from (thread_entries ts)
+          → ReachesBySteps program text a keys rightwards price weight memory (thread_entries ts) more now
+          (one_thread t ∷ rest)
+          → at_of t ≤ next → from < next → Searched next (work + more)
+          (ready + sum_by (entry_potential weight) (thread_entries ts)) now
 
 -- ---- Laws
 
 -- A key is discarded twice at most. So all searches together do at most the sum of their initial
 -- potentials plus three times the costs of all keys.
 abbrev pub AllMatchesWorkIsBounded : Type 0
-AllMatchesWorkIsBounded = (program : Program) (text : Text) (a : Liveness) (keys : Keys) → IsLivenessFor program text a → AreKeys program text a keys
-    → (price : Key → ℕ) (weight : List Thread → ℕ) (from work ready : ℕ) (memory : List Key) → Searched program text a keys price weight from work ready memory
+AllMatchesWorkIsBounded = (program : Program) (text : Text) (a : Liveness) (keys : Keys) → IsLivenessFor program text a
+    → AreKeys program text a keys
+    → (price : Key → ℕ) (weight : List Thread → ℕ) (from work ready : ℕ) (memory : List Key)
+    → Searched program text a keys price weight from work ready memory
     → work ≤ ready + 3 * sum_by price keys.all
 
 -- The bound with the costs of the instructions that record, each times its codes, at each offset.
 -- If positions alone decide, an instruction has one code.
 abbrev pub AllMatchesWorkIsLinear : Type 0
-AllMatchesWorkIsLinear = (program : Program) (text : Text) (a : Liveness) (way : ℕ → Direction) (ips : List ℕ) (code : State → ℕ) (codes : ℕ → ℕ) (rows : Key → List Shape) (taken : Key → ℕ)
-    → IsLivenessFor program text a → AsksNoGroups a → Distinguishes a (units text) code → (price : ℕ → ℕ) (weight : List Thread → ℕ) (from work ready : ℕ) (memory : List Key)
-    → Searched program text a (place_keys program code way ips (units text) codes rows taken) (λ k. price k.ip) weight from work ready memory
+AllMatchesWorkIsLinear = (program : Program) (text : Text) (a : Liveness) (way : ℕ → Direction) (ips : List ℕ)
+    (code : State → ℕ) (codes : ℕ → ℕ) (rows : Key → List Shape) (taken : Key → ℕ)
+    → IsLivenessFor program text a → NoGroupsAreLive a → Distinguishes a (units text) code
+    → (price : ℕ → ℕ) (weight : List Thread → ℕ) (from work ready : ℕ) (memory : List Key)
+    → Searched program text a (place_keys program code way ips (units text) codes rows taken) (λ k. price k.ip) weight
+    from work ready memory
     → work ≤ ready + 3 * (sum_by (λ ip. price ip * codes ip) ips * (units text + 1))

@@ -11,7 +11,7 @@ use Rattle.regress_memo.specs.LoopDataKeyCodes.{HasSlotsOfProgram}
 use Rattle.regress_memo.specs.DistinctLists.{IsNew}
 use Rattle.regress_memo.specs.PreservedSlotCounts.{state_of_thread}
 use Rattle.regress_memo.specs.AmortizedStepCosts.{potential_by}
-use Rattle.regress_memo.specs.MemoSearch.{Key, Entry, tried, noted, tries, threads_in, ReachesBySteps}
+use Rattle.regress_memo.specs.MemoSearch.{Key, Entry, one_thread, key_record, thread_entries, threads_in, ReachesBySteps}
 use Rattle.regress_memo.specs.declared.analysis_result.MemoAnalysis.{MemoAnalysis}
 use Rattle.regress_memo.specs.UnreachedCharLoopBodies.{IsNotLoopBody}
 use Rattle.regress_memo.specs.WorkBound.{IsWorkBounded, initial_threads}
@@ -35,31 +35,35 @@ module _ (program : Program) (text : Text) (t : MemoAnalysis) (d : Direction) wh
 
   -- From a memory and a list of entries, a search reached other ones in `work` units of work. Each
   -- unit is covered by the initial potential or by the cost of the keys that were opened.
-  pub record HasCome (memory : List Key) (first : List Entry) (work : ℕ) (now : List Key) (row : List Entry) : Type 0 where
-    pub comes : ReachesBySteps program text (analysis_as_liveness t) (analysis_keys program text t) d (λ k. key_cost_of t k.ip)
+  pub record ReachesEntries (memory : List Key) (first : List Entry) (work : ℕ) (now : List Key)
+      (row : List Entry) : Type 0 where
+    pub comes : ReachesBySteps program text (analysis_as_liveness t) (analysis_keys program text t) d
+        (λ k. key_cost_of t k.ip)
         (potential_by program (potentials_of t) (key_cost_of t) (recorded t)) memory first work now row
     pub keyed : AreKeyed (threads_in row)
 
   module _ (memory : List Key) (first : List Entry) (work : ℕ) (now : List Key) (rest : List Entry) where
     -- One more unit of work.
-    pub record ComesOn : Type 0 where
+    pub record StepsReachEntries : Type 0 where
       -- A thread executes a step and leaves no record, because it has no key.
       pub turned : (s : State) (ts : List Thread) → act program text d s ≡ goes ts → memo_key_at t s ≡ None
-          → HasCome memory first work now (tried (running s) ∷ rest)
-          → HasCome memory first (work + 1) now (tries ts ++ rest)
+          → ReachesEntries memory first work now (one_thread (running s) ∷ rest)
+          → ReachesEntries memory first (work + 1) now (thread_entries ts ++ rest)
       -- A thread executes a step and leaves a record, because it has a key that is new.
-      pub recorded : (s : State) (ts : List Thread) (k : Key) → act program text d s ≡ goes ts → memo_key_at t s ≡ Some k
-          → IsNew k now → HasCome memory first work now (tried (running s) ∷ rest)
-          → HasCome memory first (work + 1) now (tries ts ++ noted k (running s ∷ []) ∷ rest)
+      pub recorded : (s : State) (ts : List Thread) (k : Key) → act program text d s ≡ goes ts
+          → memo_key_at t s ≡ Some k
+          → IsNew k now → ReachesEntries memory first work now (one_thread (running s) ∷ rest)
+          → ReachesEntries memory first (work + 1) now (thread_entries ts ++ key_record k (running s ∷ []) ∷ rest)
       -- A thread whose key is known to fail is dropped.
       pub known : (s : State) (k : Key) → memo_key_at t s ≡ Some k → KeyFails program text t k
-          → HasCome memory first work now (tried (running s) ∷ rest) → HasCome memory first (work + 1) now rest
+          → ReachesEntries memory first work now (one_thread (running s) ∷ rest)
+          → ReachesEntries memory first (work + 1) now rest
       -- A pending thread is resumed.
-      pub taken_up : (s : State) → HasCome memory first work now (tried (waiting s) ∷ rest)
-          → HasCome memory first (work + 1) now (tried (running s) ∷ rest)
+      pub taken_up : (s : State) → ReachesEntries memory first work now (one_thread (waiting s) ∷ rest)
+          → ReachesEntries memory first (work + 1) now (one_thread (running s) ∷ rest)
       -- A record is reached, and its key becomes known.
-      pub reached : (k : Key) (ts : List Thread) → HasCome memory first work now (noted k ts ∷ rest)
-          → HasCome memory first (work + 1) (k ∷ now) rest
+      pub reached : (k : Key) (ts : List Thread) → ReachesEntries memory first work now (key_record k ts ∷ rest)
+          → ReachesEntries memory first (work + 1) (k ∷ now) rest
 
 -- ---- Laws
 
@@ -68,8 +72,9 @@ pub record WorkIsCoveredByKeyCosts : Type 0 where
   pub begins : (program : Program) (t : MemoAnalysis) → IsAnalysisOf program t
       → (text : Text) → HasRisingPlaceOffsets text → ReadsAsBytes program text → units text < 2 ^ 63
       → (at : ℕ) → at ≤ units text → (memory : List Key)
-      → HasCome program text t rightwards memory (tries (initial_threads program at)) 0 memory (tries (initial_threads program at))
+      → ReachesEntries program text t rightwards memory (thread_entries (initial_threads program at)) 0 memory
+      (thread_entries (initial_threads program at))
   pub comes_on : (program : Program) (t : MemoAnalysis) → IsAnalysisOf program t → IsWorkBounded t program
       → (text : Text) → HasRisingPlaceOffsets text → ReadsAsBytes program text → units text < 2 ^ 63
       → (d : Direction) (memory : List Key) (first : List Entry) (work : ℕ) (now : List Key) (rest : List Entry)
-      → ComesOn program text t d memory first work now rest
+      → StepsReachEntries program text t d memory first work now rest

@@ -6,7 +6,7 @@ use Rattle.regex_meaning.specs.CompilationRelation.{Program}
 use Rattle.regress_machine.specs.Machine.{State, Thread, running, waiting, goes, act}
 use Rattle.regress_machine.specs.CharLoopExitStatesByPreference.{behind}
 use Rattle.regress_memo.specs.Liveness.{Liveness}
-use Rattle.regress_memo.specs.MemoSearch.{Key, Entry, tried, kept, noted, tries, keys_in, entry_potential}
+use Rattle.regress_memo.specs.MemoSearch.{Key, Entry, one_thread, thread_group, key_record, thread_entries, keys_in, entry_potential}
 use Rattle.regress_memo.specs.ThreadPotentials.{Potentials, potential_of, AreCovering, is_one_of, each_noted}
 use Rattle.regress_memo.specs.LoopDataKeyCodes.{Question, key_of}
 use Rattle.regress_memo.specs.CharLoopExitThreadLists.{greedy_loop_threads, pending_loop_threads}
@@ -50,11 +50,12 @@ module _ (program : Program) (w : Potentials) (price : ℕ → ℕ) (ips : List 
   module _ (text : Text) (code : State → ℕ) (d : Direction) (s : State) where
     -- The steps of a thread are covered: resuming it, and executing it without or with a record.
     pub record ThreadIsPaid : Type 0 where
-      pub taken_up : IsCostCovered 1 (tried (waiting s) ∷ []) (tried (running s) ∷ [])
+      pub taken_up : IsCostCovered 1 (one_thread (waiting s) ∷ []) (one_thread (running s) ∷ [])
       pub turned : (ts : List Thread) → act program text d s ≡ goes ts → is_one_of ips s.ip ≡ false
-          → IsCostCovered 1 (tried (running s) ∷ []) (tries ts)
+          → IsCostCovered 1 (one_thread (running s) ∷ []) (thread_entries ts)
       pub recorded : (ts : List Thread) → act program text d s ≡ goes ts → is_one_of ips s.ip ≡ true
-          → IsCostCovered 1 (tried (running s) ∷ []) (tries ts ++ noted (key_of code s) (running s ∷ []) ∷ [])
+          → IsCostCovered 1 (one_thread (running s) ∷ [])
+          (thread_entries ts ++ key_record (key_of code s) (running s ∷ []) ∷ [])
 
   module _ (text : Text) (a : Liveness) (questions : ℕ → List Question) (way : ℕ → Direction) (taken : Key → ℕ)
       (d : Direction) (test : ℕ → Bool) (s : State) (place least : ℕ) where
@@ -70,25 +71,27 @@ module _ (program : Program) (w : Potentials) (price : ℕ → ℕ) (ips : List 
     -- that ends it.
     pub record RunTurnsArePaid : Type 0 where
       pub known : (n : ℕ) → least ≤ n
-          → IsCostCovered (n + 2) (tried (running s) ∷ [])
+          → IsCostCovered (n + 2) (one_thread (running s) ∷ [])
           (each_noted (greedy_loop_threads text test d 0 (moved text d n place) s) (places_from (n - least)))
       pub all : (n : ℕ) → least ≤ n
-          → IsCostCovered (n + 2) (tried (running s) ∷ [])
+          → IsCostCovered (n + 2) (one_thread (running s) ∷ [])
           (each_noted [] ((running (behind text d place s n), key_on n) ∷ places_from (n - least)))
 
     -- A lazy char loop reads the characters that it requires, and then one character in each step.
     pub record LazyTurnsArePaid : Type 0 where
-      pub taken_up : IsCostCovered (least + 2) (tried (running s) ∷ [])
-          (tried (running (behind text d place s least)) ∷ kept (pending_loop_threads text test d (least + 1) place s) ∷ [])
-      pub again : IsCostCovered 2 (kept (pending_loop_threads text test d 0 place s) ∷ [])
-          (tried (running (behind text d place s 0)) ∷ kept (pending_loop_threads text test d 1 place s)
-          ∷ noted (key_on 0) (pending_loop_threads text test d 0 place s) ∷ [])
+      pub taken_up : IsCostCovered (least + 2) (one_thread (running s) ∷ [])
+          (one_thread (running (behind text d place s least)) ∷ thread_group
+          (pending_loop_threads text test d (least + 1) place s) ∷ [])
+      pub again : IsCostCovered 2 (thread_group (pending_loop_threads text test d 0 place s) ∷ [])
+          (one_thread (running (behind text d place s 0)) ∷ thread_group (pending_loop_threads text test d 1 place s)
+          ∷ key_record (key_on 0) (pending_loop_threads text test d 0 place s) ∷ [])
 
 -- ---- Laws
 
 -- A table that passes the checks covers the steps of a plan.
 pub record StepCostsAreCovered : Type 0 where
-  pub threads : (program : Program) (w : Potentials) (price : ℕ → ℕ) (ips : List ℕ) → AreCostsCovered program w price ips
+  pub threads : (program : Program) (w : Potentials) (price : ℕ → ℕ) (ips : List ℕ)
+      → AreCostsCovered program w price ips
       → (text : Text) (code : State → ℕ) (d : Direction) (s : State) → ThreadIsPaid program w price ips text code d s
   pub runs : (program : Program) (w : Potentials) (price : ℕ → ℕ) (ips : List ℕ) (text : Text) (a : Liveness)
       (questions : ℕ → List Question) (way : ℕ → Direction) (taken : Key → ℕ) (d : Direction) (test : ℕ → Bool)

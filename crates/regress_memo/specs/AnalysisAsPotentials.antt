@@ -141,4 +141,5 @@ number_of_memo_codes_at_insn t ip = if (insn_analysis_of t ip).records then (ins
 
 -- The bit index of a key in a memo table for `places` offsets.
 abbrev pub memo_bit_index_of_key : MemoAnalysis → (places ip at code : ℕ) → ℕ
-memo_bit_index_of_key t places ip at code = memo_codes_before_insn t ip * places + (at * (insn_analysis_of t ip).codes + code)
+memo_bit_index_of_key t places ip at code =
+    memo_codes_before_insn t ip * places + (at * (insn_analysis_of t ip).codes + code)

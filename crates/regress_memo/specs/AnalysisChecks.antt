@@ -4,7 +4,7 @@ use Rattle.std.specs.Prelude.{slice_get}
 use Rattle.regex_meaning.specs.Text.{rightwards, leftwards}
 use Rattle.regex_meaning.specs.CompilationRelation.{Program, Insn, EnterLoop}
 use Rattle.regex_meaning.specs.CompilationRelation as layout
-use Rattle.regress_program.specs.InsnsAsSpecInsns.{loop_fields_as_spec}
+use Rattle.regress_program.specs.InsnsAsSpec.{loop_fields_as_spec}
 use Rattle.regress_memo.specs.Liveness.{IsConsistentEdge, none, Decides}
 use Rattle.regress_memo.specs.LoopDataKeyCodes.{plan_codes}
 use Rattle.regress_memo.specs.ThreadPotentials.{CoversOne, CoversTwo, CoversRepeat}
@@ -49,12 +49,14 @@ module _ (t : MemoAnalysis) where
 
   -- All entries of the successor follow.
   abbrev pub AllLoopFactsFlow : (reads : Bool) (entered : Option ℕ) (ip next : ℕ) → Type 0
-  AllLoopFactsFlow reads entered ip next = (k : ℕ) (row : EnclosingLoop) → slice_get (enclosing_loops_of t next) k ≡ Some row
+  AllLoopFactsFlow reads entered ip next = (k : ℕ) (row : EnclosingLoop)
+      → slice_get (enclosing_loops_of t next) k ≡ Some row
       → LoopFactsFlow reads entered ip row
 
   -- The facts are consistent along this edge, the direction stays, and unchanged groups stay so.
   pub record IsConsistentFlow (reads : Bool) (entered : Option ℕ) (ip next : ℕ) : Type 0 where
-    pub account : IsConsistentEdge (analysis_as_liveness t) reads (none (analysis_as_liveness t)) (is_entered entered) ip next
+    pub liveness : IsConsistentEdge (analysis_as_liveness t) reads (none (analysis_as_liveness t)) (is_entered entered)
+        ip next
     pub way : insn_direction t next ≡ insn_direction t ip
     pub silent : groups_stay_unchanged_from t ip ≡ true → groups_stay_unchanged_from t next ≡ true
 
@@ -91,7 +93,8 @@ module _ (t : MemoAnalysis) where
 
   -- All loops that enclose the instruction have numbers below `from`.
   abbrev pub LoopsAreBefore : (ip from : ℕ) → Type 0
-  LoopsAreBefore ip from = (k : ℕ) (row : EnclosingLoop) → slice_get (enclosing_loops_of t ip) k ≡ Some row → row.id < from
+  LoopsAreBefore ip from = (k : ℕ) (row : EnclosingLoop) → slice_get (enclosing_loops_of t ip) k ≡ Some row
+      → row.id < from
 
   -- The contents of a lookaround are isolated: they are in no loop around it and write none of
   -- them.
@@ -109,7 +112,8 @@ module _ (t : MemoAnalysis) where
   pub record CoversUnboundedLoop (b : bounds.CharLoopMinMaxAndGreed) (ip : ℕ) : Type 0 where
     pub greedy : b.greedy ≡ true → b.least + 2 ≤ (insn_analysis_of t ip).ready
     pub lazy : b.greedy ≡ false
-        → b.least + 2 + ((insn_analysis_of t (ip + 2)).ready + ((insn_analysis_of t (ip + 2)).ready + 1)) ≤ (insn_analysis_of t ip).ready
+        → b.least + 2 + ((insn_analysis_of t (ip + 2)).ready + ((insn_analysis_of t (ip + 2)).ready + 1))
+        ≤ (insn_analysis_of t ip).ready
     pub places : (insn_analysis_of t (ip + 2)).ready + 3 ≤ (insn_analysis_of t (ip + 1)).price
 
   -- The potential left covers each exit and each character of a char loop with a maximum.
@@ -135,7 +139,8 @@ module _ (t : MemoAnalysis) where
   pub record IsInsnCostCovered (ip : ℕ) : Type 0 where
     pub recorded : (insn_analysis_of t ip).records ≡ true
         → (insn_analysis_of t ip).left + 2 ≤ (insn_analysis_of t ip).ready + (insn_analysis_of t ip).price
-    pub passed : (insn_analysis_of t ip).records ≡ false → (insn_analysis_of t ip).left + 1 ≤ (insn_analysis_of t ip).ready
+    pub passed : (insn_analysis_of t ip).records ≡ false
+        → (insn_analysis_of t ip).left + 1 ≤ (insn_analysis_of t ip).ready
 
   -- The codes of an instruction are counted and few, and its bits are before those of the next one.
   pub record HasDisjointCodesAt (ip : ℕ) : Type 0 where
@@ -147,7 +152,8 @@ module _ (t : MemoAnalysis) where
     -- The facts at an instruction are consistent with those at its successors.
     abbrev pub IsConsistentAt : Successors → (ip : ℕ) → Type 0
     IsConsistentAt Ends ip = Unit {0}
-    IsConsistentAt (One n) ip = IsConsistentFlow n.reads None ip n.to × (groups_stay_unchanged_from t ip ≡ true → n.silent ≡ true)
+    IsConsistentAt (One n) ip = IsConsistentFlow n.reads None ip n.to
+        × (groups_stay_unchanged_from t ip ≡ true → n.silent ≡ true)
     IsConsistentAt (Two other) ip = IsConsistentFlow false None ip (ip + 1) × IsConsistentFlow false None ip other
     IsConsistentAt (Enter f) ip = MayBeginIteration (loop_fields_as_spec f) ip ip
     IsConsistentAt (Again begin) ip = MayRepeatLoopAt (slice_get program.insns begin) ip begin

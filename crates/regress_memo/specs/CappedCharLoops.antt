@@ -8,12 +8,12 @@ use Rattle.regex_meaning.specs.CompilationRelation.{Program}
 use Rattle.regress_machine.specs.Machine.{State, Thread, running, scans, first_running_and_others_waiting, act}
 use Rattle.regress_memo.specs.Liveness.{Liveness}
 use Rattle.regress_memo.specs.DistinctLists.{IsNew, AreDistinct}
-use Rattle.regress_memo.specs.MemoSearch.{Key, Keys, Entry, tried, noted, tries, threads_in, keys_in, IsBare, entry_potential, IsMemoStep, ReachesBySteps}
+use Rattle.regress_memo.specs.MemoSearch.{Key, Keys, Entry, one_thread, key_record, thread_entries, threads_in, keys_in, IsBare, entry_potential, IsMemoStep, ReachesBySteps}
 use Rattle.regress_memo.specs.ThreadPotentials.{Potentials, is_one_of}
 use Rattle.regress_memo.specs.LoopDataKeyCodes.{Question, plan_code, key_of}
 use Rattle.regress_memo.specs.LookaroundsWithSharedMemo.{AreLearned}
 use Rattle.regress_memo.specs.AmortizedStepCosts.{IsCostCovered, AreCostsCovered, GreedyLoopIsCovered, LazyLoopIsCovered}
-use Rattle.regress_memo.specs.MemoPlanChecksAndGuarantees.{IsPlan, IsRecorded, GivesByPlan}
+use Rattle.regress_memo.specs.MemoPlanChecksAndGuarantees.{IsPlan, RecordsNewKey, GivesByPlan}
 
 -- ---- Char loops
 
@@ -28,32 +28,34 @@ module _ (program : Program) (w : Potentials) (price : ℕ → ℕ) (ips : List 
     -- The step is covered, without a record and with one.
     pub record ScanIsPaid : Type 0 where
       pub passed : (n : ℕ) (ss : List State) → n ≤ most → length ss ≤ most + 1 - least → Each (λ t. t.ip ≡ s.ip + 2) ss
-          → is_one_of ips s.ip ≡ false → IsCostCovered program w price ips (n + 1) (tried (running s) ∷ []) (tries (first_running_and_others_waiting ss))
-      pub recorded : (n : ℕ) (ss : List State) → n ≤ most → length ss ≤ most + 1 - least → Each (λ t. t.ip ≡ s.ip + 2) ss
+          → is_one_of ips s.ip ≡ false → IsCostCovered program w price ips (n + 1) (one_thread (running s) ∷ [])
+          (thread_entries (first_running_and_others_waiting ss))
+      pub recorded : (n : ℕ) (ss : List State) → n ≤ most → length ss ≤ most + 1 - least
+          → Each (λ t. t.ip ≡ s.ip + 2) ss
           → is_one_of ips s.ip ≡ true
-          → IsCostCovered program w price ips (n + 1) (tried (running s) ∷ [])
-          (tries (first_running_and_others_waiting ss) ++ noted (key_of code s) (running s ∷ []) ∷ [])
+          → IsCostCovered program w price ips (n + 1) (one_thread (running s) ∷ [])
+          (thread_entries (first_running_and_others_waiting ss) ++ key_record (key_of code s) (running s ∷ []) ∷ [])
 
   -- A thread that is known to fail takes a step, and so does a char loop with too few characters.
   module _ (s : State) where
     -- The step of a thread that fails is covered.
     pub record EndIsPaid : Type 0 where
-      pub known : 1 ≤ w.at s.ip → IsCostCovered program w price ips 1 (tried (running s) ∷ []) []
+      pub known : 1 ≤ w.at s.ip → IsCostCovered program w price ips 1 (one_thread (running s) ∷ []) []
       pub short : (least n : ℕ) → GreedyLoopIsCovered program w price ips least s.ip → n ≤ least
-          → IsCostCovered program w price ips (n + 2) (tried (running s) ∷ []) []
+          → IsCostCovered program w price ips (n + 2) (one_thread (running s) ∷ []) []
       pub short_lazy : (least n : ℕ) → LazyLoopIsCovered program w price ips least s.ip → n ≤ least
-          → IsCostCovered program w price ips (n + 2) (tried (running s) ∷ []) []
+          → IsCostCovered program w price ips (n + 2) (one_thread (running s) ∷ []) []
 
 module _ (program : Program) (text : Text) (a : Liveness) (questions : ℕ → List Question) (way : ℕ → Direction)
     (ips : List ℕ) (taken : Key → ℕ) (d : Direction) (memory : List Key) (s : State) where
   -- A char loop that leaves threads is executed, with or without a record.
   pub record ScanGives : Type 0 where
     pub turned : (n : ℕ) (ts : List Thread) → act program text d s ≡ scans n ts
-        → GivesByPlan program text a questions way ips taken d memory (running s ∷ []) (tries ts)
+        → GivesByPlan program text a questions way ips taken d memory (running s ∷ []) (thread_entries ts)
     pub recorded : (n : ℕ) (ts : List Thread) → act program text d s ≡ scans n ts
-        → IsRecorded program text a questions way ips taken d memory s
+        → RecordsNewKey program text a questions way ips taken d memory s
         → GivesByPlan program text a questions way ips taken d memory (running s ∷ [])
-        (tries ts ++ noted (key_of (plan_code questions) s) (running s ∷ []) ∷ [])
+        (thread_entries ts ++ key_record (key_of (plan_code questions) s) (running s ∷ []) ∷ [])
 
 -- ---- Lookarounds
 
@@ -63,22 +65,26 @@ module _ (program : Program) (text : Text) (a : Liveness) (questions : ℕ → L
 module _ (program : Program) (text : Text) (a : Liveness) (keys : Keys) (d : Direction) (price : Key → ℕ)
     (weight : List Thread → ℕ) where
   -- The search, its keys and the step of the lookaround satisfy this.
-  pub record IsLooked (now learned : List Key) (front entries rest : List Entry) (us : List Thread) (more : ℕ) : Type 0 where
-    pub front_bare : IsBare front
-    pub learns : AreLearned program text a keys (front ++ rest) now learned
-    pub new : Each (λ k. IsNew k (keys_in (front ++ rest))) learned
-    pub distinct : AreDistinct (keys_in (front ++ rest) ++ now)
-    pub taught : more ≤ sum_by (entry_potential weight) (tries us) + sum_by price learned
-    pub gives : IsMemoStep program text a keys d (learned ++ now) (threads_in front) entries
-    pub ready : 1 + sum_by (entry_potential weight) (tries us) + sum_by (entry_potential weight) entries ≤ sum_by (entry_potential weight) front
+  pub record IsLooked (now learned : List Key) (front entries rest : List Entry) (us : List Thread) (more : ℕ) : Type 0
+    where
+      pub front_bare : IsBare front
+      pub learns : AreLearned program text a keys (front ++ rest) now learned
+      pub new : Each (λ k. IsNew k (keys_in (front ++ rest))) learned
+      pub distinct : AreDistinct (keys_in (front ++ rest) ++ now)
+      pub taught : more ≤ sum_by (entry_potential weight) (thread_entries us) + sum_by price learned
+      pub gives : IsMemoStep program text a keys d (learned ++ now) (threads_in front) entries
+      pub ready : 1 + sum_by (entry_potential weight) (thread_entries us) + sum_by (entry_potential weight)
+          entries ≤ sum_by (entry_potential weight) front
 
   -- Then the search and the step together are a part of the enclosing search.
   abbrev pub LooksComeOn : Type 0
-  LooksComeOn = (memory : List Key) (row : List Entry) (work : ℕ) (now learned : List Key) (front entries rest : List Entry)
+  LooksComeOn =
+      (memory : List Key) (row : List Entry) (work : ℕ) (now learned : List Key) (front entries rest : List Entry)
       (us : List Thread) (more : ℕ)
       → ReachesBySteps program text a keys d price weight memory row work now (front ++ rest)
       → IsLooked now learned front entries rest us more
-      → ReachesBySteps program text a keys d price weight memory row (work + (1 + more)) (learned ++ now) (entries ++ rest)
+      → ReachesBySteps program text a keys d price weight memory row (work + (1 + more)) (learned ++ now)
+      (entries ++ rest)
 
 -- ---- Laws
 
@@ -87,15 +93,18 @@ pub record BoundedLoopCostsAreCovered : Type 0 where
   pub scans : (program : Program) (w : Potentials) (price : ℕ → ℕ) (ips : List ℕ) → AreCostsCovered program w price ips
       → (code : State → ℕ) (s : State) (least most : ℕ) → LimitedRunIsPaid program w price ips least most s.ip
       → ScanIsPaid program w price ips code s least most
-  pub ends : (program : Program) (w : Potentials) (price : ℕ → ℕ) (ips : List ℕ) (s : State) → EndIsPaid program w price ips s
+  pub ends : (program : Program) (w : Potentials) (price : ℕ → ℕ) (ips : List ℕ) (s : State)
+      → EndIsPaid program w price ips s
 
 -- The steps of char loops are memo steps.
 abbrev pub CharLoopScansAreMemoSteps : Type 0
-CharLoopScansAreMemoSteps = (program : Program) (text : Text) (a : Liveness) (questions : ℕ → List Question) (way : ℕ → Direction)
+CharLoopScansAreMemoSteps =
+    (program : Program) (text : Text) (a : Liveness) (questions : ℕ → List Question) (way : ℕ → Direction)
     (ips : List ℕ) (taken : Key → ℕ) → IsPlan program text a questions way ips taken
     → (d : Direction) (memory : List Key) (s : State) → ScanGives program text a questions way ips taken d memory s
 
 -- The steps of lookarounds are covered.
 abbrev pub LookaroundCostsAreCovered : Type 0
-LookaroundCostsAreCovered = (program : Program) (text : Text) (a : Liveness) (keys : Keys) (d : Direction) (price : Key → ℕ)
+LookaroundCostsAreCovered =
+    (program : Program) (text : Text) (a : Liveness) (keys : Keys) (d : Direction) (price : Key → ℕ)
     (weight : List Thread → ℕ) → LooksComeOn program text a keys d price weight

@@ -10,7 +10,7 @@ use Rattle.regress_memo.specs.Liveness.{IsSoundLiveness, ReadsAsBytes}
 use Rattle.regress_memo.specs.SkippedLookarounds.{LookaroundInsn, lookaround_at, AsksOnly}
 use Rattle.regress_memo.specs.LoopDataKeyCodes.{bool_as_digit, plan_codes}
 use Rattle.regress_memo.specs.AmortizedStepCosts.{AreCostsCovered}
-use Rattle.regress_memo.specs.MemoPlanChecksAndGuarantees.{IsPlan, PlanServes, plan_taken}
+use Rattle.regress_memo.specs.MemoPlanChecksAndGuarantees.{IsPlan, PlanServes, plan_steps_below_record}
 use Rattle.regress_memo.specs.GroupPreservingInsns.{AreGroupPreserving}
 use Rattle.regress_memo.specs.MemoSearch.{Key}
 use Rattle.regress_memo.specs.declared.analysis_result.MemoAnalysis.{MemoAnalysis}
@@ -27,8 +27,10 @@ use Rattle.regress_memo.specs.Successors.{successors_of_insn_if_any}
 -- Codes are counted and few, and the bits of each instruction are before those of the next one.
 pub record HasDisjointCodes (t : MemoAnalysis) : Type 0 where
   pub few : (ip : ℕ) → plan_codes (key_code_questions_of t) ip ≤ max_codes_per_insn
-  pub counted : (ip : ℕ) → ip < length t.lines.items → plan_codes (key_code_questions_of t) ip ≡ (insn_analysis_of t ip).codes
-  pub apart : (ip : ℕ) → ip < length t.lines.items → memo_codes_before_insn t ip + number_of_memo_codes_at_insn t ip ≤ memo_codes_before_insn t (ip + 1)
+  pub counted : (ip : ℕ) → ip < length t.lines.items
+      → plan_codes (key_code_questions_of t) ip ≡ (insn_analysis_of t ip).codes
+  pub apart : (ip : ℕ) → ip < length t.lines.items → memo_codes_before_insn t ip + number_of_memo_codes_at_insn t
+      ip ≤ memo_codes_before_insn t (ip + 1)
 
 -- The first instruction has no enclosing loop and is searched to the right.
 pub record FirstInsnForwardOutsideLoops (t : MemoAnalysis) : Type 0 where
@@ -52,8 +54,10 @@ module _ (program : Program) (t : MemoAnalysis) where
 
   -- The analysis is a memo plan of the program in a text of fewer than 2^63 code units.
   pub record Serves (text : Text) : Type 0 where
-    pub plan : IsPlan program text (analysis_as_liveness t) (key_code_questions_of t) (insn_direction t) (recorded t) (plan_taken program)
-    pub serves : PlanServes program text (analysis_as_liveness t) (key_code_questions_of t) (insn_direction t) (recorded t) (plan_taken program)
+    pub plan : IsPlan program text (analysis_as_liveness t) (key_code_questions_of t) (insn_direction t) (recorded t)
+        (plan_steps_below_record program)
+    pub serves : PlanServes program text (analysis_as_liveness t) (key_code_questions_of t) (insn_direction t)
+        (recorded t) (plan_steps_below_record program)
     pub only : AsksOnly (key_code_questions_of t) (analysis_as_liveness t)
 
 -- A loop's number of finished iterations, and the offset at which the current iteration began.
@@ -67,7 +71,8 @@ radix_of_loop_digit up_to r = (if r.empty then 2 else 1) * (up_to + 1)
 -- The digit of an entry for a loop state; 0 if there is no state.
 abbrev pub digit_of : (up_to at : ℕ) → Option LoopData → EnclosingLoop → ℕ
 digit_of up_to at None r = 0
-digit_of up_to at (Some x) r = if r.empty then bool_as_digit (x.entry == at) + 2 * min x.iters up_to else min x.iters up_to
+digit_of up_to at (Some x) r = if r.empty then bool_as_digit (x.entry == at) + 2 * min x.iters up_to
+    else min x.iters up_to
 
 -- The key's instruction exists and records, and its offset and its code are in range.
 pub record IsRecordableMemoKey (t : MemoAnalysis) (places : ℕ) (k : Key) : Type 0 where
@@ -81,7 +86,8 @@ pub record IsRecordableMemoKey (t : MemoAnalysis) (places : ℕ) (k : Key) : Typ
 -- An analysis of a program is a memo plan of it in each text.
 abbrev pub AnalysesAreMemoPlans : Type 0
 AnalysesAreMemoPlans = (program : Program) (t : MemoAnalysis) → IsAnalysisOf program t
-    → (text : Text) → HasRisingPlaceOffsets text → ReadsAsBytes program text → units text < 2 ^ 63 → Serves program t text
+    → (text : Text) → HasRisingPlaceOffsets text → ReadsAsBytes program text → units text < 2 ^ 63
+    → Serves program t text
 
 -- The instruction of a thread.
 abbrev pub ip_of : Thread → ℕ

@@ -35,7 +35,8 @@ module _ (program : Program) (text : Text) (a : Liveness) (questions : ℕ → L
     pub memory : List Key
     pub starts : List ℕ
     pub few : early ≤ at_first * (units text + 1) + (units text + 1)
-    pub remembered : Attempted program text a (plan_keys program text a questions way ips taken) (λ k. price k.ip) weight row
+    pub remembered : Attempted program text a (plan_keys program text a questions way ips taken) (λ k. price k.ip)
+        weight row
         from next looks late memory starts
     pub from_inside : from ≤ units text + 1
     pub next_inside : next ≤ units text + 1
@@ -43,14 +44,16 @@ module _ (program : Program) (text : Text) (a : Liveness) (questions : ℕ → L
 
   -- The initial potential of an attempt at any offset is at most `ready`.
   abbrev pub StandsReady : (ready : ℕ) → Type 0
-  StandsReady ready = (at : ℕ) → ready_at program text a (plan_keys program text a questions way ips taken) (λ k. price k.ip) weight row at ≤ ready
+  StandsReady ready = (at : ℕ) → ready_at program text a (plan_keys program text a questions way ips taken)
+      (λ k. price k.ip) weight row at ≤ ready
 
 -- ---- Laws
 
 -- The work of both stages is within this budget for each offset.
 abbrev pub WorkBudgetsSuffice : Type 0
 WorkBudgetsSuffice = (program : Program) (text : Text) (a : Liveness) (questions : ℕ → List Question)
-    (way : ℕ → Direction) (ips : List ℕ) (taken : Key → ℕ) (price : ℕ → ℕ) (weight : List Thread → ℕ) (row : ℕ → List Thread)
+    (way : ℕ → Direction) (ips : List ℕ) (taken : Key → ℕ) (price : ℕ → ℕ) (weight : List Thread → ℕ)
+    (row : ℕ → List Thread)
     → IsPlan program text a questions way ips taken
     → (at_first ready work : ℕ) → StandsReady program text a questions way ips taken price weight row ready
     → AreInTwoStages program text a questions way ips taken price weight row at_first work

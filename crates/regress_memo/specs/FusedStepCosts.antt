@@ -4,7 +4,7 @@ use Rattle.std.specs.List.{sum_by}
 use Rattle.regex_meaning.specs.Text.{Text, Direction}
 use Rattle.regex_meaning.specs.CompilationRelation.{Program}
 use Rattle.regress_machine.specs.Machine.{State, Thread, running, goes, act}
-use Rattle.regress_memo.specs.MemoSearch.{Key, Entry, tried, noted, tries, keys_in, IsBare, entry_potential}
+use Rattle.regress_memo.specs.MemoSearch.{Key, Entry, one_thread, key_record, thread_entries, keys_in, IsBare, entry_potential}
 use Rattle.regress_memo.specs.ThreadPotentials.{Potentials, is_one_of}
 use Rattle.regress_memo.specs.AmortizedStepCosts.{potential_by, IsCostCovered, AreCostsCovered}
 
@@ -30,16 +30,17 @@ module _ (program : Program) (w : Potentials) (price : ℕ → ℕ) (ips : List 
     -- for what the record takes.
     pub unrecorded : AreCostsCovered program w price ips → (text : Text) (d : Direction) (s : State) (ts : List Thread)
         → act program text d s ≡ goes ts → is_one_of ips s.ip ≡ true
-        → IsPaidBut (price s.ip - 1) 1 (tried (running s) ∷ []) (tries ts)
+        → IsPaidBut (price s.ip - 1) 1 (one_thread (running s) ∷ []) (thread_entries ts)
     -- There is no debt, or a record below covers it.
     pub whole : (work : ℕ) (front entries : List Entry) → IsPaidBut 0 work front entries
         → IsCostCovered program w price ips work front entries
     pub settled : (owed work : ℕ) (front bare : List Entry) (k : Key) (ts : List Thread) → IsBare bare
         → IsPaidBut owed work front bare → owed + 1 ≤ price k.ip
-        → IsCostCovered program w price ips work front (bare ++ noted k ts ∷ [])
+        → IsCostCovered program w price ips work front (bare ++ key_record k ts ∷ [])
 
 -- ---- Laws
 
 -- The costs of successive steps are covered together.
 abbrev pub FusedCostsAreCovered : Type 0
-FusedCostsAreCovered = (program : Program) (w : Potentials) (price : ℕ → ℕ) (ips : List ℕ) → ChainsArePaid program w price ips
+FusedCostsAreCovered = (program : Program) (w : Potentials) (price : ℕ → ℕ) (ips : List ℕ)
+    → ChainsArePaid program w price ips

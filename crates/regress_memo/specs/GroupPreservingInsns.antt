@@ -24,8 +24,10 @@ module _ (silent : ℕ → Bool) where
   IsSilentAt program (Some (BeginCaptureGroup id)) ip = ⊥
   IsSilentAt program (Some (EndCaptureGroup id)) ip = ⊥
   IsSilentAt program (Some (Loop1CharBody least most greedy)) ip = silent (ip + 2) ≡ true
-  IsSilentAt program (Some (Lookahead negate start_group end_group continuation)) ip = (silent (ip + 1) ≡ true) × (silent continuation ≡ true)
-  IsSilentAt program (Some (Lookbehind negate start_group end_group continuation)) ip = (silent (ip + 1) ≡ true) × (silent continuation ≡ true)
+  IsSilentAt program (Some (Lookahead negate start_group end_group continuation)) ip = (silent (ip + 1) ≡ true)
+      × (silent continuation ≡ true)
+  IsSilentAt program (Some (Lookbehind negate start_group end_group continuation)) ip = (silent (ip + 1) ≡ true)
+      × (silent continuation ≡ true)
   IsSilentAt program (Some x) ip = silent (ip + 1) ≡ true
 
   -- The silent instructions of the program do nothing to groups, nor do their successors.
@@ -42,5 +44,6 @@ pub record SameGroups (s t : State) : Type 0 where
 
 -- A search from a silent instruction ends with the groups with which it began.
 abbrev pub InsnsKeepGroupsToEnd : Type 0
-InsnsKeepGroupsToEnd = (program : Program) (text : Text) (silent : ℕ → Bool) → AreGroupPreserving silent program → (d : Direction) (turns : ℕ) (u e : State) (f : Found) → silent u.ip ≡ true
+InsnsKeepGroupsToEnd = (program : Program) (text : Text) (silent : ℕ → Bool) → AreGroupPreserving silent program
+    → (d : Direction) (turns : ℕ) (u e : State) (f : Found) → silent u.ip ≡ true
     → search program text turns d (running u ∷ []) ≡ Some f → f.end ≡ Some e → SameGroups e u

@@ -41,11 +41,12 @@ module _ (a : Liveness) where
     pub start : (id : ℕ) → a.start next id ≡ true → begun id ≡ false → a.start ip id ≡ true
     pub inside : (l : ℕ) → a.inside next l ≡ true → entered l ≡ false → a.inside ip l ≡ true
     pub moved : (l : ℕ) → a.moved next l ≡ true → entered l ≡ false → reads ≡ false → a.moved ip l ≡ true
-    pub empty : (l : ℕ) → a.empty next l ≡ true → entered l ≡ false → reads ≡ false → (a.empty ip l || a.moved ip l) ≡ true
+    pub empty : (l : ℕ) → a.empty next l ≡ true → entered l ≡ false → reads ≡ false
+        → (a.empty ip l || a.moved ip l) ≡ true
     pub fresh : (l : ℕ) → entered l ≡ true → a.moved next l ≡ false
     pub writes : (l : ℕ) → a.writes ip l ≡ false → a.writes next l ≡ false
 
-  -- No group, or no loop.
+  -- No group begins, or no loop is entered: whatever the number, the answer is no.
   abbrev pub none : ℕ → Bool
   none i = false
 
@@ -107,16 +108,23 @@ module _ (a : Liveness) where
   IsSoundLivenessAt top program (Some (Bracket index)) ip = IsConsistentPlainEdge true ip (ip + 1)
   IsSoundLivenessAt top program (Some MatchAny) ip = IsConsistentPlainEdge true ip (ip + 1)
   IsSoundLivenessAt top program (Some MatchAnyExceptLineTerminator) ip = IsConsistentPlainEdge true ip (ip + 1)
-  IsSoundLivenessAt top program (Some (Alt secondary)) ip = IsConsistentPlainEdge false ip (ip + 1) × IsConsistentPlainEdge false ip secondary
+  IsSoundLivenessAt top program (Some (Alt secondary)) ip = IsConsistentPlainEdge false ip (ip + 1)
+      × IsConsistentPlainEdge false ip secondary
   IsSoundLivenessAt top program (Some (Jump target)) ip = IsConsistentPlainEdge false ip target
   IsSoundLivenessAt top program (Some (EnterLoop f)) ip = Enters f ip ip
   IsSoundLivenessAt top program (Some (LoopAgain begin)) ip = IsRepeated top (slice_get program.insns begin) ip begin
-  IsSoundLivenessAt top program (Some (Loop1CharBody min_iters max_iters greedy)) ip = IsConsistentPlainEdge (nat_lt 0 min_iters) ip (ip + 2)
-  IsSoundLivenessAt top program (Some (BeginCaptureGroup id)) ip = IsConsistentEdge false (λ i. i == id) none ip (ip + 1)
-  IsSoundLivenessAt top program (Some (EndCaptureGroup id)) ip = IsConsistentPlainEdge false ip (ip + 1) × (a.groups ≡ true → a.start ip id ≡ true)
-  IsSoundLivenessAt top program (Some (BackRef group sameness)) ip = IsConsistentPlainEdge false ip (ip + 1) × (a.groups ≡ true)
-  IsSoundLivenessAt top program (Some (Lookahead negate start_group end_group continuation)) ip = IsConsistentLookaround ip continuation
-  IsSoundLivenessAt top program (Some (Lookbehind negate start_group end_group continuation)) ip = IsConsistentLookaround ip continuation
+  IsSoundLivenessAt top program (Some (Loop1CharBody min_iters max_iters greedy)) ip =
+      IsConsistentPlainEdge (nat_lt 0 min_iters) ip (ip + 2)
+  IsSoundLivenessAt top program (Some (BeginCaptureGroup id)) ip =
+      IsConsistentEdge false (λ i. i == id) none ip (ip + 1)
+  IsSoundLivenessAt top program (Some (EndCaptureGroup id)) ip = IsConsistentPlainEdge false ip (ip + 1)
+      × (a.groups ≡ true → a.start ip id ≡ true)
+  IsSoundLivenessAt top program (Some (BackRef group sameness)) ip = IsConsistentPlainEdge false ip (ip + 1)
+      × (a.groups ≡ true)
+  IsSoundLivenessAt top program (Some (Lookahead negate start_group end_group continuation)) ip =
+      IsConsistentLookaround ip continuation
+  IsSoundLivenessAt top program (Some (Lookbehind negate start_group end_group continuation)) ip =
+      IsConsistentLookaround ip continuation
   IsSoundLivenessAt top program None ip = Unit {0}
   IsSoundLivenessAt top program (Some _) ip = IsConsistentPlainEdge false ip (ip + 1)
 
@@ -187,14 +195,16 @@ module _ (a : Liveness) (top : ℕ) where
     pub as_many_starts : length s.starts ≡ length t.starts
     pub starts : (id : ℕ) → (a.start s.ip id || w.starts id) ≡ true → slice_get s.starts id ≡ slice_get t.starts id
     pub as_many_loops : length s.loops ≡ length t.loops
-    pub loops : (l : ℕ) → a.inside s.ip l ≡ true → SimilarAt a top d s.pos s.ip l (slice_get s.loops l) (slice_get t.loops l)
+    pub loops : (l : ℕ) → a.inside s.ip l ≡ true → SimilarAt a top d s.pos s.ip l (slice_get s.loops l)
+        (slice_get t.loops l)
     pub kept : (l : ℕ) → w.kept l ≡ true → IsKeptIn w s t l
 
 -- ---- Laws
 
 -- Literal bytes occur only in programs for texts of bytes.
 abbrev pub ReadsAsBytes : Program → Text → Type 0
-ReadsAsBytes program text = (ip : ℕ) (x : Insn) → slice_get program.insns ip ≡ Some x → IsTrue (is_byte_sequence_insn x) → HasUtf8CharactersAndOffsets text
+ReadsAsBytes program text = (ip : ℕ) (x : Insn) → slice_get program.insns ip ≡ Some x → IsTrue (is_byte_sequence_insn x)
+    → HasUtf8CharactersAndOffsets text
 
 module _ (program : Program) (text : Text) (a : Liveness) where
   -- The analysis is sound for the program in the text.
@@ -207,12 +217,14 @@ module _ (program : Program) (text : Text) (a : Liveness) where
   -- equal groups if groups are live.
   abbrev pub AgreeingEndAlike : Type 0
   AgreeingEndAlike = IsLivenessFor → (turns : ℕ) (d : Direction) (s t : State) → Agree a (units text) outermost d s t
-      → AlikeAnswers (Agree a (units text) outermost d) (search program text turns d (running s ∷ [])) (search program text turns d (running t ∷ []))
+      → AlikeAnswers (Agree a (units text) outermost d) (search program text turns d (running s ∷ []))
+      (search program text turns d (running t ∷ []))
 
   -- Like `AgreeingEndAlike`, for lists of threads and also in a lookaround's contents. Such are the
   -- threads of an executor that does not write data that are not live.
   abbrev pub AgreeingRowsEndAlike : Type 0
-  AgreeingRowsEndAlike = IsLivenessFor → (turns : ℕ) (w : World) (d : Direction) (ts us : List Thread) → AlikeThreads (Agree a (units text) w d) ts us
+  AgreeingRowsEndAlike = IsLivenessFor → (turns : ℕ) (w : World) (d : Direction) (ts us : List Thread)
+      → AlikeThreads (Agree a (units text) w d) ts us
       → AlikeAnswers (Agree a (units text) w d) (search program text turns d ts) (search program text turns d us)
 
   -- If one of the states finds nothing, so does the other.

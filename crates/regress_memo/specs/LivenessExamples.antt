@@ -7,7 +7,7 @@ use Rattle.regex_meaning.specs.CodeUnitOffsets.{HasRisingPlaceOffsets, units}
 use Rattle.regex_meaning.specs.StartPredicate.{StartPredicate}
 use Rattle.regex_meaning.specs.CompilationRelation.{Program, Insn, Goal, Char, EnterLoop, LoopAgain, Loop1CharBody}
 use Rattle.regress_memo.specs.Liveness.{Liveness, IsSoundLiveness}
-use Rattle.regress_memo.specs.MemoKeys.{AsksNoGroups, AsksPlacesAlone}
+use Rattle.regress_memo.specs.MemoKeys.{NoGroupsAreLive, OnlyPositionsAreLive}
 use Rattle.regress_memo.specs.LoopDataKeyCodes.{Question, is_empty, how_many, plan_codes, AsksAll}
 use Rattle.regress_memo.specs.UnboundedCharLoopMemoKeys.{CharLoopRecords}
 use Rattle.regress_memo.specs.SkippedLookarounds.{AsksOnly}
@@ -31,7 +31,8 @@ of_insns insns flags start = record {
 -- The program of `(?:ab)*c`.
 abbrev pub row_program : (most : ℕ) → Flags → StartPredicate → Program
 row_program most =
-    of_insns (EnterLoop (record { loop_id = 0; min_iters = 0; max_iters = most; greedy = true; exit = 4 }) ∷ Char 97 ∷ Char 98 ∷ LoopAgain 0 ∷ Char 99 ∷ Goal ∷ [])
+    of_insns (EnterLoop (record { loop_id = 0; min_iters = 0; max_iters = most; greedy = true; exit = 4 }) ∷ Char
+    97 ∷ Char 98 ∷ LoopAgain 0 ∷ Char 99 ∷ Goal ∷ [])
 
 -- The liveness analysis of `(?:ab)*c`.
 abbrev pub row_account : Liveness
@@ -99,7 +100,7 @@ twice_weights = record { at = twice_at; left = twice_left }
 pub record TwiceIsRight : Type 0 where
   pub right : (top most : ℕ) (flags : Flags) (start : StartPredicate) → top + 2 < most
       → IsSoundLiveness twice_account top (twice_program most flags start)
-  pub no_groups : AsksNoGroups twice_account
+  pub no_groups : NoGroupsAreLive twice_account
   pub asks : AsksAll twice_questions twice_account
   pub only : AsksOnly twice_questions twice_account
   pub codes : plan_codes twice_questions 3 ≡ 6
@@ -109,7 +110,8 @@ pub record TwiceIsRight : Type 0 where
       → CharLoopRecords (twice_program most flags start) twice_account twice_questions (λ ip. rightwards) (2 ∷ [])
       rightwards (λ c. 97 == c) true 1
   -- So it has a plan in each text in which the maximum is out of reach.
-  pub plan : (text : Text) (most : ℕ) (flags : Flags) (start : StartPredicate) → HasRisingPlaceOffsets text → units text + 2 < most
+  pub plan : (text : Text) (most : ℕ) (flags : Flags) (start : StartPredicate) → HasRisingPlaceOffsets text
+      → units text + 2 < most
       → (way : ℕ → Direction) (ips : List ℕ) (taken : Key → ℕ)
       → IsPlan (twice_program most flags start) text twice_account twice_questions way ips taken
   -- A cost of 6 is enough.
@@ -120,6 +122,7 @@ pub record TwiceIsRight : Type 0 where
 
 -- Both analyses are sound, and by the first one positions alone decide.
 pub record LivenessExamplesAreRight : Type 0 where
-  pub right : (top most : ℕ) (flags : Flags) (start : StartPredicate) → top < most → IsSoundLiveness row_account top (row_program most flags start)
-  pub alone : AsksPlacesAlone row_account
+  pub right : (top most : ℕ) (flags : Flags) (start : StartPredicate) → top < most
+      → IsSoundLiveness row_account top (row_program most flags start)
+  pub alone : OnlyPositionsAreLive row_account
   pub twice : TwiceIsRight

@@ -6,12 +6,12 @@ use Rattle.regex_meaning.specs.Text.{Text, Direction}
 use Rattle.regex_meaning.specs.CompilationRelation.{Program}
 use Rattle.regress_machine.specs.Machine.{State, Thread, running, goes, scans, ends, asks, Found, after_lookaround, act, search}
 use Rattle.regress_machine.specs.SearchFindsFirstOutcomeAtPlace.{state_before_first_insn}
-use Rattle.regress_machine.specs.ThreadSimulation.{Simulates, FindNothing}
+use Rattle.regress_machine.specs.ThreadSimulation.{Simulates, AllFindNothing}
 use Rattle.regex_meaning.specs.CodeUnitOffsets.{units}
 use Rattle.regress_memo.specs.ThreadBisimulation.{AlikeThreads, AlikeAsked}
 use Rattle.regress_memo.specs.Liveness.{Liveness, World, outermost, Agree, IsLivenessFor}
 use Rattle.regress_memo.specs.DistinctLists.{IsNew, AreDistinct, AreIn}
-use Rattle.regress_memo.specs.MemoSearch.{Key, Keys, Entry, tries, entry_potential, threads_in, keys_in, IsBare, FindEnd, AreKeys, Succeeds, IsKnown, IsMemory}
+use Rattle.regress_memo.specs.MemoSearch.{Key, Keys, Entry, thread_entries, entry_potential, threads_in, keys_in, IsBare, FindEnd, AreKeys, Succeeds, IsKnown, IsMemory}
 use Rattle.regress_memo.specs.MemoSearch.{HoldsInvariant, ReachesBySteps}
 
 module _ (program : Program) (text : Text) (a : Liveness) (keys : Keys) where
@@ -24,14 +24,16 @@ module _ (program : Program) (text : Text) (a : Liveness) (keys : Keys) where
 
   -- What a search of contents leaves for the enclosing search: new keys, and work that these cover,
   -- except for the initial potential and for records that are discarded.
-  pub record HasLearned (price : Key → ℕ) (weight : List Thread → ℕ) (outer : List Entry) (memory : List Key) (us : List Thread) (work : ℕ) (now : List Key) (row : List Entry) : Type 0 where
+  pub record HasLearned (price : Key → ℕ) (weight : List Thread → ℕ) (outer : List Entry) (memory : List Key)
+      (us : List Thread) (work : ℕ) (now : List Key) (row : List Entry) : Type 0 where
     pub new : List Key
     pub now_is : now ≡ new ++ memory
     pub learned : AreLearned outer memory new
-    pub paid : work ≤ sum_by (entry_potential weight) (tries us) + sum_by price (keys_in row) + sum_by price new
+    pub paid : work ≤ sum_by (entry_potential weight) (thread_entries us) + sum_by price (keys_in row) + sum_by price
+        new
     -- If it has found an end, the keys of its records are learned too, and nothing is discarded.
     pub found : Each (Succeeds program text a keys) (keys_in row) → AreLearned outer memory (keys_in row ++ new)
-    pub found_paid : work ≤ sum_by (entry_potential weight) (tries us) + sum_by price (keys_in row ++ new)
+    pub found_paid : work ≤ sum_by (entry_potential weight) (thread_entries us) + sum_by price (keys_in row ++ new)
 
 -- ---- Threads stay sound
 
@@ -39,13 +41,17 @@ module _ (program : Program) (text : Text) (a : Liveness) where
   -- States are sound if they agree with themselves.
   pub record StaysSound (d : Direction) : Type 0 where
     -- The state with which a search begins is sound, if it is in no loop.
-    pub at_first : (at : ℕ) → at ≤ units text → ((l : ℕ) → a.inside 0 l ≡ false) → Agree a (units text) outermost d (state_before_first_insn program at) (state_before_first_insn program at)
+    pub at_first : (at : ℕ) → at ≤ units text → ((l : ℕ) → a.inside 0 l ≡ false)
+        → Agree a (units text) outermost d (state_before_first_insn program at) (state_before_first_insn program at)
     -- The threads that a sound state leaves are sound.
-    pub goes : (w : World) (s : State) (ts : List Thread) → Agree a (units text) w d s s → act program text d s ≡ goes ts → AlikeThreads (Agree a (units text) w d) ts ts
-    pub scans : (w : World) (s : State) (n : ℕ) (ts : List Thread) → Agree a (units text) w d s s → act program text d s ≡ scans n ts → AlikeThreads (Agree a (units text) w d) ts ts
+    pub goes : (w : World) (s : State) (ts : List Thread) → Agree a (units text) w d s s
+        → act program text d s ≡ goes ts → AlikeThreads (Agree a (units text) w d) ts ts
+    pub scans : (w : World) (s : State) (n : ℕ) (ts : List Thread) → Agree a (units text) w d s s
+        → act program text d s ≡ scans n ts → AlikeThreads (Agree a (units text) w d) ts ts
     -- The state with which a lookaround's contents begin is sound in a world of theirs, and so is
     -- what continues after an end that is sound there.
-    pub asks : (w : World) (inner : Direction) (negate : Bool) (s u t : State) → Agree a (units text) w d s s → act program text d s ≡ asks inner negate u t
+    pub asks : (w : World) (inner : Direction) (negate : Bool) (s u t : State) → Agree a (units text) w d s s
+        → act program text d s ≡ asks inner negate u t
         → AlikeAsked (λ w d. Agree a (units text) w d) w d inner negate u t u t
     -- States that agree in any world agree in the outermost one.
     pub outer : (w : World) (s t : State) → Agree a (units text) w d s t → Agree a (units text) outermost d s t
@@ -54,7 +60,8 @@ module _ (program : Program) (text : Text) (d : Direction) where
   -- A lookaround is decided without a search if its contents are known to fail or, if it is
   -- negative, known to find an end.
   pub record AreDecided : Type 0 where
-    pub fails : (inner : Direction) (negate : Bool) (s u t : State) → act program text d s ≡ asks inner negate u t → FindNothing program text inner (running u ∷ [])
+    pub fails : (inner : Direction) (negate : Bool) (s u t : State) → act program text d s ≡ asks inner negate u t
+        → AllFindNothing program text inner (running u ∷ [])
         → Simulates program text false d 1 (after_lookaround negate t None) (running s ∷ [])
     pub reaches : (inner : Direction) (s u t : State) → act program text d s ≡ asks inner true u t
         → FindEnd program text inner (running u ∷ []) → Simulates program text false d 1 [] (running s ∷ [])
@@ -63,7 +70,8 @@ module _ (program : Program) (text : Text) (d : Direction) where
 
 -- Sound states leave sound threads in each search.
 abbrev pub SoundStatesLeaveSoundThreads : Type 0
-SoundStatesLeaveSoundThreads = (program : Program) (text : Text) (a : Liveness) → IsLivenessFor program text a → (d : Direction) → StaysSound program text a d
+SoundStatesLeaveSoundThreads = (program : Program) (text : Text) (a : Liveness) → IsLivenessFor program text a
+    → (d : Direction) → StaysSound program text a d
 
 -- Lookarounds are decided without a search in each program.
 abbrev pub KnownResultsDecideLookarounds : Type 0
@@ -71,14 +79,17 @@ KnownResultsDecideLookarounds = (program : Program) (text : Text) (d : Direction
 
 -- Each search of contents from a right memo table learns keys.
 abbrev pub LookaroundsLearnKeys : Type 0
-LookaroundsLearnKeys = (program : Program) (text : Text) (a : Liveness) (keys : Keys) → IsLivenessFor program text a → AreKeys program text a keys
-    → (d : Direction) (price : Key → ℕ) (weight : List Thread → ℕ) (outer : List Entry) (memory : List Key) (us : List Thread) (turns : ℕ) (f : Found) → IsMemory program text a keys memory
-    → search program text turns d us ≡ Some f → (work : ℕ) (now : List Key) (row : List Entry) → ReachesBySteps program text a keys d price weight memory (tries us) work now row
+LookaroundsLearnKeys = (program : Program) (text : Text) (a : Liveness) (keys : Keys) → IsLivenessFor program text a
+    → AreKeys program text a keys
+    → (d : Direction) (price : Key → ℕ) (weight : List Thread → ℕ) (outer : List Entry) (memory : List Key)
+    (us : List Thread) (turns : ℕ) (f : Found) → IsMemory program text a keys memory
+    → search program text turns d us ≡ Some f → (work : ℕ) (now : List Key) (row : List Entry)
+    → ReachesBySteps program text a keys d price weight memory (thread_entries us) work now row
     → HasLearned program text a keys price weight outer memory us work now row
 
 module _ (program : Program) (text : Text) (a : Liveness) (keys : Keys) (d : Direction) where
   -- Success is shared as failure is.
-  pub record SuccessOf : Type 0 where
+  pub record SharedSuccess : Type 0 where
     -- A thread that ends finds an end. So do the threads of a key that is known to find one.
     pub ends : (s t : State) → act program text d s ≡ ends t → FindEnd program text d (running s ∷ [])
     -- If the first threads of a list find an end, the search does, and each record below is of
@@ -90,4 +101,4 @@ module _ (program : Program) (text : Text) (a : Liveness) (keys : Keys) (d : Dir
 -- Success is shared in each search.
 abbrev pub FoundEndIsShared : Type 0
 FoundEndIsShared = (program : Program) (text : Text) (a : Liveness) (keys : Keys)
-    → IsLivenessFor program text a → AreKeys program text a keys → (d : Direction) → SuccessOf program text a keys d
+    → IsLivenessFor program text a → AreKeys program text a keys → (d : Direction) → SharedSuccess program text a keys d

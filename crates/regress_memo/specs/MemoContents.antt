@@ -21,7 +21,8 @@ same_key j k = (j.ip == k.ip) && ((j.at == k.at) && (j.code == k.code))
 
 -- The key of a running state, if its instruction records.
 abbrev pub memo_key_at : MemoAnalysis → State → Option Key
-memo_key_at t s = if (insn_analysis_of t s.ip).records then Some (key_of (plan_code (key_code_questions_of t)) s) else None
+memo_key_at t s = if (insn_analysis_of t s.ip).records then Some (key_of (plan_code (key_code_questions_of t)) s)
+    else None
 
 -- Whether a key has a bit (the test for `IsRecordableMemoKey`).
 abbrev pub has_bit : MemoAnalysis → (places : ℕ) → Key → Bool

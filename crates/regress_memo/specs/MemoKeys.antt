@@ -11,7 +11,8 @@ module _ (a : Liveness) (top : ℕ) where
   -- The data of the loops that contain the state's instruction are sound.
   pub record IsSoundState (d : Direction) (s : State) : Type 0 where
     pub within : s.pos ≤ top
-    pub loops : (l : ℕ) (x : LoopData) → a.inside s.ip l ≡ true → slice_get s.loops l ≡ Some x → IsSound a top d s.pos s.ip l x
+    pub loops : (l : ℕ) (x : LoopData) → a.inside s.ip l ≡ true → slice_get s.loops l ≡ Some x
+        → IsSound a top d s.pos s.ip l x
 
 -- The states have the same instruction and offset, in the same search.
 pub record SamePlace (s t : State) : Type 0 where
@@ -26,19 +27,21 @@ module _ (a : Liveness) where
   -- whether a character was read, and how many iterations there were, up to the live number.
   pub record SameKey (s t : State) : Type 0 where
     pub place : SamePlace s t
-    pub empty : (l : ℕ) (x y : LoopData) → a.inside s.ip l ≡ true → a.empty s.ip l ≡ true → slice_get s.loops l ≡ Some x → slice_get t.loops l ≡ Some y
+    pub empty : (l : ℕ) (x y : LoopData) → a.inside s.ip l ≡ true → a.empty s.ip l ≡ true → slice_get s.loops l ≡ Some x
+        → slice_get t.loops l ≡ Some y
         → (x.entry == s.pos) ≡ (y.entry == s.pos)
-    pub count : (l : ℕ) (x y : LoopData) → a.inside s.ip l ≡ true → slice_get s.loops l ≡ Some x → slice_get t.loops l ≡ Some y
+    pub count : (l : ℕ) (x y : LoopData) → a.inside s.ip l ≡ true → slice_get s.loops l ≡ Some x
+        → slice_get t.loops l ≡ Some y
         → min x.iters (a.up_to l) ≡ min y.iters (a.up_to l)
 
   -- Groups are not live, as in a program without backreferences.
-  pub record AsksNoGroups : Type 0 where
+  pub record NoGroupsAreLive : Type 0 where
     pub groups : a.groups ≡ false
     pub start : (ip id : ℕ) → a.start ip id ≡ false
 
   -- The data of loops are not live either.
-  pub record AsksPlacesAlone : Type 0 where
-    pub no_groups : AsksNoGroups
+  pub record OnlyPositionsAreLive : Type 0 where
+    pub no_groups : NoGroupsAreLive
     pub empty : (ip l : ℕ) → a.empty ip l ≡ false
     pub up_to : (l : ℕ) → a.up_to l ≡ 0
 
@@ -46,30 +49,34 @@ module _ (a : Liveness) where
 
 -- States with the same key fail alike.
 abbrev pub MemoKeysDecideFailure : Type 0
-MemoKeysDecideFailure = (program : Program) (text : Text) (a : Liveness) → IsLivenessFor program text a → AsksNoGroups a → (d : Direction) (s t : State)
+MemoKeysDecideFailure = (program : Program) (text : Text) (a : Liveness) → IsLivenessFor program text a
+    → NoGroupsAreLive a → (d : Direction) (s t : State)
     → IsSoundState a (units text) d s → IsSoundState a (units text) d t → SameKey a s t
     → FindsNothing program text d (running s) → FindsNothing program text d (running t)
 
 -- If no loop data are live, an instruction and an offset are a key.
 abbrev pub PositionsDecideFailure : Type 0
-PositionsDecideFailure = (program : Program) (text : Text) (a : Liveness) → IsLivenessFor program text a → AsksPlacesAlone a → (d : Direction) (s t : State)
+PositionsDecideFailure = (program : Program) (text : Text) (a : Liveness) → IsLivenessFor program text a
+    → OnlyPositionsAreLive a → (d : Direction) (s t : State)
     → IsSoundState a (units text) d s → IsSoundState a (units text) d t → SamePlace s t
     → FindsNothing program text d (running s) → FindsNothing program text d (running t)
 
 module _ (program : Program) (text : Text) where
   -- The threads above a record of a state are all that remains of its search.
-  pub record IsRecorded (d : Direction) (above : List Thread) (s : State) : Type 0 where
+  pub record IsRecordedBelow (d : Direction) (above : List Thread) (s : State) : Type 0 where
     pub simulates : Simulates program text false d 1 above (running s ∷ [])
 
   -- When a record is made, and what it says.
   pub record RecordsOf : Type 0 where
     -- A record is made below the threads that a step leaves.
-    pub made : (d : Direction) (s : State) (ts : List Thread) → act program text d s ≡ goes ts → IsRecorded d ts s
-    pub made_by_run : (d : Direction) (s : State) (tries : ℕ) (ts : List Thread) → act program text d s ≡ scans tries ts → IsRecorded d ts s
+    pub made : (d : Direction) (s : State) (ts : List Thread) → act program text d s ≡ goes ts → IsRecordedBelow d ts s
+    pub made_by_run : (d : Direction) (s : State) (tries : ℕ) (ts : List Thread) → act program text d s ≡ scans tries ts
+        → IsRecordedBelow d ts s
     -- It stays right if the first threads above it are replaced by threads that simulate these.
-    pub kept : (d : Direction) (n : ℕ) (us ts rest : List Thread) (s : State) → Simulates program text false d n us ts → IsRecorded d (ts ++ rest) s → IsRecorded d (us ++ rest) s
+    pub kept : (d : Direction) (n : ℕ) (us ts rest : List Thread) (s : State) → Simulates program text false d n us ts
+        → IsRecordedBelow d (ts ++ rest) s → IsRecordedBelow d (us ++ rest) s
     -- If no thread is left above it, the state finds nothing.
-    pub ended : (d : Direction) (s : State) → IsRecorded d [] s → FindsNothing program text d (running s)
+    pub ended : (d : Direction) (s : State) → IsRecordedBelow d [] s → FindsNothing program text d (running s)
 
 -- Records are right in each program and text.
 abbrev pub RecordedFailuresAreRight : Type 0
@@ -78,5 +85,7 @@ RecordedFailuresAreRight = (program : Program) (text : Text) → RecordsOf progr
 -- No state recurs while a record of it is pending: its search would take as many steps as the
 -- search of which it is a part.
 abbrev pub NoStateRecursWhilePending : Type 0
-NoStateRecursWhilePending = (program : Program) (text : Text) (a : Liveness) → IsLivenessFor program text a → (d : Direction) (s t : State) (rest : List Thread) (turns : ℕ) (f : Found)
-    → Agree a (units text) outermost d s t → IsRecorded program text d (running t ∷ rest) s → search program text turns d (running s ∷ []) ≡ Some f → ⊥
+NoStateRecursWhilePending = (program : Program) (text : Text) (a : Liveness) → IsLivenessFor program text a
+    → (d : Direction) (s t : State) (rest : List Thread) (turns : ℕ) (f : Found)
+    → Agree a (units text) outermost d s t → IsRecordedBelow program text d (running t ∷ rest) s
+    → search program text turns d (running s ∷ []) ≡ Some f → ⊥

@@ -7,11 +7,11 @@ use Rattle.regex_meaning.specs.Text.{Text, Direction}
 use Rattle.regex_meaning.specs.CodeUnitOffsets.{units}
 use Rattle.regex_meaning.specs.CompilationRelation.{Program}
 use Rattle.regress_machine.specs.Machine.{State, Thread, running, waiting, goes, Found, after_lookaround, state_with_ip, state_at_next_ip, act, search}
-use Rattle.regress_machine.specs.ThreadSimulation.{FindNothing}
+use Rattle.regress_machine.specs.ThreadSimulation.{AllFindNothing}
 use Rattle.regress_memo.specs.Liveness.{Liveness, Agree, outermost, IsLivenessFor}
-use Rattle.regress_memo.specs.MemoKeys.{AsksNoGroups}
+use Rattle.regress_memo.specs.MemoKeys.{NoGroupsAreLive}
 use Rattle.regress_memo.specs.DistinctLists.{IsNew}
-use Rattle.regress_memo.specs.MemoSearch.{Key, Entry, tried, noted, tries, FindEnd, AreKeys, IsMemoStep}
+use Rattle.regress_memo.specs.MemoSearch.{Key, Entry, one_thread, key_record, thread_entries, FindEnd, AreKeys, IsMemoStep}
 use Rattle.regress_memo.specs.ThreadPotentials.{is_one_of}
 use Rattle.regress_memo.specs.SuccessiveMatches.{Attempted, ready_at}
 use Rattle.regress_memo.specs.LoopDataKeyCodes.{Question, plan_code, plan_codes, AsksAll, HasSlotsOfProgram, key_of}
@@ -22,15 +22,15 @@ module _ (program : Program) (text : Text) (a : Liveness) (questions : ℕ → L
     (way : ℕ → Direction) (ips : List ℕ) (taken : Key → ℕ) where
   -- The liveness analysis is sound and needs no groups, and all live data are among the questions.
   pub record IsPlan : Type 0 where
-    pub account : IsLivenessFor program text a
-    pub no_groups : AsksNoGroups a
+    pub liveness : IsLivenessFor program text a
+    pub no_groups : NoGroupsAreLive a
     pub asks : AsksAll questions a
 
   -- ---- Steps of threads
 
   -- A sound thread at an instruction that records and is not the body of a char loop. Its key is
   -- new.
-  pub record IsRecorded (d : Direction) (memory : List Key) (s : State) : Type 0 where
+  pub record RecordsNewKey (d : Direction) (memory : List Key) (s : State) : Type 0 where
     pub records : is_one_of ips s.ip ≡ true
     pub goes : way s.ip ≡ d
     pub no_body : char_loop_greediness_at (insn_before program s.ip) ≡ None
@@ -42,22 +42,28 @@ module _ (program : Program) (text : Text) (a : Liveness) (questions : ℕ → L
   module _ (d : Direction) (memory : List Key) where
     -- The entries replace the threads in a memo step with the keys of the plan.
     abbrev pub GivesByPlan : List Thread → List Entry → Type 0
-    GivesByPlan ts entries = IsMemoStep program text a (plan_keys program text a questions way ips taken) d memory ts entries
+    GivesByPlan ts entries =
+        IsMemoStep program text a (plan_keys program text a questions way ips taken) d memory ts entries
 
     -- A thread that waits is resumed. One that runs is executed, with or without a record.
     pub record ThreadGives (s : State) : Type 0 where
-      pub taken_up : GivesByPlan (waiting s ∷ []) (tried (running s) ∷ [])
-      pub turned : (ts : List Thread) → act program text d s ≡ goes ts → GivesByPlan (running s ∷ []) (tries ts)
-      pub recorded : (ts : List Thread) → act program text d s ≡ goes ts → IsRecorded d memory s
-          → GivesByPlan (running s ∷ []) (tries ts ++ noted (key_of (plan_code questions) s) (running s ∷ []) ∷ [])
+      pub taken_up : GivesByPlan (waiting s ∷ []) (one_thread (running s) ∷ [])
+      pub turned : (ts : List Thread) → act program text d s ≡ goes ts
+          → GivesByPlan (running s ∷ []) (thread_entries ts)
+      pub recorded : (ts : List Thread) → act program text d s ≡ goes ts → RecordsNewKey d memory s
+          → GivesByPlan (running s ∷ []) (thread_entries ts ++ key_record (key_of (plan_code questions) s)
+          (running s ∷ []) ∷ [])
 
     -- A lookaround is decided by the result of a search of its contents, or by what is known of
     -- them.
     pub record LookGives (s : State) (look : LookaroundInsn) : Type 0 where
-      pub searched : (turns : ℕ) (f : Found) → search program text turns look.inner (running (state_at_next_ip s) ∷ []) ≡ Some f
-          → GivesByPlan (running s ∷ []) (tries (after_lookaround look.negate (state_with_ip look.continuation s) f.end))
-      pub fails : FindNothing program text look.inner (running (state_at_next_ip s) ∷ [])
-          → GivesByPlan (running s ∷ []) (tries (after_lookaround look.negate (state_with_ip look.continuation s) None))
+      pub searched : (turns : ℕ) (f : Found) → search program text turns look.inner
+          (running (state_at_next_ip s) ∷ []) ≡ Some f
+          → GivesByPlan (running s ∷ []) (thread_entries
+          (after_lookaround look.negate (state_with_ip look.continuation s) f.end))
+      pub fails : AllFindNothing program text look.inner (running (state_at_next_ip s) ∷ [])
+          → GivesByPlan (running s ∷ []) (thread_entries
+          (after_lookaround look.negate (state_with_ip look.continuation s) None))
       pub reaches : look.negate ≡ true → FindEnd program text look.inner (running (state_at_next_ip s) ∷ [])
           → GivesByPlan (running s ∷ []) []
 
@@ -90,24 +96,25 @@ module _ (program : Program) (text : Text) (a : Liveness) (questions : ℕ → L
 -- ---- Steps below records
 
 -- The steps below a record: 0 if it is of a greedy char loop, else 1.
-abbrev pub taken_at : Option Bool → ℕ
-taken_at (Some true) = 0
-taken_at _ = 1
+abbrev pub steps_below_record_of_loop : Option Bool → ℕ
+steps_below_record_of_loop (Some true) = 0
+steps_below_record_of_loop _ = 1
 
 -- The value of `taken` that the laws on steps require: no step below the record of a greedy char
 -- loop's position, and one below any other.
-abbrev pub plan_taken : Program → Key → ℕ
-plan_taken program k = taken_at (char_loop_greediness_at (insn_before program k.ip))
+abbrev pub plan_steps_below_record : Program → Key → ℕ
+plan_steps_below_record program k = steps_below_record_of_loop (char_loop_greediness_at (insn_before program k.ip))
 
 -- ---- Laws
 
 -- A plan takes these numbers of steps.
 pub record ZeroOrOneStepBelowRecord : Type 0 where
-  pub threads : (program : Program) (k : Key) → char_loop_greediness_at (insn_before program k.ip) ≡ None → plan_taken program k ≡ 1
+  pub threads : (program : Program) (k : Key) → char_loop_greediness_at (insn_before program k.ip) ≡ None
+      → plan_steps_below_record program k ≡ 1
   pub greedy : (program : Program) (ip at code : ℕ) → char_loop_greediness_at (slice_get program.insns ip) ≡ Some true
-      → plan_taken program (record { ip = ip + 1; at = at; code = code }) ≡ 0
+      → plan_steps_below_record program (record { ip = ip + 1; at = at; code = code }) ≡ 0
   pub lazy : (program : Program) (ip at code : ℕ) → char_loop_greediness_at (slice_get program.insns ip) ≡ Some false
-      → plan_taken program (record { ip = ip + 1; at = at; code = code }) ≡ 1
+      → plan_steps_below_record program (record { ip = ip + 1; at = at; code = code }) ≡ 1
 
 -- Each plan that passes its checks provides this.
 abbrev pub CheckedMemoPlansAreSound : Type 0

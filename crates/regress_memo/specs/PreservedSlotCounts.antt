@@ -16,4 +16,5 @@ state_of_thread (waiting s) = s
 -- The states that a step leaves have as many groups and loops as the program.
 abbrev pub StatesKeepSlots : Type 0
 StatesKeepSlots = (program : Program) (text : Text) (d : Direction) (s : State) (ts : List Thread)
-    → HasSlotsOfProgram program s → act program text d s ≡ goes ts → Each (λ u. HasSlotsOfProgram program (state_of_thread u)) ts
+    → HasSlotsOfProgram program s → act program text d s ≡ goes ts
+    → Each (λ u. HasSlotsOfProgram program (state_of_thread u)) ts

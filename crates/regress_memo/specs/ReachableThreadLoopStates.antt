@@ -24,11 +24,14 @@ IsWithinCountBound count d top x = IsAtMost count.counted count.up_to d top x
 
 -- The state of a loop is sound, by its count bound and by whether a character is known to have been
 -- read.
-pub record LoopDataFitsLoopFacts (count : LoopCountsDistinguishedUpTo) (reads : Bool) (d : Direction) (top at : ℕ) (x : LoopData) : Type 0 where
+pub record LoopDataFitsLoopFacts (count : LoopCountsDistinguishedUpTo) (reads : Bool) (d : Direction) (top at : ℕ)
+    (x : LoopData) : Type 0 where
   pub passed : IsNotAheadInDirection d x.entry at
   pub moved : reads ≡ true → (x.entry == at) ≡ false
   pub few : IsWithinCountBound count d top x
 
 -- The state of an entry's loop is sound, if there is one.
-abbrev pub ThreadLoopStateFitsAnalysis : MemoAnalysis → (d : Direction) (top at : ℕ) → Option LoopData → EnclosingLoop → Type 0
-ThreadLoopStateFitsAnalysis t d top at held row = (x : LoopData) → held ≡ Some x → LoopDataFitsLoopFacts (count_bound_of t row.id) row.moved d top at x
+abbrev pub ThreadLoopStateFitsAnalysis : MemoAnalysis → (d : Direction) (top at : ℕ) → Option LoopData → EnclosingLoop
+    → Type 0
+ThreadLoopStateFitsAnalysis t d top at held row = (x : LoopData) → held ≡ Some x
+    → LoopDataFitsLoopFacts (count_bound_of t row.id) row.moved d top at x

@@ -40,7 +40,8 @@ module _ (program : Program) (text : Text) (a : Liveness) where
   -- A positive lookaround whose contents are known to find an end and have no groups.
   abbrev pub SuccessGoesOn : Type 0
   SuccessGoesOn = IsLivenessFor program text a → (silent : ℕ → Bool) → AreGroupPreserving silent program
-      → (w : World) (d : Direction) (s : State) (look : LookaroundInsn) → lookaround_at (slice_get program.insns s.ip) ≡ Some look
+      → (w : World) (d : Direction) (s : State) (look : LookaroundInsn)
+      → lookaround_at (slice_get program.insns s.ip) ≡ Some look
       → look.negate ≡ false → silent (s.ip + 1) ≡ true → Agree a (units text) w d s s
       → FindEnd program text look.inner (running (state_at_next_ip s) ∷ [])
       → (turns : ℕ) (vs : List Thread) (f : Found) → search program text turns d (running s ∷ vs) ≡ Some f

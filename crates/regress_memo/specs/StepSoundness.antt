@@ -7,7 +7,7 @@ use Rattle.regress_machine.specs.Machine.{Thread, Found}
 use Rattle.regress_machine.specs.ThreadSimulation.{Simulates}
 use Rattle.regress_memo.specs.Liveness.{Liveness, IsLivenessFor}
 use Rattle.regress_memo.specs.DistinctLists.{IsNew, AreDistinct}
-use Rattle.regress_memo.specs.MemoSearch.{Key, Keys, Entry, noted, threads_in, keys_in, IsBare, KeyStandsFor, AreKeys, AreNoted, AreOpened, IsMemoStep}
+use Rattle.regress_memo.specs.MemoSearch.{Key, Keys, Entry, key_record, threads_in, keys_in, IsBare, KeyStandsFor, AreKeys, AreRightKeyRecords, AreOpened, IsMemoStep}
 use Rattle.regress_memo.specs.MemoSearch.{HoldsInvariant}
 
 module _ (program : Program) (text : Text) (a : Liveness) (keys : Keys) (d : Direction) where
@@ -15,13 +15,13 @@ module _ (program : Program) (text : Text) (a : Liveness) (keys : Keys) (d : Dir
   pub record IsSoundStep (memory : List Key) (ts : List Thread) (entries : List Entry) : Type 0 where
     pub spent : ℕ
     pub simulates : Simulates program text false d spent (threads_in entries) ts
-    pub noted : AreNoted program text a keys d [] entries
+    pub noted : AreRightKeyRecords program text a keys d [] entries
     pub opened : AreOpened program text a keys d memory ts entries
     pub distinct : AreDistinct (keys_in entries)
 
   module _ (memory : List Key) where
     -- The steps that are sound, and that they keep the invariant.
-    pub record LeavesOf : Type 0 where
+    pub record SoundStepsKeepInvariant : Type 0 where
       pub given : (ts : List Thread) (entries : List Entry) → IsMemoStep program text a keys d memory ts entries
           → IsSoundStep memory ts entries
       -- Steps without a record, and with a record of what was current.
@@ -29,18 +29,22 @@ module _ (program : Program) (text : Text) (a : Liveness) (keys : Keys) (d : Dir
           → Simulates program text false d n (threads_in bare) ts → IsSoundStep memory ts bare
       pub made : (n : ℕ) (bare : List Entry) (ts : List Thread) (k : Key) → IsBare bare
           → Simulates program text false d n (threads_in bare) ts → KeyStandsFor program text a keys d k ts
-          → 1 ≤ keys.taken k → keys.taken k ≤ n → IsNew k memory → IsSoundStep memory ts (bare ++ noted k ts ∷ [])
+          → 1 ≤ keys.taken k → keys.taken k ≤ n → IsNew k memory → IsSoundStep memory ts (bare ++ key_record k ts ∷ [])
       -- A sound step keeps the invariant.
-      pub turned : (front entries rest : List Entry) (f : Found) → IsBare front → IsSoundStep memory (threads_in front) entries
-          → HoldsInvariant program text a keys d memory (front ++ rest) f → HoldsInvariant program text a keys d memory (entries ++ rest) f
+      pub turned : (front entries rest : List Entry) (f : Found) → IsBare front
+          → IsSoundStep memory (threads_in front) entries
+          → HoldsInvariant program text a keys d memory (front ++ rest) f
+          → HoldsInvariant program text a keys d memory (entries ++ rest) f
       -- The same threads may be grouped differently.
       pub regrouped : (front bare rest : List Entry) (f : Found) → IsBare front → IsBare bare
           → threads_in bare ≡ threads_in front
-          → HoldsInvariant program text a keys d memory (front ++ rest) f → HoldsInvariant program text a keys d memory (bare ++ rest) f
+          → HoldsInvariant program text a keys d memory (front ++ rest) f
+          → HoldsInvariant program text a keys d memory (bare ++ rest) f
 
 -- ---- Laws
 
 -- The steps of each search are sound.
 abbrev pub StepsAreSound : Type 0
-StepsAreSound = (program : Program) (text : Text) (a : Liveness) (keys : Keys) → IsLivenessFor program text a → AreKeys program text a keys
-    → (d : Direction) (memory : List Key) → LeavesOf program text a keys d memory
+StepsAreSound = (program : Program) (text : Text) (a : Liveness) (keys : Keys) → IsLivenessFor program text a
+    → AreKeys program text a keys
+    → (d : Direction) (memory : List Key) → SoundStepsKeepInvariant program text a keys d memory

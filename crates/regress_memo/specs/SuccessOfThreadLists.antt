@@ -6,7 +6,7 @@ use Rattle.regress_machine.specs.Machine.{State, Thread, running, waiting, Found
 use Rattle.regress_machine.specs.ThreadSimulation.{Simulates}
 use Rattle.regress_memo.specs.Liveness.{Liveness, IsLivenessFor}
 use Rattle.regress_memo.specs.LoopDataKeyCodes.{Question}
-use Rattle.regress_memo.specs.MemoSearch.{Key, Keys, Entry, noted, AreKeys, Fails, FindEnd, HoldsInvariant}
+use Rattle.regress_memo.specs.MemoSearch.{Key, Keys, Entry, key_record, AreKeys, Fails, FindEnd, HoldsInvariant}
 use Rattle.regress_memo.specs.CharLoopExitThreadLists.{passing, greedy_loop_threads, pending_loop_threads}
 use Rattle.regress_memo.specs.UnboundedCharLoops.{AtCharLoop}
 
@@ -19,7 +19,8 @@ module _ (program : Program) (text : Text) (d : Direction) where
     pub simulated : (n : ℕ) (us ts : List Thread) → Simulates program text false d n us ts → FindEnd program text d us
         → FindEnd program text d ts
     -- Threads of which the first one runs find an end if they do while it waits.
-    pub up : (s : State) (ts : List Thread) → FindEnd program text d (waiting s ∷ ts) → FindEnd program text d (running s ∷ ts)
+    pub up : (s : State) (ts : List Thread) → FindEnd program text d (waiting s ∷ ts)
+        → FindEnd program text d (running s ∷ ts)
 
 -- A char loop without a maximum finds an end if it does from one of its places on.
 pub record RunsReach : Type 0 where
@@ -27,12 +28,14 @@ pub record RunsReach : Type 0 where
       (ips : List ℕ) (taken : Key → ℕ) (d : Direction) (test : ℕ → Bool) (s : State) (place least most n : ℕ)
       → IsLivenessFor program text a → AtCharLoop program text a questions way ips taken d test s true least most place
       → least ≤ n → n ≤ passing text test d place
-      → FindEnd program text d (greedy_loop_threads text test d 0 (moved text d n place) s) → FindEnd program text d (running s ∷ [])
+      → FindEnd program text d (greedy_loop_threads text test d 0 (moved text d n place) s)
+      → FindEnd program text d (running s ∷ [])
   pub lazy : (program : Program) (text : Text) (a : Liveness) (questions : ℕ → List Question) (way : ℕ → Direction)
       (ips : List ℕ) (taken : Key → ℕ) (d : Direction) (test : ℕ → Bool) (s : State) (place least most n : ℕ)
       → IsLivenessFor program text a → AtCharLoop program text a questions way ips taken d test s false least most place
       → least ≤ n → n ≤ passing text test d place
-      → FindEnd program text d (pending_loop_threads text test d 0 (moved text d n place) s) → FindEnd program text d (running s ∷ [])
+      → FindEnd program text d (pending_loop_threads text test d 0 (moved text d n place) s)
+      → FindEnd program text d (running s ∷ [])
 
 -- ---- Laws
 
@@ -43,6 +46,7 @@ pub record ThreadListsSucceedIfPartDoes : Type 0 where
 
 -- The key of a record that is reached fails.
 abbrev pub KeyFailsWhenRecordReached : Type 0
-KeyFailsWhenRecordReached = (program : Program) (text : Text) (a : Liveness) (keys : Keys) → IsLivenessFor program text a → AreKeys program text a keys
+KeyFailsWhenRecordReached = (program : Program) (text : Text) (a : Liveness) (keys : Keys)
+    → IsLivenessFor program text a → AreKeys program text a keys
     → (d : Direction) (memory : List Key) (k : Key) (ts : List Thread) (rest : List Entry) (f : Found)
-    → HoldsInvariant program text a keys d memory (noted k ts ∷ rest) f → Fails program text a keys k
+    → HoldsInvariant program text a keys d memory (key_record k ts ∷ rest) f → Fails program text a keys k

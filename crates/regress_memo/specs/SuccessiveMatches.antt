@@ -6,7 +6,7 @@ use Rattle.regex_meaning.specs.Text.{Text, rightwards}
 use Rattle.regex_meaning.specs.CompilationRelation.{Program}
 use Rattle.regress_machine.specs.Machine.{Thread, Found, search}
 use Rattle.regress_memo.specs.Liveness.{Liveness, IsLivenessFor}
-use Rattle.regress_memo.specs.MemoSearch.{Key, Keys, Entry, tried, tries, at_of, entry_potential, AreOnward, AreKeys, ReachesBySteps}
+use Rattle.regress_memo.specs.MemoSearch.{Key, Keys, Entry, one_thread, thread_entries, at_of, entry_potential, AreOnward, AreKeys, ReachesBySteps}
 
 -- The number of occurrences of a position in a list.
 abbrev pub times_in : List ℕ → ℕ → ℕ
@@ -28,21 +28,22 @@ module _ (program : Program) (text : Text) (a : Liveness) (keys : Keys)
       -- An attempt fails.
       failed : (from next looks work more : ℕ) (memory now : List Key) (starts : List ℕ) (turns : ℕ) (f : Found)
           → Attempted from next looks work memory starts → search program text turns rightwards (row next) ≡ Some f
-          → ReachesBySteps program text a keys rightwards price weight memory (tries (row next)) more now []
+          → ReachesBySteps program text a keys rightwards price weight memory (thread_entries (row next)) more now []
           → Attempted from (next + 1) (looks + 1) (work + more) now (next ∷ starts)
       -- An attempt finds an end. The next one begins there, or further on if the match was searched
       -- from there.
       found : (from next on looks work more : ℕ) (memory now : List Key) (starts : List ℕ) (turns : ℕ) (f : Found)
           (t : Thread) (rest : List Entry)
           → Attempted from next looks work memory starts → search program text turns rightwards (row next) ≡ Some f
-          → AreOnward next (tries (row next))
-          → ReachesBySteps program text a keys rightwards price weight memory (tries (row next)) more now (tried t ∷ rest)
+          → AreOnward next (thread_entries (row next))
+          → ReachesBySteps program text a keys rightwards price weight memory (thread_entries (row next)) more now
+          (one_thread t ∷ rest)
           → at_of t ≤ on → from < on
           → Attempted on on (looks + 1) (work + more) now (next ∷ starts)
 
     -- The initial potential of an attempt.
     abbrev pub ready_at : ℕ → ℕ
-    ready_at at = sum_by (entry_potential weight) (tries (row at))
+    ready_at at = sum_by (entry_potential weight) (thread_entries (row at))
 
     -- The attempts, the looks and the work are bounded.
     pub record AreFew (from next looks work : ℕ) (starts : List ℕ) : Type 0 where

@@ -3,7 +3,7 @@ use Rattle.std.specs.Prelude.{◌≡◌, ℕ, ◌+◌, Bool, true, false, List, 
 use Rattle.regex_meaning.specs.CompilationRelation.{Program, Insn, Goal, JustFail, Char, CharSet, ByteSet, ByteSeq, AsciiBracket, Bracket, MatchAny}
 use Rattle.regex_meaning.specs.CompilationRelation.{MatchAnyExceptLineTerminator, Alt, Jump, EnterLoop, LoopAgain, ResetCaptureGroup, Loop1CharBody}
 use Rattle.regex_meaning.specs.CompilationRelation.{BeginCaptureGroup, EndCaptureGroup, BackRef, Lookahead, Lookbehind}
-use Rattle.regress_program.specs.InsnsAsSpecInsns.{insn_as_spec_insn}
+use Rattle.regress_program.specs.InsnsAsSpec.{insn_as_spec_insn}
 use Rattle.regress_program.specs.declared.instructions.Insn as declared
 use Rattle.regress_memo.specs.declared.successors.Successors.{Successors}
 use Rattle.regress_memo.specs.declared.successors.Successors.TheVariants.{Ends, One, Two, Enter, Again, Run, LookaroundSuccessor, Same}
@@ -32,7 +32,14 @@ successors_of ip MatchAnyExceptLineTerminator = fall_through ip true true
 successors_of ip (Alt secondary) = Two secondary
 successors_of ip (Jump target) = One (record { to = target; reads = false; silent = true })
 successors_of ip (EnterLoop f) =
-    Enter (record { loop_id = f.loop_id; min_iters = f.min_iters; max_iters = f.max_iters; greedy = f.greedy; exit = f.exit })
+    Enter (record {
+      loop_id =
+          f.loop_id;
+      min_iters = f.min_iters;
+      max_iters = f.max_iters;
+      greedy = f.greedy;
+      exit = f.exit;
+    })
 successors_of ip (LoopAgain begin) = Again begin
 successors_of ip (ResetCaptureGroup id) = fall_through ip false false
 successors_of ip (Loop1CharBody least most greedy) = Run (record { least = least; most = most; greedy = greedy })

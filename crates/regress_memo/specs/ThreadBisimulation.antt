@@ -46,26 +46,30 @@ module _ {W : Type 0} (R : W → Direction → Relation) where
   pub record AlikeAsked (w : W) (d inner : Direction) (negate : Bool) (u s u' s' : State) : Type 0 where
     pub world : W
     pub contents : R world inner u u'
-    pub behind : (a b : Option State) → AlikeEnds (R world inner) a b → AlikeThreads (R w d) (after_lookaround negate s a) (after_lookaround negate s' b)
+    pub behind : (a b : Option State) → AlikeEnds (R world inner) a b
+        → AlikeThreads (R w d) (after_lookaround negate s a) (after_lookaround negate s' b)
 
   -- Two effects of an instruction are alike.
   abbrev pub AlikeNext : (w : W) (d : Direction) → Next → Next → Type 0
   AlikeNext w d (goes ts) (goes us) = AlikeThreads (R w d) ts us
   AlikeNext w d (scans m ts) (scans n us) = (m ≡ n) × AlikeThreads (R w d) ts us
   AlikeNext w d (ends s) (ends t) = R w d s t
-  AlikeNext w d (asks inner negate u s) (asks inner' negate' u' s') = (inner ≡ inner') × (negate ≡ negate') × AlikeAsked w d inner negate u s u' s'
+  AlikeNext w d (asks inner negate u s) (asks inner' negate' u' s') = (inner ≡ inner') × (negate ≡ negate')
+      × AlikeAsked w d inner negate u s u' s'
   AlikeNext w d stuck stuck = Unit {0}
   AlikeNext w d _ _ = ⊥
 
   -- Each step preserves the relation.
   pub record IsBisimulation (program : Program) (text : Text) : Type 0 where
-    pub kept : (w : W) (d : Direction) (s t : State) → R w d s t → AlikeNext w d (act program text d s) (act program text d t)
+    pub kept : (w : W) (d : Direction) (s t : State) → R w d s t
+        → AlikeNext w d (act program text d s) (act program text d t)
 
 -- ---- Laws
 
 -- Threads that are alike have searches that are alike: equal numbers of steps, and ends that are
 -- alike or none in both.
 abbrev pub AlikeThreadsEndAlike : Type 1
-AlikeThreadsEndAlike = (W : Type 0) (R : W → Direction → Relation) (program : Program) (text : Text) → IsBisimulation R program text
+AlikeThreadsEndAlike = (W : Type 0) (R : W → Direction → Relation) (program : Program) (text : Text)
+    → IsBisimulation R program text
     → (w : W) (d : Direction) (turns : ℕ) (ts us : List Thread) → AlikeThreads (R w d) ts us
     → AlikeAnswers (R w d) (search program text turns d ts) (search program text turns d us)

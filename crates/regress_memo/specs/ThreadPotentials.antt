@@ -9,11 +9,11 @@ use Rattle.regex_meaning.specs.Text.{Text, Direction, rightwards, leftwards}
 use Rattle.regex_meaning.specs.CodeUnitOffsets.{HasRisingPlaceOffsets, units}
 use Rattle.regex_meaning.specs.CompilationRelation.{Program, Insn, Goal, JustFail, Alt, Jump, EnterLoop, LoopAgain, Loop1CharBody, Lookahead, Lookbehind}
 use Rattle.regress_machine.specs.Machine.{State, Thread, running, waiting, goes, scans, act}
-use Rattle.regress_machine.specs.ThreadSimulation.{Simulates, FindNothing}
+use Rattle.regress_machine.specs.ThreadSimulation.{Simulates, AllFindNothing}
 use Rattle.regress_memo.specs.Liveness.{Liveness, IsLivenessFor}
-use Rattle.regress_memo.specs.MemoKeys.{IsSoundState, SamePlace, SameKey, AsksNoGroups, AsksPlacesAlone}
+use Rattle.regress_memo.specs.MemoKeys.{IsSoundState, SamePlace, SameKey, NoGroupsAreLive, OnlyPositionsAreLive}
 use Rattle.regress_memo.specs.DistinctLists.{IsNew, AreDistinct}
-use Rattle.regress_memo.specs.MemoSearch.{Key, Keys, Entry, tried, noted, tries, threads_in, keys_in, IsBare, entry_potential, AreOnward, GoesOnward, KeyStandsFor}
+use Rattle.regress_memo.specs.MemoSearch.{Key, Keys, Entry, one_thread, key_record, thread_entries, threads_in, keys_in, IsBare, entry_potential, AreOnward, GoesOnward, KeyStandsFor}
 use Rattle.regress_memo.specs.MemoSearch.{AreKeys, IsMemoStep}
 
 -- ---- Potentials
@@ -63,10 +63,10 @@ module _ (w : Potentials) where
 -- ---- Keys of positions
 
 -- Whether two directions are equal.
-abbrev pub is_way : Direction → Direction → Bool
-is_way rightwards rightwards = true
-is_way leftwards leftwards = true
-is_way _ _ = false
+abbrev pub is_same_direction : Direction → Direction → Bool
+is_same_direction rightwards rightwards = true
+is_same_direction leftwards leftwards = true
+is_same_direction _ _ = false
 
 -- Whether the instruction is in the list.
 abbrev pub is_one_of : List ℕ → ℕ → Bool
@@ -75,7 +75,8 @@ is_one_of (i ∷ ips) ip = (i == ip) || is_one_of ips ip
 
 -- The keys of an instruction at each offset up to `top` with each of `codes` codes.
 abbrev pub places_at : (ip top codes : ℕ) → List Key
-places_at ip top codes = flat_map (λ code. map (λ at. record { ip = ip; at = at; code = code }) (numbers_from 0 (top + 1))) (numbers_from 0 codes)
+places_at ip top codes = flat_map (λ code. map (λ at. record { ip = ip; at = at; code = code })
+    (numbers_from 0 (top + 1))) (numbers_from 0 codes)
 
 -- The keys of each of these instructions, which have their own numbers of codes.
 abbrev pub places_of : (ips : List ℕ) (top : ℕ) (codes : ℕ → ℕ) → List Key
@@ -91,13 +92,16 @@ pub record Shape : Type 0 where
 
 -- The code distinguishes all live loop data of sound states at one position.
 pub record Distinguishes (a : Liveness) (top : ℕ) (code : State → ℕ) : Type 0 where
-  pub tells : (d : Direction) (s t : State) → IsSoundState a top d s → IsSoundState a top d t → SamePlace s t → code s ≡ code t → SameKey a s t
+  pub tells : (d : Direction) (s t : State) → IsSoundState a top d s → IsSoundState a top d t → SamePlace s t
+      → code s ≡ code t → SameKey a s t
 
 module _ (program : Program) (code : State → ℕ) where
   -- A state of this program has the shape.
   abbrev pub stands_there : Shape → State → Bool
   stands_there x s =
-      (s.ip == x.ip) && ((s.pos == x.pos) && ((code s == x.code) && ((length s.groups == program.groups) && ((length s.starts == program.groups) && (length s.loops == program.loops)))))
+      (s.ip == x.ip) && ((s.pos == x.pos) && ((code s == x.code)
+      && ((length s.groups == program.groups) && ((length s.starts == program.groups)
+      && (length s.loops == program.loops)))))
 
   -- The threads have these shapes, one by one.
   abbrev pub has_shape : List Shape → List Thread → Bool
@@ -109,58 +113,73 @@ module _ (program : Program) (code : State → ℕ) where
   -- Keys of instructions that record, each of which is searched in one direction. The threads of a
   -- key are decided by their shapes: one that runs at the instruction and the offset, or all those
   -- that a char loop leaves from the offset on.
-  module _ (way : ℕ → Direction) (ips : List ℕ) (top : ℕ) (codes : ℕ → ℕ) (rows : Key → List Shape) (taken : Key → ℕ) where
-    -- Whether a key stands for these threads.
-    abbrev pub is_place : Direction → Key → List Thread → Bool
-    is_place d k ts = nat_lt k.code (codes k.ip) && (nat_le k.at top && (is_one_of ips k.ip && (is_way (way k.ip) d && has_shape (rows k) ts)))
+  module _ (way : ℕ → Direction) (ips : List ℕ) (top : ℕ) (codes : ℕ → ℕ) (rows : Key → List Shape) (taken : Key → ℕ)
+    where
+      -- Whether a key stands for these threads.
+      abbrev pub is_place : Direction → Key → List Thread → Bool
+      is_place d k ts = nat_lt k.code (codes k.ip) && (nat_le k.at
+          top && (is_one_of ips k.ip && (is_same_direction (way k.ip) d && has_shape (rows k) ts)))
 
-    -- The keys of positions.
-    abbrev pub place_keys : Keys
-    place_keys = record { all = places_of ips top codes; is_of = is_place; taken = taken }
+      -- The keys of positions.
+      abbrev pub place_keys : Keys
+      place_keys = record { all = places_of ips top codes; is_of = is_place; taken = taken }
 
 -- ---- Char loops
 
 -- Each thread waits above a record of itself and of those before it.
 abbrev pub each_noted : (above : List Thread) → List (Thread × Key) → List Entry
 each_noted above [] = []
-each_noted above (x ∷ xs) = tried x.0 ∷ noted x.1 (above ++ x.0 ∷ []) ∷ each_noted (above ++ x.0 ∷ []) xs
+each_noted above (x ∷ xs) = one_thread x.0 ∷ key_record x.1 (above ++ x.0 ∷ []) ∷ each_noted (above ++ x.0 ∷ []) xs
 
 module _ (program : Program) (text : Text) (a : Liveness) (keys : Keys) (d : Direction) where
   -- Each key is of the threads so far, is new, and requires no step below its record.
   abbrev pub AreOfEach : (memory : List Key) (above : List Thread) → List (Thread × Key) → Type 0
   AreOfEach memory above [] = Unit {0}
-  AreOfEach memory above (x ∷ xs) = (KeyStandsFor program text a keys d x.1 (above ++ x.0 ∷ []) × (keys.taken x.1 ≡ 0) × IsNew x.1 memory) × AreOfEach memory (above ++ x.0 ∷ []) xs
+  AreOfEach memory above (x ∷ xs) = (KeyStandsFor program text a keys d x.1 (above ++ x.0 ∷ []) × (keys.taken x.1 ≡ 0)
+      × IsNew x.1 memory) × AreOfEach memory (above ++ x.0 ∷ []) xs
 
 -- ---- Laws
 
 module _ (program : Program) (text : Text) (a : Liveness) (keys : Keys) (d : Direction) (memory : List Key) where
   -- The steps of an executor are memo steps.
-  pub record GivesOf : Type 0 where
+  pub record ExecutorMemoSteps : Type 0 where
     -- A step without a record.
-    pub passed : (n : ℕ) (bare : List Entry) (ts : List Thread) → IsBare bare → Simulates program text false d n (threads_in bare) ts → GoesOnward d ts bare → IsMemoStep program text a keys d memory ts bare
+    pub passed : (n : ℕ) (bare : List Entry) (ts : List Thread) → IsBare bare
+        → Simulates program text false d n (threads_in bare) ts → GoesOnward d ts bare
+        → IsMemoStep program text a keys d memory ts bare
     -- A step with a record of what was current: a thread, or positions of a lazy char loop that
     -- wait together, of which the first one is taken.
-    pub made : (n : ℕ) (bare : List Entry) (ts : List Thread) (k : Key) → IsBare bare → Simulates program text false d n (threads_in bare) ts → KeyStandsFor program text a keys d k ts → 1 ≤ keys.taken k → keys.taken k ≤ n → IsNew k memory
-        → GoesOnward d ts (bare ++ noted k ts ∷ []) → IsMemoStep program text a keys d memory ts (bare ++ noted k ts ∷ [])
+    pub made : (n : ℕ) (bare : List Entry) (ts : List Thread) (k : Key) → IsBare bare
+        → Simulates program text false d n (threads_in bare) ts → KeyStandsFor program text a keys d k ts
+        → 1 ≤ keys.taken k → keys.taken k ≤ n → IsNew k memory
+        → GoesOnward d ts (bare ++ key_record k ts ∷ [])
+        → IsMemoStep program text a keys d memory ts (bare ++ key_record k ts ∷ [])
     -- A char loop. Its first positions are known to fail, and each other one has a record of the
     -- positions so far.
-    pub run : (n : ℕ) (ts known : List Thread) (xs : List (Thread × Key)) → Simulates program text false d n (known ++ map (λ x. x.0) xs) ts → 1 ≤ n → FindNothing program text d known
-        → AreOfEach program text a keys d memory known xs → AreDistinct (map (λ x. x.1) xs) → GoesOnward d ts (each_noted known xs) → IsMemoStep program text a keys d memory ts (each_noted known xs)
+    pub run : (n : ℕ) (ts known : List Thread) (xs : List (Thread × Key))
+        → Simulates program text false d n (known ++ map (λ x. x.0) xs) ts → 1 ≤ n → AllFindNothing program text d known
+        → AreOfEach program text a keys d memory known xs → AreDistinct (map (λ x. x.1) xs)
+        → GoesOnward d ts (each_noted known xs) → IsMemoStep program text a keys d memory ts (each_noted known xs)
 
 -- The steps of each executor are memo steps.
 abbrev pub StepsAreMemoSteps : Type 0
-StepsAreMemoSteps = (program : Program) (text : Text) (a : Liveness) (keys : Keys) (d : Direction) (memory : List Key) → GivesOf program text a keys d memory
+StepsAreMemoSteps = (program : Program) (text : Text) (a : Liveness) (keys : Keys) (d : Direction) (memory : List Key)
+    → ExecutorMemoSteps program text a keys d memory
 
 -- In a rightward search no instruction and no char loop moves to a smaller offset.
 pub record RightwardInsnsNeverMoveLeft : Type 0 where
-  pub goes : (program : Program) (text : Text) → HasRisingPlaceOffsets text → (s : State) (ts : List Thread) → act program text rightwards s ≡ goes ts → AreOnward s.pos (tries ts)
-  pub scans : (program : Program) (text : Text) → HasRisingPlaceOffsets text → (s : State) (n : ℕ) (ts : List Thread) → act program text rightwards s ≡ scans n ts → AreOnward s.pos (tries ts)
+  pub goes : (program : Program) (text : Text) → HasRisingPlaceOffsets text → (s : State) (ts : List Thread)
+      → act program text rightwards s ≡ goes ts → AreOnward s.pos (thread_entries ts)
+  pub scans : (program : Program) (text : Text) → HasRisingPlaceOffsets text → (s : State) (n : ℕ) (ts : List Thread)
+      → act program text rightwards s ≡ scans n ts → AreOnward s.pos (thread_entries ts)
   -- Nor does one with a record below.
-  pub noted : (from : ℕ) (ts us : List Thread) (k : Key) → AreOnward from (tries ts) → k.at ≡ from → AreOnward from (tries ts ++ noted k us ∷ [])
+  pub noted : (from : ℕ) (ts us : List Thread) (k : Key) → AreOnward from (thread_entries ts) → k.at ≡ from
+      → AreOnward from (thread_entries ts ++ key_record k us ∷ [])
 
 -- The potential of the threads that an instruction leaves is at most that of the table.
 pub record ThreadsLeftFitInsnPotentials : Type 0 where
-  pub weighed : (program : Program) (text : Text) (w : Potentials) → AreCovering w program → (d : Direction) (s : State) (ts : List Thread) → act program text d s ≡ goes ts
+  pub weighed : (program : Program) (text : Text) (w : Potentials) → AreCovering w program
+      → (d : Direction) (s : State) (ts : List Thread) → act program text d s ≡ goes ts
       → sum_by (potential_of w) ts ≤ w.left s.ip
   -- One table covers every program. With it, four units cover a key.
   pub each : (program : Program) → AreCovering (record { at = λ ip. 1; left = λ ip. 3 }) program
@@ -168,15 +187,20 @@ pub record ThreadsLeftFitInsnPotentials : Type 0 where
 -- A char loop that records each of its positions is covered by its potential and by these keys:
 -- each covers a character, a thread and a record.
 abbrev pub KeysCoverRecordedExits : Type 0
-KeysCoverRecordedExits = (price : Key → ℕ) (weight : List Thread → ℕ) (known : List Thread) (xs : List (Thread × Key)) (first ready more : ℕ) → first ≤ ready → more ≤ first + length xs
-    → Each (λ x. weight (x.0 ∷ []) + 2 ≤ price x.1) xs → more + sum_by (entry_potential weight) (each_noted known xs) ≤ ready + sum_by price (keys_in (each_noted known xs))
+KeysCoverRecordedExits = (price : Key → ℕ) (weight : List Thread → ℕ) (known : List Thread) (xs : List (Thread × Key))
+    (first ready more : ℕ) → first ≤ ready → more ≤ first + length xs
+    → Each (λ x. weight (x.0 ∷ []) + 2 ≤ price x.1) xs
+    → more + sum_by (entry_potential weight) (each_noted known xs) ≤ ready + sum_by price
+    (keys_in (each_noted known xs))
 
 -- If a code distinguishes live loop data, instructions, offsets and codes are keys, also of lists
 -- of threads. All of them cost as much as the instructions that record, each times its codes, at
 -- each offset. If positions alone decide, one code is enough.
 pub record OffsetsAndCodesAreKeys : Type 0 where
-  pub are : (program : Program) (text : Text) (a : Liveness) (way : ℕ → Direction) (ips : List ℕ) (code : State → ℕ) (codes : ℕ → ℕ) (rows : Key → List Shape) (taken : Key → ℕ) → IsLivenessFor program text a
-      → AsksNoGroups a → Distinguishes a (units text) code → AreKeys program text a (place_keys program code way ips (units text) codes rows taken)
+  pub are : (program : Program) (text : Text) (a : Liveness) (way : ℕ → Direction) (ips : List ℕ) (code : State → ℕ)
+      (codes : ℕ → ℕ) (rows : Key → List Shape) (taken : Key → ℕ) → IsLivenessFor program text a
+      → NoGroupsAreLive a → Distinguishes a (units text) code
+      → AreKeys program text a (place_keys program code way ips (units text) codes rows taken)
   pub cost : (ips : List ℕ) (top : ℕ) (codes price : ℕ → ℕ)
       → sum_by (λ (k : Key). price k.ip) (places_of ips top codes) ≡ sum_by (λ ip. price ip * codes ip) ips * (top + 1)
-  pub alone : (a : Liveness) (top : ℕ) → AsksPlacesAlone a → Distinguishes a top (λ s. 0)
+  pub alone : (a : Liveness) (top : ℕ) → OnlyPositionsAreLive a → Distinguishes a top (λ s. 0)

@@ -41,4 +41,5 @@ ways_and_own e = sum_by (λ ip. e.own ip + sum_by (λ to. e.before to + 1) (e.to
 
 -- A potential that is passed on is counted once: by the record at which its path begins.
 abbrev pub RecordingCostsAreLinear : Type 0
-RecordingCostsAreLinear = (e : Edges) (at left : ℕ → ℕ) → IsTight e at left → left_by_recorded e at left ≤ ways_and_own e
+RecordingCostsAreLinear = (e : Edges) (at left : ℕ → ℕ) → IsTight e at left
+    → left_by_recorded e at left ≤ ways_and_own e

@@ -25,7 +25,8 @@ answer_on (how_many l most) n = n
 -- The code once a character was read, digit by digit.
 abbrev pub code_on : List Question → (code : ℕ) → ℕ
 code_on [] code = 0
-code_on (q ∷ qs) code = answer_on q (code % number_of_possible_answers q) + number_of_possible_answers q * code_on qs (code / number_of_possible_answers q)
+code_on (q ∷ qs) code = answer_on q (code % number_of_possible_answers q) + number_of_possible_answers q * code_on qs
+    (code / number_of_possible_answers q)
 
 -- ---- Threads of a key
 
@@ -77,7 +78,8 @@ module _ (program : Program) (text : Text) (questions : ℕ → List Question) (
   -- keys of the body are those of the loop.
   abbrev pub plan_rows : Key → List Shape
   plan_rows k =
-      row_by (char_loop_greediness_at (insn_before program k.ip)) (test_of program (slice_get program.insns k.ip)) (place_at text k.at) k
+      row_by (char_loop_greediness_at (insn_before program k.ip)) (test_of program (slice_get program.insns k.ip))
+      (place_at text k.at) k
 
 -- ---- Checks of a char loop
 
@@ -122,7 +124,8 @@ module _ (program : Program) (text : Text) (a : Liveness) (questions : ℕ → L
 
 -- Char loops have keys at all places of a text.
 abbrev pub CharLoopsHaveKeys : Type 0
-CharLoopsHaveKeys = (program : Program) (text : Text) (a : Liveness) (questions : ℕ → List Question) (way : ℕ → Direction)
+CharLoopsHaveKeys =
+    (program : Program) (text : Text) (a : Liveness) (questions : ℕ → List Question) (way : ℕ → Direction)
     (ips : List ℕ) (taken : Key → ℕ) (d : Direction) (test : ℕ → Bool) (place : ℕ) (s : State)
     → HasRisingPlaceOffsets text → place ≤ last_place text → HasSlotsOfProgram program s
     → RunHasKeys program text a questions way ips taken d test place s

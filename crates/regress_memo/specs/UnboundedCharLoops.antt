@@ -6,11 +6,11 @@ use Rattle.regex_meaning.specs.Text.{Text, Direction, last_place, moved}
 use Rattle.regex_meaning.specs.CodeUnitOffsets.{place_at, units}
 use Rattle.regex_meaning.specs.CompilationRelation.{Program, Loop1CharBody}
 use Rattle.regress_machine.specs.Machine.{State, Thread, running, waiting}
-use Rattle.regress_machine.specs.ThreadSimulation.{FindNothing}
+use Rattle.regress_machine.specs.ThreadSimulation.{AllFindNothing}
 use Rattle.regress_machine.specs.CharLoopExitStatesByPreference.{behind}
 use Rattle.regress_memo.specs.Liveness.{Liveness, IsLivenessFor, Agree, outermost}
 use Rattle.regress_memo.specs.DistinctLists.{IsNew}
-use Rattle.regress_memo.specs.MemoSearch.{Key, Entry, tried, kept, noted, AreSound, IsMemoStep}
+use Rattle.regress_memo.specs.MemoSearch.{Key, Entry, one_thread, thread_group, key_record, AreSound, IsMemoStep}
 use Rattle.regress_memo.specs.ThreadPotentials.{each_noted}
 use Rattle.regress_memo.specs.LoopDataKeyCodes.{Question, HasSlotsOfProgram}
 use Rattle.regress_memo.specs.CharLoopExitThreadLists.{passing, greedy_loop_threads, pending_loop_threads}
@@ -28,8 +28,8 @@ module _ (program : Program) (text : Text) (a : Liveness) (questions : ℕ → L
       map (λ n. (waiting (behind text d place s n), key_behind place n)) (reverse (numbers_from least count))
 
   -- The keys of the places after `least` to fewer than `end` characters are not in the memo table.
-  abbrev pub AreUnknown : (memory : List Key) (place least end : ℕ) → Type 0
-  AreUnknown memory place least end = (n : ℕ) → least ≤ n → n < end → IsNew (key_behind place n) memory
+  abbrev pub ExitKeysAreNew : (memory : List Key) (place least end : ℕ) → Type 0
+  ExitKeysAreNew memory place least end = (n : ℕ) → least ≤ n → n < end → IsNew (key_behind place n) memory
 
   -- A sound state at a char loop whose maximum is out of reach.
   pub record AtCharLoop (greedy : Bool) (least most place : ℕ) : Type 0 where
@@ -43,19 +43,20 @@ module _ (program : Program) (text : Text) (a : Liveness) (questions : ℕ → L
   module _ (memory : List Key) where
     -- The entries replace the threads in a memo step with the keys of a plan.
     abbrev pub GivesRun : (ts : List Thread) → List Entry → Type 0
-    GivesRun ts entries = IsMemoStep program text a (plan_keys program text a questions way ips taken) d memory ts entries
+    GivesRun ts entries =
+        IsMemoStep program text a (plan_keys program text a questions way ips taken) d memory ts entries
 
     module _ (place least : ℕ) where
       -- The steps of a greedy char loop. Its records require no step below them.
       pub record GreedyGives : Type 0 where
         -- From some place on the loop is known to fail, so only nearer places are left.
         pub known : (n : ℕ) → least ≤ n → n ≤ passing text test d place
-            → FindNothing program text d (greedy_loop_threads text test d 0 (moved text d n place) s)
-            → AreUnknown memory place least n
+            → AllFindNothing program text d (greedy_loop_threads text test d 0 (moved text d n place) s)
+            → ExitKeysAreNew memory place least n
             → GivesRun (running s ∷ [])
             (each_noted (greedy_loop_threads text test d 0 (moved text d n place) s) (placed place least (n - least)))
         -- From no place it is known to fail.
-        pub all : (n : ℕ) → n ≡ passing text test d place → least ≤ n → AreUnknown memory place least (n + 1)
+        pub all : (n : ℕ) → n ≡ passing text test d place → least ≤ n → ExitKeysAreNew memory place least (n + 1)
             → GivesRun (running s ∷ [])
             (each_noted [] ((running (behind text d place s n), key_behind place n) ∷ placed place least (n - least)))
         -- There are too few characters.
@@ -66,23 +67,27 @@ module _ (program : Program) (text : Text) (a : Liveness) (questions : ℕ → L
       pub record LazyGives : Type 0 where
         pub first : least ≤ passing text test d place
             → GivesRun (running s ∷ [])
-            (tried (running (behind text d place s least)) ∷ kept (pending_loop_threads text test d (least + 1) place s) ∷ [])
+            (one_thread (running (behind text d place s least)) ∷ thread_group
+            (pending_loop_threads text test d (least + 1) place s) ∷ [])
         pub none : passing text test d place < least → GivesRun (running s ∷ []) []
 
 -- ---- Laws
 
 -- The threads that wait from a place of a lazy char loop on, when they are resumed.
 abbrev pub LazyRunsComeBack : Type 0
-LazyRunsComeBack = (program : Program) (text : Text) (a : Liveness) (questions : ℕ → List Question) (way : ℕ → Direction)
+LazyRunsComeBack =
+    (program : Program) (text : Text) (a : Liveness) (questions : ℕ → List Question) (way : ℕ → Direction)
     (ips : List ℕ) (taken : Key → ℕ) (d : Direction) (test : ℕ → Bool) (s : State) (memory : List Key) (place : ℕ)
-    → IsLivenessFor program text a → place ≤ last_place text → CharLoopRecords program a questions way ips d test false s.ip
+    → IsLivenessFor program text a → place ≤ last_place text
+    → CharLoopRecords program a questions way ips d test false s.ip
     → HasSlotsOfProgram program s
-    → AreSound program text a (plan_keys program text a questions way ips taken) d (pending_loop_threads text test d 0 place s)
+    → AreSound program text a (plan_keys program text a questions way ips taken) d
+    (pending_loop_threads text test d 0 place s)
     → taken (key_behind program text a questions way ips taken d test s place 0) ≡ 1
     → IsNew (key_behind program text a questions way ips taken d test s place 0) memory
     → GivesRun program text a questions way ips taken d test s memory (pending_loop_threads text test d 0 place s)
-    (tried (running (behind text d place s 0)) ∷ kept (pending_loop_threads text test d 1 place s)
-    ∷ noted (key_behind program text a questions way ips taken d test s place 0)
+    (one_thread (running (behind text d place s 0)) ∷ thread_group (pending_loop_threads text test d 1 place s)
+    ∷ key_record (key_behind program text a questions way ips taken d test s place 0)
     (pending_loop_threads text test d 0 place s) ∷ [])
 
 -- The steps of char loops without a maximum are memo steps.

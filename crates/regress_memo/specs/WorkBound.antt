@@ -10,7 +10,7 @@ use Rattle.regress_memo.specs.Liveness.{ReadsAsBytes}
 use Rattle.regress_memo.specs.SkippedLookarounds.{LookaroundInsn, lookaround_at}
 use Rattle.regress_memo.specs.DelayedMemoizationWorkBudget.{AreInTwoStages}
 use Rattle.regress_memo.specs.AmortizedStepCosts.{potential_by}
-use Rattle.regress_memo.specs.MemoPlanChecksAndGuarantees.{plan_taken}
+use Rattle.regress_memo.specs.MemoPlanChecksAndGuarantees.{plan_steps_below_record}
 use Rattle.regress_memo.specs.declared.analysis_result.MemoAnalysis.{MemoAnalysis}
 use Rattle.regress_memo.specs.declared.analysis_result.InsnAnalysis.{InsnAnalysis}
 use Rattle.regress_memo.specs.declared.successors.Successors.{Successors}
@@ -76,6 +76,7 @@ initial_threads program at = running (state_before_first_insn program at) ∷ []
 abbrev pub AnalysesBoundTotalWork : Type 0
 AnalysesBoundTotalWork = (program : Program) (t : MemoAnalysis) → IsAnalysisOf program t
     → (text : Text) → HasRisingPlaceOffsets text → ReadsAsBytes program text → units text < 2 ^ 63 → (at_first work : ℕ)
-    → AreInTwoStages program text (analysis_as_liveness t) (key_code_questions_of t) (insn_direction t) (recorded t) (plan_taken program) (key_cost_of t)
+    → AreInTwoStages program text (analysis_as_liveness t) (key_code_questions_of t) (insn_direction t) (recorded t)
+    (plan_steps_below_record program) (key_cost_of t)
     (potential_by program (potentials_of t) (key_cost_of t) (recorded t)) (initial_threads program) at_first work
     → work ≤ (at_first + 1 + work_per_position t) * (units text + 1)

@@ -2,7 +2,7 @@
 
 ghost use Rattle.std.specs.Prelude.{◌≡◌, ◌≤◌, ◌<◌, ◌+◌, ◌^◌, ◌||◌, ℕ, Bool, true, false, None, Some, length, map, slice_get};
 ghost use Rattle.regex_meaning.specs.CompilationRelation.{Program};
-ghost use Rattle.regress_program.specs.InsnsAsSpecInsns.{insn_as_spec_insn, loop_fields_as_spec};
+ghost use Rattle.regress_program.specs.InsnsAsSpec.{insn_as_spec_insn, loop_fields_as_spec};
 ghost use Rattle.regress_memo.specs.ThreadPotentials.{CoversOne, CoversTwo};
 ghost use Rattle.regress_memo.specs.AnalysisAsPotentials.{enclosing_loops_of, insn_analysis_of, groups_stay_unchanged_from, potentials_of};
 ghost use Rattle.regress_memo.specs.AnalysisAsPotentials.{states_loop_fact};
@@ -154,8 +154,7 @@ impl MemoAnalysis {
     // Checks that the facts of an entry hold at the source of an edge that reads no character.
     fn row_stays(&self, ip: usize, row: &EnclosingLoop) -> bool
         ensures moved { result ≡ true → row.now.moved ≡ true
-            → states_loop_fact LoopProgressFact.Moved row.now.id
-            (enclosing_loops_of self.now ip) ≡ true }
+            → states_loop_fact LoopProgressFact.Moved row.now.id (enclosing_loops_of self.now ip) ≡ true }
         ensures empty { result ≡ true → row.now.empty ≡ true → knows_iteration_reads row.now.id
             (enclosing_loops_of self.now ip) ≡ true }
     {
@@ -166,8 +165,7 @@ impl MemoAnalysis {
     // Checks whether a character is known to have been read in a loop's iteration, or the memo key
     // distinguishes whether one was.
     fn knows_iteration_reads(&self, ip: usize, id: LoopID) -> bool
-        ensures { result ≡ true → knows_iteration_reads id
-            (enclosing_loops_of self.now ip) ≡ true }
+        ensures { result ≡ true → knows_iteration_reads id (enclosing_loops_of self.now ip) ≡ true }
     {
         self.states_loop_fact(ip, LoopProgressFact::Empty, id)
             || self.states_loop_fact(ip, LoopProgressFact::Moved, id)
@@ -209,12 +207,12 @@ impl MemoAnalysis {
         requires { begin + 1 < 2 ^ 64 }
         ensures { result ≡ true → MayRepeatLoop self.now (loop_fields_as_spec fields.now) ip begin }
     {
-        self.begins(fields, ip, begin) && self.goes_round(fields, ip)
+        self.begins(fields, ip, begin) && self.may_end_iteration(fields, ip)
     }
 
     // Checks that an iteration of a loop may end at an instruction, where all is known that decides
     // how it continues.
-    fn goes_round(&self, fields: &LoopFields, ip: usize) -> bool
+    fn may_end_iteration(&self, fields: &LoopFields, ip: usize) -> bool
         ensures { result ≡ true → MayEndIteration self.now (loop_fields_as_spec fields.now) ip }
     {
         self.states_loop_fact(ip, LoopProgressFact::Inside, fields.loop_id)

@@ -60,8 +60,7 @@ impl MemoAnalysis {
     ) -> bool
         requires { place.units < 2 ^ 63 }
         ensures { IsTrue result ↔ ThreadLoopStateFitsAnalysis self.now (direction_from_forward place.forward)
-            place.units place.at
-            (option_map loop_iteration_state_as_spec loop_iteration_state) row.now }
+            place.units place.at (option_map loop_iteration_state_as_spec loop_iteration_state) row.now }
     {
         match loop_iteration_state {
             Some(loop_iteration_state) => is_sound_by(

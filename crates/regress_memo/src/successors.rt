@@ -1,7 +1,7 @@
 //! Successors of instructions.
 
 ghost use Rattle.std.specs.Prelude.{◌≡◌, ◌<◌, ◌^◌, ◌+◌, true, None, map, slice_get};
-ghost use Rattle.regress_program.specs.InsnsAsSpecInsns.{insn_as_spec_insn, literal_bytes_of_insn};
+ghost use Rattle.regress_program.specs.InsnsAsSpec.{insn_as_spec_insn, literal_bytes_of_insn};
 ghost use Rattle.regress_memo.specs.Successors.{successors_of, successors_of_insn_if_any, is_fall_through_insn, fall_through as next_at};
 
 use regress_program::instructions::{Insn, LoopFields};

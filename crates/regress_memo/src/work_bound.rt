@@ -1,7 +1,7 @@
 //! The maximum work of all searches of a text, per position.
 
 ghost use Rattle.std.specs.Prelude.{◌≡◌, ◌≤◌, ◌<◌, ◌+◌, ◌^◌, ℕ, IfSome, IsSome, true, false, length, map, slice_get};
-ghost use Rattle.regress_program.specs.InsnsAsSpecInsns.{insn_as_spec_insn};
+ghost use Rattle.regress_program.specs.InsnsAsSpec.{insn_as_spec_insn};
 ghost use Rattle.regex_meaning.specs.CompilationRelation.{Program};
 ghost use Rattle.regress_memo.specs.WorkBound.{insn_keys_cost_per_position, all_keys_cost_per_position, work_per_position, IsStepWorkBounded, IsWorkBounded};
 ghost use Rattle.regress_memo.specs.AnalysisAsPotentials.{insn_analysis_of};

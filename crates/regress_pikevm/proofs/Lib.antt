@@ -1,3 +1,3 @@
-pub mod Fetching
-pub mod Remains
-pub mod Turns
+pub mod InsnFetchLemmas
+pub mod ExecutorTurnLemmas
+pub mod InsnEffectLemmas

@@ -8,7 +8,7 @@ use Rattle.regex_pattern_front.specs.declared.ir.Regex.{Regex}
 use Rattle.regex_pattern_front.specs.AstToSpecTree.{tree_of}
 use Rattle.regress_input.specs.CharAndByteReadsFromOffset.{direction_of_forward_flag}
 use Rattle.regress_program.specs.CompilationOfTreesAsFunction.{compiled}
-use Rattle.regress_program.specs.InsnsAsSpecInsns.{insn_as_spec_insn}
+use Rattle.regress_program.specs.InsnsAsSpec.{insn_as_spec_insn}
 use Rattle.regress_program.specs.declared.instructions.Insn.{Insn}
 use Rattle.regress_machine.specs.Machine as machine
 use Rattle.regress_machine.specs.Machine.{Found, Next, act, act_on, read_group, scan, with_some}
@@ -32,27 +32,30 @@ module _ {P : Type 0} (offset : P → ℕ) where
 
     -- The effect of an instruction.
     abbrev pub effect_of_insn : Insn → State P → Next
-    effect_of_insn insn s = act_on (compiled (tree_of re)) text (direction_of_forward_flag forward) (Some (insn_as_spec_insn insn)) (state_of offset s)
+    effect_of_insn insn s = act_on (compiled (tree_of re)) text (direction_of_forward_flag forward)
+        (Some (insn_as_spec_insn insn)) (state_of offset s)
 
     -- The effect of a char loop over the characters that an instruction reads.
     abbrev pub effect_of_char_loop : CharLoopBoundsAndGreed → Insn → State P → Next
     effect_of_char_loop run insn s =
         with_some (char_test_of_insn re insn) (λ test. with_some (place_at text (offset s.pos)) (λ p.
-        scan text run.min_iters run.max_iters run.greedy test (direction_of_forward_flag forward) p (state_of offset s)))
+        scan text run.min_iters run.max_iters run.greedy test (direction_of_forward_flag forward) p
+        (state_of offset s)))
 
     -- The loop tries this number of characters, and has these states at its exits.
     abbrev pub ReachesExits : CharLoopBoundsAndGreed → Insn → State P → (tries : ℕ) → List (State P) → Type 0
     ReachesExits run insn s tries states =
         (test : ℕ → Bool) (p : ℕ) → char_test_of_insn re insn ≡ Some test → place_at text (offset s.pos) ≡ Some p
-        → IsReached text test (direction_of_forward_flag forward) run.min_iters run.max_iters p (state_of offset s) tries (states_of states)
+        → IsReached text test (direction_of_forward_flag forward) run.min_iters run.max_iters p (state_of offset s)
+        tries (states_of states)
 
     -- The search from a state, as part of an attempt at the offset `at`.
-    abbrev pub search_at : (at : ℕ) → State P → Option Found
-    search_at at s = search_from (tree_of re) text at (direction_of_forward_flag forward) (state_of offset s)
+    abbrev pub search_from_state : (at : ℕ) → State P → Option Found
+    search_from_state at s = search_from (tree_of re) text at (direction_of_forward_flag forward) (state_of offset s)
 
     -- The state is the end that the search finds, or there is none.
     abbrev pub HasRun : (at : ℕ) → State P → Option (State P) → Type 0
-    HasRun at s end = option_map (λ e. state_of offset e) end ≡ end_of_search (search_at at s)
+    HasRun at s end = option_map (λ e. state_of offset e) end ≡ end_of_search (search_from_state at s)
 
   -- The end and the groups of the state that a search ended with, if any.
   abbrev pub end_and_groups : Option (State P) → Option (ℕ × Groups)
@@ -61,13 +64,16 @@ module _ {P : Type 0} (offset : P → ℕ) where
   module _ (text : Text) (forward : Bool) (same : Sameness) where
     -- The effect of a backreference to a range.
     abbrev pub effect_of_range_backref : Option (P × P) → State P → Next
-    effect_of_range_backref range s = read_group text same (direction_of_forward_flag forward) (range_of offset range) (state_of offset s)
+    effect_of_range_backref range s =
+        read_group text same (direction_of_forward_flag forward) (range_of offset range) (state_of offset s)
 
     -- The effect of a backreference to a group.
     abbrev pub effect_of_backref : (group : ℕ) → State P → Next
-    effect_of_backref group s = with_some (slice_get (groups_of offset s.groups.items) group) (λ range. read_group text same (direction_of_forward_flag forward) range (state_of offset s))
+    effect_of_backref group s = with_some (slice_get (groups_of offset s.groups.items) group)
+        (λ range. read_group text same (direction_of_forward_flag forward) range (state_of offset s))
 
   -- One more exit state of a char loop is pushed, if it is wanted.
   abbrev pub PushesExit : (wanted : Bool) → (at : P) → State P → (old new : List (State P)) → Type 0
   PushesExit wanted at s old new =
-      states_of new ≡ (if wanted then states_of old ++ state_after_char_loop_to_offset (offset at) (state_of offset s) ∷ [] else states_of old)
+      states_of new ≡ (if wanted then states_of old ++ state_after_char_loop_to_offset (offset at)
+      (state_of offset s) ∷ [] else states_of old)

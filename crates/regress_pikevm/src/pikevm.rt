@@ -8,8 +8,8 @@ ghost use Rattle.regress_program.specs.{CompilationOfTreesAsFunction.{compiled},
 ghost use Rattle.regress_machine.specs.{Machine.{first_running_and_others_waiting}, InsnEffects.{IsNotStuck}};
 ghost use Rattle.regress_search.specs.AttemptsAndStarts.{match_end_and_groups_at};
 ghost use Rattle.regress_search.specs.NewExecutorsAndAsciiTexts.{IsNewExecutor, ReadsBytesAsAscii, CanSearchAllAsciiTexts};
-ghost use Rattle.regress_pikevm.specs.InsnEffects.{end_and_groups, search_at, effect_at, HasRun};
-ghost use Rattle.regress_pikevm.specs.States.{groups_of, next_threads, waiting_threads, pending_threads, preferred_last, TakesNextThread};
+ghost use Rattle.regress_pikevm.specs.InsnEffects.{end_and_groups, search_from_state, effect_at, HasRun};
+ghost use Rattle.regress_pikevm.specs.States.{groups_of, effect_of_next_states, waiting_threads, pending_threads, states_by_priority, TakesNextThread};
 
 pub mod char_loops;
 pub mod insn_matchers;
@@ -63,7 +63,7 @@ fn execute_in_direction<Input: InputIndexer>(
     requires executable { let s = searched.now in
         IsNotStuck (effect_at Input.Position.offset s.program.now (Input.text s.input) forward state) }
     requires inside { Input.Position.offset state.pos ≤ units (Input.text searched.now.input) }
-    ensures { let s = searched.now in IfOk result (λ t. next_threads Input.Position.offset t
+    ensures { let s = searched.now in IfOk result (λ t. effect_of_next_states Input.Position.offset t
         ≡ effect_at Input.Position.offset s.program.now (Input.text s.input) forward state) }
 {
     if forward {
@@ -93,7 +93,7 @@ fn push_loop_exits<P: PositionType>(
     stack: &mut Vec<State<P>>,
 ) -> Result<Option<State<P>>, AllocError>
     ensures { IfOk result (λ next. pending_threads P.offset next stack.new.items
-        ≡ first_running_and_others_waiting (preferred_last P.offset states.items) ++ waiting_threads P.offset
+        ≡ first_running_and_others_waiting (states_by_priority P.offset states.items) ++ waiting_threads P.offset
         stack.old.items) }
 {
     let Some(next) = states.pop() else {
@@ -113,7 +113,7 @@ fn run<Input: InputIndexer>(
     start: State<Input::Position>,
 ) -> Result<Option<State<Input::Position>>, AllocError>
     requires inside { Input.Position.offset start.pos ≤ units (Input.text searched.now.input) }
-    requires terminates { let s = searched.now in IsSome (search_at Input.Position.offset s.program.now
+    requires terminates { let s = searched.now in IsSome (search_from_state Input.Position.offset s.program.now
         (Input.text s.input) forward (Input.Position.offset at) start) }
     ensures { let s = searched.now in IfOk result (HasRun Input.Position.offset s.program.now
         (Input.text s.input) forward (Input.Position.offset at) start) }
@@ -253,8 +253,7 @@ impl<'r, 't> PikeVMExecutor<'r, Utf16Input<'t>> {
         re: &'r CompiledRegexFor16BitUnits,
         text: &'t [u16],
     ) -> Result<Self, AllocError>
-        ensures { IfOk result
-            (IsNewExecutor ⟦<PikeVMExecutor<'r, Utf16Input<'t>> as MatchProducer>⟧ (tree_of re.now)
+        ensures { IfOk result (IsNewExecutor ⟦<PikeVMExecutor<'r, Utf16Input<'t>> as MatchProducer>⟧ (tree_of re.now)
             (utf16_text text.now)) }
     {
         Ok(PikeVMExecutor::new_executor(ProgramAndInput::pair_with_utf16_text(re, text)))
@@ -268,8 +267,7 @@ impl<'r, 't> PikeVMExecutor<'r, Ucs2Input<'t>> {
     ///
     /// None so far: it allocates no memory.
     pub fn new_ucs2(re: &'r CompiledRegexFor16BitUnits, text: &'t [u16]) -> Result<Self, AllocError>
-        ensures { IfOk result
-            (IsNewExecutor ⟦<PikeVMExecutor<'r, Ucs2Input<'t>> as MatchProducer>⟧ (tree_of re.now)
+        ensures { IfOk result (IsNewExecutor ⟦<PikeVMExecutor<'r, Ucs2Input<'t>> as MatchProducer>⟧ (tree_of re.now)
             (ucs2_text text.now)) }
     {
         Ok(PikeVMExecutor::new_executor(ProgramAndInput::pair_with_ucs2_text(re, text)))

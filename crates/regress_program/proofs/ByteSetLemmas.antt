@@ -1,4 +1,4 @@
--- Sets of bytes that grow, and their members one after another.
+-- Loops over bytes compute unions of byte sets, sets of first bytes and lists of members.
 use Rattle.std.proofs.Common.{◌≡◌, ℕ, ◌+◌, ◌-◌, ◌<◌, ◌≤◌, suc, Bool, true, false, ◌||◌, List, [], ◌∷◌, filter, map, length, drop, get_or, slice_get}
 use Rattle.std.proofs.Common.{Some, None, drop-cons, refl, sym, ap, ◌∙◌, arith, if◌then◌else◌}
 use Rattle.std.specs.Prelude.{◌==◌, ◌&&◌, nat_le}
@@ -7,7 +7,7 @@ use Rattle.std.proofs.lemmas.List.{drop_all}
 use Rattle.regex_meaning.specs.NumberListHelpers.{contains, numbers_from}
 use Rattle.regex_meaning.specs.Tree.{Intervals}
 use Rattle.regex_meaning.specs.StartPredicate.{bytes_that_pass, chars_with_first_byte, intersects, union_of_byte_sets, first_byte_as_set}
-use Rattle.regex_pattern_front.proofs.ByteLemmas.{contains-bytes_where, bytes_where-same}
+use Rattle.regex_pattern_front.proofs.ByteSetMemberLemmas.{contains-bytes_where, bytes_where-same}
 use Rattle.regress_program.specs.JoinedStarts.{set_bytes_from}
 use Rattle.std.proofs.Math.Bool.{or-false, or_assoc}
 

@@ -1,40 +1,40 @@
-pub mod NodeLemmas
-pub mod EmitLemmas
-pub mod CodeLemmas
+pub mod NodeListLemmas
+pub mod AppendedCodeLemmas
+pub mod CompiledTreeLemmas
 pub mod ByteSetLemmas
-pub mod BeginningLemmas
-pub mod ClassLemmas
-pub mod TextLemmas
-pub mod AsciiLemmas
-pub mod IdLemmas
-pub mod FilingLemmas
-pub mod Walks
-pub mod CharLemmas
-pub mod Weights
-pub mod PredicateLemmas
-pub mod WalkedLemmas
-pub mod GoalLemmas
-pub mod TallyLemmas
-pub mod LeafLemmas
-pub mod ShapedLemmas
-pub mod RunningLemmas
-pub mod RemainingLemmas
-pub mod KeyLemmas
-pub mod ShareLemmas
-pub mod RowLemmas
-pub mod PlanLemmas
-pub mod ClosingLemmas
-pub mod LookAheadLemmas
-pub mod ChoiceLemmas
-pub mod SetLemmas
-pub mod PrefixLemmas
-pub mod LeapChecks
-pub mod BeforeLemmas
-pub mod VerdictLemmas
-pub mod RoundLemmas
-mod AsciiSetLemmas
-mod FiledLemmas
-mod StepLemmas
-mod IntervalLemmas
-mod LeapUnits
-pub mod LeapLemmas
+pub mod JoinedStartsLemmas
+pub mod FirstBytesOfSetsLemmas
+pub mod ByteAndStringCodeLemmas
+pub mod AsciiIntervalMembers
+pub mod GroupIdCheckLemmas
+pub mod StoringGroupNamesLemmas
+pub mod FieldlessValueLemmas
+pub mod Utf8CharCountLemmas
+pub mod InnerNodeCountLemmas
+pub mod StartPredicatesLemmas
+pub mod TreeWalkLemmas
+pub mod GoalNodeCheckLemmas
+pub mod NodeInsnCountLemmas
+pub mod NodeKindLemmas
+pub mod CharLoopNodeLemmas
+pub mod TreeToRunLemmas
+pub mod PendingEmissionLemmas
+pub mod TableKeysOfUnitsLemmas
+pub mod RangeAcceptanceLemmas
+pub mod AppendedEntryLemmas
+pub mod AddedOpsLemmas
+pub mod ClosedFirstSetsLemmas
+pub mod FollowSetAndStartLemmas
+pub mod AlternationDispatchLemmas
+pub mod FirstSetLemmas
+pub mod RequiredPrefixLemmas
+pub mod LeapOpsLemmas
+pub mod LookbehindFilterLemmas
+pub mod LookaheadAndExitLemmas
+pub mod MustIterateChecksLemmas
+mod AsciiBitmapEquality
+mod OpTableEntryLemmas
+mod ClassReadLengthsLemmas
+mod IntervalReadLengthLemmas
+mod LeapPassedUnits
+pub mod LeapCertificatesLemmas

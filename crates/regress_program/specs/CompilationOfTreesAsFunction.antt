@@ -74,7 +74,8 @@ brackets_of _ = []
 
 -- The code of a string: one instruction for each code point, with its case variants.
 abbrev pub string_code : (unicode icase behind : Bool) → List ℕ → List Insn
-string_code unicode icase behind string = map (λ c. case_variants_insn (expand_code_point c icase unicode)) (ordered behind string)
+string_code unicode icase behind string =
+    map (λ c. case_variants_insn (expand_code_point c icase unicode)) (ordered behind string)
 
 -- The code of a set of strings whose first instruction is at index `at`.
 abbrev pub strings_code : (unicode icase behind : Bool) → List (List ℕ) → (at : ℕ) → List Insn
@@ -101,28 +102,41 @@ code_of unicode behind (byte_sequence bytes) at loops brackets = map ByteSeq (or
 code_of unicode behind end_of_cat at loops brackets = []
 code_of unicode behind (cat first rest) at loops brackets =
     code_of unicode behind first at loops brackets
-    ++ code_of unicode behind rest (at + node_insn_count first) (loops + loop_count first) (brackets + length (brackets_of first))
+    ++ code_of unicode behind rest (at + node_insn_count first) (loops + loop_count first)
+    (brackets + length (brackets_of first))
 code_of unicode behind (alt left right) at loops brackets =
     let second = at + node_insn_count left + 2 in
     Alt second ∷ (code_of unicode behind left (at + 1) loops brackets
-    ++ Jump (second + node_insn_count right) ∷ code_of unicode behind right second (loops + loop_count left) (brackets + length (brackets_of left)))
+    ++ Jump (second + node_insn_count right) ∷ code_of unicode behind right second (loops + loop_count left)
+    (brackets + length (brackets_of left)))
 code_of unicode behind (bracket contents) at loops brackets =
-    (if is_uninverted_ascii_class contents then AsciiBracket (bytes_that_pass (in_intervals contents.intervals)) else Bracket brackets) ∷ []
+    (if is_uninverted_ascii_class contents then AsciiBracket (bytes_that_pass (in_intervals contents.intervals))
+    else Bracket brackets) ∷ []
 code_of unicode behind (string_set strings icase) at loops brackets = strings_code unicode icase behind strings at
 code_of unicode behind match_any at loops brackets = MatchAny ∷ []
 code_of unicode behind match_any_except_line_terminator at loops brackets = MatchAnyExceptLineTerminator ∷ []
 code_of unicode behind (anchor type multiline) at loops brackets = anchor_insn type multiline ∷ []
-code_of unicode behind (word_boundary invert unicode_icase) at loops brackets = word_boundary_insn invert unicode_icase ∷ []
+code_of unicode behind (word_boundary invert unicode_icase) at loops brackets =
+    word_boundary_insn invert unicode_icase ∷ []
 code_of unicode behind (capture_group id name contents) at loops brackets =
     BeginCaptureGroup id ∷ (code_of unicode behind contents (at + 1) loops brackets ++ EndCaptureGroup id ∷ [])
 code_of unicode behind (back_ref group sameness) at loops brackets = BackRef (group - 1) sameness ∷ []
 code_of unicode behind (lookaround l contents) at loops brackets =
-    lookaround_insn l (at + node_insn_count contents + 2) ∷ (code_of unicode l.backwards contents (at + 1) loops brackets ++ Goal ∷ [])
+    lookaround_insn l (at + node_insn_count contents + 2)
+    ∷ (code_of unicode l.backwards contents (at + 1) loops brackets ++ Goal ∷ [])
 code_of unicode behind (loop q start_group end_group loopee) at loops brackets =
     let body = at + 1 + (end_group - start_group) in
     let exit = body + node_insn_count loopee + 1 in
-    EnterLoop (record { loop_id = loops; min_iters = q.min; max_iters = max_iterations q; greedy = q.greedy; exit = exit })
-    ∷ (group_reset_insns start_group end_group ++ (code_of unicode behind loopee body (loops + 1) brackets ++ LoopAgain at ∷ []))
+    EnterLoop (record {
+      loop_id =
+          loops;
+      min_iters = q.min;
+      max_iters = max_iterations q;
+      greedy = q.greedy;
+      exit = exit;
+    })
+    ∷ (group_reset_insns start_group end_group ++ (code_of unicode behind loopee body (loops + 1) brackets ++ LoopAgain
+    at ∷ []))
 code_of unicode behind (loop_1_char_body q loopee) at loops brackets =
     Loop1CharBody q.min (max_iterations q) q.greedy ∷ code_of unicode behind loopee (at + 1) loops brackets
 

@@ -19,7 +19,12 @@ pub record EmitterState : Type 0 where
 
 -- The state of an emitter.
 abbrev pub emitter_state : Emitter → EmitterState
-emitter_state e = record { insns = map insn_as_spec_insn e.insns.items; loops = e.loops; brackets = map class_as_spec e.brackets.items }
+emitter_state e = record {
+  insns = map insn_as_spec_insn e.insns.items;
+  loops = e.loops;
+  brackets = map class_as_spec
+      e.brackets.items;
+}
 
 -- The state of an emitter before the first instruction.
 abbrev pub empty_state : EmitterState
@@ -39,7 +44,8 @@ with_loop s = record { insns = s.insns; loops = s.loops + 1; brackets = s.bracke
 
 -- The state with a bracket appended.
 abbrev pub with_bracket_table_entry : BracketContents → EmitterState → EmitterState
-with_bracket_table_entry contents s = record { insns = s.insns; loops = s.loops; brackets = s.brackets ++ contents ∷ [] }
+with_bracket_table_entry contents s =
+    record { insns = s.insns; loops = s.loops; brackets = s.brackets ++ contents ∷ [] }
 
 -- The state with the instruction at an index replaced.
 abbrev pub with_insn_at : (place : ℕ) → Insn → EmitterState → EmitterState
@@ -63,20 +69,26 @@ strings_as_code_points strings = map (λ s. s.items) strings
 
 -- A declared lookaround as the tree's.
 abbrev pub lookaround_as_spec : declared.LookaroundFields → Lookaround
-lookaround_as_spec l = record { negate = l.negate; backwards = l.backwards; start_group = l.start_group; end_group = l.end_group }
+lookaround_as_spec l =
+    record { negate = l.negate; backwards = l.backwards; start_group = l.start_group; end_group = l.end_group }
 
 -- The node whose code is emitted. If `narrow` is set, each loop over a node that reads one
 -- character becomes a char loop, and otherwise the node is unchanged.
 unfoldable pub node_with_char_loops_if_enabled : (narrow : Bool) → Node → Node
-node_with_char_loops_if_enabled narrow (cat first rest) = cat (node_with_char_loops_if_enabled narrow first) (node_with_char_loops_if_enabled narrow rest)
-node_with_char_loops_if_enabled narrow (alt left right) = alt (node_with_char_loops_if_enabled narrow left) (node_with_char_loops_if_enabled narrow right)
-node_with_char_loops_if_enabled narrow (capture_group id name contents) = capture_group id name (node_with_char_loops_if_enabled narrow contents)
-node_with_char_loops_if_enabled narrow (lookaround l contents) = lookaround l (node_with_char_loops_if_enabled narrow contents)
+node_with_char_loops_if_enabled narrow (cat first rest) =
+    cat (node_with_char_loops_if_enabled narrow first) (node_with_char_loops_if_enabled narrow rest)
+node_with_char_loops_if_enabled narrow (alt left right) =
+    alt (node_with_char_loops_if_enabled narrow left) (node_with_char_loops_if_enabled narrow right)
+node_with_char_loops_if_enabled narrow (capture_group id name contents) =
+    capture_group id name (node_with_char_loops_if_enabled narrow contents)
+node_with_char_loops_if_enabled narrow (lookaround l contents) =
+    lookaround l (node_with_char_loops_if_enabled narrow contents)
 node_with_char_loops_if_enabled narrow (loop q start_group end_group loopee) =
     if narrow && reads_one_character loopee
     then loop_1_char_body q (node_with_char_loops_if_enabled narrow loopee)
     else loop q start_group end_group (node_with_char_loops_if_enabled narrow loopee)
-node_with_char_loops_if_enabled narrow (loop_1_char_body q loopee) = loop_1_char_body q (node_with_char_loops_if_enabled narrow loopee)
+node_with_char_loops_if_enabled narrow (loop_1_char_body q loopee) =
+    loop_1_char_body q (node_with_char_loops_if_enabled narrow loopee)
 node_with_char_loops_if_enabled narrow node = node
 
 -- The node whose code is emitted for a declared node, in a mode.
@@ -85,7 +97,8 @@ node_to_emit_in_mode mode node = node_with_char_loops_if_enabled mode.narrow (no
 
 -- The tree whose code is emitted.
 abbrev pub tree_with_char_loops : (narrow : Bool) → Tree → Tree
-tree_with_char_loops narrow tree = record { root = node_with_char_loops_if_enabled narrow tree.root; flags = tree.flags }
+tree_with_char_loops narrow tree =
+    record { root = node_with_char_loops_if_enabled narrow tree.root; flags = tree.flags }
 
 -- The indexes of the instructions and loops that the node adds are in range.
 pub record HasIndexRoomForNode (s : EmitterState) (node : Node) : Type 0 where

@@ -4,7 +4,7 @@ use Rattle.std.specs.Prelude.{slice_index}
 use Rattle.std.specs.Int.{bit_at}
 use Rattle.regex_meaning.specs.NumberListHelpers.{contains}
 use Rattle.regex_meaning.specs.Tree.{Node, group_ids, every_node_passes}
-use Rattle.regex_meaning.specs.WellFormedTrees.{names_the_groups_inside, encloses, refers_to_a_group, has_order_in_quantifier, has_one_character_body}
+use Rattle.regex_meaning.specs.WellFormedTrees.{has_exact_group_range, encloses, refers_to_a_group, has_order_in_quantifier, has_one_character_body}
 use Rattle.regex_meaning.specs.WellFormedTrees.{has_text_in_sequence, set_sizes_and_characters_fit_instructions}
 
 -- The bitmap has no bit for the id; 1,024 words have a bit for each possible id.
@@ -37,12 +37,14 @@ id_end (id ∷ ids) = max (id + 1) (id_end ids)
 -- No id inside the node is seen or occurs twice, and loops and lookarounds name the groups inside
 -- them.
 abbrev pub has_exact_group_ids : (seen : ℕ → Bool) → Node → Bool
-has_exact_group_ids seen node = are_distinct_unseen seen (group_ids node) && every_node_passes names_the_groups_inside node
+has_exact_group_ids seen node =
+    are_distinct_unseen seen (group_ids node) && every_node_passes has_exact_group_range node
 
 -- `has_exact_group_ids` for a node inside a loop or a lookaround that names the groups from `start` up to
 -- `end`
 abbrev pub node_fills_id_range : (seen : ℕ → Bool) (start end : ℕ) → Node → Bool
-node_fills_id_range seen start end node = are_distinct_unseen seen (group_ids node) && (encloses start end node && every_node_passes names_the_groups_inside node)
+node_fills_id_range seen start end node = are_distinct_unseen seen
+    (group_ids node) && (encloses start end node && every_node_passes has_exact_group_range node)
 
 -- The number of ids, the least of them, and one past the greatest.
 pub record GroupIdCountAndSpanNumbers : Type 0 where
@@ -52,7 +54,8 @@ pub record GroupIdCountAndSpanNumbers : Type 0 where
 
 -- The number of ids, which saturates at 2^64 - 1, the least of them, and one past the greatest.
 abbrev pub count_and_span_of_group_ids : List ℕ → GroupIdCountAndSpanNumbers
-count_and_span_of_group_ids ids = record { count = min (length ids) (2 ^ 64 - 1); low = least_group_id ids; high = id_end ids }
+count_and_span_of_group_ids ids =
+    record { count = min (length ids) (2 ^ 64 - 1); low = least_group_id ids; high = id_end ids }
 
 -- The span of the ids of both spans.
 abbrev pub joined : GroupIdCountAndSpanNumbers → GroupIdCountAndSpanNumbers → GroupIdCountAndSpanNumbers
@@ -61,4 +64,5 @@ joined a b = record { count = min (a.count + b.count) (2 ^ 64 - 1); low = min a.
 -- The conditions on a node by itself, in a tree with `groups` groups.
 abbrev pub is_well_formed_node : (groups : ℕ) → Node → Bool
 is_well_formed_node groups node =
-    refers_to_a_group groups node && has_order_in_quantifier node && has_one_character_body node && has_text_in_sequence node && set_sizes_and_characters_fit_instructions node
+    refers_to_a_group groups node && has_order_in_quantifier node && has_one_character_body node && has_text_in_sequence
+    node && set_sizes_and_characters_fit_instructions node

@@ -10,4 +10,5 @@ group_id_span_as_numbers s = record { count = s.count; low = s.low; high = s.hig
 
 -- The span of these ids is joined to the span before.
 abbrev pub JoinsGroupIdSpan : (ids : List ℕ) → (before after : GroupIdCountAndBounds) → Type 0
-JoinsGroupIdSpan ids before after = group_id_span_as_numbers after ≡ joined (group_id_span_as_numbers before) (count_and_span_of_group_ids ids)
+JoinsGroupIdSpan ids before after =
+    group_id_span_as_numbers after ≡ joined (group_id_span_as_numbers before) (count_and_span_of_group_ids ids)

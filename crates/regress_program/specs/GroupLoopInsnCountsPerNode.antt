@@ -13,7 +13,17 @@ abbrev pub count_node : Node → ProgramSize → ProgramSize
 count_node (cat first rest) it = it
 count_node end_of_cat it = it
 count_node (capture_group id name contents) it =
-    record { groups = saturating_sum it.groups 1; loops = it.loops; insns = saturating_sum it.insns (own_size (capture_group id name contents)) }
+    record {
+      groups = saturating_sum it.groups 1;
+      loops = it.loops;
+      insns = saturating_sum it.insns
+          (own_size (capture_group id name contents));
+    }
 count_node (loop q start_group end_group loopee) it =
-    record { groups = it.groups; loops = saturating_sum it.loops 1; insns = saturating_sum it.insns (own_size (loop q start_group end_group loopee)) }
+    record {
+      groups = it.groups;
+      loops = saturating_sum it.loops 1;
+      insns = saturating_sum it.insns
+          (own_size (loop q start_group end_group loopee));
+    }
 count_node n it = record { groups = it.groups; loops = it.loops; insns = saturating_sum it.insns (own_size n) }

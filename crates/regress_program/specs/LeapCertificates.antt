@@ -7,7 +7,7 @@ use Rattle.regex_meaning.specs.CompilationRelation.{MatchAnyExceptLineTerminator
 use Rattle.regex_meaning.specs.CompilationRelation.{Lookbehind}
 use Rattle.regress_machine.specs.Machine.{test_of}
 use Rattle.regress_machine.specs.FirstSetTables.{is_character_in_encoding}
-use Rattle.regress_program.specs.LeapsToGoals.{LeapToGoal}
+use Rattle.regress_program.specs.Leaps.{LeapToGoal}
 use Rattle.regress_program.specs.PrefixesAndPrefilters.{PrefixAt}
 use Rattle.regress_program.specs.TableKeysOfUnits.{key, is_16_bit_encoding}
 
@@ -17,13 +17,14 @@ module _ (e : Encoding) (key : ℕ → ℕ) (program : Program) (over way : ℕ 
   are_over units = list_all (λ unit. over (key unit)) units
 
   -- The units of each character that the test accepts have keys in `over`, if there is a test.
-  abbrev pub AcceptsOver : Option (ℕ → Bool) → Type 0
-  AcceptsOver None = Unit {0}
-  AcceptsOver (Some test) = (c : ℕ) → is_character_in_encoding e c ≡ true → test c ≡ true → are_over (spelled_in e c) ≡ true
+  abbrev pub AcceptsOnlyPassedUnits : Option (ℕ → Bool) → Type 0
+  AcceptsOnlyPassedUnits None = Unit {0}
+  AcceptsOnlyPassedUnits (Some test) = (c : ℕ) → is_character_in_encoding e c ≡ true → test c ≡ true
+      → are_over (spelled_in e c) ≡ true
 
   -- An instruction that reads one character, and continues at the next one.
   pub record ReadsOver (insn : Insn) (ip : ℕ) : Type 0 where
-    pub accepts : AcceptsOver (test_of program (Some insn))
+    pub accepts : AcceptsOnlyPassedUnits (test_of program (Some insn))
     pub leads : way (ip + 1) ≡ true
 
   -- A byte sequence is read in UTF-8.
@@ -33,7 +34,7 @@ module _ (e : Encoding) (key : ℕ → ℕ) (program : Program) (over way : ℕ 
 
   -- A loop over one character.
   pub record LoopsOver (ip : ℕ) : Type 0 where
-    pub accepts : AcceptsOver (test_of program (slice_get program.insns (ip + 1)))
+    pub accepts : AcceptsOnlyPassedUnits (test_of program (slice_get program.insns (ip + 1)))
     pub leads : way (ip + 2) ≡ true
 
   -- The head of a loop leads to its body and, if the minimum is 0, to its exit.
@@ -47,8 +48,8 @@ module _ (e : Encoding) (key : ℕ → ℕ) (program : Program) (over way : ℕ 
   RepeatsLoop _ begin = Unit {0}
 
   -- A lookahead is passed over. The contents of a positive one may lead to the goal instead.
-  abbrev pub LooksAhead : (negate : Bool) (ip continuation : ℕ) → Type 0
-  LooksAhead negate ip continuation = (way continuation ≡ true) ⊎ ((negate ≡ false) × (way (ip + 1) ≡ true))
+  abbrev pub LookaheadReachesGoal : (negate : Bool) (ip continuation : ℕ) → Type 0
+  LookaheadReachesGoal negate ip continuation = (way continuation ≡ true) ⊎ ((negate ≡ false) × (way (ip + 1) ≡ true))
 
   -- The instruction leads only to members, and reads only units with keys in `over`. The successor
   -- of the remaining instructions is the next one.
@@ -70,7 +71,8 @@ module _ (e : Encoding) (key : ℕ → ℕ) (program : Program) (over way : ℕ 
   InsnReachesGoal (Some (LoopAgain begin)) ip = RepeatsLoop (slice_get program.insns begin) begin
   InsnReachesGoal (Some (Loop1CharBody min_iters max_iters greedy)) ip = LoopsOver ip
   InsnReachesGoal (Some (BackRef group sameness)) ip = ⊥
-  InsnReachesGoal (Some (Lookahead negate start_group end_group continuation)) ip = LooksAhead negate ip continuation
+  InsnReachesGoal (Some (Lookahead negate start_group end_group continuation)) ip =
+      LookaheadReachesGoal negate ip continuation
   InsnReachesGoal (Some (Lookbehind negate start_group end_group continuation)) ip = way continuation ≡ true
   InsnReachesGoal (Some _) ip = way (ip + 1) ≡ true
 
@@ -79,7 +81,8 @@ module _ (wide : Bool) (program : Program) (leap : LeapToGoal) (way : ℕ → Bo
   abbrev pub MembersLeadToGoal : Type 0
   MembersLeadToGoal = (ip : ℕ) → way ip ≡ true
       → PrefixAt wide program ip 1 (λ ahead. leap.goal)
-      ⊎ ((e : Encoding) → is_16_bit_encoding e ≡ wide → InsnReachesGoal e (key wide) program leap.over way (slice_get program.insns ip) ip)
+      ⊎ ((e : Encoding) → is_16_bit_encoding e ≡ wide
+      → InsnReachesGoal e (key wide) program leap.over way (slice_get program.insns ip) ip)
 
   -- The instructions certify the leap.
   pub record CertifiesLeap : Type 0 where

@@ -1,9 +1,62 @@
--- Leaps of plans.
-use Rattle.std.specs.Prelude.{◌≡◌, ◌≤◌, ◌<◌, ℕ, Bool, false, ◌||◌, nat_le, take, slice_index_or}
-use Rattle.regex_meaning.specs.NumberListHelpers.{contains}
+-- Leaps: the goal that each match reaches, and the units that it may read before the goal.
+use Rattle.std.specs.Prelude.{◌≡◌, ◌≤◌, ◌<◌, ℕ, Bool, true, false, ◌||◌, nat_le, take, slice_index_or}
+use Rattle.regex_meaning.specs.Text.{Text, rightwards}
+use Rattle.regex_meaning.specs.Outcomes.{is_some_and}
+use Rattle.regex_meaning.specs.CodeUnits.{Encoding}
 use Rattle.regex_meaning.specs.CompilationRelation.{Program}
+use Rattle.regress_machine.specs.Machine.{State, running}
+use Rattle.regress_machine.specs.ThreadSimulation.{FindsNothing}
+use Rattle.regress_machine.specs.FirstSetTables.{HasUnitsForTables, unit_key_at}
+use Rattle.regress_program.specs.TableKeysOfUnits.{key, is_16_bit_encoding}
+use Rattle.regex_meaning.specs.NumberListHelpers.{contains}
 use Rattle.regress_program.specs.declared.leap.Leap.{Leap}
-use Rattle.regress_program.specs.LeapsToGoals.{LeapToGoal, IsSoundLeap}
+
+-- A leap: each match reaches the goal, a unit with a key in `goal`, over units with keys in `over`.
+pub record LeapToGoal : Type 0 where
+  pub over : ℕ → Bool
+  pub goal : ℕ → Bool
+
+module _ (leap : LeapToGoal) (e : Encoding) (text : Text) where
+  -- Whether a match may read the unit at an offset before the goal.
+  abbrev pub may_read_before_goal : (at : ℕ) → Bool
+  may_read_before_goal at = is_some_and (unit_key_at e (key (is_16_bit_encoding e)) text at) leap.over
+
+  -- Whether the goal occurs at an offset.
+  abbrev pub goal_occurs_at : (at : ℕ) → Bool
+  goal_occurs_at at = is_some_and (unit_key_at e (key (is_16_bit_encoding e)) text at) leap.goal
+
+  -- From one offset a state may reach the goal at another one.
+  pub record ReachesGoalAt (from goal : ℕ) : Type 0 where
+    pub ahead : from ≤ goal
+    pub over : (at : ℕ) → from ≤ at → at < goal → may_read_before_goal at ≡ true
+    pub occurs : goal_occurs_at goal ≡ true
+
+  -- From this offset no goal is reached.
+  abbrev pub ReachesNoGoal : (from : ℕ) → Type 0
+  ReachesNoGoal from = (goal : ℕ) → ReachesGoalAt from goal → ⊥
+
+  -- The goal does not occur from `from` on and before `to`.
+  abbrev pub GoalIsAbsentBetween : (from to : ℕ) → Type 0
+  GoalIsAbsentBetween from to = (at : ℕ) → from ≤ at → at < to → goal_occurs_at at ≡ false
+
+  -- The goal occurs nowhere from this offset on.
+  abbrev pub GoalIsAbsentFrom : (from : ℕ) → Type 0
+  GoalIsAbsentFrom from = (at : ℕ) → from ≤ at → goal_occurs_at at ≡ false
+
+  -- Between two offsets there is a unit that a match does not read before the goal.
+  pub record HasBarrierBetween (from to : ℕ) : Type 0 where
+    pub at : ℕ
+    pub after : from ≤ at
+    pub before : at < to
+    pub barred : may_read_before_goal at ≡ false
+
+-- The leap is sound: no match begins where no goal is reached.
+pub record IsSoundLeap (wide : Bool) (program : Program) (leap : LeapToGoal) : Type 0 where
+  pub excludes : (e : Encoding) → is_16_bit_encoding e ≡ wide → (text : Text) → HasUnitsForTables e text → (s : State)
+      → s.ip ≡ 0
+      → ReachesNoGoal leap e text s.pos → FindsNothing program text rightwards (running s)
+
+-- ---- Leaps of plans
 
 -- Whether a unit with this key is the goal.
 abbrev pub is_goal_key : Leap → (k : ℕ) → Bool

@@ -17,7 +17,6 @@ pub mod TryFoldOverTreeNodes
 pub mod AtMostOneGoalNodeCheck
 pub mod GroupLoopInsnCountsPerNode
 pub mod SearchableTexts
-pub mod InsnsAsSpecInsns
 pub mod TableKeysOfUnits
 pub mod ClassReadLengths
 pub mod Plans
@@ -36,7 +35,6 @@ pub mod LookaheadAndExitTables
 pub mod LookaheadAndExitChecks
 pub mod ForcedIterations
 pub mod MustIterateChecks
-pub mod LeapsToGoals
-pub mod LeapCertificates
 pub mod Leaps
-pub mod LeapOps
+pub mod LeapCertificates
+pub mod LeapCertificatesOfPlans

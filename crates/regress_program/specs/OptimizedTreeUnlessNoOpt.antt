@@ -5,7 +5,11 @@ use Rattle.regex_pattern_front.specs.OptimizedTrees.{optimized}
 
 -- The optimized tree, or the tree itself if the flag `no_opt` is set.
 abbrev pub optimized_tree_unless_no_opt : Tree → Tree
-optimized_tree_unless_no_opt tree = record { root = if tree.flags.no_opt then tree.root else optimized tree.root; flags = tree.flags }
+optimized_tree_unless_no_opt tree = record {
+  root = if tree.flags.no_opt then tree.root
+      else optimized tree.root;
+  flags = tree.flags;
+}
 
 -- The tree from whose code a plan is made: the tree itself for a program for bytes, and the tree to
 -- run for a program for 16-bit code units.

@@ -29,8 +29,10 @@ with_arm_end branch s =
     with_insn_at branch (Alt (length t.insns)) t
 
 -- The other alternatives are emitted, and the jump before them gets their end as its target.
-abbrev pub with_alternatives_emitted : (unicode behind : Bool) → (branch : ℕ) → (others : TreeNode) → EmitterState → EmitterState
-with_alternatives_emitted unicode behind branch others s = with_jump (length s.insns) (with_code unicode behind others (with_arm_end branch s))
+abbrev pub with_alternatives_emitted : (unicode behind : Bool) → (branch : ℕ) → (others : TreeNode) → EmitterState
+    → EmitterState
+with_alternatives_emitted unicode behind branch others s =
+    with_jump (length s.insns) (with_code unicode behind others (with_arm_end branch s))
 
 -- A lookaround ends with `Goal`, and its first instruction gets the current end as its continuation.
 abbrev pub with_lookaround_end : Lookaround → (head : ℕ) → EmitterState → EmitterState
@@ -42,13 +44,23 @@ with_lookaround_end l head s =
 abbrev pub with_loop_end : LoopFields → (begin : ℕ) → EmitterState → EmitterState
 with_loop_end f begin s =
     let t = with_insn_appended (LoopAgain begin) s in
-    with_insn_at begin (EnterLoop (record { loop_id = f.loop_id; min_iters = f.min_iters; max_iters = f.max_iters; greedy = f.greedy; exit = length t.insns })) t
+    with_insn_at begin (EnterLoop (record {
+      loop_id =
+          f.loop_id;
+      min_iters = f.min_iters;
+      max_iters = f.max_iters;
+      greedy = f.greedy;
+      exit = length t.insns;
+    })) t
 
 -- The state after a pending part was emitted.
 unfoldable pub with_pending : UnemittedCodePart → EmitterState → EmitterState
-with_pending (Node mode node) s = with_code mode.unicode mode.behind (node_with_char_loops_if_enabled mode.narrow (node_of node.now)) s
-with_pending (Row mode nodes) s = with_code mode.unicode mode.behind (node_with_char_loops_if_enabled mode.narrow (cat_of nodes.now)) s
-with_pending (Others mode branch others) s = with_alternatives_emitted mode.unicode mode.behind branch (node_with_char_loops_if_enabled mode.narrow (node_of others.now)) s
+with_pending (Node mode node) s =
+    with_code mode.unicode mode.behind (node_with_char_loops_if_enabled mode.narrow (node_of node.now)) s
+with_pending (Row mode nodes) s =
+    with_code mode.unicode mode.behind (node_with_char_loops_if_enabled mode.narrow (cat_of nodes.now)) s
+with_pending (Others mode branch others) s = with_alternatives_emitted mode.unicode mode.behind branch
+    (node_with_char_loops_if_enabled mode.narrow (node_of others.now)) s
 with_pending (JumpLeft place) s = with_jump place s
 with_pending (GroupEnd id) s = with_insn_appended (EndCaptureGroup id) s
 with_pending (LookaroundEnd look head) s = with_lookaround_end (lookaround_as_spec look) head s
@@ -65,7 +77,8 @@ with_all_pending (r ∷ rest) s = with_pending r (with_all_pending rest s)
 unfoldable pub is_emittable : (end : ℕ) → UnemittedCodePart → Bool
 is_emittable end (Node mode node) = every_node_passes set_sizes_and_characters_fit_instructions (node_of node.now)
 is_emittable end (Row mode nodes) = every_node_passes set_sizes_and_characters_fit_instructions (cat_of nodes.now)
-is_emittable end (Others mode branch others) = nat_lt branch end && every_node_passes set_sizes_and_characters_fit_instructions (node_of others.now)
+is_emittable end (Others mode branch others) =
+    nat_lt branch end && every_node_passes set_sizes_and_characters_fit_instructions (node_of others.now)
 is_emittable end (JumpLeft place) = nat_lt place end
 is_emittable end (GroupEnd id) = true
 is_emittable end (LookaroundEnd look head) = nat_lt head end
@@ -94,8 +107,10 @@ node_measure node = 5 * inner_node_count node + 2
 -- The measure of a pending part.
 unfoldable pub pending_measure : UnemittedCodePart → ℕ
 pending_measure (Node mode node) = node_measure (node_with_char_loops_if_enabled mode.narrow (node_of node.now))
-pending_measure (Row mode nodes) = 5 * inner_node_count (node_with_char_loops_if_enabled mode.narrow (cat_of nodes.now)) + 1
-pending_measure (Others mode branch others) = node_measure (node_with_char_loops_if_enabled mode.narrow (node_of others.now)) + 2
+pending_measure (Row mode nodes) =
+    5 * inner_node_count (node_with_char_loops_if_enabled mode.narrow (cat_of nodes.now)) + 1
+pending_measure (Others mode branch others) =
+    node_measure (node_with_char_loops_if_enabled mode.narrow (node_of others.now)) + 2
 pending_measure _ = 1
 
 -- The sum of the measures of the pending parts.
@@ -114,7 +129,8 @@ pub record EmitWork : Type 0 where
 -- given effect. The measure grew by less than `cost`.
 pub record ExpandsPending (effect : EmitterState → EmitterState) (cost : ℕ) (before after : EmitWork) : Type 0 where
   pub code : with_all_pending after.rest after.state ≡ with_all_pending before.rest (effect before.state)
-  pub ready : are_emittable (length before.state.insns) before.rest ≡ true → are_emittable (length after.state.insns) after.rest ≡ true
+  pub ready : are_emittable (length before.state.insns) before.rest ≡ true
+      → are_emittable (length after.state.insns) after.rest ≡ true
   pub less : total_measure after.rest < total_measure before.rest + cost
 
 -- A pending part was emitted or begun.
@@ -123,12 +139,14 @@ PendingPartIsEmittedOrBegun r before after = ExpandsPending (with_pending r) (pe
 
 -- The code of a node was begun.
 abbrev pub BeginsEmittingNode : EmitMode → TreeNode → (before after : EmitWork) → Type 0
-BeginsEmittingNode mode node before after = ExpandsPending (with_code mode.unicode mode.behind node) (node_measure node) before after
+BeginsEmittingNode mode node before after =
+    ExpandsPending (with_code mode.unicode mode.behind node) (node_measure node) before after
 
 -- The alternatives after the first were begun.
 abbrev pub BeginsEmittingAlternatives : EmitMode → (branch : ℕ) → TreeNode → (before after : EmitWork) → Type 0
 BeginsEmittingAlternatives mode branch others before after =
-    ExpandsPending (with_alternatives_emitted mode.unicode mode.behind branch others) (node_measure others + 2) before after
+    ExpandsPending (with_alternatives_emitted mode.unicode mode.behind branch others) (node_measure others + 2) before
+    after
 
 -- The nodes of a list were begun.
 abbrev pub BeginsEmittingNodeList : EmitMode → List ir.Node → (before after : EmitWork) → Type 0

@@ -12,10 +12,12 @@ use Rattle.regress_program.specs.ClosedFirstSets.{IncludesFirstSet}
 use Rattle.regress_program.specs.LookbehindFilter.{FilterKeysAreLeadBytes}
 
 -- The filter has all keys of the set and this `edge`. In bytes, all its keys are lead bytes.
-pub record FilterIncludesAllKeysOfSet (wide : Bool) (set : FirstSet) (edge : Bool) (before : PrecedingCharFilter) : Type 0 where
+pub record FilterIncludesAllKeysOfSet (wide : Bool) (set : FirstSet) (edge : Bool) (before : PrecedingCharFilter) : Type
+    0 where
   pub edge_is : before.edge ≡ edge
   pub leads : FilterKeysAreLeadBytes wide before
-  pub among : (k : ℕ) → k < 256 → (unit_table_of_set set).keys k ≡ true → contains (take before.len before.keys) k ≡ true
+  pub among : (k : ℕ) → k < 256 → (unit_table_of_set set).keys k ≡ true
+      → contains (take before.len before.keys) k ≡ true
 
 -- Whether an operation reads one character.
 abbrev pub reads_character : Op → Bool
@@ -27,4 +29,5 @@ reads_character _ = false
 -- The second operation reads one character, which begins with a key of the set.
 abbrev pub LookbehindReadsCharOfSet : (wide : Bool) → Plan → FirstSet → Type 0
 LookbehindReadsCharOfSet wide plan set =
-    (tables : ℕ → AllowedNextKeys) × (op : Op) × (slice_get plan.ops.items 1 ≡ Some op) × (reads_character op ≡ true) × IncludesFirstSet wide plan tables op 1 (unit_table_of_set set)
+    (tables : ℕ → AllowedNextKeys) × (op : Op) × (slice_get plan.ops.items 1 ≡ Some op) × (reads_character op ≡ true)
+    × IncludesFirstSet wide plan tables op 1 (unit_table_of_set set)

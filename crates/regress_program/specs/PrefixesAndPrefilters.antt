@@ -4,7 +4,7 @@ use Rattle.std.specs.Prelude.{IfSome}
 use Rattle.std.specs.Int.{bit_at}
 use Rattle.regex_meaning.specs.CodeUnits.{Encoding}
 use Rattle.regex_meaning.specs.CompilationRelation.{Program}
-use Rattle.regress_machine.specs.RequiredPrefixes.{Allowed, unit_is_allowed, IsPrefix}
+use Rattle.regress_machine.specs.RequiredPrefixes.{AllowedUnitsAhead, unit_is_allowed, IsRequiredPrefix}
 use Rattle.regress_program.specs.declared.required_prefix_types.Prefix.{Prefix}
 use Rattle.regress_program.specs.declared.required_prefix_prefilters.RequiredPrefixPrefilter.{RequiredPrefixPrefilter}
 use Rattle.regress_program.specs.declared.required_prefix_prefilters.RequiredPrefixPrefilter.TheVariants as filter
@@ -15,21 +15,23 @@ use Rattle.regress_program.specs.declared.required_prefix_prefilters.LiteralPref
 use Rattle.regress_program.specs.TableKeysOfUnits.{key, is_16_bit_encoding}
 
 -- The units that a prefix allows: bit `ahead` of the mask of their key is clear.
-abbrev pub units_allowed_by_prefix : Prefix → Allowed
+abbrev pub units_allowed_by_prefix : Prefix → AllowedUnitsAhead
 units_allowed_by_prefix prefix ahead k = bit_at (slice_index prefix.masks k) ahead == 0
 
 -- At `ip`, a thread finds nothing unless each of the next `len` units is allowed.
-abbrev pub PrefixAt : (wide : Bool) → Program → (ip len : ℕ) → Allowed → Type 0
-PrefixAt wide program ip len allowed = (e : Encoding) → is_16_bit_encoding e ≡ wide → IsPrefix e (key wide) program ip len allowed
+abbrev pub PrefixAt : (wide : Bool) → Program → (ip len : ℕ) → AllowedUnitsAhead → Type 0
+PrefixAt wide program ip len allowed = (e : Encoding) → is_16_bit_encoding e ≡ wide
+    → IsRequiredPrefix e (key wide) program ip len allowed
 
 -- The prefix is a required prefix at `ip`.
 abbrev pub IsRequiredPrefixFromInsn : (wide : Bool) → Program → (ip : ℕ) → Prefix → Type 0
 IsRequiredPrefixFromInsn wide program ip prefix = PrefixAt wide program ip prefix.len (units_allowed_by_prefix prefix)
 
 -- Whether the `len` units of a list from index `at` on are allowed.
-abbrev pub prefix_allows_units_at : Allowed → (units : List ℕ) → (at len : ℕ) → Bool
+abbrev pub prefix_allows_units_at : AllowedUnitsAhead → (units : List ℕ) → (at len : ℕ) → Bool
 prefix_allows_units_at allowed units at zero = true
-prefix_allows_units_at allowed units at (suc len) = prefix_allows_units_at allowed units at len && unit_is_allowed allowed len (slice_get units (at + len))
+prefix_allows_units_at allowed units at (suc len) =
+    prefix_allows_units_at allowed units at len && unit_is_allowed allowed len (slice_get units (at + len))
 
 -- No unit with a key in `from..end` is allowed `ahead` units after the start.
 abbrev pub ExcludesKeys : Prefix → (from end ahead : ℕ) → Type 0
@@ -45,7 +47,11 @@ pub record IsOnlyUnitAllowedAtPosition (prefix : Prefix) (rare : RequiredUnitAnd
 pub record IsLiteralForcedByPrefix (prefix : Prefix) (literal : Literal) : Type 0 where
   pub some : 0 < literal.len
   pub inside : literal.ahead + literal.len ≤ prefix.len
-  pub alone : (i : ℕ) → i < literal.len → IsOnlyUnitAllowedAtPosition prefix (record { unit = slice_index literal.units i; ahead = literal.ahead + i })
+  pub alone : (i : ℕ) → i < literal.len → IsOnlyUnitAllowedAtPosition prefix (record {
+    unit =
+        slice_index literal.units i;
+    ahead = literal.ahead + i;
+  })
 
 -- Only units below 128 are allowed `ahead` units after the start.
 abbrev pub AllowsOnlyAsciiAt : Prefix → (ahead : ℕ) → Type 0

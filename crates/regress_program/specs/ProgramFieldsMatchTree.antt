@@ -37,8 +37,9 @@ abbrev pub IsPlanForUnitWidth : (wide : Bool) → Regex → Plan → Type 0
 IsPlanForUnitWidth wide re plan = IsPlanOf wide (compiled (planned_tree wide (tree_of re))) plan
 
 -- The second plan is a plan of each program that the first is a plan of.
-abbrev pub IsSamePlan : Plan → Plan → Type 0
-IsSamePlan plan other = (wide : Bool) (program : Program) → IsPlanOf wide program plan → IsPlanOf wide program other
+abbrev pub IsPlanOfSamePrograms : Plan → Plan → Type 0
+IsPlanOfSamePrograms plan other = (wide : Bool) (program : Program) → IsPlanOf wide program plan
+    → IsPlanOf wide program other
 
 -- What programs for bytes hold in addition.
 pub record IsByteProgram (re : Regex) (start : StartPredicate) (plan : Plan) : Type 0 where

@@ -50,11 +50,17 @@ predicate_is_byte_sequence _ = false
 unfoldable pub making_node_start_predicate_may_allocate : Node → Bool
 making_node_start_predicate_may_allocate (byte_sequence bytes) = true
 making_node_start_predicate_may_allocate (bracket contents) = contents.invert
-making_node_start_predicate_may_allocate (cat first rest) = making_node_start_predicate_may_allocate first || predicate_says_reads_nothing (abstract_start_predicate first) && making_node_start_predicate_may_allocate rest
-making_node_start_predicate_may_allocate (alt left right) = making_node_start_predicate_may_allocate left || making_node_start_predicate_may_allocate right
-making_node_start_predicate_may_allocate (capture_group id name contents) = making_node_start_predicate_may_allocate contents
-making_node_start_predicate_may_allocate (loop q start_group end_group loopee) = nat_lt 0 q.min && making_node_start_predicate_may_allocate loopee
-making_node_start_predicate_may_allocate (loop_1_char_body q loopee) = nat_lt 0 q.min && making_node_start_predicate_may_allocate loopee
+making_node_start_predicate_may_allocate (cat first rest) = making_node_start_predicate_may_allocate
+    first || predicate_says_reads_nothing (abstract_start_predicate first) && making_node_start_predicate_may_allocate
+    rest
+making_node_start_predicate_may_allocate (alt left right) =
+    making_node_start_predicate_may_allocate left || making_node_start_predicate_may_allocate right
+making_node_start_predicate_may_allocate (capture_group id name contents) =
+    making_node_start_predicate_may_allocate contents
+making_node_start_predicate_may_allocate (loop q start_group end_group loopee) =
+    nat_lt 0 q.min && making_node_start_predicate_may_allocate loopee
+making_node_start_predicate_may_allocate (loop_1_char_body q loopee) =
+    nat_lt 0 q.min && making_node_start_predicate_may_allocate loopee
 making_node_start_predicate_may_allocate _ = false
 
 -- Making the tree's start predicate may allocate memory.

@@ -37,42 +37,50 @@ names_in_pending_part (Row nodes) = capturing_group_ids_and_names (cat_of nodes.
 -- The names after all pending parts were stored, the last one first.
 abbrev pub pending_names_stored : List NodeOrListWithUnstoredNames → (names : List (List ℕ)) → List (List ℕ)
 pending_names_stored [] names = names
-pending_names_stored (next ∷ rest) names = with_names_stored_by_id (names_in_pending_part next) (pending_names_stored rest names)
+pending_names_stored (next ∷ rest) names =
+    with_names_stored_by_id (names_in_pending_part next) (pending_names_stored rest names)
 
 -- The measure of a node, which decreases when the node is expanded.
-abbrev pub node_measure : TreeNode → ℕ
-node_measure node = 3 * inner_node_count node + 2
+abbrev pub naming_measure_of_node : TreeNode → ℕ
+naming_measure_of_node node = 3 * inner_node_count node + 2
 
 -- The measure of a list of nodes.
-abbrev pub node_list_measure : List ir.Node → ℕ
-node_list_measure nodes = 3 * inner_node_count (cat_of nodes) + 1
+abbrev pub naming_measure_of_nodes : List ir.Node → ℕ
+naming_measure_of_nodes nodes = 3 * inner_node_count (cat_of nodes) + 1
 
 -- The measure of a pending part.
-unfoldable pub naming_measure_of_pending_part : NodeOrListWithUnstoredNames → ℕ
-naming_measure_of_pending_part (Node node) = node_measure (node_of node.now)
-naming_measure_of_pending_part (Row nodes) = node_list_measure nodes.now
+unfoldable pub naming_measure_of_part : NodeOrListWithUnstoredNames → ℕ
+naming_measure_of_part (Node node) = naming_measure_of_node (node_of node.now)
+naming_measure_of_part (Row nodes) = naming_measure_of_nodes nodes.now
 
 -- The sum of the measures of the pending parts.
-abbrev pub total_measure : List NodeOrListWithUnstoredNames → ℕ
-total_measure [] = 0
-total_measure (next ∷ rest) = naming_measure_of_pending_part next + total_measure rest
+abbrev pub total_naming_measure : List NodeOrListWithUnstoredNames → ℕ
+total_naming_measure [] = 0
+total_naming_measure (next ∷ rest) = naming_measure_of_part next + total_naming_measure rest
 
 -- Some of these names were stored, and the parts with the others were put before the rest. The
 -- measure grew by less than `cost`.
-pub record StoresNamesOrPushesNodes (named : List (ℕ × List ℕ)) (cost : ℕ) (old new : List (List ℕ)) (before after : List NodeOrListWithUnstoredNames) : Type 0 where
+pub record StoresNamesOrPushesNodes (named : List (ℕ × List ℕ)) (cost : ℕ) (old new : List (List ℕ))
+    (before after : List NodeOrListWithUnstoredNames) : Type 0 where
   pub names : pending_names_stored after new ≡ pending_names_stored before (with_names_stored_by_id named old)
-  pub less : total_measure after < total_measure before + cost
+  pub less : total_naming_measure after < total_naming_measure before + cost
 
 -- `StoresNamesOrPushesNodes` for strings
-abbrev pub StoresOrPushesNodes : {R : Type 0} → List (ℕ × List ℕ) → (cost : ℕ) → (old new : List (String R)) → (before after : List NodeOrListWithUnstoredNames) → Type 0
-StoresOrPushesNodes named cost old new before after = StoresNamesOrPushesNodes named cost (map string_bytes old) (map string_bytes new) before after
+abbrev pub StoresOrPushesNodes : {R : Type 0} → List (ℕ × List ℕ) → (cost : ℕ) → (old new : List (String R))
+    → (before after : List NodeOrListWithUnstoredNames) → Type 0
+StoresOrPushesNodes named cost old new before after =
+    StoresNamesOrPushesNodes named cost (map string_bytes old) (map string_bytes new) before after
 
 -- The nodes of a list were put before the rest, except for leading ones without names.
 abbrev pub PushesNamedNodes : List ir.Node → (before after : List NodeOrListWithUnstoredNames) → Type 0
-PushesNamedNodes nodes before after = (names : List (List ℕ)) → StoresNamesOrPushesNodes (capturing_group_ids_and_names (cat_of nodes)) (node_list_measure nodes) names names before after
+PushesNamedNodes nodes before after = (names : List (List ℕ))
+    → StoresNamesOrPushesNodes (capturing_group_ids_and_names (cat_of nodes)) (naming_measure_of_nodes nodes) names names
+    before after
 
 -- Two nodes were put before the rest.
 abbrev pub PushesTwoNodes : (first others : ir.Node) → (before after : List NodeOrListWithUnstoredNames) → Type 0
 PushesTwoNodes first others before after =
-    let cost = node_measure (node_of first) + node_measure (node_of others) + 1 in
-    (names : List (List ℕ)) → StoresNamesOrPushesNodes (capturing_group_ids_and_names (node_of first) ++ capturing_group_ids_and_names (node_of others)) cost names names before after
+    let cost = naming_measure_of_node (node_of first) + naming_measure_of_node (node_of others) + 1 in
+    (names : List (List ℕ)) → StoresNamesOrPushesNodes
+    (capturing_group_ids_and_names (node_of first) ++ capturing_group_ids_and_names (node_of others)) cost names
+    names before after

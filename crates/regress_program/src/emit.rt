@@ -238,8 +238,7 @@ fn emit_code(
     room: usize,
 ) -> Result<Arc<EmittedCode, Global>, AllocError>
     requires { IsWellFormedWithinLimits (tree_of re.now) }
-    ensures { IfOk result (λ code. IsCodeOfTree (tree_with_char_loops narrow (tree_of re.now))
-        (arc_value code)) }
+    ensures { IfOk result (λ code. IsCodeOfTree (tree_with_char_loops narrow (tree_of re.now)) (arc_value code)) }
 {
     let mut emitter = Emitter::new(alloc, room)?;
     let mode = EmitMode {

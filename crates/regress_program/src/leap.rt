@@ -8,8 +8,8 @@ ghost use Rattle.regex_meaning.specs.CompilationRelation.{Program};
 ghost use Rattle.regress_program.specs.RequiredPrefixAnalysis.{AreOpsOfProgram};
 ghost use Rattle.regress_program.specs.TableKeysOfUnits.{is_16_bit_width, unit_table_of_set};
 ghost use Rattle.regress_program.specs.Leaps.{is_goal_key, is_passed_key, AreHighKeysAlike, AreGoalsFewAscii, IsLeap};
-ghost use Rattle.regress_program.specs.LeapOps.{is_on_way, AreGoals, PassesUnits, PassesReadLengths, ArrivesAtGoal, PassesByteSeq};
-ghost use Rattle.regress_program.specs.LeapOps.{PassesClass, LoopLeads, LookaroundLeads, OpReachesGoal, LeadsIfOnWay, AllLead};
+ghost use Rattle.regress_program.specs.LeapCertificatesOfPlans.{is_on_way, AreAllGoalKeys, PassesUnits, PassesReadLengths, ArrivesAtGoal, PassesByteSeq};
+ghost use Rattle.regress_program.specs.LeapCertificatesOfPlans.{PassesClass, LoopStaysOnWay, LookaroundStaysOnWay, OpReachesGoal, OpOnWayReachesGoal, OpsOnWayReachGoal};
 
 use crate::char_class_tables::Class;
 use crate::first_set_type::FirstSet;
@@ -57,7 +57,7 @@ impl Leap {
 
     // Checks whether the keys of a set are all the goal's.
     fn has_as_goals(&self, set: &FirstSet) -> bool
-        ensures { result ≡ true → AreGoals self.now (unit_table_of_set set.now) }
+        ensures { result ≡ true → AreAllGoalKeys self.now (unit_table_of_set set.now) }
     {
         for key in 0..KEYS {
             if !self.is_goal_if_in(set, key) {
@@ -214,7 +214,7 @@ impl LeapCheck<'_> {
     // it has to iterate, the operation after it.
     fn loop_leads(self, number: u32, entered: bool) -> bool
         ensures { result ≡ true
-            → LoopLeads self.entry.plan.now (is_on_way self.entry.on_way.now) number
+            → LoopStaysOnWay self.entry.plan.now (is_on_way self.entry.on_way.now) number
             (λ c. if entered then c.min else 0) }
     {
         match self.plan.counted.get(number as usize) {
@@ -230,7 +230,7 @@ impl LeapCheck<'_> {
     // the first one of its contents.
     fn lookaround_leads(self, look: LookaroundAndNextOp, ip: usize) -> bool
         requires { ip + 1 < 2 ^ 64 }
-        ensures { result ≡ true → LookaroundLeads (is_on_way self.entry.on_way.now) look ip }
+        ensures { result ≡ true → LookaroundStaysOnWay (is_on_way self.entry.on_way.now) look ip }
     {
         self.has(look.past as usize) || look.forward && !look.negate && self.has(ip + 1)
     }
@@ -274,15 +274,15 @@ impl LeapCheck<'_> {
     fn leads_if_on_way(self, ip: usize) -> bool
         requires { ip < length self.plan.now.ops.items }
         ensures { (op : Op) → slice_get self.entry.plan.now.ops.items ip ≡ Some op → result ≡ true
-            → LeadsIfOnWay (is_16_bit_width self.entry.units) self.entry.plan.now self.entry.leap.now
+            → OpOnWayReachesGoal (is_16_bit_width self.entry.units) self.entry.plan.now self.entry.leap.now
             (is_on_way self.entry.on_way.now) op ip }
     {
         !self.has(ip) || self.leads(ip) || self.arrives(ip)
     }
 
     // Checks whether each operation on the way reads the goal first, or leads only to such.
-    fn all_lead(self) -> bool
-        ensures { result ≡ true → AllLead (is_16_bit_width self.entry.units) self.entry.plan.now
+    fn every_op_on_way_reaches_goal(self) -> bool
+        ensures { result ≡ true → OpsOnWayReachGoal (is_16_bit_width self.entry.units) self.entry.plan.now
             self.entry.leap.now (is_on_way self.entry.on_way.now) }
     {
         for ip in 0..self.plan.ops.len() {
@@ -307,7 +307,7 @@ impl LeapCheck<'_> {
         if !self.leap.has_few_ascii_goals() {
             return false;
         }
-        self.all_lead()
+        self.every_op_on_way_reaches_goal()
     }
 }
 

@@ -80,8 +80,7 @@ impl Prefix {
 
     // Appends the units of another prefix, as far as there is room.
     fn add_prefix(&mut self, behind: &Prefix)
-        ensures { ExtendsPrefix self.old behind.now.len
-            (units_allowed_by_prefix behind.now) self.new }
+        ensures { ExtendsPrefix self.old behind.now.len (units_allowed_by_prefix behind.now) self.new }
     {
         for key in 0..KEYS {
             self.masks[key] = join_masks(self.masks[key], self.len, behind.masks[key]);
@@ -134,11 +133,11 @@ impl Prefix {
         ensures { (ahead : ℕ) → (bit_at result ahead == 0) ≡ false → ExcludesKeys self.now from end ahead }
     {
         // Without an early exit, the loop can process many keys at a time.
-        let mut mask_excluding_keys = u16::MAX;
+        let mut mask = u16::MAX;
         for key in from..end {
-            mask_excluding_keys &= self.masks[key];
+            mask &= self.masks[key];
         }
-        mask_excluding_keys
+        mask
     }
 }
 

@@ -1,4 +1,4 @@
--- Where the first units of a match may stand: their keys, bits of them, and places in a row.
+-- A probe passes at each offset where the required prefix fits, so the offsets it rejects are no candidates.
 use Rattle.std.proofs.Common.{◌≡◌, ℕ, suc, ◌+◌, ◌-◌, ◌%◌, ◌<◌, ◌≤◌, Bool, true, false, List, length, take, Option, Some, None, ap, sym, ◌∙◌, subst, arith}
 use Rattle.std.proofs.Common.{slice_get}
 use Rattle.std.specs.Prelude.{slice_index}
@@ -9,9 +9,9 @@ use Rattle.std.proofs.lemmas.List.{length-map, length-take, get_or-take}
 use mathlib.Core.Logic.{inl, inr}
 use Rattle.regex_meaning.specs.CodeUnitOffsets.{units}
 use Rattle.regex_meaning.specs.CodeUnits.{text_units_in_encoding}
-use Rattle.regex_meaning.proofs.Options.{some-same}
+use Rattle.regex_meaning.proofs.OptionLemmas.{some-same}
 use Rattle.regress_input.specs.TextCodeUnits.{has_bits, MarksUnitsWithBits}
-use Rattle.regress_input.proofs.Boundaries.{units-length}
+use Rattle.regress_input.proofs.UnitsAtBoundaries.{units-length}
 use Rattle.regress_machine.specs.FirstSetTables.{HasUnitsForTables, unit_key_at}
 use Rattle.regress_machine.specs.RequiredPrefixes.{unit_is_allowed}
 use Rattle.regress_program.specs.declared.required_prefix_types.Prefix.{Prefix}
@@ -23,8 +23,8 @@ use Rattle.regress_search.specs.TreePlanAndText.{SearchInput}
 use Rattle.regress_search.specs.StartSearch.{keys_in, prefix_fits_at, IsFirstBoundaryWhere}
 use Rattle.regress_search.specs.MarkedOffsets.{MarksAllPassing}
 use Rattle.regress_search.specs.PrefixCandidatesInRange.{IsFirstPrefixFitInRange}
-use Rattle.regress_search.proofs.FirstUnits.{fits-fails, fits-past, fits-more}
-use Rattle.regress_search.proofs.LowUnits.{fit-unit, fit-boundary}
+use Rattle.regress_search.proofs.PrefixUnitLemmas.{fits-fails, fits-past, fits-more}
+use Rattle.regress_search.proofs.AsciiUnitLemmas.{fit-unit, fit-boundary}
 
 -- ---- Keys
 

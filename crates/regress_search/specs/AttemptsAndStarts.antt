@@ -10,32 +10,36 @@ use Rattle.regex_meaning.specs.StartPredicate.{StartPredicate, start_anchored, s
 use Rattle.regex_meaning.specs.OutcomesWithStepTicks.{items_at, ticks_to_first, tried_places}
 use Rattle.regress_program.specs.CompilationOfTreesAsFunction.{compiled}
 use Rattle.regress_machine.specs.Machine.{State, running, Found, search}
-use Rattle.regress_machine.specs.SearchFindsFirstOutcomeAtPlace.{first_pair, end_in_offsets, turns_at}
+use Rattle.regress_machine.specs.SearchFindsFirstOutcomeAtPlace.{first_pair, end_in_offsets, sufficient_turns_at}
 
 -- The end and the groups of the first outcome at an offset, in offsets, if there is one.
 abbrev pub match_end_and_groups_at : Tree → Text → (at : ℕ) → Option (ℕ × Groups)
 match_end_and_groups_at tree text at =
-    option_and_then (λ place. option_map (end_in_offsets text) (first_pair (items_at tree text place))) (place_at text at)
+    option_and_then (λ place. option_map (end_in_offsets text) (first_pair (items_at tree text place)))
+    (place_at text at)
 
 -- The offset at which the list continues after a match: its end, or one character further if it is
 -- empty.
 abbrev pub next_search_offset : Text → (start end : ℕ) → Option ℕ
-next_search_offset text start end = if nat_lt start end then Some end else option_map (λ r. r.1) (read text rightwards end)
+next_search_offset text start end = if nat_lt start end then Some end
+    else option_map (λ r. r.1) (read text rightwards end)
 
 -- A number of machine steps that suffices for an attempt at an offset.
 abbrev pub steps_for_attempt : Tree → Text → (at : ℕ) → ℕ
-steps_for_attempt tree text at = option_map_or (turns_at tree text) (place_at text at) 0
+steps_for_attempt tree text at = option_map_or (sufficient_turns_at tree text) (place_at text at) 0
 
 -- The search from a state in a direction, as part of the attempt at an offset.
 abbrev pub search_from : Tree → Text → (at : ℕ) → Direction → State → Option Found
-search_from tree text at direction s = search (compiled tree) text (steps_for_attempt tree text at) direction (running s ∷ [])
+search_from tree text at direction s =
+    search (compiled tree) text (steps_for_attempt tree text at) direction (running s ∷ [])
 
 -- ---- The offsets to try
 
 -- The offset to try after one without a match: none if matches are only at the left end, and
 -- otherwise one character further.
 abbrev pub offset_after_failed_attempt : (anchored : Bool) → Text → (at : ℕ) → Option ℕ
-offset_after_failed_attempt anchored text at = if anchored then None else option_map (λ r. r.1) (read text rightwards at)
+offset_after_failed_attempt anchored text at = if anchored then None
+    else option_map (λ r. r.1) (read text rightwards at)
 
 -- An end together with its groups, if there is an end.
 abbrev pub end_with_groups : {P : Type 0} → (offset : P → ℕ) → Option P → Groups → Option (ℕ × Groups)
@@ -53,13 +57,15 @@ NoMatchStartsBetween tree text from to = (at : ℕ) → IsBoundary text at → f
 -- there on.
 abbrev pub NextStartSkipsNoMatch : Tree → Text → (from : ℕ) → (next : Option ℕ) → Type 0
 NextStartSkipsNoMatch tree text from None = NoMatchStartsBetween tree text from (units text + 1)
-NextStartSkipsNoMatch tree text from (Some to) = IsBoundary text to × (from ≤ to) × NoMatchStartsBetween tree text from to
+NextStartSkipsNoMatch tree text from (Some to) = IsBoundary text to × (from ≤ to)
+    × NoMatchStartsBetween tree text from to
 
 -- ---- Counted steps
 
 -- The number of ticks of the ticked list at an offset, up to its first outcome.
 abbrev pub ticks_of_attempt_at : Tree → Text → (at : ℕ) → ℕ
-ticks_of_attempt_at tree text at = option_map_or (λ place. ticks_to_first (items_at tree text place)) (place_at text at) 0
+ticks_of_attempt_at tree text at =
+    option_map_or (λ place. ticks_to_first (items_at tree text place)) (place_at text at) 0
 
 -- The offset of the first of these places.
 abbrev pub first_of_places : Text → List ℕ → Option ℕ
@@ -68,12 +74,14 @@ first_of_places text (place ∷ places) = Some (offset text place)
 
 -- The first offset from `at` on that is tried, where steps are counted.
 abbrev pub first_filtered_start : Tree → Text → (at : ℕ) → Option ℕ
-first_filtered_start tree text at = option_and_then (λ place. first_of_places text (tried_places tree text (start_predicate tree) place)) (place_at text at)
+first_filtered_start tree text at = option_and_then
+    (λ place. first_of_places text (tried_places tree text (start_predicate tree) place)) (place_at text at)
 
 -- The offset that is tried after one without a match, where steps are counted.
 abbrev pub filtered_start_after : StartPredicate → Tree → Text → (at : ℕ) → Option ℕ
 filtered_start_after start_anchored tree text at = None
-filtered_start_after _ tree text at = option_and_then (λ r. first_filtered_start tree text r.1) (read text rightwards at)
+filtered_start_after _ tree text at =
+    option_and_then (λ r. first_filtered_start tree text r.1) (read text rightwards at)
 
 -- `filtered_start_after` with the start predicate of the tree
 abbrev pub next_filtered_start : Tree → Text → (at : ℕ) → Option ℕ

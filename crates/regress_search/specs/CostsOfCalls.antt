@@ -26,13 +26,15 @@ without_costs v = record { remaining = v.remaining; left = v.left; enough = v.en
 -- The work of one call, whose search costs `costs`. It takes exactly the cost of the search from the
 -- work that was left. It returns `WorkLimit` only if a part of the search costs more than was left.
 -- After an allocation failure, no more work is left than before.
-abbrev pub CostsInWork : (costs : (cost : ℕ) → (after : Option Failures) → Type 0) → (left : ℕ) → Option (Result Match WorkError) → (left' : ℕ) (after : Failures) → Type 0
+abbrev pub CostsInWork : (costs : (cost : ℕ) → (after : Option Failures) → Type 0) → (left : ℕ)
+    → Option (Result Match WorkError) → (left' : ℕ) (after : Failures) → Type 0
 CostsInWork costs left None left' after = TakesExactCost costs left left' after
 CostsInWork costs left (Some (Ok m)) left' after = TakesExactCost costs left left' after
 CostsInWork costs left (Some (Err Memory)) left' after = left' ≤ left
 CostsInWork costs left (Some (Err WorkLimit)) left' after = CostsMoreThanLeft costs left × (left' ≡ 0)
 
-module _ {P : Type 0} (attempt_costs : Tree → Text → (before : Failures) → (at cost : ℕ) → (after : Option Failures) → Type 0) (tree : P → Tree) (text : P → Text) (failures : P → Failures) where
+module _ {P : Type 0} (attempt_costs : Tree → Text → (before : Failures) → (at cost : ℕ) → (after : Option Failures)
+    → Type 0) (tree : P → Tree) (text : P → Text) (failures : P → Failures) where
   -- What the next call costs: the search from the offset on at which the list continues.
   abbrev pub NextCosts : WorkMatchesView P → (cost : ℕ) → (after : Option Failures) → Type 0
   NextCosts s = SearchCosts attempt_costs (tree s.producer) (text s.producer) (failures s.producer) s.position

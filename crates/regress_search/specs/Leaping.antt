@@ -3,7 +3,7 @@ use Rattle.std.specs.Prelude.{◌≡◌, ◌≤◌, ◌<◌, ℕ, ◌-◌, Bool,
 use Rattle.regex_meaning.specs.CodeUnitOffsets.{IsBoundary}
 use Rattle.regress_program.specs.declared.leap.Leap.{Leap}
 use Rattle.regress_program.specs.Leaps.{leap_to_goal}
-use Rattle.regress_program.specs.LeapsToGoals.{may_read_before_goal, goal_occurs_at, GoalIsAbsentBetween, GoalIsAbsentFrom, HasBarrierBetween}
+use Rattle.regress_program.specs.Leaps.{may_read_before_goal, goal_occurs_at, GoalIsAbsentBetween, GoalIsAbsentFrom, HasBarrierBetween}
 use Rattle.regress_search.specs.TreePlanAndText.{SearchInput}
 use Rattle.regress_search.specs.declared.leaping.LeapTarget.{LeapTarget}
 
@@ -14,7 +14,7 @@ module _ (w : SearchInput) (leap : Leap) where
 
 module _ (w : SearchInput) (leap : Leap) (from goal : ℕ) where
   -- The first offset from `from` on such that the units from there up to the goal may be passed.
-  pub record IsFirstPassed (at : ℕ) : Type 0 where
+  pub record IsFirstOfPassedUnits (at : ℕ) : Type 0 where
     pub ahead : from ≤ at
     pub before : at ≤ goal
     pub passed : at < goal → is_passed_at w leap at ≡ true

@@ -32,15 +32,20 @@ offset_after_attempt at (Some end) = least_offset_after_match at end
 
 -- An attempt in order does not reach the work limit, and the next attempt at its least offset is in
 -- order.
-abbrev pub AttemptKeepsWorkEnough : {P E : Type 0} → (offset : P → ℕ) → (enough : Bool) (ahead at : ℕ) → Result (Option P) E → (enough' : Bool) (ahead' : ℕ) (out : Bool) → Type 0
+abbrev pub AttemptKeepsWorkEnough : {P E : Type 0} → (offset : P → ℕ) → (enough : Bool) (ahead at : ℕ)
+    → Result (Option P) E → (enough' : Bool) (ahead' : ℕ) (out : Bool) → Type 0
 AttemptKeepsWorkEnough offset enough ahead at result enough' ahead' out =
-    IsOrderedAttempt enough ahead at → (out ≡ false) × IfOk result (λ end. IsOrderedAttempt enough' ahead' (offset_after_attempt at (option_map offset end)))
+    IsOrderedAttempt enough ahead at → (out ≡ false)
+    × IfOk result (λ end. IsOrderedAttempt enough' ahead' (offset_after_attempt at (option_map offset end)))
 
 -- A search from an offset on, in order, does not reach the work limit, and the work stays enough
 -- from where the list continues.
-abbrev pub SearchKeepsWorkEnough : {M E : Type 0} → (enough : Bool) (ahead at : ℕ) → Result (Option M) E → (enough' : Bool) (ahead' : ℕ) (next : Option ℕ) (out : Bool) → Type 0
-SearchKeepsWorkEnough enough ahead at (Ok None) enough' ahead' next out = IsOrderedAttempt enough ahead at → enough' ≡ true
-SearchKeepsWorkEnough enough ahead at (Ok (Some m)) enough' ahead' next out = IsOrderedAttempt enough ahead at → is_work_enough enough' ahead' next ≡ true
+abbrev pub SearchKeepsWorkEnough : {M E : Type 0} → (enough : Bool) (ahead at : ℕ) → Result (Option M) E
+    → (enough' : Bool) (ahead' : ℕ) (next : Option ℕ) (out : Bool) → Type 0
+SearchKeepsWorkEnough enough ahead at (Ok None) enough' ahead' next out = IsOrderedAttempt enough ahead at
+    → enough' ≡ true
+SearchKeepsWorkEnough enough ahead at (Ok (Some m)) enough' ahead' next out = IsOrderedAttempt enough ahead at
+    → is_work_enough enough' ahead' next ≡ true
 SearchKeepsWorkEnough enough ahead at (Err e) enough' ahead' next out = IsOrderedAttempt enough ahead at → out ≡ false
 
 -- A call of an iterator with enough work does not reach the work limit, and the work stays enough.
@@ -65,9 +70,9 @@ IsWorkLimitOrMemoryCause WorkLimit out left = (out ≡ true) × (left ≡ 0)
 
 -- When an error may be returned: an allocation failure at any time, and the work limit only if the
 -- work was not enough, and then no work is left.
-abbrev pub MayRefuse : WorkError → (before behind : RemainingAnswersAndWork) → Type 0
-MayRefuse Memory before behind = Unit {0}
-MayRefuse WorkLimit before behind = (before.enough ≡ false) × (behind.left ≡ 0)
+abbrev pub MayReturnError : WorkError → (before behind : RemainingAnswersAndWork) → Type 0
+MayReturnError Memory before behind = Unit {0}
+MayReturnError WorkLimit before behind = (before.enough ≡ false) × (behind.left ≡ 0)
 
 -- The effect of one call. It returns the head of the list and leaves its tail. It returns none
 -- only if the list is empty. It returns an error only if the list had not ended, and then the
@@ -75,10 +80,12 @@ MayRefuse WorkLimit before behind = (before.enough ≡ false) × (behind.left �
 abbrev pub Yields : RemainingAnswersAndWork → Option (Result Match WorkError) → RemainingAnswersAndWork → Type 0
 Yields s None t = (s.remaining.answers ≡ []) × HasEnded t.remaining × (s.enough ≡ true → t.enough ≡ true)
 Yields s (Some (Ok m)) t =
-    (s.remaining.answers ≡ answer_of m ∷ t.remaining.answers) × (s.remaining.ended ≡ false) × (t.remaining.text_end ≡ s.remaining.text_end)
+    (s.remaining.answers ≡ answer_of m ∷ t.remaining.answers) × (s.remaining.ended ≡ false)
+    × (t.remaining.text_end ≡ s.remaining.text_end)
     × (t.remaining.ended ≡ (m.range.start == s.remaining.text_end)) × (s.enough ≡ true → t.enough ≡ true)
-Yields s (Some (Err e)) t = MayRefuse e s t × (s.remaining.ended ≡ false) × HasEnded t.remaining
+Yields s (Some (Err e)) t = MayReturnError e s t × (s.remaining.ended ≡ false) × HasEnded t.remaining
 
 -- The effect of one call, where the work that is left does not rise.
-abbrev pub NextYieldsWithinWork : RemainingAnswersAndWork → Option (Result Match WorkError) → RemainingAnswersAndWork → Type 0
+abbrev pub NextYieldsWithinWork : RemainingAnswersAndWork → Option (Result Match WorkError) → RemainingAnswersAndWork
+    → Type 0
 NextYieldsWithinWork s result t = Yields s result t × (t.left ≤ s.left)

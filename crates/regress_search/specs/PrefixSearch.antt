@@ -6,4 +6,5 @@ use Rattle.regress_program.specs.PrefixesAndPrefilters.{units_allowed_by_prefix,
 
 -- The first index where all units of the prefix may occur; `None` if there is none.
 abbrev pub FindsPrefix : Prefix → (bytes : List ℕ) → Option ℕ → Type 0
-FindsPrefix prefix bytes found = FindsFirstPassingIndex (λ at. prefix_allows_units_at (units_allowed_by_prefix prefix) bytes at prefix.len) (length bytes) found
+FindsPrefix prefix bytes found = FindsFirstPassingIndex
+    (λ at. prefix_allows_units_at (units_allowed_by_prefix prefix) bytes at prefix.len) (length bytes) found

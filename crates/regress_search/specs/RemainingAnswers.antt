@@ -5,7 +5,7 @@ use Rattle.regex_meaning.specs.Tree.{Tree}
 use Rattle.regex_meaning.specs.Text.{Text}
 use Rattle.regex_meaning.specs.CodeUnitOffsets.{units}
 use Rattle.regex_meaning.specs.MatchGroupsByNumberAndName.{Answer}
-use Rattle.regex_meaning.specs.StepBudget.{answers_next, end_next}
+use Rattle.regex_meaning.specs.StepBudget.{answers_within_from_next, finishes_from_next}
 use Rattle.regress_search.specs.declared.exec.Match.{Match}
 use Rattle.regress_search.specs.declared.exec.SearchError.{SearchError}
 use Rattle.regress_search.specs.declared.exec.SearchError.TheVariants.{Memory, StepLimit}
@@ -29,8 +29,8 @@ HasEnded t = (t.answers ≡ []) × (t.limited ≡ false) × (t.ended ≡ true)
 -- What is still to be yielded within a budget, where the list continues at `position` or has ended.
 abbrev pub remaining_answers_from : Tree → Text → (budget position : Option ℕ) → (out_of_steps : Bool) → RemainingView
 remaining_answers_from tree text budget position out_of_steps = record {
-  answers = answers_next tree text budget position;
-  limited = not (end_next tree text budget position);
+  answers = answers_within_from_next tree text budget position;
+  limited = not (finishes_from_next tree text budget position);
   ended = is_none position;
   text_end = units text;
   out_of_steps = out_of_steps;
@@ -38,9 +38,9 @@ remaining_answers_from tree text budget position out_of_steps = record {
 
 -- When an error may be returned: the step limit only where it follows, an allocation failure
 -- anywhere.
-abbrev pub MayRefuse : SearchError → RemainingView → Type 0
-MayRefuse Memory s = Unit {0}
-MayRefuse StepLimit s = (s.answers ≡ []) × (s.limited ≡ true)
+abbrev pub MayReturnError : SearchError → RemainingView → Type 0
+MayReturnError Memory s = Unit {0}
+MayReturnError StepLimit s = (s.answers ≡ []) × (s.limited ≡ true)
 
 -- The effect of one call. It returns the head of the list and leaves its tail, and the list ends if
 -- the match begins at the end of the text. It returns none only if the list is empty and no
@@ -50,13 +50,15 @@ NextYields s None t = (s.answers ≡ []) × (s.limited ≡ false) × HasEnded t
 NextYields s (Some (Ok m)) t =
     (s.answers ≡ answer_of m ∷ t.answers) × (s.limited ≡ t.limited) × (s.ended ≡ false)
     × (t.text_end ≡ s.text_end) × (t.ended ≡ (m.range.start == s.text_end))
-NextYields s (Some (Err e)) t = MayRefuse e s × (s.ended ≡ false) × HasEnded t × (e ≡ cause_of_error t.out_of_steps)
+NextYields s (Some (Err e)) t = MayReturnError e s × (s.ended ≡ false) × HasEnded t
+    × (e ≡ cause_of_error t.out_of_steps)
 
 -- An upper bound of the number of items still to be yielded, where an error counts as an item.
-abbrev pub items_left : RemainingView → ℕ
-items_left s = if s.ended then 0 else length s.answers + 1
+abbrev pub max_items_left : RemainingView → ℕ
+max_items_left s = if s.ended then 0 else length s.answers + 1
 
 -- After a match that begins at the end of the text, the next call returns none.
 abbrev pub EndsAtTextEnd : Type 0
 EndsAtTextEnd = (before behind later : RemainingView) (m : Match) (next : Option (Result Match SearchError))
-    → NextYields before (Some (Ok m)) behind → m.range.start ≡ before.text_end → NextYields behind next later → next ≡ None
+    → NextYields before (Some (Ok m)) behind → m.range.start ≡ before.text_end → NextYields behind next later
+    → next ≡ None

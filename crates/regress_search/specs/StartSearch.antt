@@ -4,7 +4,7 @@ use Rattle.regex_meaning.specs.NumberListHelpers.{contains}
 use Rattle.regex_meaning.specs.Text.{Text, rightwards}
 use Rattle.regex_meaning.specs.CodeUnitOffsets.{IsBoundary, units}
 use Rattle.regex_meaning.specs.CodeUnits.{text_units_in_encoding}
-use Rattle.regress_input.specs.CharAndByteReadsFromOffset.{past, bytes_of, is_byte_encoding, IsFoundFrom}
+use Rattle.regress_input.specs.CharAndByteReadsFromOffset.{past, bytes_of, is_byte_encoding, IsFirstOccurrenceFrom}
 use Rattle.regress_program.specs.LookbehindFilter.{allows_start}
 use Rattle.regress_program.specs.declared.required_prefix_types.Prefix.{Prefix}
 use Rattle.regress_program.specs.declared.plan.CandidateStarts.{CandidateStarts}
@@ -17,34 +17,39 @@ use Rattle.regress_search.specs.TreePlanAndText.{SearchInput}
 
 -- The table allows the code unit at an offset, or the end of the text.
 abbrev pub table_allows_unit_or_end_at : SearchInput → AllowedNextKeys → (at : ℕ) → Bool
-table_allows_unit_or_end_at w table at = table_allows_key_or_end table (unit_key_at w.encoding (key (is_16_bit_encoding w.encoding)) w.text at)
+table_allows_unit_or_end_at w table at =
+    table_allows_key_or_end table (unit_key_at w.encoding (key (is_16_bit_encoding w.encoding)) w.text at)
 
 -- The test passes at no boundary from `from` on and before `to`.
-abbrev pub NoneWhere : SearchInput → (test : ℕ → Bool) → (from to : ℕ) → Type 0
-NoneWhere w test from to = (at : ℕ) → IsBoundary w.text at → from ≤ at → at < to → test at ≡ false
+abbrev pub NoBoundaryWhere : SearchInput → (test : ℕ → Bool) → (from to : ℕ) → Type 0
+NoBoundaryWhere w test from to = (at : ℕ) → IsBoundary w.text at → from ≤ at → at < to → test at ≡ false
 
 -- The first boundary from `from` on where the test passes; `None` if there is none up to the end.
 abbrev pub IsFirstBoundaryWhere : SearchInput → (test : ℕ → Bool) → (from : ℕ) → Option ℕ → Type 0
-IsFirstBoundaryWhere w test from None = NoneWhere w test from (units w.text + 1)
-IsFirstBoundaryWhere w test from (Some to) = IsBoundary w.text to × (from ≤ to) × (test to ≡ true) × NoneWhere w test from to
+IsFirstBoundaryWhere w test from None = NoBoundaryWhere w test from (units w.text + 1)
+IsFirstBoundaryWhere w test from (Some to) = IsBoundary w.text to × (from ≤ to) × (test to ≡ true)
+    × NoBoundaryWhere w test from to
 
 -- The table allows nothing at any boundary from `from` on and before `to`.
 abbrev pub AllowsNone : SearchInput → AllowedNextKeys → (from to : ℕ) → Type 0
-AllowsNone w table from to = NoneWhere w (λ at. table_allows_unit_or_end_at w table at) from to
+AllowsNone w table from to = NoBoundaryWhere w (λ at. table_allows_unit_or_end_at w table at) from to
 
 -- The first boundary from `from` on where the table allows the code unit, or the end of the text.
 abbrev pub IsFirstAllowedBoundary : SearchInput → AllowedNextKeys → (from : ℕ) → Option ℕ → Type 0
-IsFirstAllowedBoundary w table from next = IsFirstBoundaryWhere w (λ at. table_allows_unit_or_end_at w table at) from next
+IsFirstAllowedBoundary w table from next =
+    IsFirstBoundaryWhere w (λ at. table_allows_unit_or_end_at w table at) from next
 
 -- The first offset from `from` on where the searcher matches in bytes; `None` if units are not
 -- bytes.
 abbrev pub IsFirstByteSearchHit : SearchInput → (stands_at : List ℕ → ℕ → Bool) → (from : ℕ) → Option ℕ → Type 0
-IsFirstByteSearchHit w stands_at from found = IsFoundFrom (is_byte_encoding w.encoding) stands_at (bytes_of w.text) from found
+IsFirstByteSearchHit w stands_at from found =
+    IsFirstOccurrenceFrom (is_byte_encoding w.encoding) stands_at (bytes_of w.text) from found
 
 -- The first boundary from `from` on where the table allows the code unit, or else the end of the
 -- text.
 abbrev pub IsFirstAllowedBoundaryOrEnd : SearchInput → AllowedNextKeys → (from at : ℕ) → Type 0
-IsFirstAllowedBoundaryOrEnd w table from at = IsFirstAllowedBoundary w table from (Some at) ⊎ (IsFirstAllowedBoundary w table from None × (at ≡ units w.text))
+IsFirstAllowedBoundaryOrEnd w table from at = IsFirstAllowedBoundary w table from (Some at)
+    ⊎ (IsFirstAllowedBoundary w table from None × (at ≡ units w.text))
 
 -- Among bytes, the table allows only those that begin characters.
 abbrev pub AllowsOnlyLeadBytes : (wide : Bool) → AllowedNextKeys → Type 0
@@ -76,7 +81,8 @@ IsFirstPrefixFit w prefix from next = IsFirstBoundaryWhere w (prefix_fits_at w p
 -- The offset past the first character that the table allows.
 abbrev pub IsPastFirstAllowedChar : SearchInput → AllowedNextKeys → (from : ℕ) → Option ℕ → Type 0
 IsPastFirstAllowedChar w table from None = IsFirstAllowedBoundary w table from None
-IsPastFirstAllowedChar w table from (Some to) = (hit : ℕ) × IsFirstAllowedBoundary w table from (Some hit) × (past w.text rightwards hit ≡ Some to)
+IsPastFirstAllowedChar w table from (Some to) = (hit : ℕ) × IsFirstAllowedBoundary w table from (Some hit)
+    × (past w.text rightwards hit ≡ Some to)
 
 -- The offset is a candidate start, by this start condition.
 abbrev pub may_start_at : SearchInput → CandidateStarts → (at : ℕ) → Bool

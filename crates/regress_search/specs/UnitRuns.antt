@@ -8,6 +8,6 @@ abbrev pub IsKeyTestAt : SearchInput → (test : ℕ → Bool) → (at : ℕ) �
 IsKeyTestAt w test at answer = (k : ℕ) × (unit_key_in_search w at ≡ Some k) × (k < 256) × (test k ≡ answer)
 
 -- The keys of `count` consecutive units from `from` on pass the test, at most `most`.
-pub record IsRunOfUnits (w : SearchInput) (test : ℕ → Bool) (from most count : ℕ) : Type 0 where
+pub record UnitsPassKeyTest (w : SearchInput) (test : ℕ → Bool) (from most count : ℕ) : Type 0 where
   pub few : count ≤ most
   pub each : (i : ℕ) → i < count → IsKeyTestAt w test (from + i) true

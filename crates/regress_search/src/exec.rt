@@ -8,9 +8,9 @@ ghost use Rattle.regex_meaning.specs.{Tree.{Tree}, Text.{Text}, CodeUnitOffsets.
 ghost use Rattle.regex_meaning.specs.StepBudget.{answers_within, finishes_within, need_from};
 ghost use Rattle.regex_pattern_front.specs.AstToSpecTree.{tree_of};
 ghost use Rattle.regress_search.specs.SearchEffects.{IsNextStartAfterFirstMatch, SpendsNeedOrReachesLimit, cause_of_error};
-ghost use Rattle.regress_search.specs.RemainingAnswers.{RemainingView, remaining_answers_from, NextYields, EndsAtTextEnd, items_left};
+ghost use Rattle.regress_search.specs.RemainingAnswers.{RemainingView, remaining_answers_from, NextYields, EndsAtTextEnd, max_items_left};
 ghost use Rattle.regress_search.specs.MatchesWithinWork.{CallKeepsWorkEnough, SearchKeepsWorkEnough, is_work_enough};
-ghost use Rattle.regress_search.specs.CostsOfSearches.{CallSpendsExactCost, ContinuesAfterCall, Failures, IfCounted, SearchCosts, SpendsExactCost};
+ghost use Rattle.regress_search.specs.CostsOfSearches.{CallSpendsExactCost, ContinuesAfterCall, Failures, IfWorkIsCounted, SearchCosts, SpendsExactCost};
 
 use regress_input::position::PositionType;
 use regress_program::insn::{CompiledRegex, GroupNames};
@@ -166,7 +166,7 @@ pub trait MatchProducer {
             (ahead self.old) (at pos)
             result (enough self.new) (ahead self.new) (option_map at next_start.new) (out_of_work self.new) }
         ensures left { left self.new ≤ left self.old }
-        ensures cost { IfCounted counts_work (SpendsExactCost (SearchCosts attempt_costs (tree self.old)
+        ensures cost { IfWorkIsCounted counts_work (SpendsExactCost (SearchCosts attempt_costs (tree self.old)
             (text self.old) (failures self.old) (Some (Self.Position.offset pos)))
             (left self.old) result (out_of_work self.new) (left self.new) (failures self.new)) }
         ensures same { (tree self.new ≡ tree self.old) × (text self.new ≡ text self.old) };
@@ -244,7 +244,7 @@ impl<P: MatchProducer + Drop> Iterator for Matches<P> {
 
     ghost next_gives = { NextYields };
 
-    ghost remaining = { λ s. at_most (items_left s) };
+    ghost remaining = { λ s. at_most (max_items_left s) };
 
     /// Returns the next match. Once there is no other match, or after an error, it always returns
     /// `None`.
@@ -275,10 +275,11 @@ fn advance_matches<P: MatchProducer>(
     ensures cost { let offset = option_map P.Position.offset in
         let costs = SearchCosts P.attempt_costs (P.tree producer.old) (P.text producer.old) (P.failures producer.old)
         (offset position.old) in
-        IfCounted P.counts_work (CallSpendsExactCost costs (P.left producer.old) result (P.out_of_work producer.new)
-        (P.left producer.new) (P.failures producer.new)) }
+        IfWorkIsCounted P.counts_work (CallSpendsExactCost costs (P.left producer.old) result
+        (P.out_of_work producer.new) (P.left producer.new) (P.failures producer.new)) }
     ensures continues { let offset = option_map P.Position.offset in
-        ContinuesAfterCall (P.tree producer.old) (P.text producer.old) (offset position.old) result (offset position.new) }
+        ContinuesAfterCall (P.tree producer.old) (P.text producer.old) (offset position.old) result
+        (offset position.new) }
     ensures same { (P.tree producer.new ≡ P.tree producer.old) × (P.text producer.new ≡ P.text producer.old) }
 {
     let pos = (*position)?;

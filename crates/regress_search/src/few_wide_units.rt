@@ -8,7 +8,7 @@ ghost use Rattle.regress_input.specs.TextCodeUnits.{has_bits};
 ghost use Rattle.regress_program.specs.TableKeysOfUnits.{is_16_bit_encoding};
 ghost use Rattle.regress_search.specs.MarkedOffsets.{IsFirstPassing};
 ghost use Rattle.regress_search.specs.ReadsAtOffset.{unit_in};
-ghost use Rattle.regress_search.specs.WideUnits.{TellsUnitsOfKey, AreListedKeysTold, unit_has_listed_key, is_told_by_bits as is_told};
+ghost use Rattle.regress_search.specs.WideUnits.{BitsIdentifyUnitsOfKey, BitsIdentifyListedKeys, unit_has_listed_key, bits_identify_key as is_told};
 
 use crate::class_char_and_table_lookups::unit_at_offset;
 use crate::few_units_finder::FewUnitsFinder;
@@ -92,7 +92,7 @@ const PAIRS: UnitBits = UnitBits {
 // Returns the 16-bit units with a key other than 128. Bits do not tell the units from 128 to 511.
 #[inline(always)]
 fn units_of_key(key: u8) -> UnitBits
-    ensures { key ≢ 128 → TellsUnitsOfKey result key }
+    ensures { key ≢ 128 → BitsIdentifyUnitsOfKey result key }
 {
     if key < 128 {
         UnitBits {
@@ -113,12 +113,12 @@ pub(crate) fn are_told_by_bits(few: FewUnitsFinder) -> bool
     ensures { result ≡ list_all is_told few.units }
 {
     let [a, b, c] = few.units;
-    is_told_by_bits(a) && is_told_by_bits(b) && is_told_by_bits(c)
+    bits_identify_key(a) && bits_identify_key(b) && bits_identify_key(c)
 }
 
 // Checks whether bits tell the 16-bit units with a key, and none of them ends a pair.
 #[inline(always)]
-fn is_told_by_bits(key: u8) -> bool
+fn bits_identify_key(key: u8) -> bool
     ensures { result ≡ is_told key }
 {
     key != 128 && key != 238 && key != 239
@@ -152,7 +152,7 @@ pub(crate) fn next_wide<W: SearchContext>(
     from: usize,
 ) -> Option<usize>
     requires wide { is_16_bit_encoding (W.searching context.now).encoding ≡ true }
-    requires told { AreListedKeysTold few.units few.len }
+    requires told { BitsIdentifyListedKeys few.units few.len }
     requires at { from ≤ units (W.searching context.now).text }
     ensures { let w = W.searching context.now in
         IsFirstPassing (unit_has_listed_key false few.units few.len w) from (units w.text) result }
@@ -186,7 +186,7 @@ pub(crate) fn next_wide_or_pair<W: SearchContext>(
     from: usize,
 ) -> Option<usize>
     requires wide { is_16_bit_encoding (W.searching context.now).encoding ≡ true }
-    requires told { AreListedKeysTold few.units few.len }
+    requires told { BitsIdentifyListedKeys few.units few.len }
     requires at { from ≤ units (W.searching context.now).text }
     ensures { let w = W.searching context.now in
         IsFirstPassing (unit_has_listed_key true few.units few.len w) from (units w.text) result }

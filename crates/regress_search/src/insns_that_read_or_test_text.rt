@@ -5,7 +5,7 @@ ghost use lib.Pointwise.{pointwise};
 ghost use Rattle.regex_meaning.specs.{Text.{is_scalar, is_word_char}, Tree.{start_of_line, end_of_line}};
 ghost use Rattle.regex_meaning.specs.{Outcomes.{is_at_word_boundary, is_line_boundary, is_some_and, exclusive_or}, CodeUnitOffsets.{IsBoundary}};
 ghost use Rattle.regex_meaning.specs.CompilationRelation.{ByteSeq, Bracket};
-ghost use Rattle.regex_pattern_front.specs.AstToSpecTree.{sameness_of, tree_of};
+ghost use Rattle.regex_pattern_front.specs.AstToSpecTree.{spec_sameness_of, tree_of};
 ghost use Rattle.regress_input.specs.CharAndByteReadsFromOffset.{end_if_matched, place};
 ghost use Rattle.regress_program.specs.{CompilationOfTreesAsFunction.{compiled}, InsnsAsSpec.{insn_as_spec_insn}};
 ghost use Rattle.regress_machine.specs.{Machine.{test_of}, InsnEffects.{is_byte_sequence_insn}};
@@ -96,8 +96,7 @@ fn is_line_edge<Input: InputIndexer>(beside: Option<Input::Element>, multiline: 
 // Checks whether there is a word character on this side.
 #[inline(always)]
 fn is_word<Input: InputIndexer>(beside: Option<Input::Element>, unicode_icase: bool) -> bool
-    ensures { result ≡ is_some_and
-        (option_map (λ e. Input.Element.number e) beside) (is_word_char unicode_icase) }
+    ensures { result ≡ is_some_and (option_map (λ e. Input.Element.number e) beside) (is_word_char unicode_icase) }
 {
     match beside {
         None => false,
@@ -172,7 +171,7 @@ pub fn backref_matches<Input: InputIndexer, Dir: Direction>(
     requires from { IsBoundary (Input.text input.now) (Input.Position.offset start) }
     requires to { IsBoundary (Input.text input.now) (Input.Position.offset end) }
     ensures { let at = Input.Position.offset in end_if_matched result (at pos.new)
-        ≡ past_backref (Input.text input.now) Dir.FORWARD (sameness_of same) (at start) (at end) (at pos.old) }
+        ≡ past_backref (Input.text input.now) Dir.FORWARD (spec_sameness_of same) (at start) (at end) (at pos.old) }
 {
     if input.pos_to_offset(end) < input.pos_to_offset(start) {
         return true;

@@ -3,7 +3,7 @@
 ghost use Rattle.std.specs.Prelude.{◌≤◌, ◌≡◌, ◌<◌, true};
 ghost use Rattle.regex_meaning.specs.CodeUnitOffsets.{IsBoundary, units};
 ghost use Rattle.regress_program.specs.Leaps.{AreGoalsFewAscii, AreHighKeysAlike};
-ghost use Rattle.regress_search.specs.Leaping.{is_passed_at, IsPastBarrier, IsFirstPassed, LeapLeads};
+ghost use Rattle.regress_search.specs.Leaping.{is_passed_at, IsPastBarrier, IsFirstOfPassedUnits, LeapLeads};
 ghost use Rattle.regress_search.specs.StartSearch.{IsFirstAllowedBoundary, table_of_listed_units};
 
 use crate::class_char_and_table_lookups::{unit_at_offset, unit_key_at_offset};
@@ -85,7 +85,7 @@ fn first_passed<W: SearchContext>(context: &W, leap: &Leap, from: usize, goal: u
     requires ahead { from ≤ goal }
     requires inside { goal ≤ units (W.searching context.now).text }
     requires alike { AreHighKeysAlike leap.now }
-    ensures { IsFirstPassed (W.searching context.now) leap.now from goal result }
+    ensures { IsFirstOfPassedUnits (W.searching context.now) leap.now from goal result }
 {
     let mut at = goal;
     'back: while at > from {

@@ -81,7 +81,7 @@ pub(crate) fn first_by_marks<W: SearchContext, Test: OffsetTest<W>>(
         if let Some(found) = first_in_block(context, test, at) {
             return Some(found);
         }
-        at = past_quiet_blocks(context, test, at + LANES, to);
+        at = past_blocks_without_marks(context, test, at + LANES, to);
     }
     first_one_by_one(context, test, at, to)
 }
@@ -89,7 +89,7 @@ pub(crate) fn first_by_marks<W: SearchContext, Test: OffsetTest<W>>(
 // Goes past the blocks without marks. It is not inlined, so that the vectors stay in registers: no
 // caller's loop, which makes calls, is around it.
 #[inline(never)]
-fn past_quiet_blocks<W: SearchContext, Test: OffsetTest<W>>(
+fn past_blocks_without_marks<W: SearchContext, Test: OffsetTest<W>>(
     context: &W,
     test: &Test,
     from: usize,

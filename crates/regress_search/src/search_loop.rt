@@ -12,7 +12,7 @@ ghost use Rattle.regress_search.specs.OffsetRangeOfPositions.{offset_range_of_po
 ghost use Rattle.regress_search.specs.SearchEffects.{SpendsNeedOrReachesLimit, AllocFailureCostsAStep, TellsIfStepLimitReached};
 ghost use Rattle.regress_search.specs.SearchEffects.{cause_of_error};
 ghost use Rattle.regress_search.specs.MatchesWithinWork.{AttemptKeepsWorkEnough};
-ghost use Rattle.regress_search.specs.CostsOfSearches.{Failures, IfCounted, SpendsExactCost, next_attempt_offset};
+ghost use Rattle.regress_search.specs.CostsOfSearches.{Failures, IfWorkIsCounted, SpendsExactCost, next_attempt_offset};
 
 use crate::exec::{Match, MatchProducer, SearchError};
 use regress_input::indexing::InputIndexer;
@@ -93,15 +93,13 @@ pub trait SingleAttemptExecutor {
         ensures steps { let ticks = ticks_of_attempt_at (tree self.old) (text self.old) in
             SpendsNeedOrReachesLimit (ticks (Self.Input.Position.offset pos)) (budget self.old) result
             (budget self.new) }
-        ensures begun { AllocFailureCostsAStep (has_begun self.new) (budget self.old) result
-            (budget self.new) }
+        ensures begun { AllocFailureCostsAStep (has_begun self.new) (budget self.old) result (budget self.new) }
         ensures cause { TellsIfStepLimitReached result (out_of_steps self.new) }
         ensures work { let at = Self.Input.Position.offset in AttemptKeepsWorkEnough at (enough self.old)
-            (ahead self.old)
-            (at pos) result (enough self.new) (ahead self.new) (out_of_work self.new) }
+            (ahead self.old) (at pos) result (enough self.new) (ahead self.new) (out_of_work self.new) }
         ensures left { left self.new ≤ left self.old }
-        ensures within { IfCounted counts_work (IfOk result (λ _. out_of_work self.new ≡ false)) }
-        ensures cost { IfCounted counts_work (SpendsExactCost (attempt_costs (tree self.old) (text self.old)
+        ensures within { IfWorkIsCounted counts_work (IfOk result (λ _. out_of_work self.new ≡ false)) }
+        ensures cost { IfWorkIsCounted counts_work (SpendsExactCost (attempt_costs (tree self.old) (text self.old)
             (failures self.old) (Self.Input.Position.offset pos))
             (left self.old) result (out_of_work self.new) (left self.new) (failures self.new)) }
         ensures same { (tree self.new ≡ tree self.old) × (text self.new ≡ text self.old) };
@@ -136,7 +134,7 @@ pub trait SingleAttemptExecutor {
         ensures counted { let at = Self.Input.Position.offset in IsSome (budget self.now)
             → option_map at result ≡ first_filtered_start (tree self.now) (text self.now) (at pos) }
         ensures at_work { let at = Self.Input.Position.offset in
-            IfCounted counts_work (option_map at result ≡ Some (at pos)) };
+            IfWorkIsCounted counts_work (option_map at result ≡ Some (at pos)) };
 
     /// Returns the first position to try after one where no match begins. No match begins between
     /// them. Returns `None` if no match begins after it.
@@ -150,7 +148,7 @@ pub trait SingleAttemptExecutor {
             NextStartSkipsNoMatch (tree self.now) (text self.now) (at tried + 1) (option_map at result) }
         ensures counted { let at = Self.Input.Position.offset in IsSome (budget self.now)
             → option_map at result ≡ next_filtered_start (tree self.now) (text self.now) (at tried) }
-        ensures at_work { let at = Self.Input.Position.offset in IfCounted counts_work (option_map at result
+        ensures at_work { let at = Self.Input.Position.offset in IfWorkIsCounted counts_work (option_map at result
             ≡ next_attempt_offset (tree self.now) (text self.now) (at tried)) };
 
     ghost is_text: { (it : Self) → HasRisingPlaceOffsets (text it) };

@@ -2,7 +2,7 @@
 
 ghost use Rattle.std.specs.Prelude.{◌≡◌, ◌≤◌, ◌<◌, ◌+◌, ℕ, Bool, false};
 ghost use Rattle.regex_meaning.specs.CodeUnitOffsets.{units};
-ghost use Rattle.regress_search.specs.UnitRuns.{IsKeyTestAt, IsRunOfUnits};
+ghost use Rattle.regress_search.specs.UnitRuns.{IsKeyTestAt, UnitsPassKeyTest};
 
 use crate::class_char_and_table_lookups::{unit_at_offset, unit_key_at_offset};
 use crate::search_context::SearchContext;
@@ -27,7 +27,7 @@ pub(crate) fn count_passing<W: SearchContext, Test: KeyTest>(
     most: usize,
 ) -> usize
     requires { from + most ≤ units (W.searching context.now).text }
-    ensures run { IsRunOfUnits (W.searching context.now) (Test.key_passes test.now) from most result }
+    ensures run { UnitsPassKeyTest (W.searching context.now) (Test.key_passes test.now) from most result }
     ensures stop { result < most
         → IsKeyTestAt (W.searching context.now) (Test.key_passes test.now) (from + result) false }
 {
@@ -51,7 +51,7 @@ fn count_passing_ascii<W: SearchContext, Test: KeyTest>(
     most: usize,
 ) -> usize
     requires { from + most ≤ units (W.searching context.now).text }
-    ensures { IsRunOfUnits (W.searching context.now) (Test.key_passes test.now) from most result }
+    ensures { UnitsPassKeyTest (W.searching context.now) (Test.key_passes test.now) from most result }
 {
     let mut count = 0;
     'units: while count < most && is_own_key::<W>(unit_at_offset(context, from + count)) {

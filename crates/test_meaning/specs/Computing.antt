@@ -31,11 +31,13 @@ abbrev pub as_found : Answer → Found
 as_found m = record { start = m.range.0; end = m.range.1; groups = m.captures }
 
 unfoldable pub matches : Node → Text → ℕ → List Found
-unfolding answers_from match_list first_match_among matches_from outcomes bounded_repeat fold_code_point expand_code_point chars
+unfolding answers_from match_list first_match_among matches_from outcomes bounded_repeat fold_code_point
+    expand_code_point chars
 matches root text start = map as_found (answers_from root text start)
 
 unfoldable pub first : Node → Text → ℕ → List Found
-unfolding answers_from match_list first_match_among matches_from outcomes bounded_repeat fold_code_point expand_code_point chars
+unfolding answers_from match_list first_match_among matches_from outcomes bounded_repeat fold_code_point
+    expand_code_point chars
 first root text start = map as_found (take 1 (answers_from root text start))
 
 -- The match at an offset.
@@ -50,20 +52,25 @@ goes_on_at root text start = next_start root text start
 
 -- The ranges of a name in all matches from the start.
 unfoldable pub named : Node → Text → (name : List ℕ) → List (Option (ℕ × ℕ))
-unfolding answers_from match_list first_match_among matches_from outcomes bounded_repeat fold_code_point expand_code_point chars
+unfolding answers_from match_list first_match_among matches_from outcomes bounded_repeat fold_code_point
+    expand_code_point chars
 named root text name = map (λ m. named_group m name) (answers_from root text 0)
 
 -- The text with at most `count` matches replaced.
 unfoldable pub replaced_by : (count : ℕ) → Node → (text replacement : List ℕ) → List ℕ
-unfolding answers_from match_list first_match_among matches_from outcomes bounded_repeat fold_code_point expand_code_point chars replaced expansion
+unfolding answers_from match_list first_match_among matches_from outcomes bounded_repeat fold_code_point
+    expand_code_point chars replaced expansion
 replaced_by count root text replacement =
-    replaced text 0 (map (λ m. (m, expansion text m replacement)) (take count (answers_from root (utf8_text text false) 0)))
+    replaced text 0 (map (λ m. (m, expansion text m replacement))
+    (take count (answers_from root (utf8_text text false) 0)))
 
 abbrev pub no_flags : Flags
-no_flags = record { icase = false; multiline = false; dot_all = false; no_opt = false; unicode = false; unicode_sets = false }
+no_flags =
+    record { icase = false; multiline = false; dot_all = false; no_opt = false; unicode = false; unicode_sets = false }
 
 unfoldable pub needs_of : Node → Text → ℕ → List ℕ
-unfolding needs need ticked ticked_bounded_repeat start_predicate abstract_start_predicate bytes_that_pass may_start match_list first_match_among matches_from outcomes bounded_repeat fold_code_point expand_code_point chars encode
+unfolding needs need ticked ticked_bounded_repeat start_predicate abstract_start_predicate bytes_that_pass may_start
+    match_list first_match_among matches_from outcomes bounded_repeat fold_code_point expand_code_point chars encode
 needs_of root text place = needs (record { root = root; flags = no_flags }) text place
 
 unfoldable pub start_of_tree : Node → StartPredicate
@@ -76,7 +83,8 @@ has_outcome (o ∷ os) = true
 
 -- Wherever the tree has an outcome, its predicate holds.
 unfoldable pub sound_on : Node → Text → Bool
-unfolding outcomes bounded_repeat fold_code_point expand_code_point chars start_predicate abstract_start_predicate bytes_that_pass may_start encode
+unfolding outcomes bounded_repeat fold_code_point expand_code_point chars start_predicate abstract_start_predicate
+    bytes_that_pass may_start encode
 sound_on root text =
     list_all (λ place. not (has_outcome (outcomes text root rightwards place (no_groups root)))
     || may_start (start_predicate (record { root = root; flags = no_flags })) text place)

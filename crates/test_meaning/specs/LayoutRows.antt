@@ -7,7 +7,15 @@ use Rattle.regex_meaning.specs.StartPredicate.{start_arbitrary}
 use Rattle.test_meaning.specs.Computing.{times, look, no_flags}
 
 abbrev program : List Insn → Program
-program insns = record { insns = insns; brackets = []; loops = 1; groups = 0; flags = no_flags; group_names = []; start_pred = start_arbitrary }
+program insns = record {
+  insns = insns;
+  brackets = [];
+  loops = 1;
+  groups = 0;
+  flags = no_flags;
+  group_names = [];
+  start_pred = start_arbitrary;
+}
 
 abbrev mark : ℕ → ℕ → Counters
 mark i l = record { insn = i; loop = l; bracket = 0 }
@@ -21,14 +29,25 @@ alternatives = (
   (mark 6 0, (refl, refl), refl),
 )
 
-looped : IsCode (program (EnterLoop (record { loop_id = 0; min_iters = 0; max_iters = 2 ^ 64 - 1; greedy = true; exit = 3 }) ∷ Char 97 ∷ LoopAgain 0 ∷ Goal ∷ [])) false
+looped : IsCode (program (EnterLoop (record {
+  loop_id =
+      0;
+  min_iters = 0;
+  max_iters = 2 ^ 64 - 1;
+  greedy = true;
+  exit = 3;
+}) ∷ Char 97 ∷ LoopAgain 0 ∷ Goal ∷ [])) false
     (cat (loop (times 0 None true) 0 0 (char 97)) (cat goal end_of_cat)) (mark 0 0) (mark 4 1)
 unfolding IsCode
 looped =
     (mark 3 1, (mark 1 1, mark 2 1, (refl, refl), (refl, refl), (refl, refl)), (mark 4 1, (refl, refl), refl))
 
-behind : IsCode (program (Lookbehind false 0 0 4 ∷ ByteSeq (113 ∷ []) ∷ ByteSeq (97 ∷ 98 ∷ 99 ∷ 100 ∷ 101 ∷ 102 ∷ 103 ∷ 104 ∷ 105 ∷ 106 ∷ 107 ∷ 108 ∷ 109 ∷ 110 ∷ 111 ∷ 112 ∷ []) ∷ Goal ∷ Goal ∷ [])) false
-    (cat (lookaround (look false true 0 0) (byte_sequence (97 ∷ 98 ∷ 99 ∷ 100 ∷ 101 ∷ 102 ∷ 103 ∷ 104 ∷ 105 ∷ 106 ∷ 107 ∷ 108 ∷ 109 ∷ 110 ∷ 111 ∷ 112 ∷ 113 ∷ []))) (cat goal end_of_cat)) (mark 0 0) (mark 5 0)
+behind : IsCode (program (Lookbehind false 0 0 4 ∷ ByteSeq (113 ∷ []) ∷ ByteSeq
+    (97 ∷ 98 ∷ 99 ∷ 100 ∷ 101 ∷ 102 ∷ 103 ∷ 104 ∷ 105 ∷ 106 ∷ 107 ∷ 108 ∷ 109 ∷ 110 ∷ 111 ∷ 112 ∷ []) ∷ Goal ∷ Goal
+    ∷ [])) false
+    (cat (lookaround (look false true 0 0) (byte_sequence
+    (97 ∷ 98 ∷ 99 ∷ 100 ∷ 101 ∷ 102 ∷ 103 ∷ 104 ∷ 105 ∷ 106 ∷ 107 ∷ 108 ∷ 109 ∷ 110 ∷ 111 ∷ 112 ∷ 113 ∷ [])))
+    (cat goal end_of_cat)) (mark 0 0) (mark 5 0)
 unfolding IsCode
 behind = (mark 4 0, (mark 3 0, refl, (refl, (refl, refl)), (refl, refl)), (mark 5 0, (refl, refl), refl))
 
@@ -37,7 +56,8 @@ one_character_loop : IsCode (program (Loop1CharBody 0 (2 ^ 64 - 1) true ∷ Char
 unfolding IsCode
 one_character_loop = (mark 2 0, (refl, (refl, refl)), (mark 3 0, (refl, refl), refl))
 
-bytes_in_a_lookaround : tree_contains_byte_nodes (cat (lookaround (look false true 0 0) (byte_sequence (97 ∷ []))) (cat goal end_of_cat)) ≡ true
+bytes_in_a_lookaround : tree_contains_byte_nodes (cat (lookaround (look false true 0 0) (byte_sequence (97 ∷ [])))
+    (cat goal end_of_cat)) ≡ true
 bytes_in_a_lookaround = refl
 
 bytes_in_an_arm : tree_contains_byte_nodes (cat (alt (char 97) (byte_set (97 ∷ []))) (cat goal end_of_cat)) ≡ true

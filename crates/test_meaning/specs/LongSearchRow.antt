@@ -18,8 +18,11 @@ takes_more_than zero (tick ∷ items) = true
 takes_more_than (suc n) (tick ∷ items) = takes_more_than n items
 
 abbrev many : Node
-many = (cat (cat (loop (times 0 None true) 0 0 (alt (cat (char 97) end_of_cat) (cat (char 97) end_of_cat))) (cat (char 98) end_of_cat)) (cat goal end_of_cat))
+many = (cat (cat (loop (times 0 None true) 0 0 (alt (cat (char 97) end_of_cat) (cat (char 97) end_of_cat)))
+    (cat (char 98) end_of_cat)) (cat goal end_of_cat))
 
-over : takes_more_than 10000 (ticked (utf8_text (97 ∷ 97 ∷ 97 ∷ 97 ∷ 97 ∷ 97 ∷ 97 ∷ 97 ∷ 97 ∷ 97 ∷ 97 ∷ 97 ∷ 97 ∷ 97 ∷ 97 ∷ 97 ∷ 97 ∷ 97 ∷ 97 ∷ 97 ∷ 97 ∷ 97 ∷ 97 ∷ 97 ∷ 97 ∷ 97 ∷ 97 ∷ 97 ∷ 97 ∷ 97 ∷ 97 ∷ 97 ∷ 97 ∷ 97 ∷ 97 ∷ 97 ∷ 97 ∷ 97 ∷ 97 ∷ 97 ∷ []) false) many rightwards 0 (no_groups many)) ≡ true
+over : takes_more_than 10000 (ticked (utf8_text (97 ∷ 97 ∷ 97 ∷ 97 ∷ 97 ∷ 97 ∷ 97 ∷ 97 ∷ 97 ∷ 97 ∷ 97 ∷ 97 ∷ 97 ∷ 97
+    ∷ 97 ∷ 97 ∷ 97 ∷ 97 ∷ 97 ∷ 97 ∷ 97 ∷ 97 ∷ 97 ∷ 97 ∷ 97 ∷ 97 ∷ 97 ∷ 97 ∷ 97 ∷ 97 ∷ 97 ∷ 97 ∷ 97 ∷ 97 ∷ 97 ∷ 97 ∷ 97
+    ∷ 97 ∷ 97 ∷ 97 ∷ []) false) many rightwards 0 (no_groups many)) ≡ true
 unfolding ticked ticked_bounded_repeat outcomes bounded_repeat fold_code_point expand_code_point chars
 over = refl

@@ -10,12 +10,14 @@ unfolding matches
 empty_on_empty = refl
 
 -- The empty pattern.
-empty_everywhere : matches (cat end_of_cat (cat goal end_of_cat)) (utf8_text (codes "ab") false) 0 ≡ (found 0 0 [] ∷ found 1 1 [] ∷ found 2 2 [] ∷ [])
+empty_everywhere : matches (cat end_of_cat (cat goal end_of_cat)) (utf8_text (codes "ab") false)
+    0 ≡ (found 0 0 [] ∷ found 1 1 [] ∷ found 2 2 [] ∷ [])
 unfolding matches
 empty_everywhere = refl
 
 -- `ab|a`
-longer_first : matches (cat (alt (cat (char 97) (cat (char 98) end_of_cat)) (cat (char 97) end_of_cat)) (cat goal end_of_cat)) (utf8_text (codes "aab") false) 0 ≡ (found 0 1 [] ∷ found 1 3 [] ∷ [])
+longer_first : matches (cat (alt (cat (char 97) (cat (char 98) end_of_cat)) (cat (char 97) end_of_cat))
+    (cat goal end_of_cat)) (utf8_text (codes "aab") false) 0 ≡ (found 0 1 [] ∷ found 1 3 [] ∷ [])
 unfolding matches
 longer_first = refl
 
@@ -25,22 +27,28 @@ unfolding matches
 nowhere = refl
 
 -- `(a)|b`
-either : matches (cat (alt (cat (capture_group 0 [] (cat (char 97) end_of_cat)) end_of_cat) (cat (char 98) end_of_cat)) (cat goal end_of_cat)) (utf8_text (codes "ab") false) 0 ≡ (found 0 1 (Some (0, 1) ∷ []) ∷ found 1 2 (None ∷ []) ∷ [])
+either : matches (cat (alt (cat (capture_group 0 [] (cat (char 97) end_of_cat)) end_of_cat) (cat (char 98) end_of_cat))
+    (cat goal end_of_cat)) (utf8_text (codes "ab") false)
+    0 ≡ (found 0 1 (Some (0, 1) ∷ []) ∷ found 1 2 (None ∷ []) ∷ [])
 unfolding matches
 either = refl
 
 -- `\d+`
-digits : matches (cat (cat (loop_1_char_body (times 1 None true) (bracket (in_brackets false ((48, 57) ∷ [])))) end_of_cat) (cat goal end_of_cat)) (utf8_text (codes "Price: $123") false) 0 ≡ (found 8 11 [] ∷ [])
+digits : matches (cat (cat (loop_1_char_body (times 1 None true) (bracket (in_brackets false ((48, 57) ∷ []))))
+    end_of_cat) (cat goal end_of_cat)) (utf8_text (codes "Price: $123") false) 0 ≡ (found 8 11 [] ∷ [])
 unfolding matches
 digits = refl
 
 -- `(a)(b)?`
-optional_group : matches (cat (cat (capture_group 0 [] (cat (char 97) end_of_cat)) (cat (loop (times 0 (Some 1) true) 1 2 (capture_group 1 [] (cat (char 98) end_of_cat))) end_of_cat)) (cat goal end_of_cat)) (utf8_text (codes "a") false) 0 ≡ (found 0 1 (Some (0, 1) ∷ None ∷ []) ∷ [])
+optional_group : matches (cat (cat (capture_group 0 [] (cat (char 97) end_of_cat))
+    (cat (loop (times 0 (Some 1) true) 1 2 (capture_group 1 [] (cat (char 98) end_of_cat))) end_of_cat))
+    (cat goal end_of_cat)) (utf8_text (codes "a") false) 0 ≡ (found 0 1 (Some (0, 1) ∷ None ∷ []) ∷ [])
 unfolding matches
 optional_group = refl
 
 -- `[a-z]` on U+0161
-letters_ucs2 : matches (cat (cat (bracket (in_brackets false ((97, 122) ∷ []))) end_of_cat) (cat goal end_of_cat)) (ucs2_text (353 ∷ []) false) 0 ≡ []
+letters_ucs2 : matches (cat (cat (bracket (in_brackets false ((97, 122) ∷ []))) end_of_cat) (cat goal end_of_cat))
+    (ucs2_text (353 ∷ []) false) 0 ≡ []
 unfolding matches
 letters_ucs2 = refl
 
@@ -60,11 +68,16 @@ unfolding matches
 too_large_ucs2 = refl
 
 -- `a??b`
-lazy_optional : matches (cat (cat (loop_1_char_body (times 0 (Some 1) false) (char 97)) (cat (char 98) end_of_cat)) (cat goal end_of_cat)) (utf8_text (codes "ab") false) 0 ≡ (found 0 2 [] ∷ [])
+lazy_optional : matches (cat (cat (loop_1_char_body (times 0 (Some 1) false) (char 97)) (cat (char 98) end_of_cat))
+    (cat goal end_of_cat)) (utf8_text (codes "ab") false) 0 ≡ (found 0 2 [] ∷ [])
 unfolding matches
 lazy_optional = refl
 
 -- `(?=(a))` leaves its group, `(?!(a))` does not
-crossed : matches (cat (alt (cat (lookaround (look false false 0 1) (cat (capture_group 0 [] (cat (char 97) end_of_cat)) end_of_cat)) (cat (char 97) end_of_cat)) (cat (lookaround (look true false 1 2) (cat (capture_group 1 [] (cat (char 97) end_of_cat)) end_of_cat)) (cat (char 98) end_of_cat))) (cat goal end_of_cat)) (utf8_text (codes "ab") false) 0 ≡ (found 0 1 (Some (0, 1) ∷ None ∷ []) ∷ found 1 2 (None ∷ None ∷ []) ∷ [])
+crossed : matches (cat (alt (cat (lookaround (look false false 0 1)
+    (cat (capture_group 0 [] (cat (char 97) end_of_cat)) end_of_cat)) (cat (char 97) end_of_cat))
+    (cat (lookaround (look true false 1 2) (cat (capture_group 1 [] (cat (char 97) end_of_cat)) end_of_cat))
+    (cat (char 98) end_of_cat))) (cat goal end_of_cat)) (utf8_text (codes "ab") false)
+    0 ≡ (found 0 1 (Some (0, 1) ∷ None ∷ []) ∷ found 1 2 (None ∷ None ∷ []) ∷ [])
 unfolding matches
 crossed = refl

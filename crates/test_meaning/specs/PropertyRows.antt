@@ -53,12 +53,15 @@ coptic = refl
 
 -- Names are exact. A script is no name by itself, and `Any` is no category. Names of Unicode that the
 -- tables do not have are none, nor are those of later editions.
-no_names : map (λ name. property_named (codes name)) ("lu" ∷ "IsLu" ∷ "Greek" ∷ "WSpace" ∷ "Grapheme_Link" ∷ "Other_Math" ∷ "Extended_Pictographic" ∷ "EComp" ∷ "" ∷ [])
+no_names : map (λ name. property_named (codes name))
+    ("lu" ∷ "IsLu" ∷ "Greek" ∷ "WSpace" ∷ "Grapheme_Link" ∷ "Other_Math" ∷ "Extended_Pictographic" ∷ "EComp" ∷ "" ∷ [])
     ≡ None ∷ None ∷ None ∷ None ∷ None ∷ None ∷ None ∷ None ∷ None ∷ []
 unfolding category_names binary_property_names
 no_names = refl
 
-no_values : map (λ (p : String × String). property_with_value (codes p.0) (codes p.1)) (("gc", "Any") ∷ ("General_Category", "Greek") ∷ ("sc", "Katakana_Or_Hiragana") ∷ ("script", "Greek") ∷ ("Age", "9.0") ∷ ("", "L") ∷ [])
+no_values : map (λ (p : String × String). property_with_value (codes p.0) (codes p.1))
+    (("gc", "Any") ∷ ("General_Category", "Greek") ∷ ("sc", "Katakana_Or_Hiragana") ∷ ("script", "Greek")
+    ∷ ("Age", "9.0") ∷ ("", "L") ∷ [])
     ≡ None ∷ None ∷ None ∷ None ∷ None ∷ None ∷ []
 unfolding category_names script_names
 no_values = refl

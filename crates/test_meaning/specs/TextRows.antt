@@ -10,7 +10,8 @@ use Rattle.regex_meaning.specs.FlagLettersAndEscaping.{flags_text, flags_from_le
 abbrev answer : ℕ → ℕ → Groups → Answer
 answer a b gs = record { range = (a, b); captures = gs; names = [] }
 
-date_form : expansion (codes "2023-12-25") (answer 0 10 (Some (0, 4) ∷ Some (5, 7) ∷ Some (8, 10) ∷ [])) (codes "$2/$3/$1") ≡ codes "12/25/2023"
+date_form : expansion (codes "2023-12-25") (answer 0 10 (Some (0, 4) ∷ Some (5, 7) ∷ Some (8, 10) ∷ []))
+    (codes "$2/$3/$1") ≡ codes "12/25/2023"
 unfolding expansion
 date_form = refl
 
@@ -26,7 +27,11 @@ unclosed : expansion (codes "hello") (answer 0 5 (Some (0, 5) ∷ [])) (codes "$
 unfolding expansion
 unclosed = refl
 
-dollars : replaced (codes "Price: 123") 0 ((answer 7 10 [], expansion (codes "Price: 123") (answer 7 10 []) (codes "$$0")) ∷ []) ≡ codes "Price: $0"
+dollars : replaced (codes "Price: 123") 0 ((
+  answer 7 10 [],
+  expansion (codes "Price: 123") (answer 7 10 [])
+      (codes "$$0"),
+) ∷ []) ≡ codes "Price: $0"
 unfolding expansion replaced
 dollars = refl
 
@@ -53,7 +58,12 @@ no_name = refl
 abbrev two : Answer
 two = record { range = (0, 1); captures = None ∷ Some (0, 1) ∷ []; names = codes "n" ∷ codes "n" ∷ [] }
 
-by_name : expansion (codes "xa") (record { range = (1, 2); captures = Some (1, 2) ∷ []; names = codes "n" ∷ [] }) (codes "[${n}]") ≡ codes "[a]"
+by_name : expansion (codes "xa") (record {
+  range =
+      (1, 2);
+  captures = Some (1, 2) ∷ [];
+  names = codes "n" ∷ [];
+}) (codes "[${n}]") ≡ codes "[a]"
 unfolding expansion
 by_name = refl
 
@@ -96,7 +106,15 @@ groups_cut_off = refl
 name_cut_off : named_group (record one_of_two { captures = [] }) (codes "n") ≡ None
 name_cut_off = refl
 
-flags : flags_from_letters (codes "gimuy") ≡ record { icase = true; multiline = true; dot_all = false; no_opt = false; unicode = true; unicode_sets = false }
+flags : flags_from_letters (codes "gimuy") ≡ record {
+  icase =
+      true;
+  multiline = true;
+  dot_all = false;
+  no_opt = false;
+  unicode = true;
+  unicode_sets = false;
+}
 unfolding flags_from_letters
 flags = refl
 
@@ -108,7 +126,8 @@ letters : flags_text (flags_from_letters (codes "gimuy")) ≡ codes "miu"
 unfolding flags_text flags_from_letters
 letters = refl
 
-escaped_text : escape (codes "a^b$c.d|e?f*g+h(i)j[k]l{m}n\\o") ≡ codes "a\\^b\\$c\\.d\\|e\\?f\\*g\\+h\\(i\\)j\\[k\\]l\\{m\\}n\\\\o"
+escaped_text : escape (codes "a^b$c.d|e?f*g+h(i)j[k]l{m}n\\o") ≡ codes
+    "a\\^b\\$c\\.d\\|e\\?f\\*g\\+h\\(i\\)j\\[k\\]l\\{m\\}n\\\\o"
 unfolding escape
 escaped_text = refl
 
@@ -126,7 +145,8 @@ lone_low : map (is_unit_boundary (0xDE00 ∷ [])) (0 ∷ 1 ∷ []) ≡ true ∷ 
 lone_low = refl
 
 words : replaced (codes "hello world") 0
-    (map (λ m. (m, expansion (codes "hello world") m (codes "$1.$2"))) (answer 0 5 (Some (0, 1) ∷ Some (1, 5) ∷ []) ∷ answer 6 11 (Some (6, 7) ∷ Some (7, 11) ∷ []) ∷ []))
+    (map (λ m. (m, expansion (codes "hello world") m (codes "$1.$2")))
+    (answer 0 5 (Some (0, 1) ∷ Some (1, 5) ∷ []) ∷ answer 6 11 (Some (6, 7) ∷ Some (7, 11) ∷ []) ∷ []))
     ≡ codes "h.ello w.orld"
 unfolding expansion replaced
 words = refl

@@ -16,15 +16,21 @@ lazy_plus = refl
 
 -- `(a{2,3}?)(a*)`
 abbrev lazy_then_greedy-tree : Node
-lazy_then_greedy-tree = (cat (cat (capture_group 0 [] (cat (loop_1_char_body (times 2 (Some 3) false) (char 97)) end_of_cat)) (cat (capture_group 1 [] (cat (loop_1_char_body (times 0 None true) (char 97)) end_of_cat)) end_of_cat)) (cat goal end_of_cat))
+lazy_then_greedy-tree = (cat (cat (capture_group 0 []
+    (cat (loop_1_char_body (times 2 (Some 3) false) (char 97)) end_of_cat))
+    (cat (capture_group 1 [] (cat (loop_1_char_body (times 0 None true) (char 97)) end_of_cat)) end_of_cat))
+    (cat goal end_of_cat))
 
-lazy_then_greedy : first lazy_then_greedy-tree (utf8_text (97 ∷ 97 ∷ 97 ∷ 97 ∷ []) false) 0 ≡ (found 0 4 ((Some (0, 2)) ∷ (Some (2, 4)) ∷ []) ∷ [])
+lazy_then_greedy : first lazy_then_greedy-tree (utf8_text (97 ∷ 97 ∷ 97 ∷ 97 ∷ []) false)
+    0 ≡ (found 0 4 ((Some (0, 2)) ∷ (Some (2, 4)) ∷ []) ∷ [])
 unfolding first
 lazy_then_greedy = refl
 
 -- `(?:(a)|b)*?c`
 abbrev lazy_with_group-tree : Node
-lazy_with_group-tree = (cat (cat (loop (times 0 None false) 0 1 (alt (cat (capture_group 0 [] (cat (char 97) end_of_cat)) end_of_cat) (cat (char 98) end_of_cat))) (cat (char 99) end_of_cat)) (cat goal end_of_cat))
+lazy_with_group-tree = (cat (cat (loop (times 0 None false) 0 1
+    (alt (cat (capture_group 0 [] (cat (char 97) end_of_cat)) end_of_cat) (cat (char 98) end_of_cat)))
+    (cat (char 99) end_of_cat)) (cat goal end_of_cat))
 
 lazy_with_group : matches lazy_with_group-tree (utf8_text (97 ∷ 98 ∷ 99 ∷ []) false) 0 ≡ (found 0 3 (None ∷ []) ∷ [])
 unfolding matches
@@ -32,17 +38,22 @@ lazy_with_group = refl
 
 -- `(a*){2}`
 abbrev two_empty_iterations-tree : Node
-two_empty_iterations-tree = (cat (cat (loop (times 2 (Some 2) true) 0 1 (capture_group 0 [] (cat (loop_1_char_body (times 0 None true) (char 97)) end_of_cat))) end_of_cat) (cat goal end_of_cat))
+two_empty_iterations-tree = (cat (cat (loop (times 2 (Some 2) true) 0 1
+    (capture_group 0 [] (cat (loop_1_char_body (times 0 None true) (char 97)) end_of_cat))) end_of_cat)
+    (cat goal end_of_cat))
 
-two_empty_iterations : matches two_empty_iterations-tree (utf8_text (98 ∷ []) false) 0 ≡ (found 0 0 ((Some (0, 0)) ∷ []) ∷ found 1 1 ((Some (1, 1)) ∷ []) ∷ [])
+two_empty_iterations : matches two_empty_iterations-tree (utf8_text (98 ∷ []) false)
+    0 ≡ (found 0 0 ((Some (0, 0)) ∷ []) ∷ found 1 1 ((Some (1, 1)) ∷ []) ∷ [])
 unfolding matches
 two_empty_iterations = refl
 
 -- A sequence of six characters of three bytes.
 abbrev six_signs-tree : Node
-six_signs-tree = (cat (byte_sequence (226 ∷ 130 ∷ 172 ∷ 226 ∷ 130 ∷ 172 ∷ 226 ∷ 130 ∷ 172 ∷ 226 ∷ 130 ∷ 172 ∷ 226 ∷ 130 ∷ 172 ∷ 226 ∷ 130 ∷ 172 ∷ [])) (cat goal end_of_cat))
+six_signs-tree = (cat (byte_sequence (226 ∷ 130 ∷ 172 ∷ 226 ∷ 130 ∷ 172 ∷ 226 ∷ 130 ∷ 172 ∷ 226 ∷ 130 ∷ 172 ∷ 226 ∷ 130
+    ∷ 172 ∷ 226 ∷ 130 ∷ 172 ∷ [])) (cat goal end_of_cat))
 
-six_signs : matches six_signs-tree (utf8_text (226 ∷ 130 ∷ 172 ∷ 226 ∷ 130 ∷ 172 ∷ 226 ∷ 130 ∷ 172 ∷ 226 ∷ 130 ∷ 172 ∷ 226 ∷ 130 ∷ 172 ∷ 226 ∷ 130 ∷ 172 ∷ []) false) 0 ≡ (found 0 18 [] ∷ [])
+six_signs : matches six_signs-tree (utf8_text (226 ∷ 130 ∷ 172 ∷ 226 ∷ 130 ∷ 172 ∷ 226 ∷ 130 ∷ 172 ∷ 226 ∷ 130 ∷ 172
+    ∷ 226 ∷ 130 ∷ 172 ∷ 226 ∷ 130 ∷ 172 ∷ []) false) 0 ≡ (found 0 18 [] ∷ [])
 unfolding matches
 six_signs = refl
 
@@ -56,7 +67,8 @@ empty_set = refl
 
 -- A loop over an empty set leaves at once.
 abbrev empty_set_not_at_all-tree : Node
-empty_set_not_at_all-tree = (cat (loop_1_char_body (times 0 None true) (byte_set [])) (cat (char 97) (cat goal end_of_cat)))
+empty_set_not_at_all-tree =
+    (cat (loop_1_char_body (times 0 None true) (byte_set [])) (cat (char 97) (cat goal end_of_cat)))
 
 empty_set_not_at_all : matches empty_set_not_at_all-tree (utf8_text (97 ∷ []) false) 0 ≡ (found 0 1 [] ∷ [])
 unfolding matches
@@ -72,15 +84,20 @@ strings_in_order = refl
 
 -- `(ab)(?<=\1)c`
 abbrev backreference_behind-tree : Node
-backreference_behind-tree = (cat (cat (capture_group 0 [] (cat (char 97) (cat (char 98) end_of_cat))) (cat (lookaround (look false true 1 1) (cat (back_ref 1 exact) end_of_cat)) (cat (char 99) end_of_cat))) (cat goal end_of_cat))
+backreference_behind-tree = (cat (cat (capture_group 0 [] (cat (char 97) (cat (char 98) end_of_cat)))
+    (cat (lookaround (look false true 1 1) (cat (back_ref 1 exact) end_of_cat)) (cat (char 99) end_of_cat)))
+    (cat goal end_of_cat))
 
-backreference_behind : matches backreference_behind-tree (utf8_text (97 ∷ 98 ∷ 99 ∷ []) false) 0 ≡ (found 0 3 ((Some (0, 2)) ∷ []) ∷ [])
+backreference_behind : matches backreference_behind-tree (utf8_text (97 ∷ 98 ∷ 99 ∷ []) false)
+    0 ≡ (found 0 3 ((Some (0, 2)) ∷ []) ∷ [])
 unfolding matches
 backreference_behind = refl
 
 -- `(?:(?=(a))ac|ab)\1`
 abbrev group_taken_back-tree : Node
-group_taken_back-tree = (cat (cat (alt (cat (lookaround (look false false 0 1) (cat (capture_group 0 [] (cat (char 97) end_of_cat)) end_of_cat)) (cat (char 97) (cat (char 99) end_of_cat))) (cat (char 97) (cat (char 98) end_of_cat))) (cat (back_ref 1 exact) end_of_cat)) (cat goal end_of_cat))
+group_taken_back-tree = (cat (cat (alt (cat (lookaround (look false false 0 1)
+    (cat (capture_group 0 [] (cat (char 97) end_of_cat)) end_of_cat)) (cat (char 97) (cat (char 99) end_of_cat)))
+    (cat (char 97) (cat (char 98) end_of_cat))) (cat (back_ref 1 exact) end_of_cat)) (cat goal end_of_cat))
 
 group_taken_back : matches group_taken_back-tree (utf8_text (97 ∷ 98 ∷ []) false) 0 ≡ (found 0 2 (None ∷ []) ∷ [])
 unfolding matches
@@ -88,7 +105,9 @@ group_taken_back = refl
 
 -- `(?:(?!(b))a|c)+`
 abbrev groups_not_kept-tree : Node
-groups_not_kept-tree = (cat (cat (loop (times 1 None true) 0 1 (alt (cat (lookaround (look true false 0 1) (cat (capture_group 0 [] (cat (char 98) end_of_cat)) end_of_cat)) (cat (char 97) end_of_cat)) (cat (char 99) end_of_cat))) end_of_cat) (cat goal end_of_cat))
+groups_not_kept-tree = (cat (cat (loop (times 1 None true) 0 1
+    (alt (cat (lookaround (look true false 0 1) (cat (capture_group 0 [] (cat (char 98) end_of_cat)) end_of_cat))
+    (cat (char 97) end_of_cat)) (cat (char 99) end_of_cat))) end_of_cat) (cat goal end_of_cat))
 
 groups_not_kept : matches groups_not_kept-tree (utf8_text (97 ∷ 99 ∷ 97 ∷ []) false) 0 ≡ (found 0 3 (None ∷ []) ∷ [])
 unfolding matches
@@ -98,7 +117,8 @@ groups_not_kept = refl
 abbrev three_characters_utf16-tree : Node
 three_characters_utf16-tree = (cat (cat match_any_except_line_terminator end_of_cat) (cat goal end_of_cat))
 
-three_characters_utf16 : matches three_characters_utf16-tree (utf16_text (97 ∷ 55357 ∷ 56832 ∷ 97 ∷ []) false) 0 ≡ (found 0 1 [] ∷ found 1 3 [] ∷ found 3 4 [] ∷ [])
+three_characters_utf16 : matches three_characters_utf16-tree (utf16_text (97 ∷ 55357 ∷ 56832 ∷ 97 ∷ []) false)
+    0 ≡ (found 0 1 [] ∷ found 1 3 [] ∷ found 3 4 [] ∷ [])
 unfolding matches
 three_characters_utf16 = refl
 
@@ -106,23 +126,30 @@ three_characters_utf16 = refl
 abbrev four_units_ucs2-tree : Node
 four_units_ucs2-tree = (cat (cat match_any_except_line_terminator end_of_cat) (cat goal end_of_cat))
 
-four_units_ucs2 : matches four_units_ucs2-tree (ucs2_text (97 ∷ 55357 ∷ 56832 ∷ 97 ∷ []) false) 0 ≡ (found 0 1 [] ∷ found 1 2 [] ∷ found 2 3 [] ∷ found 3 4 [] ∷ [])
+four_units_ucs2 : matches four_units_ucs2-tree (ucs2_text (97 ∷ 55357 ∷ 56832 ∷ 97 ∷ []) false)
+    0 ≡ (found 0 1 [] ∷ found 1 2 [] ∷ found 2 3 [] ∷ found 3 4 [] ∷ [])
 unfolding matches
 four_units_ucs2 = refl
 
 -- `(?<=(.))$`
 abbrev group_behind_utf16-tree : Node
-group_behind_utf16-tree = (cat (cat (lookaround (look false true 0 1) (cat (capture_group 0 [] (cat match_any_except_line_terminator end_of_cat)) end_of_cat)) (cat (anchor end_of_line false) end_of_cat)) (cat goal end_of_cat))
+group_behind_utf16-tree = (cat (cat (lookaround (look false true 0 1)
+    (cat (capture_group 0 [] (cat match_any_except_line_terminator end_of_cat)) end_of_cat))
+    (cat (anchor end_of_line false) end_of_cat)) (cat goal end_of_cat))
 
-group_behind_utf16 : matches group_behind_utf16-tree (utf16_text (55357 ∷ 56832 ∷ []) false) 0 ≡ (found 2 2 ((Some (0, 2)) ∷ []) ∷ [])
+group_behind_utf16 : matches group_behind_utf16-tree (utf16_text (55357 ∷ 56832 ∷ []) false)
+    0 ≡ (found 2 2 ((Some (0, 2)) ∷ []) ∷ [])
 unfolding matches
 group_behind_utf16 = refl
 
 -- `(?<=(.))$`
 abbrev group_behind_ucs2-tree : Node
-group_behind_ucs2-tree = (cat (cat (lookaround (look false true 0 1) (cat (capture_group 0 [] (cat match_any_except_line_terminator end_of_cat)) end_of_cat)) (cat (anchor end_of_line false) end_of_cat)) (cat goal end_of_cat))
+group_behind_ucs2-tree = (cat (cat (lookaround (look false true 0 1)
+    (cat (capture_group 0 [] (cat match_any_except_line_terminator end_of_cat)) end_of_cat))
+    (cat (anchor end_of_line false) end_of_cat)) (cat goal end_of_cat))
 
-group_behind_ucs2 : matches group_behind_ucs2-tree (ucs2_text (55357 ∷ 56832 ∷ []) false) 0 ≡ (found 2 2 ((Some (1, 2)) ∷ []) ∷ [])
+group_behind_ucs2 : matches group_behind_ucs2-tree (ucs2_text (55357 ∷ 56832 ∷ []) false)
+    0 ≡ (found 2 2 ((Some (1, 2)) ∷ []) ∷ [])
 unfolding matches
 group_behind_ucs2 = refl
 
@@ -154,13 +181,16 @@ surrogate_utf16 = refl
 abbrev sequence_in_the_middle-tree : Node
 sequence_in_the_middle-tree = (cat (byte_sequence (195 ∷ 169 ∷ [])) (cat goal end_of_cat))
 
-sequence_in_the_middle : matches sequence_in_the_middle-tree (utf8_text (97 ∷ 195 ∷ 169 ∷ []) false) 0 ≡ (found 1 3 [] ∷ [])
+sequence_in_the_middle : matches sequence_in_the_middle-tree (utf8_text (97 ∷ 195 ∷ 169 ∷ []) false)
+    0 ≡ (found 1 3 [] ∷ [])
 unfolding matches
 sequence_in_the_middle = refl
 
 -- `(?<=a{2,3})b`
 abbrev counted_behind-tree : Node
-counted_behind-tree = (cat (cat (lookaround (look false true 0 0) (cat (loop_1_char_body (times 2 (Some 3) true) (char 97)) end_of_cat)) (cat (char 98) end_of_cat)) (cat goal end_of_cat))
+counted_behind-tree = (cat (cat (lookaround (look false true 0 0)
+    (cat (loop_1_char_body (times 2 (Some 3) true) (char 97)) end_of_cat)) (cat (char 98) end_of_cat))
+    (cat goal end_of_cat))
 
 counted_behind : matches counted_behind-tree (utf8_text (97 ∷ 97 ∷ 97 ∷ 98 ∷ []) false) 0 ≡ (found 3 4 [] ∷ [])
 unfolding matches
@@ -208,7 +238,9 @@ empty_range_of_groups = refl
 
 -- `(?:(?:a*)*)*`
 abbrev nested_empty_loops-tree : Node
-nested_empty_loops-tree = (cat (cat (loop (times 0 None true) 0 0 (cat (loop (times 0 None true) 0 0 (cat (loop_1_char_body (times 0 None true) (char 97)) end_of_cat)) end_of_cat)) end_of_cat) (cat goal end_of_cat))
+nested_empty_loops-tree = (cat (cat (loop (times 0 None true) 0 0
+    (cat (loop (times 0 None true) 0 0 (cat (loop_1_char_body (times 0 None true) (char 97)) end_of_cat)) end_of_cat))
+    end_of_cat) (cat goal end_of_cat))
 
 nested_empty_loops : matches nested_empty_loops-tree (utf8_text (98 ∷ []) false) 0 ≡ (found 0 0 [] ∷ found 1 1 [] ∷ [])
 unfolding matches

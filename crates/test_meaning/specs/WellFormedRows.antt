@@ -11,7 +11,8 @@ no_goal : is_well_formed (char 97) ≡ false
 unfolding is_well_formed is_utf8 chars encode
 no_goal = refl
 
-same_id_twice : is_well_formed (cat (capture_group 0 [] (char 97)) (cat (capture_group 0 [] (char 97)) (cat goal end_of_cat))) ≡ false
+same_id_twice : is_well_formed (cat (capture_group 0 [] (char 97))
+    (cat (capture_group 0 [] (char 97)) (cat goal end_of_cat))) ≡ false
 unfolding is_well_formed is_utf8 chars encode
 same_id_twice = refl
 
@@ -39,11 +40,13 @@ nothing_at_all : is_well_formed end_of_cat ≡ false
 unfolding is_well_formed is_utf8 chars encode
 nothing_at_all = refl
 
-id_left_out : is_well_formed (cat (capture_group 0 [] (char 97)) (cat (capture_group 2 [] (char 97)) (cat goal end_of_cat))) ≡ false
+id_left_out : is_well_formed (cat (capture_group 0 [] (char 97))
+    (cat (capture_group 2 [] (char 97)) (cat goal end_of_cat))) ≡ false
 unfolding is_well_formed is_utf8 chars encode
 id_left_out = refl
 
-group_not_named : is_well_formed (cat (loop (times 0 None true) 0 0 (capture_group 0 [] (char 97))) (cat goal end_of_cat)) ≡ false
+group_not_named : is_well_formed (cat (loop (times 0 None true) 0 0 (capture_group 0 [] (char 97)))
+    (cat goal end_of_cat)) ≡ false
 unfolding is_well_formed is_utf8 chars encode
 group_not_named = refl
 
@@ -63,15 +66,18 @@ group_zero : is_well_formed (cat (back_ref 0 exact) (cat (capture_group 0 [] (ch
 unfolding is_well_formed is_utf8 chars encode
 group_zero = refl
 
-group_past_the_last : is_well_formed (cat (back_ref 2 exact) (cat (capture_group 0 [] (char 97)) (cat goal end_of_cat))) ≡ false
+group_past_the_last : is_well_formed (cat (back_ref 2 exact) (cat (capture_group 0 [] (char 97)) (cat goal end_of_cat)))
+    ≡ false
 unfolding is_well_formed is_utf8 chars encode
 group_past_the_last = refl
 
-one_character_order : is_well_formed (cat (loop_1_char_body (times 3 (Some 2) true) (char 97)) (cat goal end_of_cat)) ≡ false
+one_character_order : is_well_formed (cat (loop_1_char_body (times 3 (Some 2) true) (char 97)) (cat goal end_of_cat))
+    ≡ false
 unfolding is_well_formed is_utf8 chars encode
 one_character_order = refl
 
-body_is_cat : is_well_formed (cat (loop_1_char_body (times 0 None true) (cat (char 97) end_of_cat)) (cat goal end_of_cat)) ≡ false
+body_is_cat : is_well_formed (cat (loop_1_char_body (times 0 None true) (cat (char 97) end_of_cat))
+    (cat goal end_of_cat)) ≡ false
 unfolding is_well_formed is_utf8 chars encode
 body_is_cat = refl
 
@@ -79,7 +85,8 @@ body_is_empty : is_well_formed (cat (loop_1_char_body (times 0 None true) empty)
 unfolding is_well_formed is_utf8 chars encode
 body_is_empty = refl
 
-body_of_two : is_well_formed (cat (loop_1_char_body (times 0 None true) (byte_sequence (97 ∷ 98 ∷ []))) (cat goal end_of_cat)) ≡ false
+body_of_two : is_well_formed (cat (loop_1_char_body (times 0 None true) (byte_sequence (97 ∷ 98 ∷ [])))
+    (cat goal end_of_cat)) ≡ false
 unfolding is_well_formed is_utf8 chars encode
 body_of_two = refl
 
@@ -115,19 +122,31 @@ string_past_unicode : is_well_formed (cat (string_set ((0x110000 ∷ []) ∷ [])
 unfolding is_well_formed is_utf8 chars encode
 string_past_unicode = refl
 
-look_past_the_last_group : is_well_formed (cat (lookaround (look false false 5 5) (char 97)) (cat goal end_of_cat)) ≡ true
+look_past_the_last_group : is_well_formed (cat (lookaround (look false false 5 5) (char 97)) (cat goal end_of_cat))
+    ≡ true
 unfolding is_well_formed is_utf8 chars encode
 look_past_the_last_group = refl
 
-nested_groups : is_well_formed (cat (cat (capture_group 0 [] (alt (cat (capture_group 1 [] (cat (char 97) end_of_cat)) end_of_cat) (cat (capture_group 2 [] (cat (char 97) (cat (char 98) end_of_cat))) end_of_cat))) (cat (capture_group 3 [] (alt (cat (capture_group 4 [] (cat (char 99) end_of_cat)) end_of_cat) (cat (capture_group 5 [] (cat (char 98) (cat (char 99) end_of_cat))) end_of_cat))) end_of_cat)) (cat goal end_of_cat)) ≡ true
+nested_groups : is_well_formed (cat (cat (capture_group 0 []
+    (alt (cat (capture_group 1 [] (cat (char 97) end_of_cat)) end_of_cat)
+    (cat (capture_group 2 [] (cat (char 97) (cat (char 98) end_of_cat))) end_of_cat)))
+    (cat (capture_group 3 [] (alt (cat (capture_group 4 [] (cat (char 99) end_of_cat)) end_of_cat)
+    (cat (capture_group 5 [] (cat (char 98) (cat (char 99) end_of_cat))) end_of_cat))) end_of_cat))
+    (cat goal end_of_cat)) ≡ true
 unfolding is_well_formed is_utf8 chars encode
 nested_groups = refl
 
-loop_with_look : is_well_formed (cat (cat (loop (times 2 None true) 0 1 (alt (cat (lookaround (look false false 0 1) (cat (capture_group 0 [] (cat (loop_1_char_body (times 1 None true) (char 97)) end_of_cat)) end_of_cat)) (cat (loop_1_char_body (times 0 None true) (char 97)) (cat (char 98) (cat (back_ref 1 exact) end_of_cat)))) (cat (loop_1_char_body (times 2 (Some 3) true) (char 120)) end_of_cat))) end_of_cat) (cat goal end_of_cat)) ≡ true
+loop_with_look : is_well_formed (cat (cat (loop (times 2 None true) 0 1
+    (alt (cat (lookaround (look false false 0 1) (cat
+    (capture_group 0 [] (cat (loop_1_char_body (times 1 None true) (char 97)) end_of_cat)) end_of_cat))
+    (cat (loop_1_char_body (times 0 None true) (char 97)) (cat (char 98) (cat (back_ref 1 exact) end_of_cat))))
+    (cat (loop_1_char_body (times 2 (Some 3) true) (char 120)) end_of_cat))) end_of_cat)
+    (cat goal end_of_cat)) ≡ true
 unfolding is_well_formed is_utf8 chars encode
 loop_with_look = refl
 
-sequence_of_one_character : is_well_formed (cat (loop_1_char_body (times 0 None true) (byte_sequence (195 ∷ 169 ∷ []))) (cat (cat goal end_of_cat) end_of_cat)) ≡ true
+sequence_of_one_character : is_well_formed (cat (loop_1_char_body (times 0 None true) (byte_sequence (195 ∷ 169 ∷ [])))
+    (cat (cat goal end_of_cat) end_of_cat)) ≡ true
 unfolding is_well_formed is_utf8 chars encode
 sequence_of_one_character = refl
 
@@ -135,7 +154,8 @@ goal_alone : is_well_formed goal ≡ true
 unfolding is_well_formed is_utf8 chars encode
 goal_alone = refl
 
-wide_sequences : is_well_formed (cat (byte_sequence (195 ∷ 169 ∷ 226 ∷ 130 ∷ 172 ∷ 240 ∷ 159 ∷ 152 ∷ 128 ∷ [])) (cat (byte_sequence (244 ∷ 143 ∷ 191 ∷ 191 ∷ [])) (cat goal end_of_cat))) ≡ true
+wide_sequences : is_well_formed (cat (byte_sequence (195 ∷ 169 ∷ 226 ∷ 130 ∷ 172 ∷ 240 ∷ 159 ∷ 152 ∷ 128 ∷ []))
+    (cat (byte_sequence (244 ∷ 143 ∷ 191 ∷ 191 ∷ [])) (cat goal end_of_cat))) ≡ true
 unfolding is_well_formed is_utf8 chars encode
 wide_sequences = refl
 

@@ -21,13 +21,13 @@ use Rattle.regex_meaning.specs.CodeUnitOffsets.{HasRisingPlaceOffsets, place_at}
 use Rattle.regex_meaning.specs.FirstAndAllMatches.{Found, no_groups, first_outcome, match_at, first_match, first_match_among}
 use Rattle.regex_meaning.specs.MatchGroupsByNumberAndName.{Answer, answer, answers_from}
 use Rattle.regex_meaning.specs.SearchAnswers.{first_answer, next_start, answer_then_list}
-use Rattle.regex_meaning.proofs.AnswerLemmas.{answers-go_on}
-use Rattle.regex_meaning.proofs.TextLemmas.{place_at-offset, utf8_text-IsText}
+use Rattle.regex_meaning.proofs.SearchAnswersLemmas.{answers-go_on}
+use Rattle.regex_meaning.proofs.CodeUnitOffsetsLemmas.{place_at-offset, utf8_text-IsText}
 use Rattle.regex_meaning.specs.Outcomes.{Groups, Outcome, Repetition, repetition, bounded_repeat, outcomes, captured, cleared, passes_empty_check, exclusive_or}
 use Rattle.regex_meaning.specs.Outcomes.{preferred}
 use Rattle.regex_meaning.specs.Outcomes.{max_iterations, one_character, is_at_word_boundary, is_some_and}
-use Rattle.regex_meaning.proofs.Each.{Each, Each-append, Each-map, Each-when, Each-flat_map, Each-image}
-use Rattle.regex_meaning.proofs.Booleans.{and-left, and-right}
+use Rattle.regex_meaning.proofs.EachElementLemmas.{Each, Each-append, Each-map, Each-when, Each-flat_map, Each-image}
+use Rattle.regex_meaning.proofs.BoolLemmas.{and-left, and-right}
 use Rattle.use_grep.specs.Local.{is_local}
 
 -- ---- One of them

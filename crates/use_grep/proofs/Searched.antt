@@ -7,8 +7,8 @@ use Rattle.regex_meaning.specs.EcmaGrammarWithAnnexB.{ParsesEcmaScript, ecmascri
 use Rattle.regress_match.specs.ProgramTreesAndAnswers.{IsCompiledWithSyntax, tree_for_16_bit_units}
 use Rattle.regress_match.specs.declared.api.regex.Regex.{Regex}
 use Rattle.regress_match.proofs.FlagLemmas.{flags_by}
-use Rattle.regress_match.proofs.PatternLemmas.{ecmascript-searches-follow}
-use Rattle.regex_meaning.proofs.Each.{Each, Each-map}
+use Rattle.regress_match.proofs.GrammarTreeLemmas.{ecmascript-searches-follow}
+use Rattle.regex_meaning.proofs.EachElementLemmas.{Each, Each-map}
 use Rattle.use_grep.specs.Selecting.{HasNoneInLines, IsLocal, IsSearchOf, framed, has_match, lines_of, searched, tree_flags}
 use Rattle.use_grep.proofs.InParts.{lines-have_none}
 

@@ -8,7 +8,7 @@ use Rattle.std.proofs.lemmas.List.Elements.{filter-append}
 use Rattle.std.proofs.lemmas.List.Folds.{drop_split}
 use Rattle.regex_meaning.specs.Laws.{Each}
 use Rattle.regex_meaning.specs.MatchGroupsByNumberAndName.{Answer}
-use Rattle.regex_meaning.proofs.Each.{Each-append}
+use Rattle.regex_meaning.proofs.EachElementLemmas.{Each-append}
 use Rattle.regress_match.specs.ExpansionsAndMatchRanges.{IsCharBoundaryRange}
 use Rattle.use_highlighter.specs.Tokens.{token_of}
 use Rattle.use_highlighter.specs.Pieces.{range_of, part_of, IsSliceOf, StandInRow, marked, marks_of, IsCutAt}

@@ -15,7 +15,7 @@ ghost use Rattle.regress_search.specs.declared.{exec.Match.{Match as TheMatch}, 
 ghost use Rattle.regress_search.specs.declared.exec.work_matches.WorkError.TheVariants.{WorkLimit};
 ghost use Rattle.regress_match.specs.ProgramTreesAndAnswers.{IsCompiledWith, bytes_as_utf8_text, ascii_answers, tree_for_byte_units, tree_for_16_bit_units, utf8_answers};
 ghost use Rattle.regress_match.specs.{ExpansionsAndMatchRanges.{MatchFitsText}, SearchResults.{AllNone, NextCallsYield, NextResult, YieldsMatches}};
-ghost use Rattle.regress_match.specs.WorkBounds.{NextCallsYieldWithinWork, IsHigherOfProgramWorkBounds, WorkMatchesNextResultType, YieldsMatchesIfWorkSuffices};
+ghost use Rattle.regress_match.specs.WorkBounds.{NextCallsYieldWithinWork, IsHigherOfProgramWorkBounds, WorkLimitedNextResult, YieldsMatchesIfWorkSuffices};
 ghost use Rattle.regress_match.specs.WorkBounds.{enough_work_for_text};
 ghost use Rattle.regress_match.specs.WorkBounds.{CallsCost, IsNoAllocationFailure, NextCallsYieldAtCost};
 ghost use Rattle.regress_match.specs.WorkBounds.{work_per_unit_limit};
@@ -27,8 +27,9 @@ use regex_meaning::{
     resuming_after_nonempty_match_yields_rest, scan_counts_pattern_groups, scan_finds_group_names,
 };
 use regress_match::api::{
-    matches_stand_in_text, searches_answer_in_turn, searches_answer_in_work, searches_cost_in_work,
-    searches_follow_the_pattern, whole_matches_give_back, work_bounds_are_limited,
+    call_costs_are_work_spent, matches_lie_in_text_in_order, replacing_by_match_keeps_text,
+    searches_follow_the_pattern, searches_return_matches_in_order,
+    searches_return_matches_within_work, work_per_unit_limit_suffices,
 };
 use regress_match::exec::{WorkLimitedProducer, match_at_text_end_is_last};
 use regress_match::{Error, Match, Regex, SearchError, escape};
@@ -85,7 +86,7 @@ pub fn find_first(re: &Regex, text: &str) -> Result<Option<Match>, SearchError>
 pub fn replace_by_itself(re: &Regex, text: &str) -> Result<String, SearchError>
     ensures { IfOk result (λ made. string_bytes made ≡ text.now) }
 {
-    whole_matches_give_back();
+    replacing_by_match_keeps_text();
     re.replace_all(text, "$0")
 }
 
@@ -93,7 +94,7 @@ pub fn replace_by_itself(re: &Regex, text: &str) -> Result<String, SearchError>
 pub fn first_match_is_a_slice(re: &Regex, text: &str)
     ensures { IfSome (slice_get (utf8_answers re.now text.now 0) 0) (MatchFitsText text.now) }
 {
-    matches_stand_in_text();
+    matches_lie_in_text_in_order();
 }
 
 /// The matches are in order, and none overlaps another.
@@ -136,7 +137,7 @@ pub fn none_is_final()
     ensures { (tree : Tree) (text : Text) (start : ℕ) (it behind : RemainingView) (rs : List NextResult)
         → YieldsMatches tree text start it → NextCallsYield it (None ∷ rs) behind → AllNone rs }
 {
-    searches_answer_in_turn();
+    searches_return_matches_in_order();
 }
 
 /// After a match that begins at the end of the text, no item follows.
@@ -151,23 +152,23 @@ pub fn no_item_follows_match_at_text_end()
 /// The first item of a search within a work budget is `WorkLimit` only if the budget was less than the bound.
 pub fn work_limit_means_too_small_a_budget()
     ensures { (tree : Tree) (text : Text) (start per_unit work : ℕ) (it behind : RemainingAnswersAndWork)
-        (rs : List WorkMatchesNextResultType)
+        (rs : List WorkLimitedNextResult)
         → YieldsMatchesIfWorkSuffices tree text start per_unit work it
         → NextCallsYieldWithinWork it (Some (Err WorkLimit) ∷ rs) behind → work < enough_work_for_text per_unit text }
 {
-    searches_answer_in_work();
+    searches_return_matches_within_work();
 }
 
 /// With a budget of just what the bound requires, the calls of a search cost at most that together, unless an
 /// allocation fails.
 pub fn calls_cost_at_most_the_bound<P: WorkLimitedProducer>()
     ensures { (tree : Tree) (text : Text) (start per_unit : ℕ) (it behind : WorkMatchesView P)
-        (rs : List WorkMatchesNextResultType) → let bound = enough_work_for_text per_unit text in
+        (rs : List WorkLimitedNextResult) → let bound = enough_work_for_text per_unit text in
         YieldsMatchesIfWorkSuffices tree text start per_unit bound (without_costs it)
         → NextCallsYieldAtCost P.attempt_costs P.tree P.text P.failures it rs behind → Each IsNoAllocationFailure rs
         → (cost : ℕ) × CallsCost P.attempt_costs P.tree P.text P.failures it rs cost behind × (cost ≤ bound) }
 {
-    searches_cost_in_work::<P>();
+    call_costs_are_work_spent::<P>();
 }
 
 /// With a budget by the limit of the pattern's bounds, the work is enough, whichever bound is used.
@@ -177,5 +178,5 @@ pub fn budget_by_the_limit_is_enough()
         → YieldsMatchesIfWorkSuffices (tree_for_byte_units re) text start per_unit work it
         → enough_work_for_text (work_per_unit_limit re) text ≤ work → it.enough ≡ true }
 {
-    work_bounds_are_limited();
+    work_per_unit_limit_suffices();
 }

@@ -49,10 +49,10 @@ fn main(rt: HostRuntime) -> Result<()> {
     }
     let points: Vec<u32> = "caf[eé]+".chars().map(u32::from).collect(rt.alloc())?;
     let Ok(tree) = try_parse(rt.alloc(), &points, Flags::default()) else {
-        bail!("the pattern is refused");
+        bail!("`caf[eé]+` is not a pattern of the profile");
     };
     let Ok(program) = emit(rt.alloc(), &tree) else {
-        bail!("it has no program");
+        bail!("no program can be emitted for `caf[eé]+`: out of memory");
     };
     let insns = program.insns();
     println!(rt;

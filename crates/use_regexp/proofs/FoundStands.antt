@@ -7,10 +7,10 @@ use Rattle.regex_meaning.specs.Laws.{IsRange, is_within_pair}
 use Rattle.regex_meaning.specs.MatchGroupsByNumberAndName.{Answer}
 use Rattle.regex_meaning.specs.CodeUnitOffsets.{IsBoundary, HasRisingPlaceOffsets, units}
 use Rattle.regex_meaning.specs.Text.{Text, is_unit_boundary, ucs2_text, utf16_text}
-use Rattle.regex_meaning.proofs.AnswerLemmas.{first_answer-stands}
-use Rattle.regex_meaning.proofs.TextLemmas.{ucs2_text-IsText, utf16_text-IsText}
-use Rattle.regex_meaning.proofs.UnitLemmas.{AreUnits, unit_boundary-between, unit_boundary-place_at, units-utf16}
-use Rattle.regex_meaning.proofs.UnitLengths.{ucs2_text-units}
+use Rattle.regex_meaning.proofs.SearchAnswersLemmas.{first_answer-stands}
+use Rattle.regex_meaning.proofs.CodeUnitOffsetsLemmas.{ucs2_text-IsText, utf16_text-IsText}
+use Rattle.regex_meaning.proofs.UnitBoundaryLemmas.{AreUnits, unit_boundary-between, unit_boundary-place_at, units-utf16}
+use Rattle.regex_meaning.proofs.CodeUnitLengthLemmas.{ucs2_text-units}
 use Rattle.regress_search.specs.MatchesAsSpecAnswers.{answer_of}
 use Rattle.regress_search.specs.declared.exec.Match.{Match}
 use Rattle.regress_match.specs.ProgramTreesAndAnswers.{units_as_ucs2_text, units_as_utf16_text, ucs2_answer_beginning_at, ucs2_answers, tree_for_16_bit_units}
@@ -19,7 +19,7 @@ use Rattle.regress_match.specs.ProgramTreesAndAnswers.{utf16_answers}
 use Rattle.regress_match.specs.ExpansionsAndMatchRanges.{MatchRangesLieWithinUnits}
 use Rattle.regress_match.specs.declared.api.regex.Regex.{Regex}
 use Rattle.regress_match.proofs.FlagLemmas.{IfOk-map}
-use Rattle.regress_match.proofs.FoundLemmas.{at-first, first-fits_units, head-first}
+use Rattle.regress_match.proofs.FirstMatchLemmas.{at-first, first-fits_units, head-first}
 use Rattle.use_regexp.specs.Exec.{StandsFrom, first_match, match_here, start_of}
 use Rattle.use_regexp.specs.declared.pattern.Pattern.{Pattern}
 

@@ -6,7 +6,7 @@ use Rattle.std.proofs.Math.Bool.{and-false}
 use Rattle.std.proofs.lemmas.Bool.{and_parts, cases_Bool, cases_lt, eqb-false, false_from_ne_true}
 use Rattle.regex_meaning.specs.Laws.{is_within_pair}
 use Rattle.regex_meaning.specs.Text.{is_high_surrogate, is_low_surrogate, is_unit_boundary}
-use Rattle.regex_meaning.proofs.UnitLemmas.{AreUnits, low-not_high, unit_boundary-between}
+use Rattle.regex_meaning.proofs.UnitBoundaryLemmas.{AreUnits, low-not_high, unit_boundary-between}
 use Rattle.use_regexp.specs.Units.{advanced, character_start}
 
 -- a test has one answer

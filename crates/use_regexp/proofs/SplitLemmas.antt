@@ -7,7 +7,7 @@ use Rattle.std.proofs.lemmas.List.{length-map}
 use Rattle.std.proofs.lemmas.Bool.{cases_lt, eqb-false}
 use Rattle.regex_meaning.specs.MatchGroupsByNumberAndName.{Answer}
 use Rattle.regex_meaning.specs.Outcomes.{Groups}
-use Rattle.regex_meaning.proofs.UnitLemmas.{AreUnits}
+use Rattle.regex_meaning.proofs.UnitBoundaryLemmas.{AreUnits}
 use Rattle.regress_search.specs.MatchesAsSpecAnswers.{answer_of}
 use Rattle.regress_search.specs.declared.exec.Match.{Match}
 use Rattle.use_regexp.specs.Exec.{StandsFrom, first_match}

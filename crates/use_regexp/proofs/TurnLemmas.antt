@@ -7,12 +7,12 @@ use Rattle.std.specs.Borrow.{Bor}
 use Rattle.std.specs.Option.{option_copied, option_to_list}
 use Rattle.std.proofs.lemmas.List.{map-append}
 use Rattle.regex_meaning.specs.MatchGroupsByNumberAndName.{Answer}
-use Rattle.regex_meaning.proofs.UnitLemmas.{AreUnits}
+use Rattle.regex_meaning.proofs.UnitBoundaryLemmas.{AreUnits}
 use Rattle.regress_search.specs.MatchesAsSpecAnswers.{answer_of}
 use Rattle.regress_search.specs.declared.exec.Match.{Match}
 use Rattle.regress_match.proofs.FlagLemmas.{IfOk-map}
 use Rattle.use_regexp.specs.Exec.{StandsFrom, first_match, found, last_behind, match_here, search_index}
-use Rattle.use_regexp.specs.Loops.{AreFoundInTurn, AreTaken, last_taken, next_last}
+use Rattle.use_regexp.specs.Loops.{AreFoundInTurn, AreTaken, last_taken, index_after_match}
 use Rattle.use_regexp.specs.Replace.{StandInUnits}
 use Rattle.use_regexp.specs.Units.{character_start}
 use Rattle.use_regexp.specs.declared.pattern.Pattern.{Pattern}
@@ -51,7 +51,7 @@ module _ (p : Pattern) (us : List ℕ) where
   goes-none first items none rest h = subst (λ (ms : List Match). AreFoundInTurn p us first (map answer_of ms ++ rest)) (sym none) h
 
   pub goes-more : (first last next : ℕ) (items more : List Match) (f : Match) → GoesOn first last (map answer_of items)
-      → found p us last ≡ Some (answer_of f) → next ≡ next_last p us (answer_of f) → more ≡ items ++ f ∷ [] → GoesOn first next (map answer_of more)
+      → found p us last ≡ Some (answer_of f) → next ≡ index_after_match p us (answer_of f) → more ≡ items ++ f ∷ [] → GoesOn first next (map answer_of more)
   goes-more first last next items more f on e n m rest h =
       let m' = answer_of f in
       let whole = on (m' ∷ rest) (e, subst (λ at. AreFoundInTurn p us at rest) n h) in
@@ -62,7 +62,7 @@ module _ (p : Pattern) (us : List ℕ) where
   goes-end first last ms on e = subst (AreFoundInTurn p us first) (append-nil ms) (on [] e)
 
   -- the next index is nearer to the end
-  pub turn-smaller : (last next : ℕ) (m : Answer) → p.flags.global ≡ true → StandsFrom p us (search_index p last) m → next ≡ next_last p us m
+  pub turn-smaller : (last next : ℕ) (m : Answer) → p.flags.global ≡ true → StandsFrom p us (search_index p last) m → next ≡ index_after_match p us m
       → length us + 3 - next < length us + 3 - last
   turn-smaller last next m global s n =
       let behind : character_start p.flags.unicode us last ≤ m.range.0 = subst (λ i. character_start p.flags.unicode us i ≤ m.range.0) (global-index p last global) s.behind in
@@ -97,7 +97,7 @@ module _ (p : Pattern) (us : List ℕ) where
         let behind : character_start p.flags.unicode us last ≤ m.range.0 = subst (λ i. character_start p.flags.unicode us i ≤ m.range.0) (global-index p last global) s.behind in (
           omega (arith, le, behind),
           s.fits,
-          stand-in-turn global ms (next_last p us m) m.range.1 (next-behind p.flags.unicode us m.range.0 m.range.1 s.whole) s.fits.whole.1 h.1,
+          stand-in-turn global ms (index_after_match p us m) m.range.1 (next-behind p.flags.unicode us m.range.0 m.range.1 s.whole) s.fits.whole.1 h.1,
         )
 
     -- those that are taken stand in the text, in order

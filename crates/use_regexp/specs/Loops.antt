@@ -10,13 +10,13 @@ use Rattle.use_regexp.specs.declared.regexp.RegExp.{RegExp}
 
 module _ (p : Pattern) (text : List ℕ) where
   -- The index at which the loop continues after a match: its end, or one character further if it is empty.
-  abbrev pub next_last : Answer → ℕ
-  next_last m = if m.range.0 == m.range.1 then advanced p.flags.unicode text m.range.1 else m.range.1
+  abbrev pub index_after_match : Answer → ℕ
+  index_after_match m = if m.range.0 == m.range.1 then advanced p.flags.unicode text m.range.1 else m.range.1
 
   -- Successive searches from an index on find these matches, and then none.
   abbrev pub AreFoundInTurn : (last : ℕ) → List Answer → Type 0
   AreFoundInTurn last [] = found p text last ≡ None
-  AreFoundInTurn last (m ∷ ms) = (found p text last ≡ Some m) × AreFoundInTurn (next_last m) ms
+  AreFoundInTurn last (m ∷ ms) = (found p text last ≡ Some m) × AreFoundInTurn (index_after_match m) ms
 
   -- With `g` all matches from an index on, otherwise the match of a search.
   abbrev pub AreTaken : (first last : ℕ) → List Answer → Type 0

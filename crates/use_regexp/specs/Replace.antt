@@ -53,4 +53,5 @@ module _ {Z E : Type 0} (says : Bor Match → Result (Vec ℕ Z) E → Type 0) w
 
     abbrev pub CanRefuseWith : ReplaceError E → Type 0
     CanRefuseWith (Search e) = IsOutOfMemory e
-    CanRefuseWith (Closure e) = (ms : List Answer) × AreTaken p text 0 last ms × answered.IsRefusedAt says units_of ms e
+    CanRefuseWith (Closure e) = (ms : List Answer) × AreTaken p text 0 last ms
+        × answered.ClosureFailedAtMatch says units_of ms e

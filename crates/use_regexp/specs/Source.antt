@@ -1,5 +1,6 @@
 -- The source of a regular expression between slashes (21.2.3.2.4, EscapeRegExpPattern).
 use Rattle.std.specs.Prelude.{ℕ, Bool, true, false, not, ◌&&◌, ◌||◌, List, [], ◌∷◌, ◌++◌, codes, if◌then◌else◌, ◌==◌}
+use Rattle.regex_meaning.specs.Text.{is_line_terminator}
 use Rattle.use_regexp.specs.Flags.{letters_of}
 use Rattle.use_regexp.specs.declared.flags.Flags.{Flags}
 
@@ -9,12 +10,9 @@ behind_backslash c =
     if c == 0x0A then codes "n" else if c == 0x0D then codes "r"
     else if c == 0x2028 then codes "u2028" else if c == 0x2029 then codes "u2029" else c ∷ []
 
-abbrev pub is_terminator : ℕ → Bool
-is_terminator c = c == 0x0A || c == 0x0D || c == 0x2028 || c == 0x2029
-
 -- A unit needs a backslash: a line terminator, or a slash outside of a class.
 abbrev pub wants_backslash : (in_class : Bool) → ℕ → Bool
-wants_backslash in_class c = is_terminator c || (c == 47 && not in_class)
+wants_backslash in_class c = is_line_terminator c || (c == 47 && not in_class)
 
 -- Whether a class is open after a unit that does not follow a backslash.
 abbrev pub class_behind : (in_class : Bool) → ℕ → Bool

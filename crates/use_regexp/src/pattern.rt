@@ -24,7 +24,7 @@ pub struct Pattern {
 impl Pattern {
     ghost use Rattle.use_regexp.specs.Compiled.{IsPatternOf};
     ghost use Rattle.use_regexp.specs.Exec.{StandsFrom, first_match, found, last_behind, match_here, search_index as search_index_of};
-    ghost use Rattle.use_regexp.specs.Loops.{AreFoundInTurn, AreTaken, next_last};
+    ghost use Rattle.use_regexp.specs.Loops.{AreFoundInTurn, AreTaken, index_after_match};
 
     /// Compiles a pattern of the whole language, with annex B, with the flags of these letters
     /// (21.2.3.2.2, RegExpInitialize). With `u` the source is read
@@ -140,9 +140,9 @@ impl Pattern {
 
     // Returns the index at which a loop over matches continues after a match: its end, or one character further if it
     // is empty.
-    pub(crate) fn next_last(&self, text: &[u16], found: &Match) -> usize
+    pub(crate) fn index_after_match(&self, text: &[u16], found: &Match) -> usize
         requires { found.now.range.end ≤ length text.now }
-        ensures { result ≡ next_last self.now text.now (answer_of found.now) }
+        ensures { result ≡ index_after_match self.now text.now (answer_of found.now) }
     {
         if found.start() == found.end() {
             units::advanced(self.flags.unicode, text, found.end())
@@ -160,7 +160,7 @@ impl Pattern {
         let mut matches = Vec::new(alloc);
         let mut last = first;
         'turns: while let Some(found) = self.find(text, last)? {
-            last = self.next_last(text, &found);
+            last = self.index_after_match(text, &found);
             push_match(&mut matches, found)?;
         }
         Ok(matches)

@@ -66,8 +66,7 @@ impl RegExp {
             IsReplacedWith (F.post with) self.old.pattern text.now self.old.last_index v.items) }
         ensures last { IfOk result (λ _. LeavesTaken self.old self.new text.now) }
         ensures same { self.new.pattern ≡ self.old.pattern }
-        ensures refused { IfErr result
-            (CanRefuseWith (F.post with) self.old.pattern text.now self.old.last_index) }
+        ensures refused { IfErr result (CanRefuseWith (F.post with) self.old.pattern text.now self.old.last_index) }
         ensures unchanged { OnErr result (self.new ≡ self.old) }
     {
         let matches = self.pattern.taken(alloc, text, 0, self.last_index)?;

@@ -1,7 +1,8 @@
 //! The source text of a regular expression.
 
 ghost use Rattle.std.specs.Prelude.{◌≡◌, ◌++◌, ◌∷◌, IfOk, false, if◌then◌else◌, []};
-ghost use Rattle.use_regexp.specs.Source.{behind_backslash, class_behind, escaped_from, escaped_source, is_terminator as is_terminator_of, wants_backslash as wants};
+ghost use Rattle.regex_meaning.specs.Text.{is_line_terminator as is_terminator_of};
+ghost use Rattle.use_regexp.specs.Source.{behind_backslash, class_behind, escaped_from, escaped_source, wants_backslash as wants};
 
 use std::alloc::{AllocError, Global};
 
@@ -61,11 +62,11 @@ fn push_plain(out: &mut Vec<u16>, in_class: bool, unit: u16) -> Result<(), Alloc
 fn wants_backslash(in_class: bool, unit: u16) -> bool
     ensures { result ≡ wants in_class unit }
 {
-    is_terminator(unit) || (unit == SLASH && !in_class)
+    is_line_terminator(unit) || (unit == SLASH && !in_class)
 }
 
 // Returns whether a unit is a line terminator.
-fn is_terminator(unit: u16) -> bool
+fn is_line_terminator(unit: u16) -> bool
     ensures { result ≡ is_terminator_of unit }
 {
     unit == 0x0A || unit == 0x0D || unit == 0x2028 || unit == 0x2029

@@ -8,7 +8,7 @@ use Rattle.std.proofs.lemmas.Str.{encode_ascii}
 use Rattle.std.proofs.lemmas.List.{nil_from_length}
 use Rattle.std.proofs.lemmas.Bool.{ne_eqb, eqb-true}
 use Rattle.std.proofs.lemmas.Bool.Decides.{leb_tells}
-use Rattle.regex_meaning.proofs.Beyond.{encode-stays}
+use Rattle.regex_meaning.proofs.NonAsciiUtf8Bytes.{encode-stays}
 use Rattle.serde_json.specs.Find.{unescape}
 use Rattle.use_validator.specs.Pointer.{escape, escaped}
 

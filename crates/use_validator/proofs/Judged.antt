@@ -7,9 +7,9 @@ use Rattle.regex_meaning.specs.CodeUnitOffsets.{HasRisingPlaceOffsets}
 use Rattle.regex_meaning.specs.MatchGroupsByNumberAndName.{Answer, answers_from}
 use Rattle.regex_meaning.specs.SearchAnswers.{first_answer, next_start, answer_then_list}
 use Rattle.regex_meaning.specs.StepBudget.{answers_within, finishes_within, need_from}
-use Rattle.regex_meaning.proofs.AnswerLemmas.{answers-go_on}
-use Rattle.regex_meaning.proofs.StepLemmas.{within-some, within-none, beyond}
-use Rattle.regex_meaning.proofs.TextLemmas.{utf8_text-IsText}
+use Rattle.regex_meaning.proofs.SearchAnswersLemmas.{answers-go_on}
+use Rattle.regex_meaning.proofs.StepBudgetLemmas.{within-some, within-none, beyond}
+use Rattle.regex_meaning.proofs.CodeUnitOffsetsLemmas.{utf8_text-IsText}
 use Rattle.regress_search.specs.MatchesAsSpecAnswers.{answer_of}
 use Rattle.regress_search.specs.RemainingAnswers.{NextYields, RemainingView}
 use Rattle.regress_search.specs.declared.exec.Match.{Match}
@@ -22,17 +22,17 @@ use Rattle.use_validator.specs.declared.judge.Verdict.{Verdict}
 use Rattle.use_validator.specs.declared.judge.Verdict.TheVariants.{Matches, NoMatch, OutOfSteps}
 
 -- what is found within the steps, and whether they are enough for the end, where this is the verdict
-abbrev pub IsTold : (found : List Answer) → (ended : Bool) → Verdict → Type 0
-IsTold found ended Matches = (m : Answer) × (ms : List Answer) × (found ≡ m ∷ ms)
-IsTold found ended NoMatch = (found ≡ []) × (ended ≡ true)
-IsTold found ended OutOfSteps = (found ≡ []) × (ended ≡ false)
+abbrev pub FollowsFromCounts : (found : List Answer) → (ended : Bool) → Verdict → Type 0
+FollowsFromCounts found ended Matches = (m : Answer) × (ms : List Answer) × (found ≡ m ∷ ms)
+FollowsFromCounts found ended NoMatch = (found ≡ []) × (ended ≡ true)
+FollowsFromCounts found ended OutOfSteps = (found ≡ []) × (ended ≡ false)
 
 module _ (tree : Tree) (text : Text) (is : HasRisingPlaceOffsets text) (steps : ℕ) where
   abbrev all : List Answer
   all = answers_from tree.root text 0
 
   abbrev Told : Verdict → Type 0
-  Told = IsTold (answers_within tree text (Some steps) 0) (finishes_within tree text (Some steps) 0)
+  Told = FollowsFromCounts (answers_within tree text (Some steps) 0) (finishes_within tree text (Some steps) 0)
 
   enough : (first : Option Answer) → first_answer tree.root text 0 ≡ first → nat_le (need_from tree text 0) steps ≡ true → Told (by_matches all)
   enough None f e =
@@ -66,23 +66,23 @@ not-true : (b : Bool) → not b ≡ true → b ≡ false
 not-true true e = sym e
 not-true false e = refl
 
-is-match : (found : List Answer) (ended : Bool) (m : Answer) (ms : List Answer) (v : Verdict) → IsTold found ended v → found ≡ m ∷ ms → Matches ≡ v
+is-match : (found : List Answer) (ended : Bool) (m : Answer) (ms : List Answer) (v : Verdict) → FollowsFromCounts found ended v → found ≡ m ∷ ms → Matches ≡ v
 is-match found ended m ms Matches h e = refl
 is-match found ended m ms NoMatch h e = let never : [] ≡ m ∷ ms = sym h.0 ∙ e in absurd (cc)
 is-match found ended m ms OutOfSteps h e = let never : [] ≡ m ∷ ms = sym h.0 ∙ e in absurd (cc)
 
-is-none : (found : List Answer) (ended : Bool) (v : Verdict) → IsTold found ended v → found ≡ [] → ended ≡ true → NoMatch ≡ v
+is-none : (found : List Answer) (ended : Bool) (v : Verdict) → FollowsFromCounts found ended v → found ≡ [] → ended ≡ true → NoMatch ≡ v
 is-none found ended Matches h e on = let never : [] ≡ h.0 ∷ h.1 = sym e ∙ h.2 in absurd (cc)
 is-none found ended NoMatch h e on = refl
 is-none found ended OutOfSteps h e on = let never : true ≡ false = sym on ∙ h.1 in absurd (cc)
 
-is-past : (found : List Answer) (ended : Bool) (v : Verdict) → IsTold found ended v → found ≡ [] → ended ≡ false → OutOfSteps ≡ v
+is-past : (found : List Answer) (ended : Bool) (v : Verdict) → FollowsFromCounts found ended v → found ≡ [] → ended ≡ false → OutOfSteps ≡ v
 is-past found ended Matches h e on = let never : [] ≡ h.0 ∷ h.1 = sym e ∙ h.2 in absurd (cc)
 is-past found ended NoMatch h e on = let never : true ≡ false = sym h.1 ∙ on in absurd (cc)
 is-past found ended OutOfSteps h e on = refl
 
 module _ (re : Regex) (bytes : List ℕ) (steps : ℕ) where
-  told-of : IsTold (utf8_answers_within_steps steps re bytes 0) (utf8_steps_suffice steps re bytes 0) (verdict_of re bytes steps)
+  told-of : FollowsFromCounts (utf8_answers_within_steps steps re bytes 0) (utf8_steps_suffice steps re bytes 0) (verdict_of re bytes steps)
   told-of = told (tree_for_byte_units re) (bytes_as_utf8_text re bytes) (utf8_text-IsText bytes (tree_for_byte_units re).flags.unicode) steps
 
   -- a match came

@@ -9,7 +9,7 @@ use Rattle.std.specs.Cmp.Lexicographic.{slice_cmp}
 use Rattle.std.specs.Map.{lookup}
 use Rattle.std.specs.Ordering.{match_ordering}
 use Rattle.std.specs.BTreeMap.{insert_entry, is_at}
-use Rattle.regex_meaning.proofs.Options.{some-same}
+use Rattle.regex_meaning.proofs.OptionLemmas.{some-same}
 use Rattle.regress_match.specs.declared.api.regex.Regex.{Regex}
 use Rattle.use_validator.specs.Patterns.{AreOfTheirTexts, AreProgramsOf, IsPatternOf, IsProgramOf}
 

@@ -8,10 +8,10 @@ abbrev pub IsPossible : (holding possible count : ℕ) → Type 0
 IsPossible holding possible count = (holding ≤ count) × (count ≤ possible)
 
 -- At least and at most so many hold, whatever the undecided ones are; or so many do not, whatever they are; or it is not told by these counts.
-abbrev pub IsTold : (least most holding possible : ℕ) → Outcome → Type 0
-IsTold least most holding possible Holds =
+abbrev pub FollowsFromCounts : (least most holding possible : ℕ) → Outcome → Type 0
+FollowsFromCounts least most holding possible Holds =
     (count : ℕ) → IsPossible holding possible count → (least ≤ count) × (count ≤ most)
-IsTold least most holding possible Fails =
+FollowsFromCounts least most holding possible Fails =
     (count : ℕ) → IsPossible holding possible count → ¬ ((least ≤ count) × (count ≤ most))
-IsTold least most holding possible Undecided =
+FollowsFromCounts least most holding possible Undecided =
     (least ≤ possible) × (holding ≤ most) × ((holding < least) ⊎ (most < possible))

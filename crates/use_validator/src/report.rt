@@ -1,6 +1,6 @@
 //! The report on a value: failures and annotations.
 
-ghost use Rattle.use_validator.specs.Outcomes.{IsTold};
+ghost use Rattle.use_validator.specs.Outcomes.{FollowsFromCounts};
 
 use std::alloc::{AllocError, Global};
 use std::fmt;
@@ -133,7 +133,7 @@ impl Tally {
 
     /// Whether at least and at most so many hold, whatever the undecided ones are.
     pub fn conclude(self, least: u64, most: u64) -> Outcome
-        ensures { IsTold least most self.holding self.possible result }
+        ensures { FollowsFromCounts least most self.holding self.possible result }
     {
         if self.possible < least || most < self.holding {
             Outcome::Fails

@@ -1,4 +1,4 @@
-use Rattle.regex_meaning.proofs.Encodings.{ascii-utf8}
+use Rattle.regex_meaning.proofs.SameMatchesAcrossEncodings.{ascii-utf8}
 use Rattle.regex_meaning.proofs.ascii_and_utf8_answers_agree.Goals as goal
 
 pub returns : goal.returns

@@ -1,4 +1,4 @@
-use Rattle.regex_meaning.proofs.CaseVariants.{few-case-variants}
+use Rattle.regex_meaning.proofs.CaseVariantListLemmas.{few-case-variants}
 use Rattle.regex_meaning.proofs.case_variants_are_few.Goals as goal
 
 pub returns : goal.returns

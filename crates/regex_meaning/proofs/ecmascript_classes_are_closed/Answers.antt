@@ -1,4 +1,4 @@
-use Rattle.regex_meaning.proofs.EcmaSets.{classes-are-closed}
+use Rattle.regex_meaning.proofs.EcmaClassEscapeSets.{classes-are-closed}
 use Rattle.regex_meaning.proofs.ecmascript_classes_are_closed.Goals as goal
 
 pub returns : goal.returns

@@ -1,4 +1,4 @@
-use Rattle.regex_meaning.proofs.EcmaTrees.{groups-are-named}
+use Rattle.regex_meaning.proofs.EcmaGrammarLemmas.{groups-are-named}
 use Rattle.regex_meaning.proofs.ecmascript_groups_agree_with_scan.Goals as goal
 
 pub returns : goal.returns

@@ -1,4 +1,4 @@
-use Rattle.regex_meaning.proofs.EcmaTrees.{one-tree}
+use Rattle.regex_meaning.proofs.EcmaGrammarLemmas.{one-tree}
 use Rattle.regex_meaning.proofs.ecmascript_one_tree.Goals as goal
 
 pub returns : goal.returns

@@ -1,4 +1,4 @@
-use Rattle.regex_meaning.proofs.TextLemmas.{utf8_text-IsText, ascii_text-IsText, utf16_text-IsText, ucs2_text-IsText}
+use Rattle.regex_meaning.proofs.CodeUnitOffsetsLemmas.{utf8_text-IsText, ascii_text-IsText, utf16_text-IsText, ucs2_text-IsText}
 use Rattle.regex_meaning.proofs.encoded_texts_have_rising_offsets.Goals as goal
 
 pub returns : goal.returns

@@ -1,4 +1,4 @@
-use Rattle.regex_meaning.proofs.EscapedBytes.{escaped_bytes_are_read}
+use Rattle.regex_meaning.proofs.EscapedUtf8Reading.{escaped_bytes_are_read}
 use Rattle.regex_meaning.proofs.escaped_bytes_are_read.Goals as goal
 
 pub returns : goal.returns

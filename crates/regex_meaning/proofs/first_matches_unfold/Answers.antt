@@ -1,4 +1,4 @@
-use Rattle.regex_meaning.proofs.Matches.{first-unfolds, first-past}
+use Rattle.regex_meaning.proofs.FirstAndAllMatchesLemmas.{first-unfolds, first-past}
 use Rattle.regex_meaning.proofs.first_matches_unfold.Goals as goal
 
 pub returns : goal.returns

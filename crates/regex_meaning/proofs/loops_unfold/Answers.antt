@@ -1,6 +1,6 @@
 use Rattle.regex_meaning.specs.Outcomes.{repetition, outcomes}
-use Rattle.regex_meaning.proofs.Onward.{outcomes-onward}
-use Rattle.regex_meaning.proofs.Repeat.{repeat-unfolds}
+use Rattle.regex_meaning.proofs.OutcomeDirectionLemmas.{outcomes-onward}
+use Rattle.regex_meaning.proofs.LoopRepetitionLemmas.{repeat-unfolds}
 use Rattle.regex_meaning.proofs.loops_unfold.Goals as goal
 
 pub returns : goal.returns

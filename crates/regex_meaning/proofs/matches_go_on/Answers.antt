@@ -1,4 +1,4 @@
-use Rattle.regex_meaning.proofs.Matches.{match_list-unfolds}
+use Rattle.regex_meaning.proofs.FirstAndAllMatchesLemmas.{match_list-unfolds}
 use Rattle.regex_meaning.proofs.matches_go_on.Goals as goal
 
 pub returns : goal.returns

@@ -1,4 +1,4 @@
-use Rattle.regex_meaning.proofs.Needs.{needs-unfold}
+use Rattle.regex_meaning.proofs.NeededStepsLemmas.{needs-unfold}
 use Rattle.regex_meaning.proofs.needs_unfold.Goals as goal
 
 pub returns : goal.returns

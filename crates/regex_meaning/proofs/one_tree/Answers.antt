@@ -1,4 +1,4 @@
-use Rattle.regex_meaning.proofs.Whole.{one_tree}
+use Rattle.regex_meaning.proofs.UniqueTreeLemmas.{one_tree}
 use Rattle.regex_meaning.proofs.one_tree.Goals as goal
 
 pub returns : goal.returns

@@ -1,4 +1,4 @@
-use Rattle.regex_meaning.proofs.TextLemmas.{offset-less, place_at-offset, offset-place_at}
+use Rattle.regex_meaning.proofs.CodeUnitOffsetsLemmas.{offset-less, place_at-offset, offset-place_at}
 use Rattle.regex_meaning.proofs.places_have_offsets.Goals as goal
 
 pub returns : goal.returns

@@ -1,4 +1,4 @@
-use Rattle.regex_meaning.proofs.TextOut.{replaced-whole}
+use Rattle.regex_meaning.proofs.ReplaceAndEscapeLemmas.{replaced-whole}
 use Rattle.regex_meaning.proofs.replacing_matches_by_themselves_changes_nothing.Goals as goal
 
 pub returns : goal.returns

@@ -1,4 +1,4 @@
-use Rattle.regex_meaning.proofs.Ordered.{answers-resume}
+use Rattle.regex_meaning.proofs.MatchOrderLemmas.{answers-resume}
 use Rattle.regex_meaning.proofs.resuming_after_nonempty_match_yields_rest.Goals as goal
 
 pub returns : goal.returns

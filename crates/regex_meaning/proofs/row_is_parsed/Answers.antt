@@ -1,4 +1,4 @@
-use Rattle.regex_meaning.proofs.Row.{row}
+use Rattle.regex_meaning.proofs.ExamplePatternTree.{row}
 use Rattle.regex_meaning.proofs.row_is_parsed.Goals as goal
 
 -- src/lib.rt:7:1

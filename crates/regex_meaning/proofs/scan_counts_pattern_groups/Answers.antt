@@ -1,4 +1,4 @@
-use Rattle.regex_meaning.proofs.Trees.{scan_counts_pattern_groups}
+use Rattle.regex_meaning.proofs.PatternTreeLemmas.{scan_counts_pattern_groups}
 use Rattle.regex_meaning.proofs.scan_counts_pattern_groups.Goals as goal
 
 pub returns : goal.returns

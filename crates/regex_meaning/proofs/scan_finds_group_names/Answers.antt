@@ -1,4 +1,4 @@
-use Rattle.regex_meaning.proofs.Names.{scan_finds_group_names}
+use Rattle.regex_meaning.proofs.GroupNamesOfTreeLemmas.{scan_finds_group_names}
 use Rattle.regex_meaning.proofs.scan_finds_group_names.Goals as goal
 
 pub returns : goal.returns

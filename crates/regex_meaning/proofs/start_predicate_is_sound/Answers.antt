@@ -1,4 +1,4 @@
-use Rattle.regex_meaning.proofs.Clean.{predicate-sound}
+use Rattle.regex_meaning.proofs.StartPredicateSoundness.{predicate-sound}
 use Rattle.regex_meaning.proofs.start_predicate_is_sound.Goals as goal
 
 pub returns : goal.returns

@@ -1,4 +1,4 @@
-use Rattle.regex_meaning.proofs.UnitLemmas.{unit_boundary-place_at, unit_boundary-between}
+use Rattle.regex_meaning.proofs.UnitBoundaryLemmas.{unit_boundary-place_at, unit_boundary-between}
 use Rattle.regex_meaning.proofs.unit_boundaries_are_boundaries.Goals as goal
 
 pub returns : goal.returns

@@ -3,8 +3,8 @@
 ghost use Rattle.std.specs.Prelude.{◌≡◌, refl, ◌<◌, ◌^◌, nat_le, ℕ, length, IsAscii};
 ghost use Rattle.std.proofs.Common.{rules};
 ghost use Rattle.regex_meaning.specs.Text.{ascii_text, fold_ascii};
-ghost use Rattle.regex_meaning.proofs.{CharactersIn.{ascii-characters}, TextLemmas.{ascii_text-IsText}};
-ghost use Rattle.regress_input.specs.{ByteTextsAreUtf8.{ascii_text-IsInUtf8}, TextSpellingAndOffsetLimit.{ascii_text-IsSpelled, ascii_text-fits}};
+ghost use Rattle.regex_meaning.proofs.{EncodedTextCharacters.{ascii-characters}, CodeUnitOffsetsLemmas.{ascii_text-IsText}};
+ghost use Rattle.regress_input.specs.{ByteTextsAreUtf8.{ascii_text-IsEncodedInUtf8}, TextSpellingAndOffsetLimit.{ascii_text-IsSpelled, ascii_text-fits}};
 
 use super::{ByteCodeUnitEncoding, CharProperties, ElementType, HasUnitType, InputIndexer};
 use crate::position::{DefPosition, IndexPosition};
@@ -92,7 +92,7 @@ impl<'a> InputIndexer for AsciiInput<'a> {
 
     ghost characters = { λ it. ascii-characters it.input.now it.is_ascii };
 
-    ghost in_utf8 = { λ it _. ascii_text-IsInUtf8 it.input.now it.unicode it.is_ascii };
+    ghost in_utf8 = { λ it _. ascii_text-IsEncodedInUtf8 it.input.now it.unicode it.is_ascii };
 
     ghost folds = { λ it. refl };
 

@@ -2,9 +2,9 @@
 
 ghost use Rattle.std.specs.Prelude.{◌≡◌, refl, ◌<◌, ◌^◌, ◌==◌, ℕ, length, IsUtf8};
 ghost use Rattle.regex_meaning.specs.Text.{utf8_text, is_scalar, fold_char};
-ghost use Rattle.regex_meaning.proofs.{CharactersIn.{utf8-characters}, TextLemmas.{utf8_text-IsText}};
+ghost use Rattle.regex_meaning.proofs.{EncodedTextCharacters.{utf8-characters}, CodeUnitOffsetsLemmas.{utf8_text-IsText}};
 ghost use Rattle.std.proofs.Common.{rules};
-ghost use Rattle.regress_input.specs.{ByteTextsAreUtf8.{utf8_text-IsInUtf8}, TextSpellingAndOffsetLimit.{utf8_text-IsSpelled, utf8_text-fits}};
+ghost use Rattle.regress_input.specs.{ByteTextsAreUtf8.{utf8_text-IsEncodedInUtf8}, TextSpellingAndOffsetLimit.{utf8_text-IsSpelled, utf8_text-fits}};
 
 use super::{ByteCodeUnitEncoding, CharProperties, ElementType, HasUnitType, InputIndexer};
 use crate::front::fold_code_point;
@@ -86,7 +86,7 @@ impl<'a> InputIndexer for Utf8Input<'a> {
 
     ghost characters = { λ it. utf8-characters it.input.now it.is_utf8 };
 
-    ghost in_utf8 = { λ it _. utf8_text-IsInUtf8 it.input.now it.unicode it.is_utf8 };
+    ghost in_utf8 = { λ it _. utf8_text-IsEncodedInUtf8 it.input.now it.unicode it.is_utf8 };
 
     ghost folds = { λ it. refl };
 

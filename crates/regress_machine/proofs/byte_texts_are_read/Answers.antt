@@ -1,4 +1,4 @@
-use Rattle.regress_machine.proofs.ByteTexts.{utf8_text-ReadsBytes, ascii_text-ReadsBytes}
+use Rattle.regress_machine.proofs.ByteProgramTextLemmas.{utf8_text-ReadsBytes, ascii_text-ReadsBytes}
 use Rattle.regress_machine.proofs.byte_texts_are_read.Goals as goal
 
 pub returns : goal.returns

@@ -1,4 +1,4 @@
-use Rattle.regress_machine.proofs.Tables.{covered-nothing}
+use Rattle.regress_machine.proofs.FirstSetTableLemmas.{covered-nothing}
 use Rattle.regress_machine.proofs.covered_tables_exclude.Goals as goal
 
 pub returns : goal.returns

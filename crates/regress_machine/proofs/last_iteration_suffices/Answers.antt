@@ -1,4 +1,4 @@
-use Rattle.regress_machine.proofs.Idle.{last-iteration-will-do}
+use Rattle.regress_machine.proofs.LoopReadingNothingLemmas.{last-iteration-will-do}
 use Rattle.regress_machine.proofs.last_iteration_suffices.Goals as goal
 
 pub returns : goal.returns

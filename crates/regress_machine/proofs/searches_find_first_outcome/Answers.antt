@@ -1,4 +1,4 @@
-use Rattle.regress_machine.proofs.Whole.{searches-find}
+use Rattle.regress_machine.proofs.TreeCodeOutcomes.{searches-find}
 use Rattle.regress_machine.proofs.searches_find_first_outcome.Goals as goal
 
 pub returns : goal.returns

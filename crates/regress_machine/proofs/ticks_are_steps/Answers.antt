@@ -1,4 +1,4 @@
-use Rattle.regress_machine.proofs.Follows.{ticks-steps}
+use Rattle.regress_machine.proofs.SearchResultLemmas.{ticks-steps}
 use Rattle.regress_machine.proofs.ticks_are_steps.Goals as goal
 
 pub returns : goal.returns

@@ -16,9 +16,8 @@ impl Regex {
     /// Returns the match of highest priority in `text` that begins at byte offset `at`, which is a
     /// character boundary (`is_char_boundary`) or past the end.
     ///
-    /// Returns `None` exactly if no match begins there. No other start position is tried, so the
-    /// cost is that of one attempt. What precedes the offset is part of the text, as in
-    /// `find_from`.
+    /// Returns `None` exactly if no match begins there. No other start position is tried.
+    /// What precedes the offset is part of the text, as in `find_from`.
     ///
     /// In `xab`, the match of `a|ab` at 1 is `1..2`, and at 0 there is none (tested in
     /// `test_searches`).

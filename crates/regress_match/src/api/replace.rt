@@ -3,7 +3,7 @@
 ghost use Rattle.std.specs.Prelude.{◌≡◌, ◌≤◌, ◌++◌, IfErr, IfOk, IsCharBoundary, drop, false, slice_range, string_bytes, take};
 ghost use Rattle.regex_meaning.specs.Replace.{replaced};
 ghost use Rattle.regress_search.specs.MatchesAsSpecAnswers.{answer_of};
-ghost use Rattle.regress_match.specs.{Laws.{WholeMatchesGiveBack}, ProgramTreesAndAnswers.{utf8_answers}, CompileErrors.{IsOutOfMemory}};
+ghost use Rattle.regress_match.specs.{Laws.{ReplacingByMatchKeepsText}, ProgramTreesAndAnswers.{utf8_answers}, CompileErrors.{IsOutOfMemory}};
 ghost use Rattle.regress_match.specs.ExpansionsAndMatchRanges.{MatchFitsText, MatchesFitTextInOrderFrom, matches_with_expansions};
 
 mod closures;
@@ -61,8 +61,8 @@ impl Regex {
 }
 
 /// States that replacing the first match, or all matches, by `$0` gives the text back.
-pub fn whole_matches_give_back()
-    ensures { WholeMatchesGiveBack }
+pub fn replacing_by_match_keeps_text()
+    ensures { ReplacingByMatchKeepsText }
 {}
 
 // Appends the text before a match, and returns the offset after the match.

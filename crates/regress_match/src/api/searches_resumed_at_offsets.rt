@@ -20,8 +20,8 @@ use regress_search::search_loop::SingleAttemptExecutor;
 pub struct Step {
     /// The match.
     pub found: Match,
-    /// The offset in units from which the list continues. If the list ends, it is `usize::MAX`,
-    /// which is past the end of the text.
+    /// The offset in units from which the list continues. If the list ends, it is past the end of
+    /// the text (tested).
     pub next: usize,
 }
 

@@ -9,7 +9,7 @@ ghost use Rattle.regress_match.specs.CompileErrors.{IsOutOfMemory};
 ghost use Rattle.regress_match.specs.ExpansionsAndMatchRanges.{MatchesFitTextInOrderFrom};
 ghost use Rattle.regress_bounded.specs.CostsOfAttempts.{IteratorBeginsSearches};
 ghost use Rattle.regress_search.specs.CostsOfCalls.{without_costs};
-ghost use Rattle.regress_match.specs.WorkBounds.{IsHigherOfProgramWorkBounds, IsPatternPlain, IsPatternUnboundedBy, YieldsMatchesIfWorkSuffices, higher};
+ghost use Rattle.regress_match.specs.WorkBounds.{IsHigherOfProgramWorkBounds, HasNoLookaroundOrBackref, IsPatternUnboundedBy, YieldsMatchesIfWorkSuffices, higher};
 
 use crate::api::{Regex, SearchError};
 use regress_bounded::executor::BoundedExecutor;
@@ -43,13 +43,13 @@ pub struct BoundedRegex<'r> {
 impl<'r> Model for BoundedRegex<'r> {
     ghost use Rattle.std.specs.Coded.{codes};
     ghost use Rattle.regex_pattern_front.specs.contracts.ir.Node as node;
-    ghost use Rattle.regress_match.specs.WorkBounds.{AreBoundsOf, BoundedView, higher_of};
+    ghost use Rattle.regress_match.specs.WorkBounds.{AreBoundsOf, BoundedView, higher_bound_of};
 
     ghost Value = { BoundedView };
 
     ghost coded = { Prim.hlevel (codes, node.the_row.coded) };
 
-    ghost view = { λ b. record { re = b.re.now; per_unit = higher_of b.bytes b.units } };
+    ghost view = { λ b. record { re = b.re.now; per_unit = higher_bound_of b.bytes b.units } };
 
     ghost invariant = { λ b. AreBoundsOf b.re.now b.bytes b.units };
 }
@@ -64,12 +64,12 @@ impl Regex {
     ///
     /// - `Lookaround`, `Backreference` if the pattern has one.
     /// - `Count` if the counts of its loops are too large, or its loops are nested too deeply.
-    /// - `Price` if the bound is too large.
+    /// - `BoundTooLarge` if the bound is too large.
     /// - `Memory` if an allocation for computing the bound fails.
     pub fn bounded(&self) -> Result<BoundedRegex<'_>, Unbounded>
         ensures pattern { IfOk result (λ bounded. bounded.re ≡ self.now) }
         ensures enough { IfOk result (λ bounded. IsHigherOfProgramWorkBounds self.now bounded.per_unit) }
-        ensures plain { OnOk result (IsPatternPlain self.now) }
+        ensures plain { OnOk result (HasNoLookaroundOrBackref self.now) }
         ensures refused { IfErr result (IsPatternUnboundedBy self.now) }
     {
         let units = WorkBound::bound_for_units(self.unit_program())?;
@@ -132,8 +132,7 @@ impl<'r> BoundedRegex<'r> {
     ) -> Result<MatchesInWork<'r, Utf8Input<'t>>, SearchError>
         requires { IsCharBoundary text.now start ⊎ (length text.now < start) }
         ensures yields { IfOk result (λ it. YieldsMatchesIfWorkSuffices (tree_for_byte_units self.now.re)
-            (bytes_as_utf8_text self.now.re text.now)
-            start self.now.per_unit work (without_costs it)) }
+            (bytes_as_utf8_text self.now.re text.now) start self.now.per_unit work (without_costs it)) }
         ensures begins { let e = ⟦<BoundedExecutor<'r, Utf8Input<'t>> as MatchProducer>⟧ in
             IfOk result (IteratorBeginsSearches e (tree_for_byte_units self.now.re)
             (bytes_as_utf8_text self.now.re text.now) start) }
@@ -162,8 +161,7 @@ impl<'r> BoundedRegex<'r> {
     ) -> Result<MatchesInWork<'r, AsciiInput<'t>>, SearchError>
         requires { IsAscii text.now }
         ensures yields { IfOk result (λ it. YieldsMatchesIfWorkSuffices (tree_for_byte_units self.now.re)
-            (bytes_as_ascii_text self.now.re text.now)
-            start self.now.per_unit work (without_costs it)) }
+            (bytes_as_ascii_text self.now.re text.now) start self.now.per_unit work (without_costs it)) }
         ensures begins { let e = ⟦<BoundedExecutor<'r, AsciiInput<'t>> as MatchProducer>⟧ in
             IfOk result (IteratorBeginsSearches e (tree_for_byte_units self.now.re)
             (bytes_as_ascii_text self.now.re text.now) start) }
@@ -193,8 +191,7 @@ impl<'r> BoundedRegex<'r> {
     ) -> Result<MatchesInWork<'r, Utf16Input<'t>>, SearchError>
         requires { IsTrue (is_boundary_of text.now start) ⊎ (length text.now < start) }
         ensures yields { IfOk result (λ it. YieldsMatchesIfWorkSuffices (tree_for_16_bit_units self.now.re)
-            (units_as_utf16_text self.now.re text.now)
-            start self.now.per_unit work (without_costs it)) }
+            (units_as_utf16_text self.now.re text.now) start self.now.per_unit work (without_costs it)) }
         ensures begins { let e = ⟦<BoundedExecutor<'r, Utf16Input<'t>> as MatchProducer>⟧ in
             IfOk result (IteratorBeginsSearches e (tree_for_16_bit_units self.now.re)
             (units_as_utf16_text self.now.re text.now) start) }
@@ -222,8 +219,7 @@ impl<'r> BoundedRegex<'r> {
         work: u64,
     ) -> Result<MatchesInWork<'r, Ucs2Input<'t>>, SearchError>
         ensures yields { IfOk result (λ it. YieldsMatchesIfWorkSuffices (tree_for_16_bit_units self.now.re)
-            (units_as_ucs2_text self.now.re text.now)
-            start self.now.per_unit work (without_costs it)) }
+            (units_as_ucs2_text self.now.re text.now) start self.now.per_unit work (without_costs it)) }
         ensures begins { let e = ⟦<BoundedExecutor<'r, Ucs2Input<'t>> as MatchProducer>⟧ in
             IfOk result (IteratorBeginsSearches e (tree_for_16_bit_units self.now.re)
             (units_as_ucs2_text self.now.re text.now) start) }

@@ -1,4 +1,4 @@
-use Rattle.regress_memo.proofs.Matches.{matches-together}
+use Rattle.regress_memo.proofs.AllMatchesWorkLemmas.{matches-together}
 use Rattle.regress_memo.proofs.all_matches_work_is_bounded.Goals as goal
 
 pub returns : goal.returns

@@ -1,4 +1,4 @@
-use Rattle.regress_memo.proofs.RunKeys.{runs-have-keys}
+use Rattle.regress_memo.proofs.CharLoopKeyLemmas.{runs-have-keys}
 use Rattle.regress_memo.proofs.char_loops_have_keys.Goals as goal
 
 pub returns : goal.returns

@@ -1,4 +1,4 @@
-use Rattle.regress_memo.proofs.Codes.{plans-tell}
+use Rattle.regress_memo.proofs.LoopDataKeyCodeLemmas.{plans-tell}
 use Rattle.regress_memo.proofs.codes_distinguish.Goals as goal
 
 pub returns : goal.returns

@@ -1,4 +1,4 @@
-use Rattle.regress_memo.proofs.Distinct.{distinct-few}
+use Rattle.regress_memo.proofs.DistinctListLemmas.{distinct-few}
 use Rattle.regress_memo.proofs.distinct_keys_are_few.Goals as goal
 
 pub returns : goal.returns

@@ -1,4 +1,4 @@
-use Rattle.regress_memo.proofs.Runs.{runs-begin}
+use Rattle.regress_memo.proofs.CharLoopExitLemmas.{runs-begin}
 use Rattle.regress_memo.proofs.greedy_threads_split.Goals as goal
 
 pub returns : goal.returns

@@ -1,4 +1,4 @@
-use Rattle.regress_memo.proofs.Onward.{turns-move-on}
+use Rattle.regress_memo.proofs.RightwardStepLemmas.{turns-move-on}
 use Rattle.regress_memo.proofs.insns_move_forward.Goals as goal
 
 pub returns : goal.returns

@@ -1,4 +1,4 @@
-use Rattle.regress_memo.proofs.Looks.{looks-decided}
+use Rattle.regress_memo.proofs.SharedMemoLookaroundLemmas.{looks-decided}
 use Rattle.regress_memo.proofs.known_contents_decide_lookarounds.Goals as goal
 
 pub returns : goal.returns

@@ -1,4 +1,4 @@
-use Rattle.regress_memo.proofs.RecordingRows.{row-right}
+use Rattle.regress_memo.proofs.LivenessExampleLemmas.{row-right}
 use Rattle.regress_memo.proofs.liveness_examples_are_right.Goals as goal
 
 pub returns : goal.returns

@@ -1,4 +1,4 @@
-use Rattle.regress_memo.proofs.Keys.{nothing-returns}
+use Rattle.regress_memo.proofs.MemoKeyLemmas.{nothing-returns}
 use Rattle.regress_memo.proofs.no_state_recurs_while_pending.Goals as goal
 
 pub returns : goal.returns

@@ -1,4 +1,4 @@
-use Rattle.regress_memo.proofs.Keys.{places-decide}
+use Rattle.regress_memo.proofs.MemoKeyLemmas.{places-decide}
 use Rattle.regress_memo.proofs.positions_decide_failure.Goals as goal
 
 pub returns : goal.returns

@@ -1,4 +1,4 @@
-use Rattle.regress_memo.proofs.Turns.{noted-stays}
+use Rattle.regress_memo.proofs.MemoSearchLemmas.{noted-stays}
 use Rattle.regress_memo.proofs.recorded_failures_stay_right.Goals as goal
 
 pub returns : goal.returns

@@ -1,4 +1,4 @@
-use Rattle.regress_memo.proofs.Tight.{prices-few}
+use Rattle.regress_memo.proofs.RecordingCostLemmas.{prices-few}
 use Rattle.regress_memo.proofs.recording_costs_linear_in_program.Goals as goal
 
 pub returns : goal.returns

@@ -1,4 +1,4 @@
-use Rattle.regress_memo.proofs.Turns.{turns-onward}
+use Rattle.regress_memo.proofs.MemoSearchLemmas.{turns-onward}
 use Rattle.regress_memo.proofs.searches_move_forward.Goals as goal
 
 pub returns : goal.returns

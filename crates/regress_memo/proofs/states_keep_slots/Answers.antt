@@ -1,4 +1,4 @@
-use Rattle.regress_memo.proofs.LaidOut.{states-stay}
+use Rattle.regress_memo.proofs.PreservedSlotLemmas.{states-stay}
 use Rattle.regress_memo.proofs.states_keep_slots.Goals as goal
 
 pub returns : goal.returns

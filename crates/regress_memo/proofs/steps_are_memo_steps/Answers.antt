@@ -1,4 +1,4 @@
-use Rattle.regress_memo.proofs.Weights.{turns-give}
+use Rattle.regress_memo.proofs.ThreadPotentialLemmas.{turns-give}
 use Rattle.regress_memo.proofs.steps_are_memo_steps.Goals as goal
 
 pub returns : goal.returns

@@ -1,4 +1,4 @@
-use Rattle.regress_memo.proofs.Weights.{turns-leave}
+use Rattle.regress_memo.proofs.ThreadPotentialLemmas.{turns-leave}
 use Rattle.regress_memo.proofs.steps_are_sound.Goals as goal
 
 pub returns : goal.returns

@@ -1,4 +1,4 @@
-use Rattle.regress_memo.proofs.Plans.{plans-take}
+use Rattle.regress_memo.proofs.MemoPlanLemmas.{plans-take}
 use Rattle.regress_memo.proofs.steps_below_records_are_known.Goals as goal
 
 pub returns : goal.returns

@@ -1,4 +1,4 @@
-use Rattle.regress_memo.proofs.Behind.{rows-at-hand}
+use Rattle.regress_memo.proofs.SkippedLookaroundLemmas.{rows-at-hand}
 use Rattle.regress_memo.proofs.threads_stay_equivalent.Goals as goal
 
 pub returns : goal.returns

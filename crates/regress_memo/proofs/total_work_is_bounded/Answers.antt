@@ -1,4 +1,4 @@
-use Rattle.regress_memo.proofs.Starts.{attempts-few}
+use Rattle.regress_memo.proofs.SuccessiveMatchLemmas.{attempts-few}
 use Rattle.regress_memo.proofs.total_work_is_bounded.Goals as goal
 
 pub returns : goal.returns

@@ -6,7 +6,7 @@ ghost use Rattle.regex_meaning.specs.CodeUnitOffsets.{IsBoundary};
 ghost use Rattle.regress_program.specs.InsnsAsSpec.{insn_as_spec_insn};
 ghost use Rattle.regress_machine.specs.InsnEffects.{state_after_char_loop_to_offset, IsNotStuck};
 ghost use Rattle.regress_search.specs.OffsetsAfterMatchedInsns.{ByteInsnHasByteText, char_test_of_insn};
-ghost use Rattle.regress_pikevm.specs.{InsnEffects.{effect_of_char_loop, ReachesExits, PushesExit}, States.{state_of, next_threads}};
+ghost use Rattle.regress_pikevm.specs.{InsnEffects.{effect_of_char_loop, ReachesExits, PushesExit}, States.{state_of, effect_of_next_states}};
 
 use super::insn_matchers;
 use super::states::{NextStates, State, copy_state};
@@ -37,15 +37,15 @@ pub(crate) fn execute_char_loop<Input: InputIndexer, Dir: Direction>(
         s.program.now (Input.text s.input) Dir.FORWARD run body state) }
     requires bytes { ByteInsnHasByteText body (Input.text searched.now.input) Input.Units.ARE_BYTES }
     requires within { state.ip + 2 < 2 ^ 64 }
-    ensures { let s = searched.now in IfOk result (λ t. next_threads Input.Position.offset t
+    ensures { let s = searched.now in IfOk result (λ t. effect_of_next_states Input.Position.offset t
         ≡ effect_of_char_loop Input.Position.offset s.program.now (Input.text s.input) Dir.FORWARD run body state) }
 {
     let (tries, states) = loop_exits(run, body, searched, dir, &state)?;
-    Ok(NextStates::CharLoopExits(tries, preferred_last(run.greedy, states)))
+    Ok(NextStates::CharLoopExits(tries, states_by_priority(run.greedy, states)))
 }
 
 // Orders states for rising numbers of iterations so that the preferred one is last.
-fn preferred_last<P: PositionType>(greedy: bool, mut states: Vec<State<P>>) -> Vec<State<P>>
+fn states_by_priority<P: PositionType>(greedy: bool, mut states: Vec<State<P>>) -> Vec<State<P>>
     ensures { result.items ≡ (if greedy then states.items else reverse states.items) }
 {
     if !greedy {
@@ -64,8 +64,7 @@ fn loop_exits<Input: InputIndexer, Dir: Direction>(
     state: &State<Input::Position>,
 ) -> Result<(usize, Vec<State<Input::Position>>), AllocError>
     requires test { IsSome (char_test_of_insn searched.now.program.now body) }
-    requires boundary { IsBoundary (Input.text searched.now.input)
-        (Input.Position.offset state.now.pos) }
+    requires boundary { IsBoundary (Input.text searched.now.input) (Input.Position.offset state.now.pos) }
     requires bytes { ByteInsnHasByteText body (Input.text searched.now.input) Input.Units.ARE_BYTES }
     requires within { state.now.ip + 2 < 2 ^ 64 }
     ensures { let s = searched.now in IfOk result (λ r. ReachesExits Input.Position.offset

@@ -2,14 +2,14 @@
 
 ghost use Rattle.std.specs.Prelude.{◌≡◌, ◌<◌, ◌≤◌, ◌^◌, ◌+◌, IfOk, IsTrue, Some, map, [], ◌∷◌, length};
 ghost use Rattle.regex_meaning.specs.CodeUnitOffsets.{units};
-ghost use Rattle.regex_pattern_front.specs.AstToSpecTree.{sameness_of, tree_of};
+ghost use Rattle.regex_pattern_front.specs.AstToSpecTree.{spec_sameness_of, tree_of};
 ghost use Rattle.regress_input.specs.CharAndByteReadsFromOffset.{direction_of_forward_flag};
 ghost use Rattle.regress_program.specs.{CompilationOfTreesAsFunction.{compiled}, InsnsAsSpec.{insn_as_spec_insn, loop_fields_as_spec}};
 ghost use Rattle.regress_machine.specs.Machine.{running, waiting, goes, asks, state_with_ip, state_at_next_ip, range_swapped_if_leftwards, iterate_or_leave_at_loop_head};
 ghost use Rattle.regress_machine.specs.Machine.{effect_at_iteration_end, loop_again_effect};
 ghost use Rattle.regress_machine.specs.InsnEffects.{begin_capture_group_effect, end_capture_group_effect, reset_capture_group_effect, body_entered_with_iteration_count};
 ghost use Rattle.regress_machine.specs.InsnEffects.{IsNotStuck, is_read_or_assertion_insn};
-ghost use Rattle.regress_pikevm.specs.{InsnEffects.{effect_at, effect_of_insn, effect_of_range_backref, effect_of_backref}, States.{state_of, loop_of, next_threads}};
+ghost use Rattle.regress_pikevm.specs.{InsnEffects.{effect_at, effect_of_insn, effect_of_range_backref, effect_of_backref}, States.{state_of, loop_of, effect_of_next_states}};
 ghost use Rattle.regress_search.specs.OffsetsAfterMatchedInsns.{ByteInsnHasByteText};
 
 use super::char_loops::{CharLoopBoundsAndGreed, execute_char_loop};
@@ -36,7 +36,7 @@ pub fn execute_insn<Input: InputIndexer, Dir: Direction>(
     requires executable { let s = searched.now in
         IsNotStuck (effect_at Input.Position.offset s.program.now (Input.text s.input) Dir.FORWARD state) }
     requires inside { Input.Position.offset state.pos ≤ units (Input.text searched.now.input) }
-    ensures { let s = searched.now in IfOk result (λ t. next_threads Input.Position.offset t
+    ensures { let s = searched.now in IfOk result (λ t. effect_of_next_states Input.Position.offset t
         ≡ effect_at Input.Position.offset s.program.now (Input.text s.input) Dir.FORWARD state) }
 {
     let insn = insns[state.ip];
@@ -57,7 +57,7 @@ fn perform<Input: InputIndexer, Dir: Direction>(
     requires bytes { ByteInsnHasByteText insn (Input.text searched.now.input) Input.Units.ARE_BYTES }
     requires inside { Input.Position.offset state.pos ≤ units (Input.text searched.now.input) }
     requires within { state.ip + 1 < 2 ^ 64 }
-    ensures { let s = searched.now in IfOk result (λ t. next_threads Input.Position.offset t
+    ensures { let s = searched.now in IfOk result (λ t. effect_of_next_states Input.Position.offset t
         ≡ effect_of_insn Input.Position.offset s.program.now (Input.text s.input) Dir.FORWARD insn state) }
 {
     match insn {
@@ -115,7 +115,7 @@ fn execute_test<Input: InputIndexer, Dir: Direction>(
     requires bytes { ByteInsnHasByteText insn (Input.text searched.now.input) Input.Units.ARE_BYTES }
     requires inside { Input.Position.offset state.pos ≤ units (Input.text searched.now.input) }
     requires within { state.ip + 1 < 2 ^ 64 }
-    ensures { let s = searched.now in next_threads Input.Position.offset result
+    ensures { let s = searched.now in effect_of_next_states Input.Position.offset result
         ≡ effect_of_insn Input.Position.offset s.program.now (Input.text s.input) Dir.FORWARD insn state }
 {
     if insn_matchers::read_or_assertion_insn_matches(searched, insn, dir, &mut state.pos) {
@@ -129,7 +129,7 @@ fn execute_test<Input: InputIndexer, Dir: Direction>(
 // Forks to the next instruction, which is preferred, and to the one with index `secondary`.
 fn fork<P: PositionType>(secondary: u32, mut state: State<P>) -> Result<NextStates<P>, AllocError>
     requires { state.ip + 1 < 2 ^ 64 }
-    ensures { let s = state_of P.offset state in IfOk result (λ t. next_threads P.offset t
+    ensures { let s = state_of P.offset state in IfOk result (λ t. effect_of_next_states P.offset t
         ≡ goes (running (state_at_next_ip s) ∷ waiting (state_with_ip secondary s) ∷ [])) }
 {
     let mut second = copy_state(&state)?;
@@ -147,7 +147,7 @@ fn fork_lookaround<P: PositionType>(
     mut state: State<P>,
 ) -> Result<NextStates<P>, AllocError>
     requires { state.ip + 1 < 2 ^ 64 }
-    ensures { let s = state_of P.offset state in IfOk result (λ t. next_threads P.offset t
+    ensures { let s = state_of P.offset state in IfOk result (λ t. effect_of_next_states P.offset t
         ≡ asks (direction_of_forward_flag forward) negate (state_at_next_ip s) (state_with_ip continuation s)) }
 {
     let mut inner = copy_state(&state)?;
@@ -166,7 +166,7 @@ fn fork_lookaround<P: PositionType>(
 fn open_group<P: PositionType>(id: CaptureGroupID, mut state: State<P>) -> NextStates<P>
     requires executable { IsNotStuck (begin_capture_group_effect id (state_of P.offset state)) }
     requires within { state.ip + 1 < 2 ^ 64 }
-    ensures { next_threads P.offset result ≡ begin_capture_group_effect id (state_of P.offset state) }
+    ensures { effect_of_next_states P.offset result ≡ begin_capture_group_effect id (state_of P.offset state) }
 {
     let id = id as usize;
     state.ip += 1;
@@ -183,8 +183,8 @@ fn close_group<P: PositionType, Dir: Direction>(
     requires executable { IsNotStuck (end_capture_group_effect id (direction_of_forward_flag Dir.FORWARD)
         (state_of P.offset state)) }
     requires within { state.ip + 1 < 2 ^ 64 }
-    ensures { next_threads P.offset result ≡ end_capture_group_effect id (direction_of_forward_flag Dir.FORWARD)
-        (state_of P.offset state) }
+    ensures { effect_of_next_states P.offset result ≡ end_capture_group_effect id
+        (direction_of_forward_flag Dir.FORWARD) (state_of P.offset state) }
 {
     let id = id as usize;
     let start = state.starts[id];
@@ -205,7 +205,7 @@ fn ordered_span<P: PositionType, Dir: Direction>(_dir: Dir, from: P, to: P) -> (
 fn reset_group<P: PositionType>(id: CaptureGroupID, mut state: State<P>) -> NextStates<P>
     requires executable { IsNotStuck (reset_capture_group_effect id (state_of P.offset state)) }
     requires within { state.ip + 1 < 2 ^ 64 }
-    ensures { next_threads P.offset result ≡ reset_capture_group_effect id (state_of P.offset state) }
+    ensures { effect_of_next_states P.offset result ≡ reset_capture_group_effect id (state_of P.offset state) }
 {
     state.ip += 1;
     state.groups[id as usize] = None;
@@ -223,11 +223,11 @@ fn execute_backref<Input: InputIndexer, Dir: Direction>(
     state: State<Input::Position>,
 ) -> NextStates<Input::Position>
     requires executable { IsNotStuck (effect_of_backref Input.Position.offset
-        (Input.text searched.now.input) Dir.FORWARD (sameness_of same) group state) }
+        (Input.text searched.now.input) Dir.FORWARD (spec_sameness_of same) group state) }
     requires within { state.ip + 1 < 2 ^ 64 }
     ensures { let at = Input.Position.offset in
-        next_threads at result ≡ effect_of_backref at (Input.text searched.now.input) Dir.FORWARD (sameness_of same)
-        group state }
+        effect_of_next_states at result ≡ effect_of_backref at (Input.text searched.now.input) Dir.FORWARD
+        (spec_sameness_of same) group state }
 {
     let range = state.groups[group as usize];
     match_range_again(range, same, searched, dir, state)
@@ -242,11 +242,11 @@ fn match_range_again<Input: InputIndexer, Dir: Direction>(
     mut state: State<Input::Position>,
 ) -> NextStates<Input::Position>
     requires executable { IsNotStuck (effect_of_range_backref Input.Position.offset
-        (Input.text searched.now.input) Dir.FORWARD (sameness_of same) range state) }
+        (Input.text searched.now.input) Dir.FORWARD (spec_sameness_of same) range state) }
     requires within { state.ip + 1 < 2 ^ 64 }
     ensures { let at = Input.Position.offset in
-        next_threads at result ≡ effect_of_range_backref at (Input.text searched.now.input) Dir.FORWARD
-        (sameness_of same) range state }
+        effect_of_next_states at result ≡ effect_of_range_backref at (Input.text searched.now.input) Dir.FORWARD
+        (spec_sameness_of same) range state }
 {
     let Some(span) = range else {
         state.ip += 1;
@@ -273,7 +273,7 @@ fn begin_iteration<P: PositionType>(
     requires executable { IsNotStuck (iterate_or_leave_at_loop_head (loop_fields_as_spec fields) begin k
         (state_of P.offset state)) }
     requires within { begin + 1 < 2 ^ 64 }
-    ensures { IfOk result (λ t. next_threads P.offset t
+    ensures { IfOk result (λ t. effect_of_next_states P.offset t
         ≡ iterate_or_leave_at_loop_head (loop_fields_as_spec fields) begin k (state_of P.offset state)) }
 {
     let may_leave = fields.min_iters <= k;
@@ -323,9 +323,10 @@ fn end_body<P: PositionType>(
     begin: usize,
     state: State<P>,
 ) -> Result<NextStates<P>, AllocError>
-    requires executable { IsNotStuck (loop_again_effect (Some (insn_as_spec_insn head)) begin (state_of P.offset state)) }
+    requires executable { IsNotStuck (loop_again_effect (Some (insn_as_spec_insn head)) begin
+        (state_of P.offset state)) }
     requires within { begin + 1 < 2 ^ 64 }
-    ensures { IfOk result (λ t. next_threads P.offset t
+    ensures { IfOk result (λ t. effect_of_next_states P.offset t
         ≡ loop_again_effect (Some (insn_as_spec_insn head)) begin (state_of P.offset state)) }
 {
     match head {
@@ -349,7 +350,7 @@ fn end_iteration<P: PositionType>(
     requires executable { IsNotStuck
         (effect_at_iteration_end (loop_fields_as_spec fields) begin (loop_of P.offset last) (state_of P.offset state)) }
     requires within { begin + 1 < 2 ^ 64 }
-    ensures { IfOk result (λ t. next_threads P.offset t
+    ensures { IfOk result (λ t. effect_of_next_states P.offset t
         ≡ effect_at_iteration_end (loop_fields_as_spec fields) begin (loop_of P.offset last)
         (state_of P.offset state)) }
 {

@@ -5,7 +5,7 @@ ghost use Rattle.std.specs.Option.{option_to_list};
 ghost use Rattle.regex_pattern_front.specs.AstToSpecTree.{tree_of};
 ghost use Rattle.regress_program.specs.CompilationOfTreesAsFunction.{compiled};
 ghost use Rattle.regress_machine.specs.{Machine.{after_lookaround}, SearchFindsFirstOutcomeAtPlace.{state_before_first_insn}};
-ghost use Rattle.regress_pikevm.specs.States.{state_of, running_thread};
+ghost use Rattle.regress_pikevm.specs.States.{state_of, current_thread_if_any};
 
 use regress_input::position::PositionType;
 use regress_program::insn::Program;
@@ -106,7 +106,7 @@ pub(crate) fn resume_after_lookaround<P: PositionType>(
     after: State<P>,
     found: Option<State<P>>,
 ) -> Option<State<P>>
-    ensures { running_thread P.offset result
+    ensures { current_thread_if_any P.offset result
         ≡ after_lookaround negate (state_of P.offset after) (option_map (λ s. state_of P.offset s) found) }
 {
     match found {

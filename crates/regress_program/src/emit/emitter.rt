@@ -6,7 +6,7 @@ ghost use Rattle.regex_meaning.specs.{Tree.{every_node_passes}, WellFormedTrees.
 ghost use Rattle.regex_meaning.specs.CompilationRelation.{EnterLoop, lookaround_insn};
 ghost use Rattle.regex_pattern_front.specs.OptimizedTrees.{reads_one_character as is_one_character};
 ghost use Rattle.regex_pattern_front.specs.AstToSpecTree.{class_as_spec, node_of};
-ghost use Rattle.regress_program.specs.InsnsAsSpecInsns.{loop_fields_as_spec};
+ghost use Rattle.regress_program.specs.InsnsAsSpec.{loop_fields_as_spec};
 ghost use Rattle.regress_program.specs.{InsnsAsSpec.{insn_as_spec_insn}, CompilationOfTreesAsFunction.{group_reset_insns}};
 ghost use Rattle.regress_program.specs.LeafNodesAndOptimizableLoops.{is_leaf};
 ghost use Rattle.regress_program.specs.EmitterStateAndAppendedCode.{HasIndexRoomForNode, emitter_state, with_insn_appended, with_insns_appended, with_insn_at, with_loop};

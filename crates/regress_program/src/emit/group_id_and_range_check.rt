@@ -2,7 +2,7 @@
 #![tactic(auto, unfolding(regex_pattern_front::specs::AstToSpecTree::node_of, crate::specs::GroupIdCheck::are_distinct_unseen, crate::specs::GroupIdCheck::least_group_id, crate::specs::GroupIdCheck::id_end, crate::specs::InnerNodeCountMeasure::inner_node_count))]
 
 ghost use Rattle.std.specs.Prelude.{◌≡◌, is_some, IfSome, ◌≤◌, ◌<◌, ◌^◌, ◌&&◌, ◌||◌, ◌+◌, ◌-◌, ◌∷◌, [], not, ◌==◌, ℕ, false, length, IsTrue, nat_le};
-ghost use Rattle.regex_meaning.specs.{Tree.{alt, group_ids, every_node_passes}, WellFormedTrees.{names_the_groups_inside}};
+ghost use Rattle.regex_meaning.specs.{Tree.{alt, group_ids, every_node_passes}, WellFormedTrees.{has_exact_group_range}};
 ghost use Rattle.regex_pattern_front.specs.AstToSpecTree.{node_of};
 ghost use Rattle.regress_program.specs.LeafNodesAndOptimizableLoops.{cat_of};
 ghost use Rattle.regress_program.specs.GroupIdCheck.{is_group_id_seen, are_distinct_unseen, has_exact_group_ids};
@@ -105,8 +105,7 @@ fn span_of_many(root: &Node) -> Option<GroupIdCountAndBounds>
 // twice, or if a loop or a lookaround does not name exactly the groups inside it. If the bitmap
 // does not have a bit for each possible id, the ids without a bit count as set.
 fn span_in(bits: &mut [u64], root: &Node) -> Option<GroupIdCountAndBounds>
-    ensures in_text { is_some result ≡ has_exact_group_ids (is_group_id_seen bits.old)
-        (node_of root.now) }
+    ensures in_text { is_some result ≡ has_exact_group_ids (is_group_id_seen bits.old) (node_of root.now) }
     ensures span { IfSome result (λ span. group_id_span_as_numbers span ≡ count_and_span_of_group_ids
         (group_ids (node_of root.now))) }
     ensures high { IfSome result (λ span. span.high ≤ 65536) }
@@ -281,8 +280,7 @@ impl GroupIdSpanDuringCheck {
         end: CaptureGroupID,
         contents: &Node,
     ) -> bool
-        ensures found { result ≡ node_fills_id_range (is_group_id_seen bits.old) start end
-            (node_of contents.now) }
+        ensures found { result ≡ node_fills_id_range (is_group_id_seen bits.old) start end (node_of contents.now) }
         ensures span { IsTrue result
             → JoinsGroupIdSpan (group_ids (node_of contents.now)) self.old.inside self.new.inside }
         ensures seen { IsTrue result

@@ -194,8 +194,7 @@ impl Emitter {
         requires sets { IsTrue (every_node_passes set_sizes_and_characters_fit_instructions (node_of others.now)) }
         requires room { FitsIndexWidths (with_alternatives_emitted mode.unicode mode.behind branch
             (node_to_emit_in_mode mode others.now) (emitter_state self.old)) }
-        ensures { OnOk result (BeginsEmittingAlternatives mode branch
-            (node_to_emit_in_mode mode others.now)
+        ensures { OnOk result (BeginsEmittingAlternatives mode branch (node_to_emit_in_mode mode others.now)
             (emitter_and_pending_parts self.old rest.old) (emitter_and_pending_parts self.new rest.new)) }
     {
         let jump = self.next();
@@ -217,8 +216,7 @@ impl Emitter {
         requires sets { IsTrue (every_node_passes set_sizes_and_characters_fit_instructions (node_of contents.now)) }
         requires room { HasIndexRoomForNode (emitter_state self.old)
             (capture_group id [] (node_to_emit_in_mode mode contents.now)) }
-        ensures { OnOk result (BeginsEmittingNode mode (capture_group id [] (node_to_emit_in_mode mode
-            contents.now))
+        ensures { OnOk result (BeginsEmittingNode mode (capture_group id [] (node_to_emit_in_mode mode contents.now))
             (emitter_and_pending_parts self.old rest.old) (emitter_and_pending_parts self.new rest.new)) }
     {
         self.append_insn(Insn::BeginCaptureGroup(id))?;

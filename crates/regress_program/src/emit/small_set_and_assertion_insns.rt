@@ -2,7 +2,7 @@
 
 ghost use Rattle.std.specs.Prelude.{◌≡◌, ◌≤◌, length};
 ghost use Rattle.regex_meaning.specs.CompilationRelation as layout;
-ghost use Rattle.regex_pattern_front.specs.AstToSpecTree.{anchor_of};
+ghost use Rattle.regex_pattern_front.specs.AstToSpecTree.{spec_anchor_of};
 ghost use Rattle.regress_program.specs.InsnsAsSpec.{insn_as_spec_insn};
 
 use crate::instructions::Insn;
@@ -53,7 +53,7 @@ pub(crate) fn byte_set_insn(members: &[u8]) -> Insn
 
 // Returns the instruction of `^` or `$`.
 pub(crate) fn anchor_insn(anchor_type: AnchorType, multiline: bool) -> Insn
-    ensures { insn_as_spec_insn result ≡ layout.anchor_insn (anchor_of anchor_type) multiline }
+    ensures { insn_as_spec_insn result ≡ layout.anchor_insn (spec_anchor_of anchor_type) multiline }
 {
     match anchor_type {
         AnchorType::StartOfLine => Insn::StartOfLine { multiline },

@@ -7,8 +7,8 @@ ghost use Rattle.regex_meaning.specs.{Tree.{group_ids}, WellFormedTrees.{each_id
 ghost use Rattle.regex_meaning.specs.MatchGroupsByNumberAndName.{capturing_group_ids_and_names, group_names_by_id as names_of_tree};
 ghost use Rattle.regex_pattern_front.specs.AstToSpecTree.{node_of, group_name_bytes};
 ghost use Rattle.regress_program.specs.StoringGroupNamesById.{IsNameListAfterStoringNames, StoresOrPushesNodes, PushesTwoNodes};
-ghost use Rattle.regress_program.specs.StoringGroupNamesById.{PushesNamedNodes, is_nameless, tree_has_no_named_groups as is_node_unnamed, node_measure};
-ghost use Rattle.regress_program.specs.StoringGroupNamesById.{naming_measure_of_pending_part};
+ghost use Rattle.regress_program.specs.StoringGroupNamesById.{PushesNamedNodes, is_nameless, tree_has_no_named_groups as is_node_unnamed, naming_measure_of_node};
+ghost use Rattle.regress_program.specs.StoringGroupNamesById.{naming_measure_of_part};
 ghost use Rattle.regress_program.specs.StoringGroupNamesById.{names_in_pending_part};
 ghost use Rattle.regress_program.specs.TryFoldOverTreeNodes.{step_of_test};
 
@@ -83,8 +83,7 @@ fn store_pending<'a>(
 ) -> Result<(), AllocError>
     ensures long { length names.new ≡ length names.old }
     ensures with_names_stored_by_id { OnOk result (StoresOrPushesNodes (names_in_pending_part next.entry)
-        (naming_measure_of_pending_part next.entry)
-        names.old names.new rest.old.items rest.new.items) }
+        (naming_measure_of_part next.entry) names.old names.new rest.old.items rest.new.items) }
 {
     match next {
         NodeOrListWithUnstoredNames::Node(node) => store_node_names(alloc, node, names, rest),
@@ -101,8 +100,7 @@ fn store_node_names<'a>(
 ) -> Result<(), AllocError>
     ensures long { length names.new ≡ length names.old }
     ensures with_names_stored_by_id { OnOk result (StoresOrPushesNodes (capturing_group_ids_and_names
-        (node_of node.now)) (node_measure (node_of node.now))
-        names.old names.new rest.old.items rest.new.items) }
+        (node_of node.now)) (naming_measure_of_node (node_of node.now)) names.old names.new rest.old.items rest.new.items) }
 {
     match node {
         Node::Cat(nodes) => defer_node_list(nodes, rest),
@@ -148,7 +146,7 @@ fn store_group_name<'a>(
     ensures long { length names.new ≡ length names.old }
     ensures with_names_stored_by_id { let named = (id, group_name_bytes name.now) ∷ capturing_group_ids_and_names
         (node_of contents.now) in
-        OnOk result (StoresOrPushesNodes named (node_measure (node_of contents.now) + 1)
+        OnOk result (StoresOrPushesNodes named (naming_measure_of_node (node_of contents.now) + 1)
         names.old names.new rest.old.items rest.new.items) }
 {
     let copy = copy_name(alloc, name)?;
@@ -188,7 +186,7 @@ fn push_pending<'a>(
 }
 
 // Stores a name at the index of an id, if the list has that index.
-#[tactic(auto, using(std::proofs::lemmas::Grind::common_steps, crate::proofs::FilingLemmas::put_past, crate::proofs::FilingLemmas::put_there))]
+#[tactic(auto, using(std::proofs::lemmas::Grind::common_steps, crate::proofs::StoringGroupNamesLemmas::put_past, crate::proofs::StoringGroupNamesLemmas::put_there))]
 fn put(names: &mut [String], id: CaptureGroupID, name: String)
     ensures long { length names.new ≡ length names.old }
     ensures with_names_stored_by_id { map string_bytes names.new

@@ -116,8 +116,7 @@ impl Program {
     // plans.
     pub(crate) fn plan_of_own_code(&self, units: UnitWidth) -> Result<Box<Plan>, AllocError>
         requires { node_insn_count (tree_of self.now).root < 2 ^ 32 }
-        ensures { IfOk result (λ plan.
-            IsPlanOf (is_16_bit_width units) (compiled (tree_of self.now)) plan.value) }
+        ensures { IfOk result (λ plan. IsPlanOf (is_16_bit_width units) (compiled (tree_of self.now)) plan.value) }
     {
         let code = ProgramPartsForPlan {
             insns: self.insns(),

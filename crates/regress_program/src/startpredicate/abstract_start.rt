@@ -32,8 +32,7 @@ pub(crate) enum AbstractStartPredicate<'a> {
 
 // Computes what the node begins with.
 pub(crate) fn abstract_start_of(node: &Node) -> Result<AbstractStartPredicate<'_>, AllocError>
-    ensures beginning { IfOk result (λ b. abstract_start_as_spec b ≡ abstract_start_predicate
-        (node_of node.now)) }
+    ensures beginning { IfOk result (λ b. abstract_start_as_spec b ≡ abstract_start_predicate (node_of node.now)) }
     ensures no_memory { making_node_start_predicate_may_allocate (node_of node.now) ≡ false → IsOk result }
 {
     let mut shared = AbstractStartPredicate::Open;
@@ -53,8 +52,7 @@ fn join_node<'a>(
     node: &'a Node,
 ) -> Result<bool, AllocError>
     ensures shared { OnOk result (abstract_start_as_spec shared.new
-        ≡ join_nonempty_starts (abstract_start_as_spec shared.old)
-        (abstract_start_predicate (node_of node.now))) }
+        ≡ join_nonempty_starts (abstract_start_as_spec shared.old) (abstract_start_predicate (node_of node.now))) }
     ensures reads { IfOk result (λ reads. reads ≡ not (predicate_says_reads_nothing
         (abstract_start_predicate (node_of node.now)))) }
     ensures no_memory { making_node_start_predicate_may_allocate (node_of node.now) ≡ false → IsOk result }
@@ -89,8 +87,7 @@ fn join_node_list<'a>(
     nodes: &'a [Node],
 ) -> Result<bool, AllocError>
     ensures shared { OnOk result (abstract_start_as_spec shared.new
-        ≡ join_nonempty_starts (abstract_start_as_spec shared.old)
-        (abstract_start_predicate (cat_of nodes.now))) }
+        ≡ join_nonempty_starts (abstract_start_as_spec shared.old) (abstract_start_predicate (cat_of nodes.now))) }
     ensures reads { IfOk result (λ reads. reads ≡ not (predicate_says_reads_nothing
         (abstract_start_predicate (cat_of nodes.now)))) }
     ensures no_memory { making_node_start_predicate_may_allocate (cat_of nodes.now) ≡ false → IsOk result }
@@ -148,8 +145,7 @@ fn join_one_arm<'a>(
 fn join_leaf<'a>(shared: &mut AbstractStartPredicate<'a>, node: &'a Node) -> Result<(), AllocError>
     requires { is_leaf (node_of node.now) ≡ true }
     ensures shared { OnOk result (abstract_start_as_spec shared.new
-        ≡ join_nonempty_starts (abstract_start_as_spec shared.old)
-        (abstract_start_predicate (node_of node.now))) }
+        ≡ join_nonempty_starts (abstract_start_as_spec shared.old) (abstract_start_predicate (node_of node.now))) }
     ensures no_memory { making_node_start_predicate_may_allocate (node_of node.now) ≡ false → IsOk result }
 {
     *shared = join_starts(*shared, leaf_start(node)?);
@@ -159,8 +155,7 @@ fn join_leaf<'a>(shared: &mut AbstractStartPredicate<'a>, node: &'a Node) -> Res
 // Computes what a leaf begins with.
 fn leaf_start(node: &Node) -> Result<AbstractStartPredicate<'_>, AllocError>
     requires { is_leaf (node_of node.now) ≡ true }
-    ensures beginning { IfOk result (λ b. abstract_start_as_spec b ≡ abstract_start_predicate
-        (node_of node.now)) }
+    ensures beginning { IfOk result (λ b. abstract_start_as_spec b ≡ abstract_start_predicate (node_of node.now)) }
     ensures no_memory { making_node_start_predicate_may_allocate (node_of node.now) ≡ false → IsOk result }
 {
     match node {

@@ -4,7 +4,7 @@ ghost use Rattle.std.specs.Prelude.{◌≡◌, ℕ, true, Option, Some, None, op
 ghost use Rattle.std.specs.Iterator.{at_most};
 ghost use Rattle.std.specs.Option.{ForSome};
 ghost use Rattle.regex_meaning.specs.{CodeUnitOffsets.{IsBoundary, IsBoundaryOrPastEnd, is_past, offset_within, units}, StepBudget.{answers_within, finishes_within}};
-ghost use Rattle.regress_search.specs.RemainingAnswers.{remaining_answers_from, items_left};
+ghost use Rattle.regress_search.specs.RemainingAnswers.{remaining_answers_from, max_items_left};
 ghost use Rattle.regress_search.specs.MatchesWithinWork.{IsWorkLimitOrMemoryCause, is_work_enough};
 ghost use Rattle.regress_search.specs.CostsOfCalls.{NextYieldsAtCost, WorkMatchesView};
 
@@ -99,7 +99,7 @@ impl<P: WorkLimitedProducer + Drop> Iterator for WorkMatches<P> {
 
     ghost next_gives = { NextYieldsAtCost P.attempt_costs P.tree P.text P.failures };
 
-    ghost remaining = { λ s. at_most (items_left s.remaining) };
+    ghost remaining = { λ s. at_most (max_items_left s.remaining) };
 
     /// Returns the next match. Once there is no other match, or after an error, it always returns
     /// `None`.

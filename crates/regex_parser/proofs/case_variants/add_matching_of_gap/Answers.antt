@@ -3,8 +3,8 @@ use Rattle.regex_meaning.specs.Outcomes.{in_intervals}
 use Rattle.regex_meaning.specs.CharacterClasses.{single_code_point_interval}
 use Rattle.regex_pattern_front.specs.Intervals.{interval_of}
 use Rattle.regex_parser.specs.CaseVariantContracts.{firsts_that_match, is_between}
-use Rattle.regex_parser.proofs.ClassLemmas.{ok-on}
-use Rattle.regex_parser.proofs.GapLemmas.{nearby-added}
+use Rattle.regex_parser.proofs.ClassReaderLemmas.{ok-on}
+use Rattle.regex_parser.proofs.CaseVariantsInGaps.{nearby-added}
 use Rattle.regex_parser.proofs.case_variants.add_matching_of_gap.Goals as goal
 
 pub returns : goal.returns

@@ -1,8 +1,8 @@
 use Rattle.std.proofs.Common.{◌+◌, map, take, refl}
 use Rattle.regex_meaning.specs.Outcomes.{in_intervals}
 use Rattle.regex_pattern_front.specs.Intervals.{interval_of}
-use Rattle.regex_parser.proofs.VariantClosureLemmas.{in-next}
-use Rattle.regex_parser.proofs.GapLemmas.{within-none, within-more, within-all}
+use Rattle.regex_parser.proofs.CaseVariantsOfIntervals.{in-next}
+use Rattle.regex_parser.proofs.CaseVariantsInGaps.{within-none, within-more, within-all}
 use Rattle.regex_parser.proofs.case_variants.add_nonmembers_that_match.Goals as goal
 
 pub loop-gap-init : goal.loop-gap-init

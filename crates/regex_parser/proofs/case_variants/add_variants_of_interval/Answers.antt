@@ -2,8 +2,8 @@ use Rattle.std.proofs.Common.{◌++◌, map, ap, ◌∙◌}
 use Rattle.regex_meaning.specs.CharacterClasses.{single_code_point_interval}
 use Rattle.regex_pattern_front.specs.Intervals.{interval_of}
 use Rattle.regex_parser.specs.CaseVariantContracts.{matching_seconds, is_between}
-use Rattle.regex_parser.proofs.ClassLemmas.{ok-on}
-use Rattle.regex_parser.proofs.VariantClosureLemmas.{chosen-added}
+use Rattle.regex_parser.proofs.ClassReaderLemmas.{ok-on}
+use Rattle.regex_parser.proofs.CaseVariantsOfIntervals.{chosen-added}
 use Rattle.regex_parser.proofs.case_variants.add_variants_of_interval.Goals as goal
 
 pub returns : goal.returns

@@ -1,6 +1,6 @@
 use Rattle.std.proofs.Common.{◌+◌, take}
 use Rattle.regex_meaning.specs.Outcomes.{in_intervals}
-use Rattle.regex_parser.proofs.VariantClosureLemmas.{adds-more, in-next-of}
+use Rattle.regex_parser.proofs.CaseVariantsOfIntervals.{adds-more, in-next-of}
 use Rattle.regex_parser.proofs.case_variants.add_variants_of_members.Goals as goal
 
 pub loop-interval-preserved : goal.loop-interval-preserved

@@ -1,6 +1,6 @@
 use Rattle.std.proofs.Common.{sym, ap, subst, ◌∙◌}
 use Rattle.regex_parser.specs.CaseVariantContracts.{AreOtherVariants, matching_seconds}
-use Rattle.regex_parser.proofs.ClassLemmas.{ok-map}
+use Rattle.regex_parser.proofs.ClassReaderLemmas.{ok-map}
 use Rattle.regex_parser.proofs.CaseVariantLemmas.{other-variants}
 use Rattle.regex_parser.proofs.case_variants.other_case_variants.Goals as goal
 

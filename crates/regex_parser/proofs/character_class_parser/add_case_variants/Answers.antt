@@ -1,5 +1,5 @@
 use Rattle.std.proofs.Common.{arith}
-use Rattle.regex_parser.proofs.ClosingLemmas.{closing-none, closing-more, closing-all}
+use Rattle.regex_parser.proofs.LetterCaseClosureLemmas.{closing-none, closing-more, closing-all}
 use Rattle.regex_parser.proofs.character_class_parser.add_case_variants.Goals as goal
 
 pub loop-upper-init : goal.loop-upper-init

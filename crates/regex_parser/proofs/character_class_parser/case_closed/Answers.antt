@@ -2,7 +2,7 @@ use Rattle.std.proofs.Common.{◌∙◌, ap}
 use Rattle.regex_meaning.specs.Outcomes.{in_intervals}
 use Rattle.regex_parser.specs.ClassReaderContracts.{is_in_any_interval}
 use Rattle.regex_pattern_front.specs.AstToSpecTree.{spec_flags_of}
-use Rattle.regex_parser.proofs.ClassLemmas.{closure-plain, closure-all, ok-both, not_true, not_false}
+use Rattle.regex_parser.proofs.ClassReaderLemmas.{closure-plain, closure-all, ok-both, not_true, not_false}
 use Rattle.regex_parser.proofs.character_class_parser.case_closed.Goals as goal
 
 pub returns-then-not-flags : goal.returns-then-not-flags

@@ -3,8 +3,8 @@ use Rattle.std.specs.List.{list_any}
 use Rattle.regex_meaning.specs.Outcomes.{in_intervals}
 use Rattle.regex_meaning.specs.CharacterClasses.{single_code_point_interval}
 use Rattle.regex_pattern_front.specs.Intervals.{interval_of}
-use Rattle.regex_parser.proofs.ClosingLemmas.{closing-as}
-use Rattle.regex_parser.proofs.ClassLemmas.{ok-on}
+use Rattle.regex_parser.proofs.LetterCaseClosureLemmas.{closing-as}
+use Rattle.regex_parser.proofs.ClassReaderLemmas.{ok-on}
 use Rattle.regex_parser.proofs.character_class_parser.close_over.Goals as goal
 
 pub returns-then-not-has_any : goal.returns-then-not-has_any

@@ -1,6 +1,6 @@
 use Rattle.std.proofs.Common.{◌∙◌, ap, true, false}
 use Rattle.regex_meaning.specs.CharacterClasses.{has_set_operation}
-use Rattle.regex_parser.proofs.ClassLemmas.{sets-closed, sets-by}
+use Rattle.regex_parser.proofs.ClassReaderLemmas.{sets-closed, sets-by}
 use Rattle.regex_parser.proofs.character_class_parser.no_set_operation.Goals as goal
 
 pub returns-then-c : goal.returns-then-c

@@ -2,7 +2,7 @@ use Rattle.std.proofs.Common.{◌≤◌, List, [], length}
 use Rattle.regex_meaning.specs.CharacterClasses.{ClassMember}
 use Rattle.regex_parser.specs.ClassReaderContracts.{AddsMembers}
 use Rattle.regex_pattern_front.specs.AstToSpecTree.{spec_flags_of}
-use Rattle.regex_parser.proofs.ClassLemmas.{RangesSoFar}
+use Rattle.regex_parser.proofs.ClassReaderLemmas.{RangesSoFar}
 use Rattle.regex_parser.proofs.character_class_parser.ranges.Given as goal
 
 abbrev pub invariant-loop-c : goal.invariant-loop-c

@@ -1,7 +1,7 @@
 use Rattle.std.proofs.Common.{◌∷◌, sym, ap}
 use Rattle.regex_meaning.specs.CharacterClasses.{backspace, escaped}
 use Rattle.std.proofs.Common.{refl}
-use Rattle.regex_parser.proofs.ClassLemmas.{atom-verbatim, atom-class, no_atom, no_class, err-atom}
+use Rattle.regex_parser.proofs.ClassReaderLemmas.{atom-verbatim, atom-class, no_atom, no_class, err-atom}
 use Rattle.regex_parser.proofs.character_class_parser.read_atom.Goals as goal
 
 pub returns-then-c-clause-text : goal.returns-then-c-clause-text

@@ -1,7 +1,7 @@
 use Rattle.std.proofs.Common.{◌≡◌, refl, false}
 use Rattle.std.specs.Prelude.{◌&&◌}
 use Rattle.regex_meaning.specs.CharacterClasses.{has_set_operation}
-use Rattle.regex_parser.proofs.ClassLemmas.{class-read, sets-none}
+use Rattle.regex_parser.proofs.ClassReaderLemmas.{class-read, sets-none}
 use Rattle.regex_parser.proofs.character_class_parser.read_class.Goals.{then-flags+in_ok-no_set_operation, else-flags}
 use Rattle.regex_parser.proofs.character_class_parser.read_class.Goals as goal
 

@@ -2,7 +2,7 @@ use Rattle.std.proofs.Common.{[], ◌∷◌, ◌≤◌, arith}
 use Rattle.regex_meaning.specs.CharacterClasses.{character, range, alone, from_to, no_range}
 use Rattle.regex_parser.specs.ClassReaderContracts.{class_member_of_atom}
 use Rattle.regex_pattern_front.specs.AstToSpecTree.{spec_flags_of}
-use Rattle.regex_parser.proofs.ClassLemmas.{member-no_end, member-not_in_order, adds-range, adds-more, err-member}
+use Rattle.regex_parser.proofs.ClassReaderLemmas.{member-no_end, member-not_in_order, adds-range, adds-more, err-member}
 use Rattle.regex_parser.proofs.character_class_parser.read_member.Goals as goal
 
 pub returns-in_err-second-clause-text : goal.returns-in_err-second-clause-text

@@ -2,7 +2,7 @@ use Rattle.std.proofs.Common.{◌∙◌, ap, refl}
 use Rattle.regex_meaning.specs.Outcomes.{in_intervals}
 use Rattle.regex_parser.specs.ClassReaderContracts.{is_in_any_interval}
 use Rattle.regex_pattern_front.specs.AstToSpecTree.{spec_flags_of}
-use Rattle.regex_parser.proofs.ClassLemmas.{ok-both, not_true, not_false}
+use Rattle.regex_parser.proofs.ClassReaderLemmas.{ok-both, not_true, not_false}
 use Rattle.regex_parser.proofs.EcmaClassLemmas.{closure-plain, closure-all}
 use Rattle.regex_parser.proofs.ecmascript_classes.canonical_closure.Goals as goal
 

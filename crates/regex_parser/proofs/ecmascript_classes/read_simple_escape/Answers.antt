@@ -1,7 +1,7 @@
 use Rattle.std.proofs.Common.{◌∙◌}
 use Rattle.regex_meaning.specs.EcmaClasses.{backspace, dash}
 use Rattle.regex_pattern_front.specs.AstToSpecTree.{spec_flags_of}
-use Rattle.regex_parser.proofs.ClassLemmas.{not_true, not_false}
+use Rattle.regex_parser.proofs.ClassReaderLemmas.{not_true, not_false}
 use Rattle.regex_parser.proofs.EcmaClassLemmas.{control-escape, no-dash}
 use Rattle.regex_parser.proofs.ecmascript_classes.read_simple_escape.Goals as goal
 

@@ -1,6 +1,6 @@
 use Rattle.std.proofs.Common.{arith}
 use Rattle.regex_pattern_front.specs.AstToSpecTree.{spec_flags_of}
-use Rattle.regex_pattern_front.proofs.LeafLemmas.{leaf-Char, leaf-CharSet}
+use Rattle.regex_pattern_front.proofs.GrouplessNodeLemmas.{leaf-Char, leaf-CharSet}
 use Rattle.regex_parser.proofs.EcmaTermLemmas.{several-variants, node-variants, node-alone}
 use Rattle.regex_parser.proofs.ecmascript_terms.ecmascript_character.Goals as goal
 

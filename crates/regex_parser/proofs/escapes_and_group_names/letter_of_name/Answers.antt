@@ -2,7 +2,7 @@ use Rattle.std.proofs.Common.{◌≡◌, ◌∙◌, sym, false}
 use Rattle.std.specs.Prelude.{if◌then◌else◌}
 use Rattle.regex_meaning.specs.EscapesNamesQuantifiers.{is_ascii_identifier_start, is_ascii_identifier_part}
 use Rattle.regex_parser.proofs.EscapeLemmas.{scalar-same}
-use Rattle.regex_parser.proofs.NameLemmas.{no_letter_of_name}
+use Rattle.regex_parser.proofs.GroupNameLemmas.{no_letter_of_name}
 use Rattle.regex_parser.proofs.escapes_and_group_names.letter_of_name.Goals as goal
 
 pub returns-in_default : goal.returns-in_default

@@ -2,6 +2,6 @@ use Rattle.std.proofs.Common.{◌∙◌, sym, arith}
 use Rattle.regex_parser.proofs.EscapeLemmas.{no_trail}
 use Rattle.regex_parser.proofs.escapes_and_group_names.low_surrogate.Goals as goal
 
-pub returns-else-is_trail_surrogate-clause-text : goal.returns-else-is_trail_surrogate-clause-text
-returns-else-is_trail_surrogate-clause-text c =
-    no_trail c.if-not-eat.ensures.text c.if-not-eat-2.ensures.text (c.in_ok-c.ensures.text (omega arith)) (sym c.is_trail_surrogate.ensures ∙ c.if-is_trail_surrogate.false)
+pub returns-else-is_low_surrogate-clause-text : goal.returns-else-is_low_surrogate-clause-text
+returns-else-is_low_surrogate-clause-text c =
+    no_trail c.if-not-eat.ensures.text c.if-not-eat-2.ensures.text (c.in_ok-c.ensures.text (omega arith)) (sym c.is_low_surrogate.ensures ∙ c.if-is_low_surrogate.false)

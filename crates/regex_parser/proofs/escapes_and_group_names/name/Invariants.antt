@@ -1,6 +1,6 @@
 use Rattle.std.proofs.Common.{◌≡◌, ◌≤◌, length}
 use Rattle.std.specs.Prelude.{string_bytes}
-use Rattle.regex_parser.proofs.NameLemmas.{NameSoFar, is_none}
+use Rattle.regex_parser.proofs.GroupNameLemmas.{NameSoFar, is_none}
 use Rattle.regex_parser.proofs.escapes_and_group_names.name.Given as goal
 
 abbrev pub invariant-loop-c : goal.invariant-loop-c

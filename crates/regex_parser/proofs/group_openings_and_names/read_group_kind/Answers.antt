@@ -1,4 +1,4 @@
-use Rattle.regex_parser.proofs.ScanLemmas.{look-is}
+use Rattle.regex_parser.proofs.GroupScanLemmas.{look-is}
 use Rattle.regex_parser.proofs.group_openings_and_names.read_group_kind.Goals as goal
 
 pub returns-in-Some-clause-text : goal.returns-in-Some-clause-text

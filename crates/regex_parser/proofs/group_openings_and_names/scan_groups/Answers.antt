@@ -1,6 +1,6 @@
 use Rattle.std.proofs.Common.{refl}
-use Rattle.regex_parser.proofs.ScanLemmas.{scan-start, scan-next, scan-end}
-use Rattle.regex_parser.proofs.ScannedGroups.{pattern-counted, pattern-in-profile}
+use Rattle.regex_parser.proofs.GroupScanLemmas.{scan-start, scan-next, scan-end}
+use Rattle.regex_parser.proofs.ScannedGroupsLemmas.{pattern-counted, pattern-in-profile}
 use Rattle.regex_parser.proofs.group_openings_and_names.scan_groups.Goals as goal
 
 pub loop-c-init : goal.loop-c-init

@@ -1,5 +1,5 @@
 use Rattle.std.proofs.Common.{length}
-use Rattle.regex_parser.proofs.ScanLemmas.{ScanSoFar}
+use Rattle.regex_parser.proofs.GroupScanLemmas.{ScanSoFar}
 use Rattle.regex_parser.proofs.group_openings_and_names.scan_groups.Given as goal
 
 abbrev pub invariant-loop-c : goal.invariant-loop-c

@@ -1,5 +1,5 @@
-use Rattle.regex_pattern_front.proofs.LeafLemmas.{leaf-Bracket}
-use Rattle.regex_parser.proofs.TermLemmas.{node-Bracket}
+use Rattle.regex_pattern_front.proofs.GrouplessNodeLemmas.{leaf-Bracket}
+use Rattle.regex_parser.proofs.GrouplessTermLemmas.{node-Bracket}
 use Rattle.regex_parser.proofs.groupless_terms.bracket.Goals as goal
 
 pub returns-clause-leaf : goal.returns-clause-leaf

@@ -1,5 +1,5 @@
 use Rattle.std.proofs.Common.{arith}
-use Rattle.regex_parser.proofs.ReferenceLemmas.{decimal-big, decimal-fits}
+use Rattle.regex_parser.proofs.BackreferenceLemmas.{decimal-big, decimal-fits}
 use Rattle.regex_parser.proofs.groupless_terms.decimal.Goals as goal
 
 pub returns-then-n-clause-text : goal.returns-then-n-clause-text

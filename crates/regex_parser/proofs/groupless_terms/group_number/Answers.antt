@@ -1,5 +1,5 @@
 use Rattle.std.specs.BTreeMap.{get_by_text}
-use Rattle.regex_parser.proofs.ReferenceLemmas.{by-decimal, by-name}
+use Rattle.regex_parser.proofs.BackreferenceLemmas.{by-decimal, by-name}
 use Rattle.regex_parser.proofs.groupless_terms.group_number.Goals as goal
 
 pub returns-then-eat-clause-text : goal.returns-then-eat-clause-text

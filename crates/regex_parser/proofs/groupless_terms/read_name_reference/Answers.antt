@@ -1,7 +1,7 @@
 use Rattle.std.proofs.Common.{◌∙◌, ap}
 use Rattle.std.specs.Prelude.{string_bytes}
 use Rattle.std.specs.BTreeMap.{get_by_text}
-use Rattle.regex_parser.proofs.ReferenceLemmas.{named-read}
+use Rattle.regex_parser.proofs.BackreferenceLemmas.{named-read}
 use Rattle.regex_parser.proofs.groupless_terms.read_name_reference.Goals as goal
 
 pub returns-clause-text : goal.returns-clause-text

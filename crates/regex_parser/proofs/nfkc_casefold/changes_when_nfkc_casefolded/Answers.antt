@@ -1,7 +1,7 @@
 use Rattle.std.proofs.Common.{◌≡◌, ◌∙◌, sym, ap, not, arith}
 use Rattle.regex_meaning.specs.UnicodeProperties.{is_nfkc_casefolded}
 use Rattle.regex_parser.specs.ClassReaderContracts.{is_in_any_interval}
-use Rattle.regex_parser.proofs.ClassLemmas.{ok-map}
+use Rattle.regex_parser.proofs.ClassReaderLemmas.{ok-map}
 use Rattle.regex_parser.proofs.NfkcCasefoldLemmas.{holds-none, holds-more, holds-same, holds-all}
 use Rattle.regex_parser.proofs.nfkc_casefold.changes_when_nfkc_casefolded.Goals.{then-branch+in_ok-push, else-branch}
 use Rattle.regex_parser.proofs.nfkc_casefold.changes_when_nfkc_casefolded.Goals as goal

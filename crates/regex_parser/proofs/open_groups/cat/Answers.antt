@@ -1,10 +1,10 @@
 use Rattle.std.proofs.Common.{◌∙◌, ap, refl}
-use Rattle.regex_meaning.proofs.Lists.{map-reverse}
+use Rattle.regex_meaning.proofs.ListLemmas.{map-reverse}
 use Rattle.regex_meaning.specs.ReadingStatesAndDigits.{sequence_node}
 use Rattle.regex_pattern_front.specs.AstToSpecTree.{node_of}
-use Rattle.regex_parser.proofs.ModelLemmas.{cat_is}
-use Rattle.regex_pattern_front.proofs.NodeLemmas.{node_of-Cat}
-use Rattle.regex_pattern_front.proofs.PartLemmas.{made-cat, made-permuted}
+use Rattle.regex_parser.proofs.PartialDisjunctionLemmas.{cat_is}
+use Rattle.regex_pattern_front.proofs.AstToSpecTreeLemmas.{node_of-Cat}
+use Rattle.regex_pattern_front.proofs.SubtreeListLemmas.{made-cat, made-permuted}
 use Rattle.regex_parser.proofs.open_groups.cat.Goals.{then-in_lookbehind, else-in_lookbehind}
 use Rattle.regex_parser.proofs.open_groups.cat.Goals as goal
 

@@ -2,9 +2,9 @@ use Rattle.std.proofs.Common.{◌≡◌, ◌∙◌, arith, length}
 use Rattle.regex_meaning.specs.Tree.{alt}
 use Rattle.regex_pattern_front.specs.AstToSpecTree.{node_of}
 use Rattle.regex_pattern_front.specs.declared.ir.Node.TheVariants.{Alt}
-use Rattle.regex_parser.proofs.ModelLemmas.{join-popped, join-one_more, node_of-Empty}
-use Rattle.regex_pattern_front.proofs.LeafLemmas.{part-Empty}
-use Rattle.regex_pattern_front.proofs.PartLemmas.{parts-alt, parts-one, empty-list}
+use Rattle.regex_parser.proofs.PartialDisjunctionLemmas.{join-popped, join-one_more, node_of-Empty}
+use Rattle.regex_pattern_front.proofs.GrouplessNodeLemmas.{part-Empty}
+use Rattle.regex_pattern_front.proofs.SubtreeListLemmas.{parts-alt, parts-one, empty-list}
 use Rattle.regex_parser.proofs.open_groups.nest_alternatives.Goals as goal
 
 pub returns-in_default-clause-parts : goal.returns-in_default-clause-parts

@@ -2,7 +2,7 @@ use Rattle.regex_meaning.specs.Grammar.{ParsesBy}
 use Rattle.regex_parser.specs.ParserContracts.{IsTextRefusedIn}
 use Rattle.regex_parser.specs.SyntaxDialects.{spec_syntax_of}
 use Rattle.regex_pattern_front.specs.AstToSpecTree.{spec_flags_of, tree_of}
-use Rattle.regex_parser.proofs.ParsedLemmas.{told}
+use Rattle.regex_parser.proofs.ParserContractsLemmas.{told}
 use Rattle.regex_parser.proofs.parse.diagnose_in.Goals as goal
 
 pub returns-clause-by_grammar : goal.returns-clause-by_grammar

@@ -6,7 +6,7 @@ use Rattle.regex_pattern_front.specs.AstToSpecTree.{node_of, group_name_bytes}
 use Rattle.regex_parser.specs.GroupIdInvariant.{captures_opened_by_group_kind}
 use Rattle.regex_parser.specs.declared.group_openings_and_names.GroupKind.{GroupKind}
 use Rattle.regex_parser.specs.declared.group_openings_and_names.GroupKind.TheVariants.{Capture, Named, Look}
-use Rattle.regex_pattern_front.proofs.PartLemmas.{part-group, part-lookaround}
+use Rattle.regex_pattern_front.proofs.SubtreeListLemmas.{part-group, part-lookaround}
 use Rattle.regex_parser.proofs.parse.enclosed.Goals as goal
 
 one : (o : GroupKind) → (o ≡ Capture) ⊎ (o ≡ Named) → captures_opened_by_group_kind o ≡ 1

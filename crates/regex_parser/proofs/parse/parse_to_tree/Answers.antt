@@ -3,8 +3,8 @@ use Rattle.regex_meaning.specs.Grammar.{ParsesBy}
 use Rattle.regex_parser.specs.SyntaxDialects.{spec_syntax_of}
 use Rattle.regex_parser.specs.ParserContracts.{tree_of_root_and_flags}
 use Rattle.regex_pattern_front.specs.AstToSpecTree.{spec_flags_of}
-use Rattle.regex_parser.proofs.Readable.{readable}
-use Rattle.regex_parser.proofs.ParsedLemmas.{err-parsed, begun, groups-known-in, no-tree-same, read-whole}
+use Rattle.regex_parser.proofs.DialectRequirementLemmas.{readable}
+use Rattle.regex_parser.proofs.ParserContractsLemmas.{err-parsed, begun, groups-known-in, no-tree-same, read-whole}
 use Rattle.regex_parser.proofs.parse.parse_to_tree.Goals as goal
 
 pub returns-in_err-read_all-clause-tree : goal.returns-in_err-read_all-clause-tree

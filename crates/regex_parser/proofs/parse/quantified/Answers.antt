@@ -1,9 +1,9 @@
 use Rattle.regex_pattern_front.specs.AstToSpecTree.{node_of, spec_quantifier_of}
-use Rattle.regex_pattern_front.proofs.PartLemmas.{part-loop, order-from}
+use Rattle.regex_pattern_front.proofs.SubtreeListLemmas.{part-loop, order-from}
 use Rattle.std.proofs.Common.{◌≡◌, ◌∙◌, true≢false, refl, sym}
 use Rattle.regex_meaning.specs.Tree.{loop}
 use Rattle.regex_pattern_front.specs.declared.ir.Node.TheVariants.{Loop}
-use Rattle.regex_parser.proofs.ParsedLemmas.{stands-alone, stands-once, is-loop}
+use Rattle.regex_parser.proofs.ParserContractsLemmas.{stands-alone, stands-once, is-loop}
 use Rattle.regex_parser.proofs.parse.quantified.Goals as goal
 
 pub returns-in_ok-new-in-Some-clause-part : goal.returns-in_ok-new-in-Some-clause-part

@@ -1,7 +1,7 @@
 use Rattle.std.proofs.Common.{◌∙◌, ap, sym}
 use Rattle.std.specs.BTreeMap.{get_by_text}
-use Rattle.regex_parser.proofs.Readable.{readable}
-use Rattle.regex_parser.proofs.ParsedLemmas.{name-found, name-other}
+use Rattle.regex_parser.proofs.DialectRequirementLemmas.{readable}
+use Rattle.regex_parser.proofs.ParserContractsLemmas.{name-found, name-other}
 use Rattle.regex_parser.proofs.parse.read_unused_group_name.Goals as goal
 
 pub returns-then-eq-clause-text : goal.returns-then-eq-clause-text

@@ -1,5 +1,5 @@
 use Rattle.std.proofs.Common.{◌∙◌}
-use Rattle.regex_parser.proofs.ClassLemmas.{ok-map}
+use Rattle.regex_parser.proofs.ClassReaderLemmas.{ok-map}
 use Rattle.regex_parser.proofs.PropertyTableLemmas.{category-listed}
 use Rattle.regex_parser.proofs.unicode_properties.general_category_named.Goals as goal
 

@@ -1,5 +1,5 @@
 use Rattle.std.proofs.Common.{◌∙◌, sym}
-use Rattle.regex_parser.proofs.ClassLemmas.{ok-map}
+use Rattle.regex_parser.proofs.ClassReaderLemmas.{ok-map}
 use Rattle.regex_parser.proofs.PropertyTableLemmas.{with-category, with-script, with-extension, with-none}
 use Rattle.regex_parser.proofs.unicode_properties.property_with_value.Goals as goal
 

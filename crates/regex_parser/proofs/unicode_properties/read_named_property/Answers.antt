@@ -1,5 +1,5 @@
-use Rattle.regex_parser.proofs.ClassLemmas.{ok-map}
-use Rattle.regex_parser.proofs.PropertyReadLemmas.{named-with_value, named-alone}
+use Rattle.regex_parser.proofs.ClassReaderLemmas.{ok-map}
+use Rattle.regex_parser.proofs.PropertyReaderLemmas.{named-with_value, named-alone}
 use Rattle.regex_parser.proofs.unicode_properties.read_named_property.Goals as goal
 
 pub returns-then-eat-clause-text : goal.returns-then-eat-clause-text

@@ -1,7 +1,7 @@
 use Rattle.std.proofs.Common.{◌∙◌, ap, map}
 use Rattle.regex_meaning.specs.Outcomes.{in_intervals}
 use Rattle.regex_pattern_front.specs.Intervals.{interval_of}
-use Rattle.regex_parser.proofs.ClassLemmas.{ok-map}
+use Rattle.regex_parser.proofs.ClassReaderLemmas.{ok-map}
 use Rattle.regex_parser.proofs.PropertySetLemmas.{database-all}
 use Rattle.regex_parser.proofs.unicode_properties.set_in_database.Goals as goal
 

@@ -2,7 +2,7 @@ use Rattle.std.proofs.Common.{◌≡◌, ℕ, ◌+◌, Bool, ◌∷◌, [], fals
 use Rattle.regex_meaning.specs.StartPredicate.{chars_with_first_byte, intersects}
 use Rattle.regex_pattern_front.specs.ByteSetMembers.{member_bytes_of_byte_bitmap}
 use Rattle.regex_pattern_front.specs.Intervals.{interval_of}
-use Rattle.regex_pattern_front.proofs.AddedBytes.{with_bytes_below, with_bytes-from, with_bytes-more, with_bytes-same, with_bytes-to}
+use Rattle.regex_pattern_front.proofs.ByteSetAdditionLoop.{with_bytes_below, with_bytes-from, with_bytes-more, with_bytes-same, with_bytes-to}
 use Rattle.regex_pattern_front.proofs.FirstByteLemmas.{none-outside}
 use Rattle.regex_pattern_front.proofs.folding_and_first_bytes.add_utf8_first_bytes_to_bitmap.Goals as goal
 use Rattle.regex_pattern_front.proofs.folding_and_first_bytes.add_utf8_first_bytes_to_bitmap.Goals.{then-may_begin, else-may_begin}

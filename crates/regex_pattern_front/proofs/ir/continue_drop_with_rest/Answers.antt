@@ -1,4 +1,4 @@
-use Rattle.regex_pattern_front.proofs.PartingLemmas.{begun-less}
+use Rattle.regex_pattern_front.proofs.IterativeDropLemmas.{begun-less}
 use Rattle.regex_pattern_front.proofs.ir.continue_drop_with_rest.Goals as goal
 
 pub returns-in-Some : goal.returns-in-Some

@@ -2,8 +2,8 @@ use Rattle.std.proofs.Common.{◌≡◌, ◌≢◌, ◌<◌, ◌==◌, ◌∙◌
 use Rattle.std.proofs.lemmas.Bool.{eqb-true, eq-eqb}
 use Rattle.std.specs.Vec.{with_item}
 use Rattle.regex_pattern_front.specs.IterativeDropMeasure.{tree_size}
-use Rattle.regex_pattern_front.proofs.NodeLemmas.{node_of-Cat}
-use Rattle.regex_pattern_front.proofs.PartingLemmas.{emptied-less, linked-first-less, no-nodes}
+use Rattle.regex_pattern_front.proofs.AstToSpecTreeLemmas.{node_of-Cat}
+use Rattle.regex_pattern_front.proofs.IterativeDropLemmas.{emptied-less, linked-first-less, no-nodes}
 use Rattle.regex_pattern_front.proofs.ir.linked.Goals as goal
 
 pub returns-then-is_empty : goal.returns-then-is_empty

@@ -1,6 +1,6 @@
 use Rattle.regex_pattern_front.specs.IterativeDropMeasure.{tree_size, node_size}
 use Rattle.regex_pattern_front.specs.AstToSpecTree.{node_of}
-use Rattle.regex_pattern_front.proofs.PartingLemmas.{linked-less}
+use Rattle.regex_pattern_front.proofs.IterativeDropLemmas.{linked-less}
 use Rattle.regex_pattern_front.proofs.ir.parted_alternatives.Goals as goal
 
 pub returns-in-Some : goal.returns-in-Some

@@ -1,8 +1,8 @@
 use Rattle.std.proofs.Common.{◌≡◌, ◌==◌, ◌∙◌, true, vec_len, ap, arith, sym}
 use Rattle.std.proofs.lemmas.Bool.{eqb-true}
 use Rattle.regex_pattern_front.specs.IterativeDropMeasure.{tree_size}
-use Rattle.regex_pattern_front.proofs.NodeLemmas.{node_of-Cat}
-use Rattle.regex_pattern_front.proofs.PartingLemmas.{no-nodes, only-less, popped-less}
+use Rattle.regex_pattern_front.proofs.AstToSpecTreeLemmas.{node_of-Cat}
+use Rattle.regex_pattern_front.proofs.IterativeDropLemmas.{no-nodes, only-less, popped-less}
 use Rattle.regex_pattern_front.proofs.ir.popped.Goals as goal
 
 pub returns-then-is_empty : goal.returns-then-is_empty

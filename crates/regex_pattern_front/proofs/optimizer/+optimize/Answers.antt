@@ -7,7 +7,7 @@ use Rattle.regex_pattern_front.specs.declared.ir.Node.TheBlock.{hidden-the_row-N
 use denote.Hole.Carrier.{fold, out}
 use denote.Hole.Rolled.{depth}
 use Rattle.regex_pattern_front.specs.OptimizedTrees.{optimized, reads_one_character}
-use Rattle.regex_pattern_front.proofs.NodeLemmas.{optimized-children, optimized-leaf, node_of-Cat, turned-one}
+use Rattle.regex_pattern_front.proofs.AstToSpecTreeLemmas.{optimized-children, optimized-leaf, node_of-Cat, turned-one}
 use Rattle.regex_pattern_front.proofs.optimizer.+optimize.Goals as goal
 
 pub optimize_all-returns : goal.optimize_all-returns

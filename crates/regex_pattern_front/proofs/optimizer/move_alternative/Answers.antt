@@ -4,7 +4,7 @@ use Rattle.regex_pattern_front.specs.AstToSpecTree.{node_of}
 use Rattle.regex_pattern_front.specs.declared.ir.Node.{Node}
 use Rattle.regex_pattern_front.specs.declared.ir.Node.TheOpen.{Node-F}
 use Rattle.regex_pattern_front.specs.declared.ir.Node.TheViews.{out-Node}
-use Rattle.regex_pattern_front.proofs.NodeLemmas.{unturned}
+use Rattle.regex_pattern_front.proofs.AstToSpecTreeLemmas.{unturned}
 use Rattle.regex_pattern_front.proofs.optimizer.move_alternative.Goals as goal
 
 pub returns-in-Alt-clause-from : goal.returns-in-Alt-clause-from

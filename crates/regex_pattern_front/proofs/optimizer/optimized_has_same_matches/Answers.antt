@@ -1,4 +1,4 @@
-use Rattle.regex_pattern_front.proofs.OptimizedLemmas.{answers-optimized, group_ids-optimized, named_ids-optimized}
+use Rattle.regex_pattern_front.proofs.OptimizedTreesLemmas.{answers-optimized, group_ids-optimized, named_ids-optimized}
 use Rattle.regex_pattern_front.proofs.optimizer.optimized_has_same_matches.Goals as goal
 
 pub returns : goal.returns

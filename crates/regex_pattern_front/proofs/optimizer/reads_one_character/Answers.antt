@@ -1,5 +1,5 @@
 use Rattle.std.proofs.Common.{sym}
-use Rattle.regex_pattern_front.proofs.NodeLemmas.{reads-other}
+use Rattle.regex_pattern_front.proofs.AstToSpecTreeLemmas.{reads-other}
 use Rattle.regex_pattern_front.proofs.optimizer.reads_one_character.Goals as goal
 
 pub returns-in_default : goal.returns-in_default

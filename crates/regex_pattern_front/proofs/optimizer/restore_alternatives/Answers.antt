@@ -1,6 +1,6 @@
 use Rattle.std.proofs.Common.{◌∙◌, sym, arith}
 use Rattle.regex_pattern_front.specs.AstToSpecTree.{node_of}
-use Rattle.regex_pattern_front.proofs.NodeLemmas.{turned-all, turned-step}
+use Rattle.regex_pattern_front.proofs.AstToSpecTreeLemmas.{turned-all, turned-step}
 use Rattle.regex_pattern_front.proofs.optimizer.restore_alternatives.Goals as goal
 
 pub loop-turned-preserved : goal.loop-turned-preserved

@@ -2,11 +2,11 @@ use Rattle.std.proofs.Common.{◌<◌, Some, None, ap, sym, refl, subst, ◌∙�
 use Rattle.std.specs.Prelude.{IfSome, option_map, option_and_then}
 use Rattle.regex_meaning.specs.Text.{rightwards}
 use Rattle.regex_meaning.specs.CodeUnitOffsets.{IsBoundary, read}
-use Rattle.regress_search.proofs.Skips.{untried}
+use Rattle.regress_search.proofs.SkippedStartLemmas.{untried}
 use Rattle.regress_search.specs.AttemptsAndStarts.{first_filtered_start}
-use Rattle.regress_input.proofs.Places.{boundary_inside}
+use Rattle.regress_input.proofs.BoundaryPositions.{boundary_inside}
 use Rattle.regress_program.specs.InsnsAsSpec.{start_predicate_as_spec}
-use Rattle.regress_backtrack.proofs.TriedPlaces.{and-then-mapped, fewer, is-first, reads-bytes, tried-here, tried-on}
+use Rattle.regress_backtrack.proofs.LimitedStartLemmas.{and-then-mapped, fewer, is-first, reads-bytes, tried-here, tried-on}
 use Rattle.regress_backtrack.proofs.accepted_starts.first_start_to_try.Goals as goal
 
 pub places-init : goal.places-init

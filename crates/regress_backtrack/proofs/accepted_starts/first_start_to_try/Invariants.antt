@@ -3,7 +3,7 @@ use Rattle.std.specs.Prelude.{IfSome, option_map, option_and_then}
 use Rattle.regex_meaning.specs.CodeUnitOffsets.{IsBoundary}
 use Rattle.regex_meaning.specs.StartPredicate.{start_predicate}
 use Rattle.regex_meaning.specs.Tree.{Tree}
-use Rattle.regress_search.proofs.Skips.{untried}
+use Rattle.regress_search.proofs.SkippedStartLemmas.{untried}
 use Rattle.regress_search.specs.AttemptsAndStarts.{first_filtered_start}
 use Rattle.regress_program.specs.InsnsAsSpec.{start_predicate_as_spec}
 use Rattle.regress_backtrack.proofs.accepted_starts.first_start_to_try.Given as goal

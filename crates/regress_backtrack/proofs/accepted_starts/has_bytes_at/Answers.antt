@@ -1,5 +1,5 @@
-use Rattle.regress_input.proofs.Places.{boundary_inside}
-use Rattle.regress_backtrack.proofs.TriedPlaces.{sequence-read, reads-bytes}
+use Rattle.regress_input.proofs.BoundaryPositions.{boundary_inside}
+use Rattle.regress_backtrack.proofs.LimitedStartLemmas.{sequence-read, reads-bytes}
 use Rattle.regress_backtrack.proofs.accepted_starts.has_bytes_at.Goals as goal
 
 pub match_bytes-requires : goal.match_bytes-requires

@@ -1,7 +1,7 @@
 use Rattle.std.proofs.Common.{sym, ◌∙◌}
 use Rattle.std.specs.Prelude.{option_map}
 use Rattle.regress_program.specs.InsnsAsSpec.{start_predicate_as_spec}
-use Rattle.regress_backtrack.proofs.TriedPlaces.{next-anchored, next-none, next-open, reads-bytes}
+use Rattle.regress_backtrack.proofs.LimitedStartLemmas.{next-anchored, next-none, next-open, reads-bytes}
 use Rattle.regress_machine.specs.TextsForBytePrograms.{HasUtf8CharactersAndOffsets}
 use Rattle.regress_backtrack.proofs.accepted_starts.next_start_to_try.Given.{Over}
 use Rattle.regress_backtrack.proofs.accepted_starts.next_start_to_try.Goals.{After-is_anchored}

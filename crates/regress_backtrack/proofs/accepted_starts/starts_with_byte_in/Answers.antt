@@ -1,6 +1,6 @@
 use Rattle.std.proofs.Common.{ap, sym, ◌∙◌}
-use Rattle.regress_input.proofs.Places.{boundary_inside}
-use Rattle.regress_backtrack.proofs.TriedPlaces.{begins-here, is_member}
+use Rattle.regress_input.proofs.BoundaryPositions.{boundary_inside}
+use Rattle.regress_backtrack.proofs.LimitedStartLemmas.{begins-here, is_member}
 use Rattle.regress_backtrack.proofs.accepted_starts.starts_with_byte_in.Goals as goal
 
 pub peek_byte_right-requires : goal.peek_byte_right-requires

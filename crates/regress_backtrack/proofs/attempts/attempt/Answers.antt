@@ -1,13 +1,13 @@
 use Rattle.std.proofs.Common.{◌≡◌, ◌≤◌, ◌+◌, [], ◌∷◌, length, arith, ap, ap₂, sym, subst, refl, ◌∙◌}
 use Rattle.std.specs.Prelude.{IsSome, true, option_map, Option, Err}
 use Rattle.regex_meaning.specs.CodeUnitOffsets.{units}
-use Rattle.regress_input.proofs.Places.{boundary_inside}
+use Rattle.regress_input.proofs.BoundaryPositions.{boundary_inside}
 use Rattle.regress_program.specs.CompilationOfTreesAsFunction.{compiled}
-use Rattle.regress_search.proofs.Searchable.{can-search}
+use Rattle.regress_search.proofs.SearchableProgramLemmas.{can-search}
 use Rattle.regress_search.specs.AttemptsAndStarts.{ticks_of_attempt_at}
 use Rattle.regress_search.specs.SearchEffects.{SpendsNeedOrReachesLimit, AllocFailureCostsAStep}
 use Rattle.regress_search.specs.declared.exec.SearchError.TheVariants.{Memory}
-use Rattle.regress_search.proofs.Budget.{handed}
+use Rattle.regress_search.proofs.StepBudgetLemmas.{handed}
 use Rattle.regress_backtrack.specs.State.{StateModel, current_thread_state_of, log_len_at_choice_point}
 use Rattle.regress_search.specs.TreePlanAndText.{program_of}
 use Rattle.regress_backtrack.specs.AttemptResults.{HasSlots}
@@ -15,9 +15,9 @@ use Rattle.regress_backtrack.specs.SearchProgress.{found_from_state, NeedStepsAt
 use Rattle.regress_backtrack.specs.StepsTakenFromBudget.{step_limit}
 use Rattle.regress_machine.specs.SearchFindsFirstOutcomeAtPlace.{state_before_first_insn}
 use Rattle.regress_machine.specs.Machine.{running}
-use Rattle.regress_backtrack.proofs.Attempting.{Begins, first-state, begins, attempt-ends, attempt-spends, attempt-stops, found-with, spends-none}
-use Rattle.regress_backtrack.proofs.Attempting.{stopped-takes, takes-none, tells-memory}
-use Rattle.regress_backtrack.proofs.Marked.{sound-same}
+use Rattle.regress_backtrack.proofs.AttemptResultLemmas.{Begins, first-state, begins, attempt-ends, attempt-spends, attempt-stops, found-with, spends-none}
+use Rattle.regress_backtrack.proofs.AttemptResultLemmas.{stopped-takes, takes-none, tells-memory}
+use Rattle.regress_backtrack.proofs.PushedRecordLemmas.{sound-same}
 use Rattle.regress_backtrack.proofs.attempts.attempt.Given.{Over}
 use Rattle.regress_backtrack.proofs.attempts.attempt.Goals.{In_ok-begin}
 use Rattle.regress_backtrack.proofs.attempts.attempt.Goals as goal

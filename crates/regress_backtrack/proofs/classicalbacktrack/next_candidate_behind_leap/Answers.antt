@@ -1,7 +1,7 @@
 use Rattle.std.proofs.Common.{subst, sym}
 use Rattle.std.specs.Prelude.{option_map}
 use Rattle.regex_meaning.specs.CodeUnitOffsets.{IsBoundary}
-use Rattle.regress_backtrack.proofs.NextStarts.{next-further}
+use Rattle.regress_backtrack.proofs.CandidateStartLemmas.{next-further}
 use Rattle.regress_backtrack.proofs.classicalbacktrack.next_candidate_behind_leap.Goals as goal
 
 pub returns : goal.returns

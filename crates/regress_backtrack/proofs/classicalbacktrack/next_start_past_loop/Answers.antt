@@ -1,6 +1,6 @@
 use Rattle.std.proofs.Common.{arith, le_refl, subst, sym}
 use Rattle.regress_search.specs.AttemptsAndStarts.{NoMatchAt}
-use Rattle.regress_backtrack.proofs.NextStarts.{next-further, past-run}
+use Rattle.regress_backtrack.proofs.CandidateStartLemmas.{next-further, past-run}
 use Rattle.regress_backtrack.proofs.classicalbacktrack.next_start_past_loop.Goals as goal
 
 pub returns-then-past-start : goal.returns-then-past-start

@@ -1,6 +1,6 @@
 use Rattle.std.proofs.Common.{◌-◌, ◌∙◌, ap, is_some, sym}
 use Rattle.regress_search.specs.TreePlanAndText.{program_of}
-use Rattle.regress_backtrack.proofs.MemoKeys.{no-run, no-run-before}
+use Rattle.regress_backtrack.proofs.ThreadKeyLemmas.{no-run, no-run-before}
 use Rattle.regress_backtrack.proofs.failures_in_memo_table.is_loop_body.Goals as goal
 
 pub returns-in-Some : goal.returns-in-Some

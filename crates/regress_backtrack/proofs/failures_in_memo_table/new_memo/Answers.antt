@@ -6,8 +6,8 @@ use Rattle.regress_memo.specs.CheckedAnalysis.{IsAnalysisOf}
 use Rattle.regress_memo.specs.MemoContents.{IsEmptyMemo, has_failure, has_success}
 use Rattle.regress_search.specs.TreePlanAndText.{program_of}
 use Rattle.regress_backtrack.specs.FailuresInMemoTable.{scheme_of}
-use Rattle.regress_backtrack.specs.FailureMemo.{AreFailuresRightIn, AreEndsRightIn}
-use Rattle.regress_backtrack.proofs.Rightness.{memory-right}
+use Rattle.regress_backtrack.specs.FailureMemo.{AreFailuresSoundIn, AreEndsSoundIn}
+use Rattle.regress_backtrack.proofs.MemoTableSchemeLemmas.{memory-right}
 use Rattle.regress_backtrack.proofs.failures_in_memo_table.new_memo.Goals as goal
 
 pub returns : goal.returns
@@ -21,7 +21,7 @@ returns g c =
     let places = c.text_end-places.result + 1 in
     let wanted = c.reads_ends-records_ends.result in
     let begun = subst (λ o. MatchOption o (2 ^ 64 ≤ t.codes * places) (IsEmptyMemo t places wanted)) c.in-Some-2.is c.in_ok-memo.ensures in
-    subst (λ m. AreFailuresRightIn (program_of w) w.text (scheme_of m.memo_analysis) (has_failure m) × AreEndsRightIn (program_of w) w.text (scheme_of m.memo_analysis) (has_success m))
+    subst (λ m. AreFailuresSoundIn (program_of w) w.text (scheme_of m.memo_analysis) (has_failure m) × AreEndsSoundIn (program_of w) w.text (scheme_of m.memo_analysis) (has_success m))
     (sym c.in_ok-memo-2.ensures.ok)
     (memory-right (program_of w) w.text t of (g.met.W.SearchContext.is_text it) (λ ip x there l. (g.met.W.SearchContext.literals it ip x there l).reads)
     (g.met.W.SearchContext.offsets_fit it) c.in-Some-2.memo places wanted begun)

@@ -1,7 +1,7 @@
 use Rattle.std.proofs.Common.{Some, None, arith}
 use Rattle.std.proofs.lemmas.Bool.{ltb-true}
-use Rattle.regress_input.proofs.Places.{boundary_inside}
-use Rattle.regress_backtrack.proofs.LeapStarts.{leap-excludes, leap-right}
+use Rattle.regress_input.proofs.BoundaryPositions.{boundary_inside}
+use Rattle.regress_backtrack.proofs.LeapMemoryLemmas.{leap-excludes, leap-right}
 use Rattle.regress_backtrack.proofs.leap_memory.leap_over.Goals as goal
 
 pub leap_from-requires-clause-ascii : goal.leap_from-requires-clause-ascii

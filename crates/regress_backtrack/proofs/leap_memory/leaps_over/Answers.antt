@@ -4,7 +4,7 @@ use Rattle.regress_program.specs.declared.leap.Leap.{Leap}
 use Rattle.regress_program.specs.declared.plan.Plan.{Plan}
 use Rattle.regress_program.specs.Leaps.{IsLeap}
 use Rattle.regress_program.specs.TableKeysOfUnits.{is_16_bit_encoding}
-use Rattle.regress_program.proofs.LookAheadLemmas.{some-has}
+use Rattle.regress_program.proofs.FollowSetAndStartLemmas.{some-has}
 use Rattle.regress_search.specs.TreePlanAndText.{program_of}
 use Rattle.regress_backtrack.proofs.leap_memory.leaps_over.Goals as goal
 

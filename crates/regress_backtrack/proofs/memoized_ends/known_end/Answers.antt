@@ -1,7 +1,7 @@
 use Rattle.std.proofs.Common.{◌≡◌, true, false}
 use Rattle.regress_backtrack.specs.MemoizedExecution.{memo_is_on}
-use Rattle.regress_backtrack.proofs.Courses.{knows-on, ends-on}
-use Rattle.regress_backtrack.proofs.KnownEnds.{if-some, was-true}
+use Rattle.regress_backtrack.proofs.MemoizedExecutionLemmas.{knows-on, ends-on}
+use Rattle.regress_backtrack.proofs.KnownEndLemmas.{if-some, was-true}
 use Rattle.regress_backtrack.proofs.memoized_ends.known_end.Goals as goal
 
 pub known_end_of_thread-requires-clause-sound : goal.known_end_of_thread-requires-clause-sound

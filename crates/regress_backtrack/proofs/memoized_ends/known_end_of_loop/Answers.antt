@@ -1,13 +1,13 @@
 use Rattle.std.proofs.Common.{◌≡◌, Some, true, subst}
 use Rattle.std.specs.Prelude.{IfSome}
 use Rattle.regress_input.specs.CharAndByteReadsFromOffset.{direction_of_forward_flag}
-use Rattle.regress_memo.proofs.Reaching.{rows-reach}
+use Rattle.regress_memo.proofs.ThreadListSuccessLemmas.{rows-reach}
 use Rattle.regress_search.specs.TreePlanAndText.{program_of}
 use Rattle.regress_backtrack.specs.FailureMemo.{memo_key_as_spec}
 use Rattle.regress_backtrack.specs.MemoizedCharLoops.{DecidesLoopRest}
-use Rattle.regress_backtrack.proofs.KnownEnds.{rest-key}
-use Rattle.regress_backtrack.proofs.RunTurns.{rows-of, run-with, bounds-inside, class-inside, readable, tested}
-use Rattle.regress_backtrack.proofs.RunFronts.{run-over, run-near}
+use Rattle.regress_backtrack.proofs.KnownEndLemmas.{rest-key}
+use Rattle.regress_backtrack.proofs.CharLoopTurns.{rows-of, run-with, bounds-inside, class-inside, readable, tested}
+use Rattle.regress_backtrack.proofs.MemoizedCharLoopLemmas.{run-over, run-near}
 use Rattle.regress_backtrack.proofs.memoized_ends.known_end_of_loop.Goals as goal
 
 pub class_with_number-class-requires : goal.class_with_number-class-requires

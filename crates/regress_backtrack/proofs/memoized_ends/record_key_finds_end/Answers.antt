@@ -1,5 +1,5 @@
 use Rattle.regress_backtrack.specs.FailureMemo.{memo_key_as_spec}
-use Rattle.regress_backtrack.proofs.KnownEnds.{found-sound}
+use Rattle.regress_backtrack.proofs.KnownEndLemmas.{found-sound}
 use Rattle.regress_backtrack.proofs.memoized_ends.record_key_finds_end.Goals as goal
 
 pub returns-clause-sound : goal.returns-clause-sound

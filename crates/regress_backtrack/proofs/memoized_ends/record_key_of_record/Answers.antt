@@ -1,7 +1,7 @@
 use Rattle.std.proofs.Common.{sym, subst}
 use Rattle.regress_backtrack.specs.FailureMemo.{KeyFindsEndIf}
 use Rattle.regress_backtrack.specs.MemoizedExecution.{memo_is_on}
-use Rattle.regress_backtrack.proofs.Marked.{sound-same}
+use Rattle.regress_backtrack.proofs.PushedRecordLemmas.{sound-same}
 use Rattle.regress_backtrack.proofs.memoized_ends.record_key_of_record.Goals as goal
 
 pub record_key_finds_end-requires-clause-finds : goal.record_key_finds_end-requires-clause-finds

@@ -1,8 +1,8 @@
 use Rattle.std.proofs.Common.{◌≡◌, ◌≤◌, ◌+◌, length, refl, arith, sym, ◌∙◌, subst}
 use Rattle.regress_backtrack.specs.FailureMemo.{KeyFindsEndIf, record_key}
 use Rattle.regress_backtrack.specs.MemoizedExecution.{memo_is_on}
-use Rattle.regress_backtrack.proofs.KnownEnds.{recorded-at}
-use Rattle.regress_backtrack.proofs.Marked.{sound-same, sound-then}
+use Rattle.regress_backtrack.proofs.KnownEndLemmas.{recorded-at}
+use Rattle.regress_backtrack.proofs.PushedRecordLemmas.{sound-same, sound-then}
 use Rattle.regress_backtrack.proofs.memoized_ends.record_keys_found_end.Goals as goal
 
 pub returns-then-not-memoizes-clause-sound : goal.returns-then-not-memoizes-clause-sound

@@ -1,12 +1,12 @@
 use Rattle.std.proofs.Common.{true, false, Some, sym, ◌∙◌, subst}
 use Rattle.std.specs.Prelude.{IfSome}
-use Rattle.regress_program.specs.InsnsAsSpecInsns.{insn_as_spec_insn}
+use Rattle.regress_program.specs.InsnsAsSpec.{insn_as_spec_insn}
 use Rattle.regress_machine.specs.Machine.{test_of}
 use Rattle.regress_search.specs.TreePlanAndText.{program_of}
-use Rattle.regress_search.proofs.Reach.{some-of}
+use Rattle.regress_search.proofs.CharLoopReach.{some-of}
 use Rattle.regress_backtrack.specs.FailureMemo.{memo_key_as_spec}
 use Rattle.regress_backtrack.specs.MemoizedCharLoops.{DecidesLoopRest}
-use Rattle.regress_backtrack.proofs.KnownEnds.{seeking-begin, seeking-found, seeking-goes}
+use Rattle.regress_backtrack.proofs.KnownEndLemmas.{seeking-begin, seeking-found, seeking-goes}
 use Rattle.regress_backtrack.proofs.memoized_ends.rest_is_known_to_find_end.Goals as goal
 
 pub places-init : goal.places-init

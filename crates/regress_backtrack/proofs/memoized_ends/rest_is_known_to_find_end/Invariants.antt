@@ -1,7 +1,7 @@
 use Rattle.regex_meaning.specs.CodeUnitOffsets.{units}
 use Rattle.regress_input.specs.CharAndByteReadsFromOffset.{direction_of_forward_flag}
 use Rattle.regress_memo.specs.Liveness.{left_from}
-use Rattle.regress_backtrack.proofs.KnownEnds.{Seeking}
+use Rattle.regress_backtrack.proofs.KnownEndLemmas.{Seeking}
 use Rattle.regress_backtrack.proofs.memoized_ends.rest_is_known_to_find_end.Given as goal
 
 abbrev pub invariant-places : goal.invariant-places

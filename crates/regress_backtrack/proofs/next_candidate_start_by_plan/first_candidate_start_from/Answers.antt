@@ -1,4 +1,4 @@
-use Rattle.regress_backtrack.proofs.NextStarts.{first-tried}
+use Rattle.regress_backtrack.proofs.CandidateStartLemmas.{first-tried}
 use Rattle.regress_backtrack.proofs.next_candidate_start_by_plan.first_candidate_start_from.Goals as goal
 
 pub returns-clause-next : goal.returns-clause-next

@@ -1,5 +1,5 @@
 use Rattle.std.proofs.Common.{refl, sym, ◌∙◌}
-use Rattle.regress_backtrack.proofs.NextStarts.{prefix-excludes}
+use Rattle.regress_backtrack.proofs.CandidateStartLemmas.{prefix-excludes}
 use Rattle.regress_backtrack.proofs.next_candidate_start_by_plan.is_candidate_start.Goals as goal
 
 pub returns : goal.returns

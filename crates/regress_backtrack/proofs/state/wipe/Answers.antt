@@ -1,6 +1,6 @@
 use Rattle.std.proofs.Common.{◌<◌, length, length-set, refl, ◌∙◌, arith}
 use Rattle.regress_backtrack.specs.State.{no_slot}
-use Rattle.regress_backtrack.proofs.Fresh.{fresh-more}
+use Rattle.regress_backtrack.proofs.LogicalSlotLemmas.{fresh-more}
 use Rattle.regress_backtrack.proofs.state.wipe.Goals as goal
 
 pub loop-id-init : goal.loop-id-init

@@ -3,7 +3,7 @@ use Rattle.std.specs.Prelude.{option_map}
 use Rattle.std.proofs.lemmas.Bool.{ltb-true}
 use Rattle.regress_search.specs.TreePlanAndText.{program_of}
 use Rattle.regress_program.specs.declared.ops.Op.{Op}
-use Rattle.regress_backtrack.proofs.BodyOps.{insn-of, op-continues-after}
+use Rattle.regress_backtrack.proofs.LoopBodyOperations.{insn-of, op-continues-after}
 use Rattle.regress_backtrack.proofs.surplus_required_iterations.continues_after.Goals as goal
 
 pub returns-in-Some : goal.returns-in-Some

@@ -3,7 +3,7 @@ use Rattle.std.specs.Prelude.{option_map}
 use Rattle.std.proofs.lemmas.Bool.{leb-true}
 use Rattle.regress_search.specs.TreePlanAndText.{program_of}
 use Rattle.regress_program.specs.declared.ops.Op.{Op}
-use Rattle.regress_backtrack.proofs.BodyOps.{op-ends-by}
+use Rattle.regress_backtrack.proofs.LoopBodyOperations.{op-ends-by}
 use Rattle.regress_backtrack.proofs.surplus_required_iterations.ends_by.Goals as goal
 
 pub returns-in-Some : goal.returns-in-Some

@@ -3,7 +3,7 @@ use Rattle.std.specs.Prelude.{option_map}
 use Rattle.regress_search.specs.TreePlanAndText.{program_of}
 use Rattle.regress_program.specs.declared.ops.Op.{Op}
 use Rattle.regress_backtrack.specs.SurplusRequiredIterations.{AreClosed}
-use Rattle.regress_backtrack.proofs.BodyOps.{op-closes}
+use Rattle.regress_backtrack.proofs.LoopBodyOperations.{op-closes}
 use Rattle.regress_backtrack.proofs.surplus_required_iterations.has_closed_contents.Goals as goal
 
 pub returns-in-Some : goal.returns-in-Some

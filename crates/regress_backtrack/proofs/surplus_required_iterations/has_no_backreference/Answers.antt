@@ -1,7 +1,7 @@
 use Rattle.std.proofs.Common.{◌≡◌, Some, arith}
 use Rattle.regex_meaning.specs.CompilationRelation.{Insn}
 use Rattle.regress_search.specs.TreePlanAndText.{program_of, insn_at}
-use Rattle.regress_program.proofs.ChoiceLemmas.{below-more}
+use Rattle.regress_program.proofs.AlternationDispatchLemmas.{below-more}
 use Rattle.std.proofs.lemmas.Option.{slice_get_within}
 use Rattle.regress_backtrack.specs.RepeatableLoopBodies.{IsNoBackreference}
 use Rattle.regress_backtrack.proofs.surplus_required_iterations.has_no_backreference.Goals as goal

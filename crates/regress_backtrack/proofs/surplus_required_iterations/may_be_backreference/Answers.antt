@@ -2,7 +2,7 @@ use Rattle.std.proofs.Common.{ap, sym, ◌∙◌, Bor}
 use Rattle.std.specs.Prelude.{option_map}
 use Rattle.regress_search.specs.TreePlanAndText.{program_of}
 use Rattle.regress_program.specs.declared.ops.Op.{Op}
-use Rattle.regress_backtrack.proofs.BodyOps.{op-is-no-backreference}
+use Rattle.regress_backtrack.proofs.LoopBodyOperations.{op-is-no-backreference}
 use Rattle.regress_backtrack.proofs.surplus_required_iterations.may_be_backreference.Goals as goal
 
 pub returns-in-Some : goal.returns-in-Some

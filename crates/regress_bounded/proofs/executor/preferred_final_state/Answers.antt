@@ -1,8 +1,8 @@
 use Rattle.regex_pattern_front.specs.AstToSpecTree.{tree_of}
-use Rattle.regress_search.proofs.Searchable.{can-search}
+use Rattle.regress_search.proofs.SearchableProgramLemmas.{can-search}
 use Rattle.regress_program.specs.CompilationOfTreesAsFunction.{compiled}
-use Rattle.regress_bounded.proofs.Ending.{begins-stands, attempt-stands, found-all}
-use Rattle.regress_bounded.proofs.Stopping.{runs-handed}
+use Rattle.regress_bounded.proofs.AttemptResultLemmas.{begins-stands, attempt-stands, found-all}
+use Rattle.regress_bounded.proofs.StepResultLemmas.{runs-handed}
 use Rattle.regress_bounded.proofs.executor.preferred_final_state.Goals as goal
 
 pub run-requires : goal.run-requires

@@ -1,4 +1,4 @@
-use Rattle.regress_bounded.proofs.Turning.{char-loop-other}
+use Rattle.regress_bounded.proofs.ThreadTurnLemmas.{char-loop-other}
 use Rattle.regress_bounded.proofs.thread_steps_and_backtracking.char_loop_max.Goals as goal
 
 pub returns-in_default : goal.returns-in_default

@@ -3,9 +3,9 @@ use Rattle.regex_meaning.specs.CompilationRelation.{Loop1CharBody}
 use Rattle.regress_program.specs.InsnsAsSpec.{insn_as_spec_insn}
 use Rattle.regress_pikevm.specs.States.{state_of}
 use Rattle.regress_bounded.specs.BoundedState.{min_and_greed_of_loop}
-use Rattle.regress_bounded.proofs.Bodies.{body-spelled}
-use Rattle.regress_bounded.proofs.Stopping.{turns-handed, turns-short, some-key}
-use Rattle.regress_bounded.proofs.Turning.{standing-place, known-over, known-goes, has-maximum, RunAt, here-below, here-insn, run-at}
+use Rattle.regress_bounded.proofs.CharLoopBodyInsns.{body-spelled}
+use Rattle.regress_bounded.proofs.StepResultLemmas.{turns-handed, turns-short, some-key}
+use Rattle.regress_bounded.proofs.ThreadTurnLemmas.{standing-place, known-over, known-goes, has-maximum, RunAt, here-below, here-insn, run-at}
 use Rattle.regress_bounded.proofs.thread_steps_and_backtracking.execute_thread_step.Goals.{In-Some}
 use Rattle.regress_bounded.proofs.thread_steps_and_backtracking.execute_thread_step.Given.{Over}
 use Rattle.regress_bounded.proofs.thread_steps_and_backtracking.execute_thread_step.Goals as goal

@@ -1,8 +1,8 @@
 use Rattle.std.proofs.Common.{◌≡◌, ◌<◌, length, sym, ◌∙◌, rules}
 use Rattle.std.specs.Prelude.{IfErr}
 use Rattle.regress_bounded.specs.declared.memo_and_work_budget.AttemptAbortReason.TheVariants.{Work}
-use Rattle.regress_bounded.proofs.Stopping.{handed-on, turns-short}
-use Rattle.regress_bounded.proofs.Turning.{standing-can, standing-inside, here-below, here-insn, goal-ends, leads-on, turn-over, turn-goes}
+use Rattle.regress_bounded.proofs.StepResultLemmas.{handed-on, turns-short}
+use Rattle.regress_bounded.proofs.ThreadTurnLemmas.{standing-can, standing-inside, here-below, here-insn, goal-ends, leads-on, turn-over, turn-goes}
 use Rattle.regress_bounded.proofs.thread_steps_and_backtracking.execute_with_record.Goals as goal
 
 pub bounds-insns-state : goal.bounds-insns-state

@@ -1,4 +1,4 @@
-use Rattle.regress_bounded.proofs.Turning.{goal-other}
+use Rattle.regress_bounded.proofs.ThreadTurnLemmas.{goal-other}
 use Rattle.regress_bounded.proofs.thread_steps_and_backtracking.is_goal.Goals as goal
 
 pub returns-in_default : goal.returns-in_default

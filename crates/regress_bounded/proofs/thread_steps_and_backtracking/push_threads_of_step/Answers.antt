@@ -1,5 +1,5 @@
 use Rattle.std.proofs.Common.{◌∷◌, [], refl, sym, append-nil}
-use Rattle.regress_bounded.proofs.Turning.{leads-can, arm-leads, arm-threads, taken-threads}
+use Rattle.regress_bounded.proofs.ThreadTurnLemmas.{leads-can, arm-leads, arm-threads, taken-threads}
 use Rattle.regress_bounded.proofs.thread_steps_and_backtracking.push_threads_of_step.Goals as goal
 
 pub execute_insn-requires-clause-executable : goal.execute_insn-requires-clause-executable

@@ -8,8 +8,8 @@ use Rattle.regress_memo.specs.CheckedAnalysis.{IsRecordableMemoKey}
 use Rattle.regress_memo.specs.MemoContents.{memo_key_as_spec}
 use Rattle.regress_memo.specs.MemoContractView.{MemoView}
 use Rattle.regress_bounded.specs.declared.memo_and_work_budget.MemoAndWorkBudget.{MemoAndWorkBudget}
-use Rattle.regress_bounded.proofs.AttemptState.{still-knows, thread-goes, thread-over, record-bit, record-right, record-goes, record-over}
-use Rattle.regress_bounded.proofs.Stopping.{goes-short}
+use Rattle.regress_bounded.proofs.BoundedStateLemmas.{still-knows, thread-goes, thread-over, record-bit, record-right, record-goes, record-over}
+use Rattle.regress_bounded.proofs.StepResultLemmas.{goes-short}
 use Rattle.regress_bounded.proofs.thread_steps_and_backtracking.resume_or_record.Goals as goal
 
 -- ---- To a thread

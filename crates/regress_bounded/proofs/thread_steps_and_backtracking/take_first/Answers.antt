@@ -1,7 +1,7 @@
 use Rattle.std.proofs.Common.{sym, subst, ◌++◌, map}
-use Rattle.regress_pikevm.proofs.Remains.{popped-none}
+use Rattle.regress_pikevm.proofs.ExecutorTurnLemmas.{popped-none}
 use Rattle.regress_bounded.specs.declared.pending_stack.StackEntry.TheVariants.{Thread}
-use Rattle.regress_bounded.proofs.Taken.{IsTaken, taken-first, taken-more, taken-all}
+use Rattle.regress_bounded.proofs.StatesPushedOneByOne.{IsTaken, taken-first, taken-more, taken-all}
 use Rattle.regress_bounded.proofs.thread_steps_and_backtracking.take_first.Goals as goal
 
 pub others-init : goal.others-init

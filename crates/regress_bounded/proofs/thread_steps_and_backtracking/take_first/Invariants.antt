@@ -1,6 +1,6 @@
 use Rattle.std.proofs.Common.{◌++◌, length, map}
 use Rattle.regress_bounded.specs.declared.pending_stack.StackEntry.TheVariants.{Thread}
-use Rattle.regress_bounded.proofs.Taken.{IsTaken}
+use Rattle.regress_bounded.proofs.StatesPushedOneByOne.{IsTaken}
 use Rattle.regress_bounded.proofs.thread_steps_and_backtracking.take_first.Given as goal
 
 abbrev pub invariant-others : goal.invariant-others

@@ -1,4 +1,4 @@
-use Rattle.regress_bounded.proofs.Turning.{unbounded_loop-other}
+use Rattle.regress_bounded.proofs.ThreadTurnLemmas.{unbounded_loop-other}
 use Rattle.regress_bounded.proofs.thread_steps_and_backtracking.unbounded_loop.Goals as goal
 
 pub returns-in_default : goal.returns-in_default

@@ -1,7 +1,7 @@
 use Rattle.std.proofs.Common.{◌≤◌, ◌<◌, ◌^◌, ◌+◌, ◌-◌, min, length, ap, sym, ◌∙◌, subst, arith, rules}
 use Rattle.std.specs.Prelude.{is_some}
 use Rattle.regex_meaning.specs.CodeUnitOffsets.{units}
-use Rattle.regex_meaning.proofs.TextLemmas.{offset-place_at}
+use Rattle.regex_meaning.proofs.CodeUnitOffsetsLemmas.{offset-place_at}
 use Rattle.regex_pattern_front.specs.AstToSpecTree.{tree_of}
 use Rattle.regress_machine.specs.Machine.{test_of, act}
 use Rattle.regex_meaning.specs.Text.{rightwards}
@@ -10,9 +10,9 @@ use Rattle.regress_pikevm.specs.States.{state_of}
 use Rattle.regress_bounded.specs.BudgetSpending.{IsWorkOrMoreThanLeft}
 use Rattle.regress_bounded.specs.CostsOfSearchEvents.{work_of}
 use Rattle.regress_bounded.specs.BoundedState.{HasPassedOver}
-use Rattle.regress_bounded.proofs.Bodies.{body-spelled}
-use Rattle.regress_bounded.proofs.Lazily.{few-passed}
-use Rattle.regress_bounded.proofs.Turning.{ReadsUpTo, can-below, can-insn, reads-up-to, other-work, run-work}
+use Rattle.regress_bounded.proofs.CharLoopBodyInsns.{body-spelled}
+use Rattle.regress_bounded.proofs.LazyLoopTurnsAndResumption.{few-passed}
+use Rattle.regress_bounded.proofs.ThreadTurnLemmas.{ReadsUpTo, can-below, can-insn, reads-up-to, other-work, run-work}
 use Rattle.regress_bounded.proofs.thread_steps_and_backtracking.work_of_step.Goals.{In-Some, After-read_chars_within_budget-passed}
 use Rattle.regress_bounded.proofs.thread_steps_and_backtracking.work_of_step.Given.{Over}
 use Rattle.regress_bounded.proofs.thread_steps_and_backtracking.work_of_step.Goals as goal

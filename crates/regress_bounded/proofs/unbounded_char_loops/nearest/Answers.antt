@@ -1,6 +1,6 @@
 use Rattle.std.proofs.Common.{ℕ, ap, ◌∙◌, arith}
 use Rattle.regress_pikevm.specs.States.{state_of}
-use Rattle.regress_bounded.proofs.Passed.{past-none, past-more, past-all}
+use Rattle.regress_bounded.proofs.CharLoopProgress.{past-none, past-more, past-all}
 use Rattle.regress_bounded.proofs.unbounded_char_loops.nearest.Goals.{then-insn_accepts_next_char+in_ok-push_entry, else-insn_accepts_next_char}
 use Rattle.regress_bounded.proofs.unbounded_char_loops.nearest.Goals as goal
 

@@ -1,8 +1,8 @@
 use Rattle.std.proofs.Common.{◌+◌, arith}
-use Rattle.regex_meaning.proofs.TextLemmas.{IsBoundary-place}
-use Rattle.regress_search.proofs.Reach.{some-of}
+use Rattle.regex_meaning.proofs.CodeUnitOffsetsLemmas.{IsBoundary-place}
+use Rattle.regress_search.proofs.CharLoopReach.{some-of}
 use Rattle.regress_search.specs.OffsetsAfterMatchedInsns.{char_test_of_insn}
-use Rattle.regress_bounded.proofs.Passed.{past-none, past-more, past-all, past-boundary}
+use Rattle.regress_bounded.proofs.CharLoopProgress.{past-none, past-more, past-all, past-boundary}
 use Rattle.regress_bounded.proofs.unbounded_char_loops.read_chars_within_budget.Goals as goal
 
 pub characters-init : goal.characters-init

@@ -1,6 +1,6 @@
 use Rattle.std.proofs.Common.{◌-◌}
 use Rattle.regress_search.specs.OffsetsAfterMatchedInsns.{char_test_of_insn}
-use Rattle.regress_bounded.proofs.Passed.{HasPassed}
+use Rattle.regress_bounded.proofs.CharLoopProgress.{HasPassed}
 use Rattle.regress_bounded.proofs.unbounded_char_loops.read_chars_within_budget.Given as goal
 
 abbrev pub invariant-characters : goal.invariant-characters

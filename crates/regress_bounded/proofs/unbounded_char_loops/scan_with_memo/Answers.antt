@@ -1,12 +1,12 @@
 use Rattle.std.proofs.Common.{◌∷◌, ◌++◌, [], sym, ap, ◌∙◌, subst, arith, inr}
 use Rattle.std.specs.Prelude.{IfSome}
-use Rattle.regress_input.proofs.Places.{boundary_inside}
+use Rattle.regress_input.proofs.BoundaryPositions.{boundary_inside}
 use Rattle.regress_memo.specs.CheckedAnalysis.{IsRecordableMemoKey}
 use Rattle.regress_memo.specs.MemoContents.{memo_key_as_spec}
-use Rattle.regress_search.proofs.Reach.{some-of}
+use Rattle.regress_search.proofs.CharLoopReach.{some-of}
 use Rattle.regress_search.specs.OffsetsAfterMatchedInsns.{char_test_of_insn}
 use Rattle.regress_bounded.specs.declared.pending_stack.StackEntry.TheVariants.{Thread as AsThread}
-use Rattle.regress_bounded.proofs.Furthest.{further-by, key-some, place-kept, furthest-none, furthest-known, furthest-all, furthest-more}
+use Rattle.regress_bounded.proofs.GreedyLoopScanLemmas.{further-by, key-some, place-kept, furthest-none, furthest-known, furthest-all, furthest-more}
 use Rattle.regress_bounded.proofs.unbounded_char_loops.scan_with_memo.Goals as goal
 
 pub places-init : goal.places-init

@@ -4,7 +4,7 @@ use Rattle.regex_pattern_front.specs.AstToSpecTree.{tree_of}
 use Rattle.regress_program.specs.CompilationOfTreesAsFunction.{compiled}
 use Rattle.regress_search.specs.OffsetsAfterMatchedInsns.{char_test_of_insn}
 use Rattle.regress_pikevm.specs.States.{state_of}
-use Rattle.regress_bounded.proofs.Furthest.{HasGoneOver}
+use Rattle.regress_bounded.proofs.GreedyLoopScanLemmas.{HasGoneOver}
 use Rattle.regress_bounded.proofs.unbounded_char_loops.scan_with_memo.Given as goal
 
 abbrev pub invariant-places : goal.invariant-places

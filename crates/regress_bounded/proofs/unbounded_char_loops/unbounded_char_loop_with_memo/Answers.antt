@@ -2,11 +2,11 @@ use Rattle.std.proofs.Common.{◌<◌, ◌^◌, ◌+◌, ◌-◌, ◌≤◌, min
 use Rattle.regress_pikevm.specs.States.{state_of}
 use Rattle.regress_program.specs.CompilationOfTreesAsFunction.{compiled}
 use Rattle.regex_pattern_front.specs.AstToSpecTree.{tree_of}
-use Rattle.regress_bounded.proofs.Furthest.{past-few}
-use Rattle.regress_bounded.proofs.GreedyMet.{all-passed, met-few, met-over, met-goes}
-use Rattle.regress_bounded.proofs.Lazily.{PassesOver, reads-here, passes-over, passed-fits, run-which, at-least, short-goes, lazy-goes}
-use Rattle.regress_bounded.proofs.AttemptState.{knows, falls-short}
-use Rattle.regress_bounded.proofs.Stopping.{goes-short}
+use Rattle.regress_bounded.proofs.GreedyLoopScanLemmas.{past-few}
+use Rattle.regress_bounded.proofs.GreedyLoopTurnLemmas.{all-passed, met-few, met-over, met-goes}
+use Rattle.regress_bounded.proofs.LazyLoopTurnsAndResumption.{PassesOver, reads-here, passes-over, passed-fits, run-which, at-least, short-goes, lazy-goes}
+use Rattle.regress_bounded.proofs.BoundedStateLemmas.{knows, falls-short}
+use Rattle.regress_bounded.proofs.StepResultLemmas.{goes-short}
 use Rattle.regress_bounded.proofs.unbounded_char_loops.unbounded_char_loop_with_memo.Goals.{After-read_chars_within_budget-passed}
 use Rattle.regress_bounded.proofs.unbounded_char_loops.unbounded_char_loop_with_memo.Given.{Over}
 use Rattle.regress_bounded.proofs.unbounded_char_loops.unbounded_char_loop_with_memo.Goals as goal

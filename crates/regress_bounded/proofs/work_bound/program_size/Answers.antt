@@ -1,7 +1,7 @@
 use Rattle.std.proofs.Common.{◌^◌, ◌-◌, ◌∙◌, ap, min, sum_by, take_all}
 use Rattle.regress_program.specs.InsnsAsSpec.{insn_as_spec_insn}
 use Rattle.regress_bounded.specs.WorkBoundForAllMatches.{size_of_insn}
-use Rattle.regress_bounded.proofs.Sizes.{size-coded}
+use Rattle.regress_bounded.proofs.ProgramSizeLemmas.{size-coded}
 use Rattle.regress_bounded.proofs.work_bound.program_size.Goals as goal
 
 pub returns : goal.returns

@@ -1,9 +1,9 @@
 use Rattle.std.proofs.Common.{◌+◌, ◌≤◌, ap, length, refl, arith}
 use Rattle.regress_search.specs.CostsOfCalls.{without_costs}
-use Rattle.regress_c.specs.AllInWork.{FillsInWork}
+use Rattle.regress_c.specs.AllMatchesInWork.{FillsInWork}
 use Rattle.regress_c.specs.declared.refusal.Refusal.TheVariants.{Unbounded}
-use Rattle.regress_c.proofs.FirstInWork.{handed-on}
-use Rattle.regress_c.proofs.WritingInWork.{each-ranges, is-short, writes}
+use Rattle.regress_c.proofs.InWorkLemmas.{handed-on}
+use Rattle.regress_c.proofs.AllInWorkLemmas.{each-ranges, is-short, writes}
 use Rattle.regress_c.proofs.all_in_work.fill_by.Goals as goal
 
 pub returns-then-spans-ranges : goal.returns-then-spans-ranges

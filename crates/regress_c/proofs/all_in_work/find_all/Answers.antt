@@ -1,4 +1,4 @@
-use Rattle.regress_c.proofs.WritingInWork.{not-held}
+use Rattle.regress_c.proofs.AllInWorkLemmas.{not-held}
 use Rattle.regress_c.proofs.all_in_work.find_all.Goals as goal
 
 pub returns-in_default-clause-replies : goal.returns-in_default-clause-replies

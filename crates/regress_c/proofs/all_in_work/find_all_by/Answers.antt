@@ -1,4 +1,4 @@
-use Rattle.regress_c.proofs.WritingInWork.{is-refused}
+use Rattle.regress_c.proofs.AllInWorkLemmas.{is-refused}
 use Rattle.regress_c.proofs.all_in_work.find_all_by.Goals as goal
 
 pub returns-in-Err : goal.returns-in-Err

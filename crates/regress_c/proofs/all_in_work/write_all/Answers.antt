@@ -1,7 +1,7 @@
 use Rattle.std.proofs.Common.{◌≡◌, ◌∙◌, ap, refl, arith}
 use Rattle.regress_search.specs.CostsOfCalls.{without_costs}
 use Rattle.regress_c.specs.Codes.{code_of}
-use Rattle.regress_c.proofs.WritingInWork.{begun, is-failed, is-full, is-over, one_more, ranges-of}
+use Rattle.regress_c.proofs.AllInWorkLemmas.{begun, is-failed, is-full, is-over, one_more, ranges-of}
 use Rattle.regress_c.proofs.all_in_work.write_all.Goals as goal
 
 pub written-init : goal.written-init

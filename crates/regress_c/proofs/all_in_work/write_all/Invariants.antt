@@ -1,6 +1,6 @@
 use Rattle.std.proofs.Common.{◌-◌, ◌≤◌, length}
 use Rattle.regress_search.specs.CostsOfCalls.{without_costs}
-use Rattle.regress_c.proofs.WritingInWork.{Writing}
+use Rattle.regress_c.proofs.AllInWorkLemmas.{Writing}
 use Rattle.regress_c.proofs.all_in_work.write_all.Given as goal
 
 -- what was written so far

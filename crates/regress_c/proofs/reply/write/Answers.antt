@@ -1,7 +1,7 @@
 use Rattle.std.proofs.Common.{◌≡◌, ◌++◌, ◌<◌, ◌≤◌, take, drop, length, length-set, slice_set, ap, ◌∙◌, arith}
 use Rattle.regress_search.specs.MatchesAsSpecAnswers.{answer_of}
 use Rattle.regress_c.specs.Replies.{span_of, spans_of}
-use Rattle.regress_c.proofs.Spans.{written_all, written_more}
+use Rattle.regress_c.proofs.ReplyLemmas.{written_all, written_more}
 use Rattle.regress_c.proofs.reply.write.Goals as goal
 
 pub loop-number-preserved : goal.loop-number-preserved

@@ -1,7 +1,7 @@
 use Rattle.std.proofs.Common.{◌-◌, length, refl}
 use Rattle.regress_search.specs.MatchesAsSpecAnswers.{answer_of}
 use Rattle.regress_c.specs.Replies.{spans_of}
-use Rattle.regress_c.proofs.Spans.{written_part}
+use Rattle.regress_c.proofs.ReplyLemmas.{written_part}
 use Rattle.regress_c.proofs.reply.write_at.Goals as goal
 
 pub returns : goal.returns

@@ -1,8 +1,8 @@
 use Rattle.std.proofs.Common.{slice_get, sym, ◌∙◌, arith}
 use Rattle.std.proofs.lemmas.Option.{slice_get_within}
 use Rattle.regress_input.specs.CharAndByteReadsFromOffset.{bytes_of}
-use Rattle.regress_input.proofs.Moves.{are_bytes}
-use Rattle.regress_input.proofs.ByteTests.{units-bytes_of}
+use Rattle.regress_input.proofs.ByteReadLemmas.{are_bytes}
+use Rattle.regress_input.proofs.ByteTestsOfCharacters.{units-bytes_of}
 use Rattle.regress_input.proofs.cursor.next_byte.Goals as goal
 
 pub add_assign-requires : goal.add_assign-requires

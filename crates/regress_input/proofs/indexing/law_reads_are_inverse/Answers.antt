@@ -1,4 +1,4 @@
-use Rattle.regress_input.proofs.Places.{right_then_left, left_then_right}
+use Rattle.regress_input.proofs.BoundaryPositions.{right_then_left, left_then_right}
 use Rattle.regress_input.proofs.indexing.law_reads_are_inverse.Goals as goal
 
 pub returns-clause-right_then_left : goal.returns-clause-right_then_left

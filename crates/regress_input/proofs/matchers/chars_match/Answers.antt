@@ -1,11 +1,11 @@
 use Rattle.std.proofs.Common.{◌≡◌, inl, inr, sym, ◌∙◌, ap, None, option_map}
 use Rattle.regex_meaning.specs.CodeUnitOffsets.{read}
 use Rattle.regex_meaning.specs.Outcomes.{is_same}
-use Rattle.regex_pattern_front.specs.AstToSpecTree.{sameness_of}
+use Rattle.regex_pattern_front.specs.AstToSpecTree.{spec_sameness_of}
 use Rattle.regress_input.specs.CharAndByteReadsFromOffset.{direction_of_forward_flag}
-use Rattle.regress_input.proofs.Places.{pair}
-use Rattle.regress_input.proofs.Compare.{starts, stopped, none_at, none_there, differs, goes_on, nearer}
-use Rattle.regress_input.proofs.Lists.{unequal, equal}
+use Rattle.regress_input.proofs.BoundaryPositions.{pair}
+use Rattle.regress_input.proofs.RepeatedRangeLemmas.{starts, stopped, none_at, none_there, differs, goes_on, nearer}
+use Rattle.regress_input.proofs.ListRangeLemmas.{unequal, equal}
 use Rattle.regress_input.proofs.matchers.chars_match.Goals as goal
 use Rattle.regress_input.proofs.matchers.chars_match.Goals.{then-FORWARD, else-FORWARD}
 
@@ -14,7 +14,7 @@ each-init g c =
     let input = c.args.input.now in
     let text = g.Input.InputIndexer.text input in
     let offset = g.Input.Position.PositionType.offset in
-    starts text (is_same text (sameness_of c.args.same)) (g.met.Input.InputIndexer.is_text input) g.Dir.Direction.FORWARD
+    starts text (is_same text (spec_sameness_of c.args.same)) (g.met.Input.InputIndexer.is_text input) g.Dir.Direction.FORWARD
     (offset c.args.pos.now) (offset c.args.orig_range.start) (offset c.args.orig_range.end) (offset c.if-FORWARD.at.0) (offset c.if-FORWARD.at.1)
     c.requires.at c.requires.from c.requires.to c.requires.in_order
     (elim c.if-FORWARD.branch [
@@ -28,7 +28,7 @@ returns-in_default g c =
     let ne = unequal _ _ _ _ c.ne.ensures (g.met.Input.Position.PositionType.equal c.each.at c.if-FORWARD.at.1) c.each-test.true in
     let none : read text (direction_of_forward_flag g.Dir.Direction.FORWARD) (g.Input.Position.PositionType.offset c.each.at) ≡ None =
     sym c.next.ensures.read ∙ ap (option_map (λ e. pair (g.Input.Element.ElementType.number e) (g.Input.Position.PositionType.offset c.next.new.pos))) c.in_default.is in
-    sym (none_at text (is_same text (sameness_of c.args.same)) (g.met.Input.InputIndexer.is_text c.args.input.now) (direction_of_forward_flag g.Dir.Direction.FORWARD) _ _ _ _ c.each.invariant ne none)
+    sym (none_at text (is_same text (spec_sameness_of c.args.same)) (g.met.Input.InputIndexer.is_text c.args.input.now) (direction_of_forward_flag g.Dir.Direction.FORWARD) _ _ _ _ c.each.invariant ne none)
 
 pub returns-in_default-next : goal.returns-in_default-next
 returns-in_default-next g c =
@@ -36,32 +36,32 @@ returns-in_default-next g c =
     let ne = unequal _ _ _ _ c.ne.ensures (g.met.Input.Position.PositionType.equal c.each.at c.if-FORWARD.at.1) c.each-test.true in
     let none : read text (direction_of_forward_flag g.Dir.Direction.FORWARD) (g.Input.Position.PositionType.offset c.each.pos) ≡ None =
     sym c.next-in-each.ensures.read ∙ ap (option_map (λ e. pair (g.Input.Element.ElementType.number e) (g.Input.Position.PositionType.offset c.next-in-each.new.pos))) c.in_default-next.is in
-    sym (none_there text (is_same text (sameness_of c.args.same)) (g.met.Input.InputIndexer.is_text c.args.input.now) (direction_of_forward_flag g.Dir.Direction.FORWARD) _ _ _ _ c.each.invariant ne none)
+    sym (none_there text (is_same text (spec_sameness_of c.args.same)) (g.met.Input.InputIndexer.is_text c.args.input.now) (direction_of_forward_flag g.Dir.Direction.FORWARD) _ _ _ _ c.each.invariant ne none)
 
 pub returns-then-not-are_same : goal.returns-then-not-are_same
 returns-then-not-are_same g c =
     let text = g.Input.InputIndexer.text c.args.input.now in
     let ne = unequal _ _ _ _ c.ne.ensures (g.met.Input.Position.PositionType.equal c.each.at c.if-FORWARD.at.1) c.each-test.true in
-    sym (differs text (is_same text (sameness_of c.args.same)) (g.met.Input.InputIndexer.is_text c.args.input.now) (direction_of_forward_flag g.Dir.Direction.FORWARD) _ _ _ _ _ _ _ _ c.each.invariant ne
+    sym (differs text (is_same text (spec_sameness_of c.args.same)) (g.met.Input.InputIndexer.is_text c.args.input.now) (direction_of_forward_flag g.Dir.Direction.FORWARD) _ _ _ _ _ _ _ _ c.each.invariant ne
     (sym c.in-Some.ensures.read) (sym c.in-Some-next.ensures.read) (sym c.are_same.ensures ∙ c.if-not-are_same.true))
 
 pub each-preserved : goal.each-preserved
 each-preserved g c =
     let text = g.Input.InputIndexer.text c.args.input.now in
     let ne = unequal _ _ _ _ c.ne.ensures (g.met.Input.Position.PositionType.equal c.each.at c.if-FORWARD.at.1) c.each-test.true in
-    goes_on text (is_same text (sameness_of c.args.same)) (g.met.Input.InputIndexer.is_text c.args.input.now) (direction_of_forward_flag g.Dir.Direction.FORWARD) _ _ _ _ _ _ _ _ c.each.invariant ne
+    goes_on text (is_same text (spec_sameness_of c.args.same)) (g.met.Input.InputIndexer.is_text c.args.input.now) (direction_of_forward_flag g.Dir.Direction.FORWARD) _ _ _ _ _ _ _ _ c.each.invariant ne
     (sym c.in-Some.ensures.read) (sym c.in-Some-next.ensures.read) (sym c.are_same.ensures ∙ c.if-not-are_same.false)
 
 pub each-smaller : goal.each-smaller
 each-smaller g c =
     let text = g.Input.InputIndexer.text c.args.input.now in
     let ne = unequal _ _ _ _ c.ne.ensures (g.met.Input.Position.PositionType.equal c.each.at c.if-FORWARD.at.1) c.each-test.true in
-    let on = goes_on text (is_same text (sameness_of c.args.same)) (g.met.Input.InputIndexer.is_text c.args.input.now) (direction_of_forward_flag g.Dir.Direction.FORWARD) _ _ _ _ _ _ _ _ c.each.invariant ne
+    let on = goes_on text (is_same text (spec_sameness_of c.args.same)) (g.met.Input.InputIndexer.is_text c.args.input.now) (direction_of_forward_flag g.Dir.Direction.FORWARD) _ _ _ _ _ _ _ _ c.each.invariant ne
     (sym c.in-Some.ensures.read) (sym c.in-Some-next.ensures.read) (sym c.are_same.ensures ∙ c.if-not-are_same.false) in
-    nearer text (is_same text (sameness_of c.args.same)) (g.met.Input.InputIndexer.is_text c.args.input.now) (direction_of_forward_flag g.Dir.Direction.FORWARD) _ _ _ _ _ _ _ c.each.invariant on ne (sym c.in-Some.ensures.read)
+    nearer text (is_same text (spec_sameness_of c.args.same)) (g.met.Input.InputIndexer.is_text c.args.input.now) (direction_of_forward_flag g.Dir.Direction.FORWARD) _ _ _ _ _ _ _ c.each.invariant on ne (sym c.in-Some.ensures.read)
 
 pub returns : goal.returns
 returns g c =
     let text = g.Input.InputIndexer.text c.args.input.now in
-    sym (stopped text (is_same text (sameness_of c.args.same)) (g.met.Input.InputIndexer.is_text c.args.input.now) (direction_of_forward_flag g.Dir.Direction.FORWARD) _ _ _ _ c.each.invariant
+    sym (stopped text (is_same text (spec_sameness_of c.args.same)) (g.met.Input.InputIndexer.is_text c.args.input.now) (direction_of_forward_flag g.Dir.Direction.FORWARD) _ _ _ _ c.each.invariant
     (equal _ _ _ _ c.ne.ensures (g.met.Input.Position.PositionType.equal c.each.at c.if-FORWARD.at.1) c.each-test.false))

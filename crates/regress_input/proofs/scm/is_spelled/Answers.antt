@@ -1,5 +1,5 @@
 use Rattle.std.proofs.Common.{sym, ◌∙◌, ap, nat_eq}
-use Rattle.regress_input.proofs.ByteTests.{test_is, stands_alone}
+use Rattle.regress_input.proofs.ByteTestsOfCharacters.{test_is, stands_alone}
 use Rattle.regress_input.proofs.scm.is_spelled.Goals as goal
 
 pub character_at-spelled-requires : goal.character_at-spelled-requires

@@ -1,8 +1,8 @@
 use Rattle.std.proofs.Common.{◌≡◌, Bool, true, sym, ◌∙◌, ap}
 use Rattle.regex_meaning.specs.NumberListHelpers.{contains}
 use Rattle.regress_input.specs.CharAndByteReadsFromOffset.{direction_of_forward_flag, end_if_matched, read_if_units_are_bytes, adjacent_byte, bytes_of}
-use Rattle.regress_input.proofs.Places.{boundary_inside}
-use Rattle.regress_input.proofs.ByteTests.{byte_in_set, no_byte}
+use Rattle.regress_input.proofs.BoundaryPositions.{boundary_inside}
+use Rattle.regress_input.proofs.ByteTestsOfCharacters.{byte_in_set, no_byte}
 use Rattle.regress_input.proofs.scm.matches_ascii_byte_set.Goals as goal
 
 pub next_byte-requires : goal.next_byte-requires

@@ -25,8 +25,7 @@ impl Regex {
         requires { ClosureCanBeCalled (F.pre with) (take 1 (utf8_answers self.now text.now 0)) }
         ensures made { IfOk result (λ s. IsReplacedBy (F.post with) text.now
             (take 1 (utf8_answers self.now text.now 0)) (string_bytes s)) }
-        ensures refused { IfErr result
-            (CanRefuseWith (F.post with) (take 1 (utf8_answers self.now text.now 0))) }
+        ensures refused { IfErr result (CanRefuseWith (F.post with) (take 1 (utf8_answers self.now text.now 0))) }
     {
         write_first(self.allocator(), self.find_iter(text)?, text, with)
     }
@@ -73,8 +72,7 @@ fn write_first<P: MatchProducer + Drop, E, F: FnOnce(&Match) -> Result<String, E
 ) -> Result<String, ReplaceError<E>>
     requires in_text { MatchesFitTextInOrderFrom text.now 0 matches.answers }
     requires executable { ClosureCanBeCalled (F.pre with) (take 1 matches.answers) }
-    ensures made { IfOk result (λ s.
-        IsReplacedBy (F.post with) text.now (take 1 matches.answers) (string_bytes s)) }
+    ensures made { IfOk result (λ s. IsReplacedBy (F.post with) text.now (take 1 matches.answers) (string_bytes s)) }
     ensures refused { matches.limited ≡ false
         → IfErr result (CanRefuseWith (F.post with) (take 1 matches.answers)) }
 {
@@ -97,8 +95,7 @@ fn replace_each_match<P: MatchProducer + Drop, E, F: Fn(&Match) -> Result<String
 ) -> Result<String, ReplaceError<E>>
     requires in_text { MatchesFitTextInOrderFrom text.now 0 matches.answers }
     requires executable { ClosureCanBeCalled (F.pre with) matches.answers }
-    ensures made { IfOk result (λ s.
-        IsReplacedBy (F.post with) text.now matches.answers (string_bytes s)) }
+    ensures made { IfOk result (λ s. IsReplacedBy (F.post with) text.now matches.answers (string_bytes s)) }
     ensures refused { matches.limited ≡ false
         → IfErr result (CanRefuseWith (F.post with) matches.answers) }
 {

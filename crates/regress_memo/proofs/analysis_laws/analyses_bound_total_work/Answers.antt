@@ -1,4 +1,4 @@
-use Rattle.regress_memo.proofs.BoundLemmas.{ledgers-bound}
+use Rattle.regress_memo.proofs.WorkBoundLemmas.{ledgers-bound}
 use Rattle.regress_memo.proofs.analysis_laws.analyses_bound_total_work.Goals as goal
 
 pub returns : goal.returns

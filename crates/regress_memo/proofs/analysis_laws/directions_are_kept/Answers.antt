@@ -1,4 +1,4 @@
-use Rattle.regress_memo.proofs.Ways.{ways-stay}
+use Rattle.regress_memo.proofs.SearchDirectionLemmas.{ways-stay}
 use Rattle.regress_memo.proofs.analysis_laws.directions_are_kept.Goals as goal
 
 pub returns : goal.returns

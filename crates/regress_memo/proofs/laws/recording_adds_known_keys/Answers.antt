@@ -1,4 +1,4 @@
-use Rattle.regress_memo.proofs.LawLemmas.{memos-hold}
+use Rattle.regress_memo.proofs.MemoTableLawLemmas.{memos-hold}
 use Rattle.regress_memo.proofs.laws.recording_adds_known_keys.Goals as goal
 
 pub returns : goal.returns

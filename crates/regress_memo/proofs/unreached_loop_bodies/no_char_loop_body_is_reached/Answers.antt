@@ -1,5 +1,5 @@
 use Rattle.std.proofs.Common.{below_more, arith}
-use Rattle.regress_memo.proofs.NoBodies.{past-all}
+use Rattle.regress_memo.proofs.UnreachedLoopBodyLemmas.{past-all}
 use Rattle.regress_memo.proofs.unreached_loop_bodies.no_char_loop_body_is_reached.Goals as goal
 
 pub loop-ip-preserved : goal.loop-ip-preserved

@@ -3,12 +3,12 @@ use Rattle.regex_pattern_front.specs.AstToSpecTree.{tree_of}
 use Rattle.regress_input.specs.CharAndByteReadsFromOffset.{direction_of_forward_flag}
 use Rattle.regress_program.specs.CompilationOfTreesAsFunction.{compiled}
 use Rattle.regress_machine.specs.Machine.{running, first_running_and_others_waiting, after_lookaround}
-use Rattle.regress_pikevm.specs.States.{state_of, next_threads, running_thread, waiting_threads, preferred_last}
+use Rattle.regress_pikevm.specs.States.{state_of, effect_of_next_states, current_thread_if_any, waiting_threads, states_by_priority}
 use Rattle.regress_search.specs.AttemptsAndStarts.{steps_for_attempt, search_from}
 use Rattle.regress_machine.specs.InsnEffects.{end_of_search}
-use Rattle.regress_machine.proofs.Remains.{Remains, steps_of, remains-begin}
-use Rattle.regress_pikevm.proofs.Remains.{TakenUp, less-by, turn-can, turn-inside, turn-dead, turn-go, turn-fork, turn-scans, taken-up}
-use Rattle.regress_pikevm.proofs.Remains.{reads-literals, turn-ends, turn-ask, turn-resumed, turn-none}
+use Rattle.regress_machine.proofs.RemainingThreads.{Remains, steps_of, remains-begin}
+use Rattle.regress_pikevm.proofs.ExecutorTurnLemmas.{TakenUp, less-by, turn-can, turn-inside, turn-dead, turn-go, turn-fork, turn-scans, taken-up}
+use Rattle.regress_pikevm.proofs.ExecutorTurnLemmas.{reads-literals, turn-ends, turn-ask, turn-resumed, turn-none}
 use Rattle.regress_pikevm.proofs.pikevm.+run.Given.{Over}
 use Rattle.regress_pikevm.proofs.pikevm.+run.Goals.{In-Some}
 use Rattle.regress_pikevm.proofs.pikevm.+run.Goals as goal
@@ -21,7 +21,7 @@ IsTaken g n c =
     let offset = g.Input.Position.PositionType.offset in
     let found = search_from tree text (offset c.args.at) (direction_of_forward_flag c.args.forward) (state_of offset c.args.start) in
     TakenUp offset (compiled tree) text (steps_for_attempt tree text (offset c.args.at)) (direction_of_forward_flag c.args.forward) (steps_of found) (end_of_search found)
-    (running_thread offset c.search.next ++ waiting_threads offset c.search.stack.items) c.in-Some.state c.next_thread.new.stack.items
+    (current_thread_if_any offset c.search.next ++ waiting_threads offset c.search.stack.items) c.in-Some.state c.next_thread.new.stack.items
 
 taken : (g : Over) (n : ℕ) (c : In-Some g n) → IsTaken g n c
 taken g n c =
@@ -73,13 +73,13 @@ search-smaller-in-Fork g n c = (turn-fork (taken g n (goal.at.search-smaller-in-
 pub search-preserved-in-CharLoopExits : goal.search-preserved-in-CharLoopExits
 search-preserved-in-CharLoopExits g n c =
     let offset = g.Input.Position.PositionType.offset in
-    (turn-scans (taken g n (goal.at.search-preserved-in-CharLoopExits g n c).In-Some) c.in-CharLoopExits.field-0 (first_running_and_others_waiting (preferred_last offset c.in-CharLoopExits.states.items)) c.in_ok-execute_in_direction.ensures (ap (next_threads offset) (sym c.in-CharLoopExits.is))
+    (turn-scans (taken g n (goal.at.search-preserved-in-CharLoopExits g n c).In-Some) c.in-CharLoopExits.field-0 (first_running_and_others_waiting (states_by_priority offset c.in-CharLoopExits.states.items)) c.in_ok-execute_in_direction.ensures (ap (effect_of_next_states offset) (sym c.in-CharLoopExits.is))
     c.in_ok-next-in-CharLoopExits.ensures).remains
 
 pub search-smaller-in-CharLoopExits : goal.search-smaller-in-CharLoopExits
 search-smaller-in-CharLoopExits g n c =
     let offset = g.Input.Position.PositionType.offset in
-    (turn-scans (taken g n (goal.at.search-smaller-in-CharLoopExits g n c).In-Some) c.in-CharLoopExits.field-0 (first_running_and_others_waiting (preferred_last offset c.in-CharLoopExits.states.items)) c.in_ok-execute_in_direction.ensures (ap (next_threads offset) (sym c.in-CharLoopExits.is))
+    (turn-scans (taken g n (goal.at.search-smaller-in-CharLoopExits g n c).In-Some) c.in-CharLoopExits.field-0 (first_running_and_others_waiting (states_by_priority offset c.in-CharLoopExits.states.items)) c.in_ok-execute_in_direction.ensures (ap (effect_of_next_states offset) (sym c.in-CharLoopExits.is))
     c.in_ok-next-in-CharLoopExits.ensures).fewer
 
 pub run-requires : goal.run-requires
@@ -101,4 +101,4 @@ search-smaller g n c =
 pub returns-in-Accept : goal.returns-in-Accept
 returns-in-Accept g n c =
     let offset = g.Input.Position.PositionType.offset in
-    turn-ends (taken g n (goal.at.returns-in-Accept g n c).In-Some) (state_of offset c.in-Accept.end) c.in_ok-execute_in_direction.ensures (ap (next_threads offset) (sym c.in-Accept.is))
+    turn-ends (taken g n (goal.at.returns-in-Accept g n c).In-Some) (state_of offset c.in-Accept.end) c.in_ok-execute_in_direction.ensures (ap (effect_of_next_states offset) (sym c.in-Accept.is))

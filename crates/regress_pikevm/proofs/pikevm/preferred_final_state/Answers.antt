@@ -3,14 +3,14 @@ use Rattle.std.specs.Prelude.{IsSome, option_map}
 use Rattle.regex_meaning.specs.CodeUnitOffsets.{units}
 use Rattle.regex_meaning.specs.Text.{rightwards}
 use Rattle.regex_pattern_front.specs.AstToSpecTree.{tree_of}
-use Rattle.regress_input.proofs.Places.{boundary_inside}
+use Rattle.regress_input.proofs.BoundaryPositions.{boundary_inside}
 use Rattle.regress_machine.specs.Machine as machine
 use Rattle.regress_machine.specs.SearchFindsFirstOutcomeAtPlace.{end_of}
 use Rattle.regress_search.specs.AttemptsAndStarts.{search_from}
 use Rattle.regress_machine.specs.InsnEffects.{end_of_search}
-use Rattle.regress_search.proofs.Searchable.{can-search}
-use Rattle.regress_search.proofs.Attempts.{begins}
-use Rattle.regress_pikevm.proofs.Remains.{map-end}
+use Rattle.regress_search.proofs.SearchableProgramLemmas.{can-search}
+use Rattle.regress_search.proofs.AttemptSearchLemmas.{begins}
+use Rattle.regress_pikevm.proofs.ExecutorTurnLemmas.{map-end}
 use Rattle.regress_pikevm.proofs.pikevm.preferred_final_state.Goals as goal
 
 pub run-requires-clause-inside : goal.run-requires-clause-inside

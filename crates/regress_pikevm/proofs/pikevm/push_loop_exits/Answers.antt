@@ -1,13 +1,13 @@
 use Rattle.std.proofs.Common.{ap, sym, ◌∙◌, ◌++◌, ◌∷◌}
 use Rattle.regress_machine.specs.Machine.{running, first_running_and_others_waiting}
-use Rattle.regress_pikevm.specs.States.{state_of, waiting_threads, preferred_last}
-use Rattle.regress_pikevm.proofs.Remains.{popped-none, scan-threads}
+use Rattle.regress_pikevm.specs.States.{state_of, waiting_threads, states_by_priority}
+use Rattle.regress_pikevm.proofs.ExecutorTurnLemmas.{popped-none, scan-threads}
 use Rattle.regress_pikevm.proofs.pikevm.push_loop_exits.Goals as goal
 
 pub returns-in_default : goal.returns-in_default
 returns-in_default g c =
     let offset = g.P.PositionType.offset in
-    ap (λ l. first_running_and_others_waiting (preferred_last offset l) ++ waiting_threads offset c.args.stack.now.items)
+    ap (λ l. first_running_and_others_waiting (states_by_priority offset l) ++ waiting_threads offset c.args.stack.now.items)
     (sym (popped-none c.args.states.items c.pop.new.self.items _ c.in_default.ensures.items c.in_default.ensures.cases.0 c.in_default.ensures.rest))
 
 pub returns : goal.returns

@@ -1,7 +1,7 @@
 use Rattle.std.proofs.Common.{ℕ, List, not, sym, ap, subst}
 use Rattle.regex_meaning.specs.Outcomes.{in_intervals, exclusive_or}
 use Rattle.regress_program.specs.ClassReadLengths.{AcceptsNoneSomeOrAllOfRange}
-use Rattle.regress_program.proofs.ShareLemmas.{share-same}
+use Rattle.regress_program.proofs.RangeAcceptanceLemmas.{share-same}
 use Rattle.regress_program.proofs.bracket_verdict_on_char_range.bracket_coverage_of_range.Goals as goal
 
 pub returns-then-contents : goal.returns-then-contents

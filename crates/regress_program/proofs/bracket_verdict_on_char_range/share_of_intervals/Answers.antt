@@ -1,5 +1,5 @@
 use Rattle.std.proofs.Common.{arith}
-use Rattle.regress_program.proofs.ShareLemmas.{intervals-whole, intervals-nothing}
+use Rattle.regress_program.proofs.RangeAcceptanceLemmas.{intervals-whole, intervals-nothing}
 use Rattle.regress_program.proofs.bracket_verdict_on_char_range.share_of_intervals.Goals as goal
 
 pub returns-then-range-interval : goal.returns-then-range-interval

@@ -1,5 +1,5 @@
 use Rattle.std.proofs.Common.{ℕ, ◌<◌, ◌≤◌, get_or}
-use Rattle.regress_program.proofs.ShareLemmas.{no_interval}
+use Rattle.regress_program.proofs.RangeAcceptanceLemmas.{no_interval}
 use Rattle.regress_program.proofs.bracket_verdict_on_char_range.share_of_intervals.Given as goal
 
 abbrev pub invariant-loop-interval : goal.invariant-loop-interval

@@ -3,7 +3,7 @@ use Rattle.std.specs.Prelude.{IfOk}
 use Rattle.std.specs.Arc.{arc_value}
 use Rattle.regex_pattern_front.specs.AstToSpecTree.{tree_of}
 use Rattle.regress_program.specs.ProgramFieldsMatchTree.{IsCodeOfTree}
-use Rattle.regress_program.proofs.RunningLemmas.{to_run-shaped}
+use Rattle.regress_program.proofs.TreeToRunLemmas.{to_run-shaped}
 use Rattle.regress_program.proofs.emit.code_to_run.Goals as goal
 
 pub returns : goal.returns

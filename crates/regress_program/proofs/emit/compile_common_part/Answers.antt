@@ -1,10 +1,10 @@
 use Rattle.std.proofs.Common.{◌∙◌, refl, subst}
 use Rattle.std.specs.Arc.{arc_value}
-use Rattle.regex_meaning.proofs.WellFormedLemmas.{clauses}
+use Rattle.regex_meaning.proofs.WellFormedTreesLemmas.{clauses}
 use Rattle.regex_pattern_front.specs.AstToSpecTree.{node_of, tree_of}
 use Rattle.regress_program.specs.CompilationOfTreesAsFunction.{compiled}
 use Rattle.regress_program.specs.ProgramFieldsMatchTree.{IsCodeOfTree}
-use Rattle.regress_program.proofs.ShapedLemmas.{shaped-plain}
+use Rattle.regress_program.proofs.CharLoopNodeLemmas.{shaped-plain}
 use Rattle.regress_program.proofs.emit.compile_common_part.Goals as goal
 
 pub names_by_id-requires-clause-once : goal.names_by_id-requires-clause-once

@@ -1,5 +1,5 @@
 use Rattle.regex_pattern_front.specs.AstToSpecTree.{tree_of}
-use Rattle.regress_program.proofs.CodeLemmas.{compiled-is_code}
+use Rattle.regress_program.proofs.CompiledTreeLemmas.{compiled-is_code}
 use Rattle.regress_program.proofs.emit.emit.Goals as goal
 
 pub byte_program_of-requires-clause-fits : goal.byte_program_of-requires-clause-fits

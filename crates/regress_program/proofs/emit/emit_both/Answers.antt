@@ -2,8 +2,8 @@ use Rattle.std.proofs.Common.{◌≡◌, sym, ap, ◌∙◌, ◌<◌, ◌≤◌,
 use Rattle.std.specs.Arc.{arc_value}
 use Rattle.regex_pattern_front.specs.AstToSpecTree.{tree_of}
 use Rattle.regress_program.specs.CompilationOfTreesAsFunction.{node_insn_count}
-use Rattle.regress_program.proofs.CodeLemmas.{compiled-is_code}
-use Rattle.regress_program.proofs.RunningLemmas.{run-fits, size-to_run, well_formed-planned}
+use Rattle.regress_program.proofs.CompiledTreeLemmas.{compiled-is_code}
+use Rattle.regress_program.proofs.TreeToRunLemmas.{run-fits, size-to_run, well_formed-planned}
 use Rattle.regress_program.proofs.emit.emit_both.Goals as goal
 
 pub unit_plan_of-requires : goal.unit_plan_of-requires

@@ -1,10 +1,10 @@
 use Rattle.std.proofs.Common.{◌≡◌, ◌+◌, ◌∙◌, ap, sym, subst, arith, false, length}
-use Rattle.regex_meaning.proofs.WellFormedLemmas.{clauses}
+use Rattle.regex_meaning.proofs.WellFormedTreesLemmas.{clauses}
 use Rattle.regex_pattern_front.specs.AstToSpecTree.{node_of, tree_of}
 use Rattle.regress_program.specs.CompilationOfTreesAsFunction.{compiled, loop_count}
 use Rattle.regress_program.specs.EmitterStateAndAppendedCode.{node_with_char_loops_if_enabled, tree_with_char_loops, emitter_state, empty_state, with_code}
 use Rattle.regress_program.specs.ProgramFieldsMatchTree.{IsCodeOfTree}
-use Rattle.regress_program.proofs.ShapedLemmas.{size-shaped, loops-shaped}
+use Rattle.regress_program.proofs.CharLoopNodeLemmas.{size-shaped, loops-shaped}
 use Rattle.regress_program.proofs.emit.emit_code.Goals as goal
 
 pub emit-requires-clause-sets : goal.emit-requires-clause-sets

@@ -1,8 +1,8 @@
 use Rattle.std.proofs.Common.{sym, ◌∙◌}
 use Rattle.std.specs.Arc.{arc_value}
 use Rattle.regex_pattern_front.specs.AstToSpecTree.{tree_of}
-use Rattle.regress_program.proofs.CodeLemmas.{compiled-is_code}
-use Rattle.regress_program.proofs.RunningLemmas.{run-fits}
+use Rattle.regress_program.proofs.CompiledTreeLemmas.{compiled-is_code}
+use Rattle.regress_program.proofs.TreeToRunLemmas.{run-fits}
 use Rattle.regress_program.proofs.emit.emit_units.Goals as goal
 
 pub unit_plan_of-requires : goal.unit_plan_of-requires

@@ -1,5 +1,5 @@
 use Rattle.regex_pattern_front.specs.AstToSpecTree.{tree_of}
-use Rattle.regress_program.proofs.RunningLemmas.{to_run-plain, to_run-same}
+use Rattle.regress_program.proofs.TreeToRunLemmas.{to_run-plain, to_run-same}
 use Rattle.regress_program.proofs.emit.is_run_itself.Goals as goal
 
 pub returns-then-re-clause-itself : goal.returns-then-re-clause-itself

@@ -4,7 +4,7 @@ use Rattle.regress_program.specs.Plans.{ProgramHasParts}
 use Rattle.regress_program.specs.InsnsAsSpec.{insn_as_spec_insn}
 use Rattle.regress_program.specs.CompilationOfTreesAsFunction.{compiled}
 use Rattle.regress_program.specs.OptimizedTreeUnlessNoOpt.{optimized_tree_unless_no_opt}
-use Rattle.regress_program.proofs.RunningLemmas.{groups-planned}
+use Rattle.regress_program.proofs.TreeToRunLemmas.{groups-planned}
 use Rattle.regress_program.proofs.emit.unit_plan_of.Goals as goal
 
 pub returns : goal.returns

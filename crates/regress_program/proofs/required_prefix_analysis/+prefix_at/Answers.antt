@@ -1,7 +1,7 @@
 use Rattle.std.proofs.Common.{ℕ, Option, subst, arith}
 use Rattle.regress_program.specs.declared.required_prefix_analysis.OpPrefixContribution.TheVariants as ahead
 use Rattle.regress_program.specs.RequiredPrefixAnalysis.{allows_only_key, units_allowed_by_first_set, FollowsFromSuccessors}
-use Rattle.regress_program.proofs.PrefixLemmas.{path-start, path-at, path-last, path-units, path-either}
+use Rattle.regress_program.proofs.RequiredPrefixLemmas.{path-start, path-at, path-last, path-units, path-either}
 use Rattle.regress_program.proofs.required_prefix_analysis.+prefix_at.Goals as goal
 
 pub path-init : goal.path-init

@@ -1,6 +1,6 @@
 use Rattle.std.proofs.Common.{◌∙◌, ap}
 use Rattle.std.specs.Int.{bit_at}
-use Rattle.regress_program.proofs.PrefixLemmas.{clear-between}
+use Rattle.regress_program.proofs.RequiredPrefixLemmas.{clear-between}
 use Rattle.regress_program.proofs.required_prefix_analysis.all_but.Goals as goal
 
 pub returns : goal.returns

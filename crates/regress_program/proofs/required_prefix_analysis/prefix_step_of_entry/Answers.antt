@@ -1,5 +1,5 @@
 use Rattle.std.proofs.Common.{arith}
-use Rattle.regress_program.proofs.PrefixLemmas.{row-there, said-entry}
+use Rattle.regress_program.proofs.RequiredPrefixLemmas.{row-there, said-entry}
 use Rattle.regress_program.proofs.required_prefix_analysis.prefix_step_of_entry.Goals as goal
 
 pub returns-in-Some : goal.returns-in-Some

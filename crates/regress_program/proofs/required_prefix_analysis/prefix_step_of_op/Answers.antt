@@ -1,6 +1,6 @@
 use Rattle.std.proofs.Common.{◌+◌, sym, ◌∙◌}
 use Rattle.regress_program.specs.declared.required_prefix_analysis.OpPrefixContribution.TheVariants as ahead
-use Rattle.regress_program.proofs.PrefixLemmas.{said-as, said-of-run, said-on, said-go, said-look, said-either}
+use Rattle.regress_program.proofs.RequiredPrefixLemmas.{said-as, said-of-run, said-on, said-go, said-look, said-either}
 use Rattle.regress_program.proofs.required_prefix_analysis.prefix_step_of_op.Goals as goal
 
 pub returns-then-falls_through_silently : goal.returns-then-falls_through_silently

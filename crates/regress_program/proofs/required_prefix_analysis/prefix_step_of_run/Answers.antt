@@ -1,5 +1,5 @@
 use Rattle.std.proofs.Common.{◌+◌, Some, None, refl, arith, inl, inr}
-use Rattle.regress_program.proofs.PrefixLemmas.{row-there, said-run}
+use Rattle.regress_program.proofs.RequiredPrefixLemmas.{row-there, said-run}
 use Rattle.regress_program.proofs.required_prefix_analysis.prefix_step_of_run.Goals as goal
 
 pub returns-then-bounds : goal.returns-then-bounds

@@ -1,4 +1,4 @@
-use Rattle.regress_program.proofs.PrefixLemmas.{row-there, said-class}
+use Rattle.regress_program.proofs.RequiredPrefixLemmas.{row-there, said-class}
 use Rattle.regress_program.proofs.required_prefix_analysis.said_of_class.Goals as goal
 
 pub returns-in-Some : goal.returns-in-Some

@@ -1,5 +1,5 @@
 use Rattle.std.proofs.Common.{arith}
-use Rattle.regress_program.proofs.PrefixLemmas.{said-unit}
+use Rattle.regress_program.proofs.RequiredPrefixLemmas.{said-unit}
 use Rattle.regress_program.proofs.required_prefix_analysis.said_of_unit.Goals as goal
 
 pub returns : goal.returns

@@ -2,8 +2,8 @@ use Rattle.std.proofs.Common.{◌≡◌, ◌∙◌, ap, sym, arith}
 use Rattle.regex_meaning.specs.StartPredicate.{is_anchored}
 use Rattle.regex_pattern_front.specs.AstToSpecTree.{node_of}
 use Rattle.regress_program.specs.LeafNodesAndOptimizableLoops.{cat_of}
-use Rattle.regress_program.proofs.NodeLemmas.{node_of-Cat, is_anchored-first, is_anchored-none}
-use Rattle.regress_program.proofs.Weights.{inner_node_count, weight-member}
+use Rattle.regress_program.proofs.NodeListLemmas.{node_of-Cat, is_anchored-first, is_anchored-none}
+use Rattle.regress_program.proofs.InnerNodeCountLemmas.{inner_node_count, weight-member}
 use Rattle.regress_program.proofs.startpredicate.+is_start_anchored.Goals as goal
 
 pub returns-in-None : goal.returns-in-None

@@ -1,7 +1,7 @@
 use Rattle.std.proofs.Common.{◌≡◌, ◌≤◌}
 use Rattle.regex_meaning.specs.StartPredicate.{is_anchored}
 use Rattle.regex_pattern_front.specs.AstToSpecTree.{node_of}
-use Rattle.regress_program.proofs.Weights.{inner_node_count}
+use Rattle.regress_program.proofs.InnerNodeCountLemmas.{inner_node_count}
 use Rattle.regress_program.proofs.startpredicate.+is_start_anchored.Given as goal
 
 abbrev pub decreases-is_start_anchored : goal.decreases-is_start_anchored

@@ -2,7 +2,7 @@ use Rattle.std.proofs.Common.{sym, ap, ◌∙◌}
 use Rattle.regex_pattern_front.specs.AstToSpecTree.{tree_of}
 use Rattle.regress_program.specs.JoinedStarts.{abstract_start_as_spec}
 use Rattle.regress_program.specs.StartPredicates.{predicate_is_byte_sequence}
-use Rattle.regress_program.proofs.BeginningLemmas.{predicate-anchored, predicate-begun, sound-as, all-sound, no_sequence, quiet-root}
+use Rattle.regress_program.proofs.JoinedStartsLemmas.{predicate-anchored, predicate-begun, sound-as, all-sound, no_sequence, quiet-root}
 use Rattle.regress_program.proofs.startpredicate.predicate_for_re.Goals as goal
 
 pub returns-then-matches_at_left_end-clause-predicate : goal.returns-then-matches_at_left_end-clause-predicate

@@ -1,7 +1,7 @@
 use Rattle.std.proofs.Common.{◌∙◌, ◌∷◌, ap, false, get_or}
 use Rattle.regex_pattern_front.specs.ByteSetMembers.{member_bytes_of_byte_bitmap}
 use Rattle.regress_program.proofs.ByteSetLemmas.{bytes_from-all}
-use Rattle.regress_program.proofs.BeginningLemmas.{predicate-none, predicate-members, predicate-bracket, members_behind, more_than_three}
+use Rattle.regress_program.proofs.JoinedStartsLemmas.{predicate-none, predicate-members, predicate-bracket, members_behind, more_than_three}
 use Rattle.regress_program.proofs.startpredicate.set_predicate.Goals as goal
 
 pub returns-in_default-clause-predicate : goal.returns-in_default-clause-predicate

@@ -1,7 +1,7 @@
 -- The key is that of the first unit, which the end of the table does not cut.
 use Rattle.std.proofs.Common.{◌≡◌, true, ap, ◌∙◌}
 use Rattle.regress_program.specs.TableKeysOfUnits.{is_16_bit_width, key}
-use Rattle.regress_program.proofs.KeyLemmas.{first-key-cut, key_of_first, key-low, key-high}
+use Rattle.regress_program.proofs.TableKeysOfUnitsLemmas.{first-key-cut, key_of_first, key-low, key-high}
 use Rattle.regress_program.proofs.table_keys_of_units.key_of_first_unit.Goals as goal
 use Rattle.regress_program.proofs.table_keys_of_units.key_of_first_unit.Goals.{in-Bytes, in-Wide+then-unit-lt128, in-Wide+else-unit-lt128}
 

@@ -1,7 +1,7 @@
 use Rattle.std.proofs.Common.{Bool, sym, ap, ◌∙◌, subst}
 use Rattle.std.specs.Prelude.{min}
 use Rattle.regress_program.specs.TableKeysOfUnits.{is_16_bit_width, HasKeysBetween}
-use Rattle.regress_program.proofs.IntervalLemmas.{bytes-between}
+use Rattle.regress_program.proofs.IntervalReadLengthLemmas.{bytes-between}
 use Rattle.regress_program.proofs.table_keys_of_units.non_ascii_keys_of_interval.Goals as goal
 
 pub returns-in-Bytes-clause-between : goal.returns-in-Bytes-clause-between

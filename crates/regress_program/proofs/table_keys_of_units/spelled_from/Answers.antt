@@ -1,6 +1,6 @@
 -- Each arm has the characters that begin with its bytes.
 use Rattle.std.proofs.Common.{◌≡◌, ◌+◌, ◌-◌, ◌*◌, Some, None, arith}
-use Rattle.regress_program.proofs.KeyLemmas.{begun-bytes, begun-1, begun-2, begun-3, begun-4, begun-inside, begun-past}
+use Rattle.regress_program.proofs.TableKeysOfUnitsLemmas.{begun-bytes, begun-1, begun-2, begun-3, begun-4, begun-inside, begun-past}
 use Rattle.regress_program.proofs.table_keys_of_units.spelled_from.Goals as goal
 
 pub returns-in-0-to-127-clause-begun : goal.returns-in-0-to-127-clause-begun

@@ -3,13 +3,13 @@ use Rattle.std.specs.Prelude.{IfSome}
 use Rattle.regex_meaning.specs.CodeUnitOffsets.{IsBoundary}
 use Rattle.regex_meaning.specs.Text.{Text}
 use Rattle.regex_meaning.specs.Tree.{Tree}
-use Rattle.regress_search.specs.CostsOfSearches.{Failures, IfCounted, MayStopShort, SearchCosts, TakesExactCost}
+use Rattle.regress_search.specs.CostsOfSearches.{Failures, IfWorkIsCounted, MayStopShort, SearchCosts, TakesExactCost}
 use Rattle.regress_search.specs.SearchEffects.{IsNextStartAfterFirstMatch}
 use Rattle.regress_search.specs.declared.exec.Match.{Match}
 use Rattle.regress_search.specs.MatchesAsSpecAnswers.{answer_of}
 use Rattle.regress_search.specs.RemainingAnswers.{remaining_answers_from}
-use Rattle.regress_search.proofs.Costing.{counted, nothing-costs}
-use Rattle.regress_search.proofs.Coming.{call-some, call-none, call-refused, next-boundary, not-ended}
+use Rattle.regress_search.proofs.SearchCostLemmas.{counted, nothing-costs}
+use Rattle.regress_search.proofs.RemainingAnswerLemmas.{call-some, call-none, call-refused, next-boundary, not-ended}
 use Rattle.regress_search.proofs.exec.advance_matches.Goals as goal
 
 pub returns-in-Ok-Some-clause-at : goal.returns-in-Ok-Some-clause-at
@@ -65,9 +65,9 @@ returns-in-Err-clause-gives g c =
 -- a call searches from where the list continues
 costs-of : (b : Bool) {P : Type 0} (offset : P → ℕ) (costs : Tree → Text → (before : Failures) → (at cost : ℕ) → (after : Option Failures) → Type 0) (tree : Tree) (text : Text) (before : Failures)
     (position : Option P) (pos : P) → position ≡ Some pos → (Spends : ((cost : ℕ) → (after : Option Failures) → Type 0) → Type 0)
-    → IfCounted b (Spends (SearchCosts costs tree text before (Some (offset pos)))) → IfCounted b (Spends (SearchCosts costs tree text before (option_map offset position)))
+    → IfWorkIsCounted b (Spends (SearchCosts costs tree text before (Some (offset pos)))) → IfWorkIsCounted b (Spends (SearchCosts costs tree text before (option_map offset position)))
 costs-of b offset costs tree text before position pos was Spends h =
-    subst (λ p. IfCounted b (Spends (SearchCosts costs tree text before p))) (sym (ap (option_map offset) was)) h
+    subst (λ p. IfWorkIsCounted b (Spends (SearchCosts costs tree text before p))) (sym (ap (option_map offset) was)) h
 
 pub returns-in-Ok-Some-clause-cost : goal.returns-in-Ok-Some-clause-cost
 returns-in-Ok-Some-clause-cost g c =

@@ -1,5 +1,5 @@
 use Rattle.std.proofs.Common.{rules}
-use Rattle.regress_search.proofs.Starting.{found-three}
+use Rattle.regress_search.proofs.StartSearchLemmas.{found-three}
 use Rattle.regress_search.proofs.few_units_finder.first_of_three.Goals as goal
 
 pub returns : goal.returns

@@ -3,7 +3,7 @@ use Rattle.regex_meaning.specs.NumberListHelpers.{contains}
 use Rattle.regex_meaning.specs.CodeUnitOffsets.{units}
 use Rattle.regress_search.specs.MarkedOffsets.{IsFirstPassing}
 use Rattle.regress_search.specs.WideUnits.{unit_has_listed_key}
-use Rattle.regress_search.proofs.WideLemmas.{pair-none, pair-one, pair-two, pair-three}
+use Rattle.regress_search.proofs.WideUnitLemmas.{pair-none, pair-one, pair-two, pair-three}
 use Rattle.regress_search.proofs.few_wide_units.next_wide_or_pair.Goals as goal
 
 pub returns-in-0 : goal.returns-in-0

@@ -1,5 +1,5 @@
 use Rattle.std.proofs.Common.{arith}
-use Rattle.regress_search.proofs.LeadingRuns.{leads-bounded, leads-inside, leads-readable, leads-boundary, leads-vain}
+use Rattle.regress_search.proofs.LeadingLoopOperations.{leads-bounded, leads-inside, leads-readable, leads-boundary, leads-vain}
 use Rattle.regress_search.proofs.leading_char_loop.past_run.Goals as goal
 
 pub char_loop_bounds_with_number-requires : goal.char_loop_bounds_with_number-requires

@@ -1,5 +1,5 @@
 use Rattle.std.proofs.Common.{arith}
-use Rattle.regress_search.proofs.Leaps.{at-barrier, behind-high, at-first}
+use Rattle.regress_search.proofs.LeapLemmas.{at-barrier, behind-high, at-first}
 use Rattle.regress_search.proofs.leaping.behind_barrier.Goals as goal
 
 pub returns-then-at-from : goal.returns-then-at-from

@@ -2,8 +2,8 @@ use Rattle.std.proofs.Common.{◌≡◌, false, sym, ap, ◌∙◌}
 use Rattle.regex_meaning.specs.Outcomes.{is_some_and}
 use Rattle.regress_input.specs.CharAndByteReadsFromOffset.{is_byte_encoding}
 use Rattle.regress_program.specs.Leaps.{is_passed_key}
-use Rattle.regress_search.proofs.Leaps.{passed-as-cut}
-use Rattle.regress_search.proofs.WideLemmas.{unit-wide}
+use Rattle.regress_search.proofs.LeapLemmas.{passed-as-cut}
+use Rattle.regress_search.proofs.WideUnitLemmas.{unit-wide}
 use Rattle.regress_search.proofs.leaping.is_passed.Goals as goal
 
 pub returns-then-ARE_BYTES : goal.returns-then-ARE_BYTES

@@ -1,5 +1,5 @@
-use Rattle.regress_input.proofs.Places.{boundary_inside}
-use Rattle.regress_search.proofs.Leaps.{occurs-at, absent-between, absent-from}
+use Rattle.regress_input.proofs.BoundaryPositions.{boundary_inside}
+use Rattle.regress_search.proofs.LeapLemmas.{occurs-at, absent-between, absent-from}
 use Rattle.regress_search.proofs.leaping.leap_from.Goals as goal
 
 pub behind_barrier-to-requires-clause-goal : goal.behind_barrier-to-requires-clause-goal

@@ -2,10 +2,10 @@ use Rattle.std.proofs.Common.{◌≡◌, ◌<◌, false, take, ap, sym, ◌∙�
 use Rattle.std.proofs.lemmas.Bool.{false_from_ne_true}
 use Rattle.regex_meaning.specs.NumberListHelpers.{contains}
 use Rattle.regress_input.specs.CharAndByteReadsFromOffset.{is_byte_encoding}
-use Rattle.regress_input.proofs.Places.{boundary_inside}
+use Rattle.regress_input.proofs.BoundaryPositions.{boundary_inside}
 use Rattle.regress_program.specs.TableKeysOfUnits.{is_16_bit_encoding}
-use Rattle.regress_search.proofs.Starting.{low-leads, low-listed}
-use Rattle.regress_search.proofs.WideLemmas.{unit-wide, low-told, wide-found}
+use Rattle.regress_search.proofs.StartSearchLemmas.{low-leads, low-listed}
+use Rattle.regress_search.proofs.WideUnitLemmas.{unit-wide, low-told, wide-found}
 use Rattle.regress_search.proofs.leaping.next_goal.Goals as goal
 
 pub next_of_few_units-requires-clause-leads : goal.next_of_few_units-requires-clause-leads

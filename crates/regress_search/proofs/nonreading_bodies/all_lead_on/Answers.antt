@@ -2,7 +2,7 @@ use Rattle.std.proofs.Common.{◌≡◌, ◌≤◌, ◌<◌, ℕ, Some, arith}
 use Rattle.regex_meaning.specs.CompilationRelation.{Insn}
 use Rattle.regress_machine.specs.LoopsReadingNothing.{ReadsNothingAndLeadsOnward}
 use Rattle.regress_search.specs.TreePlanAndText.{insn_at}
-use Rattle.regress_program.proofs.ChoiceLemmas.{below-more}
+use Rattle.regress_program.proofs.AlternationDispatchLemmas.{below-more}
 use Rattle.regress_search.proofs.nonreading_bodies.all_lead_on.Goals as goal
 
 pub loop-ip-init : goal.loop-ip-init

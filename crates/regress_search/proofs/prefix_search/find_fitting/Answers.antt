@@ -1,7 +1,7 @@
 use Rattle.std.proofs.Common.{◌≡◌, ◌<◌, ◌+◌, ◌-◌, slice_index, sym, subst, arith}
 use Rattle.std.specs.Int.{bit_at}
 use Rattle.memchr.proofs.lemmas.ShiftLemmas.{IsState-start}
-use Rattle.regress_search.proofs.FirstUnits.{none-more, none-found, window-found, tells-more}
+use Rattle.regress_search.proofs.PrefixUnitLemmas.{none-more, none-found, window-found, tells-more}
 use Rattle.regress_search.proofs.prefix_search.find_fitting.Goals as goal
 
 pub units-init : goal.units-init

@@ -1,6 +1,6 @@
 use Rattle.std.proofs.Common.{◌+◌, ◌∙◌, refl, sym, arith}
 use Rattle.std.proofs.lemmas.List.{take_rest}
-use Rattle.regress_search.proofs.FirstUnits.{needle-short, literal-past, literal-none, literal-inside, literal-before, literal-within, literal-behind}
+use Rattle.regress_search.proofs.PrefixUnitLemmas.{needle-short, literal-past, literal-none, literal-inside, literal-before, literal-within, literal-behind}
 use Rattle.regress_search.proofs.prefix_search.find_literal.Goals as goal
 
 pub returns-in_default : goal.returns-in_default

@@ -1,6 +1,6 @@
 use Rattle.std.proofs.Common.{◌+◌, ◌<◌, ℕ, slice_index, ◌∙◌, sym, arith}
 use Rattle.std.proofs.lemmas.List.{take_rest}
-use Rattle.regress_search.proofs.FirstUnits.{rare-past, rare-none, rare-inside, rare-before, rare-behind}
+use Rattle.regress_search.proofs.PrefixUnitLemmas.{rare-past, rare-none, rare-inside, rare-before, rare-behind}
 use Rattle.regress_search.proofs.prefix_search.find_rare.Goals as goal
 
 pub returns-in_default : goal.returns-in_default

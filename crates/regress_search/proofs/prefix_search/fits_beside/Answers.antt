@@ -1,7 +1,7 @@
 use Rattle.std.proofs.Common.{rules, ◌≡◌, length, sym, ◌∙◌, arith}
 use Rattle.std.proofs.lemmas.List.{length-take-le}
 use Rattle.regress_program.specs.PrefixesAndPrefilters.{units_allowed_by_prefix}
-use Rattle.regress_search.proofs.FirstUnits.{fits-still, literal-fits}
+use Rattle.regress_search.proofs.PrefixUnitLemmas.{fits-still, literal-fits}
 use Rattle.regress_search.proofs.prefix_search.fits_beside.Goals as goal
 
 pub returns-then-not-fits_between : goal.returns-then-not-fits_between

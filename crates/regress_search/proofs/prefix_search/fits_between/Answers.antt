@@ -1,6 +1,6 @@
 use Rattle.std.proofs.Common.{◌≡◌, ◌+◌, slice_index, ◌∙◌, subst, sym, arith}
 use Rattle.regress_program.specs.PrefixesAndPrefilters.{units_allowed_by_prefix}
-use Rattle.regress_search.proofs.FirstUnits.{fits-next, fits-unless}
+use Rattle.regress_search.proofs.PrefixUnitLemmas.{fits-next, fits-unless}
 use Rattle.regress_search.proofs.prefix_search.fits_between.Goals as goal
 
 pub returns-then-not-is_key_allowed : goal.returns-then-not-is_key_allowed

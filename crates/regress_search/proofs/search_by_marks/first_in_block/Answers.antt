@@ -1,5 +1,5 @@
 use Rattle.std.proofs.Common.{sym, ◌∙◌, arith}
-use Rattle.regress_search.proofs.Marked.{none-below, none-marked}
+use Rattle.regress_search.proofs.MarkedOffsetLemmas.{none-below, none-marked}
 use Rattle.regress_search.proofs.search_by_marks.first_in_block.Goals as goal
 
 pub returns-then-passes : goal.returns-then-passes

@@ -1,4 +1,4 @@
-use Rattle.regress_search.proofs.Marked.{none-marked}
+use Rattle.regress_search.proofs.MarkedOffsetLemmas.{none-marked}
 use Rattle.regress_search.proofs.search_by_marks.is_quiet.Goals as goal
 
 pub returns-then-marks-eq0 : goal.returns-then-marks-eq0

@@ -1,7 +1,7 @@
 use Rattle.std.proofs.Common.{◌≡◌, length, map, sym, ap, ◌∙◌, arith}
 use Rattle.std.proofs.lemmas.List.{length-map}
 use Rattle.regex_meaning.specs.CodeUnits.{text_units_in_encoding}
-use Rattle.regress_input.proofs.Boundaries.{units-length}
+use Rattle.regress_input.proofs.UnitsAtBoundaries.{units-length}
 use Rattle.regress_search.proofs.search_by_marks.units_with_bits.Goals as goal
 
 pub units_with_bits-requires : goal.units_with_bits-requires

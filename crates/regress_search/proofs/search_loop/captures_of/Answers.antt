@@ -1,6 +1,6 @@
 use Rattle.std.proofs.Common.{◌<◌, ◌∙◌, ap, length, map, option_map, arith}
 use Rattle.regress_search.specs.MatchesAsSpecAnswers.{range_as_pair}
-use Rattle.regress_search.proofs.Groups.{one-more}
+use Rattle.regress_search.proofs.NamedGroupLookup.{one-more}
 use Rattle.regress_search.proofs.search_loop.captures_of.Goals as goal
 
 pub loop-id-preserved : goal.loop-id-preserved

@@ -3,7 +3,7 @@ use Rattle.regex_meaning.specs.MatchGroupsByNumberAndName.{group_names_by_id}
 use Rattle.regex_meaning.specs.CodeUnitOffsets.{units}
 use Rattle.regex_meaning.specs.Tree.{Tree}
 use Rattle.regress_search.specs.MatchesAsSpecAnswers.{answer_from_parts}
-use Rattle.regress_search.proofs.OnePlace.{answer_at-found, answer_at-past, answer_at-vain, no-step, position-at}
+use Rattle.regress_search.proofs.MatchAtOffsetLemmas.{answer_at-found, answer_at-past, answer_at-vain, no-step, position-at}
 use Rattle.regress_search.proofs.search_loop.match_at.Goals as goal
 
 pub returns-in_default-clause-found : goal.returns-in_default-clause-found

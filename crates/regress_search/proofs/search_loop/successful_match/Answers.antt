@@ -1,7 +1,7 @@
 use Rattle.std.proofs.Common.{◌∙◌, ap}
 use Rattle.regex_meaning.specs.MatchGroupsByNumberAndName.{group_names_by_id}
 use Rattle.regex_meaning.specs.Tree.{Tree}
-use Rattle.regress_search.proofs.FirstMatch.{same-answer, names-compiled}
+use Rattle.regress_search.proofs.FirstMatchLemmas.{same-answer, names-compiled}
 use Rattle.regex_pattern_front.specs.AstToSpecTree.{tree_of}
 use Rattle.regress_search.proofs.search_loop.successful_match.Goals as goal
 

@@ -1,8 +1,8 @@
 use Rattle.std.proofs.Common.{Some, None, refl, ap, sym, ◌∙◌, arith}
 use Rattle.regex_meaning.specs.CodeUnitOffsets.{units}
 use Rattle.regress_input.specs.CharAndByteReadsFromOffset.{is_byte_encoding}
-use Rattle.regress_input.proofs.Places.{boundary_inside}
-use Rattle.regress_search.proofs.Starting.{found-in}
+use Rattle.regress_input.proofs.BoundaryPositions.{boundary_inside}
+use Rattle.regress_search.proofs.StartSearchLemmas.{found-in}
 use Rattle.regress_search.proofs.start_search.find.Goals as goal
 
 pub find_bytes-requires : goal.find_bytes-requires

@@ -1,6 +1,6 @@
 use Rattle.std.proofs.Common.{◌≤◌, sym, ◌∙◌, arith}
 use Rattle.regex_meaning.specs.CodeUnitOffsets.{units}
-use Rattle.regress_search.proofs.Starting.{scan-begins, scan-goes, scan-finds, scan-ends, scan-fails}
+use Rattle.regress_search.proofs.StartSearchLemmas.{scan-begins, scan-goes, scan-finds, scan-ends, scan-fails}
 use Rattle.regress_search.proofs.start_search.first_allowed_offset.Goals as goal
 
 pub units-init : goal.units-init

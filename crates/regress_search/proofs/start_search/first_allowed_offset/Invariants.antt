@@ -1,6 +1,6 @@
 use Rattle.std.proofs.Common.{◌-◌}
 use Rattle.regex_meaning.specs.CodeUnitOffsets.{units}
-use Rattle.regress_search.proofs.Starting.{Scans}
+use Rattle.regress_search.proofs.StartSearchLemmas.{Scans}
 use Rattle.regress_search.proofs.start_search.first_allowed_offset.Given as goal
 
 abbrev pub invariant-units : goal.invariant-units

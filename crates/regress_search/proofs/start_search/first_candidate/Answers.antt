@@ -1,8 +1,8 @@
 use Rattle.std.proofs.Common.{Some, sym, ◌∙◌}
 use Rattle.regress_program.specs.TableKeysOfUnits.{is_16_bit_encoding}
 use Rattle.regress_program.specs.declared.plan.CandidateStarts.TheVariants.{Anywhere, InSet, FewUnits, Behind, Prefix}
-use Rattle.regress_search.proofs.Allowing.{try-as, few-known, prefix-known, try-anywhere}
-use Rattle.regress_search.proofs.Starting.{low-leads}
+use Rattle.regress_search.proofs.AllowedUnitTables.{try-as, few-known, prefix-known, try-anywhere}
+use Rattle.regress_search.proofs.StartSearchLemmas.{low-leads}
 use Rattle.regress_search.proofs.start_search.first_candidate.Goals as goal
 
 pub returns-in-Anywhere : goal.returns-in-Anywhere

@@ -1,7 +1,7 @@
 use Rattle.std.proofs.Common.{◌≡◌, Some, sym, arith}
 use Rattle.regex_meaning.specs.Text.{leftwards}
 use Rattle.regress_input.specs.CharAndByteReadsFromOffset.{past}
-use Rattle.regress_input.proofs.Places.{before_ahead, boundary_inside}
+use Rattle.regress_input.proofs.BoundaryPositions.{before_ahead, boundary_inside}
 use Rattle.regress_search.proofs.start_search.is_behind.Goals as goal
 
 pub unit_key_at_offset-requires : goal.unit_key_at_offset-requires

@@ -2,7 +2,7 @@ use Rattle.std.proofs.Common.{◌≡◌, sym, ap, ◌∙◌, arith}
 use Rattle.std.proofs.lemmas.Bool.{le-ltb}
 use Rattle.regress_program.specs.declared.plan.CandidateStarts.TheVariants.{FewUnits}
 use Rattle.regress_search.specs.StartSearch.{may_start_at, table_of_listed_units}
-use Rattle.regress_search.proofs.WideLemmas.{past-allowed}
+use Rattle.regress_search.proofs.WideUnitLemmas.{past-allowed}
 use Rattle.regress_search.proofs.start_search.is_candidate.Goals as goal
 
 pub returns-else-at-text_end : goal.returns-else-at-text_end

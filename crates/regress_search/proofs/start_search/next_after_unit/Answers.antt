@@ -1,6 +1,6 @@
 use Rattle.std.proofs.Common.{ap, arith}
 use Rattle.regex_meaning.specs.CodeUnitOffsets.{units}
-use Rattle.regress_search.proofs.Behind.{unit-inside}
+use Rattle.regress_search.proofs.LookbehindStartLemmas.{unit-inside}
 use Rattle.regress_search.proofs.start_search.next_after_unit.Goals as goal
 
 pub past-requires-clause-inside : goal.past-requires-clause-inside

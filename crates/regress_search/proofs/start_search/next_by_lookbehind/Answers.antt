@@ -1,7 +1,7 @@
 use Rattle.std.proofs.Common.{inl, inr, refl, sym}
 use Rattle.regress_program.specs.TableKeysOfUnits.{is_16_bit_encoding}
-use Rattle.regress_search.proofs.Behind.{first-behind}
-use Rattle.regress_search.proofs.Starting.{few-leads}
+use Rattle.regress_search.proofs.LookbehindStartLemmas.{first-behind}
+use Rattle.regress_search.proofs.StartSearchLemmas.{few-leads}
 use Rattle.regress_search.proofs.start_search.next_by_lookbehind.Goals as goal
 
 pub next_after_unit-requires-clause-leads : goal.next_after_unit-requires-clause-leads

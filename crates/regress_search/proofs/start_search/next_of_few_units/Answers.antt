@@ -1,9 +1,9 @@
 use Rattle.std.proofs.Common.{◌≡◌, true, false, take, ap, sym, subst, ◌∙◌}
 use Rattle.regex_pattern_front.specs.FirstPassingIndex.{is_member_byte_at_index}
-use Rattle.regress_input.specs.CharAndByteReadsFromOffset.{bytes_of, is_byte_encoding, IsFoundFrom}
-use Rattle.regress_input.proofs.Places.{boundary_inside}
-use Rattle.regress_search.proofs.Starting.{few-found}
-use Rattle.regress_search.proofs.WideLemmas.{unit-wide}
+use Rattle.regress_input.specs.CharAndByteReadsFromOffset.{bytes_of, is_byte_encoding, IsFirstOccurrenceFrom}
+use Rattle.regress_input.proofs.BoundaryPositions.{boundary_inside}
+use Rattle.regress_search.proofs.StartSearchLemmas.{few-found}
+use Rattle.regress_search.proofs.WideUnitLemmas.{unit-wide}
 use Rattle.regress_search.proofs.start_search.next_of_few_units.Goals as goal
 
 pub returns-then-ARE_BYTES : goal.returns-then-ARE_BYTES
@@ -15,7 +15,7 @@ returns-then-ARE_BYTES g c =
     let bytes : is_byte_encoding w.encoding ≡ true = ap is_byte_encoding (g.met.W.SearchContext.encoding c.args.context.now) ∙ sym g.W.Input.Units.CodeUnitEncoding.by_encoding ∙ is in
     let inside = boundary_inside w.text (g.met.W.SearchContext.is_text c.args.context.now) from c.requires.at in
     few-found w (g.met.W.SearchContext.has_units c.args.context.now) few.units few.len from bytes c.requires.leads inside c.find.result
-    (subst (λ b. IsFoundFrom b (λ bs. is_member_byte_at_index (take few.len few.units) bs) (bytes_of w.text) from c.find.result) bytes c.find.ensures)
+    (subst (λ b. IsFirstOccurrenceFrom b (λ bs. is_member_byte_at_index (take few.len few.units) bs) (bytes_of w.text) from c.find.result) bytes c.find.ensures)
 
 pub next_of_few_wide_units-requires-clause-wide : goal.next_of_few_wide_units-requires-clause-wide
 next_of_few_wide_units-requires-clause-wide g c =

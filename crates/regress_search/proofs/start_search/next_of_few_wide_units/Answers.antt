@@ -1,7 +1,7 @@
 use Rattle.std.proofs.Common.{sym, ◌∙◌}
-use Rattle.regress_input.proofs.Places.{boundary_inside}
-use Rattle.regress_search.specs.WideUnits.{is_told_by_bits}
-use Rattle.regress_search.proofs.WideLemmas.{all-listed, listed-told, wide-found, wide-leads}
+use Rattle.regress_input.proofs.BoundaryPositions.{boundary_inside}
+use Rattle.regress_search.specs.WideUnits.{bits_identify_key}
+use Rattle.regress_search.proofs.WideUnitLemmas.{all-listed, listed-told, wide-found, wide-leads}
 use Rattle.regress_search.proofs.start_search.next_of_few_wide_units.Goals as goal
 
 pub next_wide-requires-clause-told : goal.next_wide-requires-clause-told
@@ -14,7 +14,7 @@ next_wide-requires-clause-at g c =
 pub returns-then-are_told_by_bits : goal.returns-then-are_told_by_bits
 returns-then-are_told_by_bits g c =
     wide-found (g.W.SearchContext.searching c.args.context.now) (g.met.W.SearchContext.has_units c.args.context.now) c.requires.wide c.args.few.units c.args.few.len
-    (λ k listed. all-listed is_told_by_bits c.args.few.units c.args.few.len k (sym c.are_told_by_bits.ensures ∙ c.if-are_told_by_bits.true) listed)
+    (λ k listed. all-listed bits_identify_key c.args.few.units c.args.few.len k (sym c.are_told_by_bits.ensures ∙ c.if-are_told_by_bits.true) listed)
     c.args.from c.next_wide.result c.next_wide.ensures
 
 pub first_allowed_offset-requires-clause-leads : goal.first_allowed_offset-requires-clause-leads

@@ -1,4 +1,4 @@
-use Rattle.regress_search.proofs.Starting.{fitting-found}
+use Rattle.regress_search.proofs.StartSearchLemmas.{fitting-found}
 use Rattle.regress_search.proofs.start_search.next_prefix_match.Goals as goal
 
 pub returns : goal.returns

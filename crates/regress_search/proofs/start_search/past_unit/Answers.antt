@@ -2,7 +2,7 @@ use Rattle.std.proofs.Common.{◌≡◌, Some, true, false, sym, ap, ◌∙◌, 
 use Rattle.regex_meaning.specs.CodeUnitOffsets.{IsBoundary, units}
 use Rattle.regex_meaning.specs.Text.{rightwards}
 use Rattle.regress_input.specs.CharAndByteReadsFromOffset.{past, is_byte_encoding}
-use Rattle.regress_search.proofs.Starting.{past-byte, past-character}
+use Rattle.regress_search.proofs.StartSearchLemmas.{past-byte, past-character}
 use Rattle.regress_search.proofs.start_search.past_unit.Goals as goal
 
 pub returns-then-ARE_BYTES : goal.returns-then-ARE_BYTES

@@ -2,12 +2,12 @@ use Rattle.std.proofs.Common.{◌≡◌, ◌<◌, ◌-◌, length, false, leb, s
 use Rattle.std.proofs.lemmas.Bool.{leb-false, lt-leb}
 use Rattle.std.proofs.lemmas.List.{length-map}
 use Rattle.regex_meaning.specs.CodeUnits.{text_units_in_encoding}
-use Rattle.regress_input.proofs.Boundaries.{units-length}
-use Rattle.regress_input.proofs.Places.{boundary_inside}
+use Rattle.regress_input.proofs.UnitsAtBoundaries.{units-length}
+use Rattle.regress_input.proofs.BoundaryPositions.{boundary_inside}
 use Rattle.regress_program.specs.PrefixesAndPrefilters.{units_allowed_by_prefix}
 use Rattle.regress_program.specs.TableKeysOfUnits.{key, is_16_bit_encoding}
 use Rattle.regress_search.specs.StartSearch.{keys_in}
-use Rattle.regress_search.proofs.FirstUnits.{fits-short}
+use Rattle.regress_search.proofs.PrefixUnitLemmas.{fits-short}
 use Rattle.regress_search.proofs.start_search_by_bit_probes.prefix_fits.Goals as goal
 
 pub overflow_sub-text_end : goal.overflow_sub-text_end

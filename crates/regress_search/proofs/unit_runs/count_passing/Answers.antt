@@ -1,5 +1,5 @@
 use Rattle.std.proofs.Common.{◌+◌, sym, ◌∙◌, true, arith}
-use Rattle.regress_program.proofs.ChoiceLemmas.{below-more}
+use Rattle.regress_program.proofs.AlternationDispatchLemmas.{below-more}
 use Rattle.regress_search.specs.UnitRuns.{IsKeyTestAt}
 use Rattle.regress_search.proofs.unit_runs.count_passing.Goals as goal
 

@@ -1,4 +1,4 @@
-use Rattle.regress_input.proofs.AsciiSets.{below_128}
+use Rattle.regress_input.proofs.AsciiByteSets.{below_128}
 use Rattle.test_inputs.proofs.matches.ascii_set.Goals as goal
 
 pub returns : goal.returns

@@ -1,6 +1,6 @@
 use Rattle.std.proofs.Common.{refl, rules}
 use Rattle.regress_match.specs.ProgramTreesAndAnswers.{tree_for_byte_units}
-use Rattle.regress_match.proofs.Starts.{utf8_start}
+use Rattle.regress_match.proofs.SearchStartLemmas.{utf8_start}
 use Rattle.test_searches.proofs.backends.write_by_copying.Goals as goal
 
 pub find-requires : goal.find-requires

@@ -1,6 +1,6 @@
 use Rattle.std.proofs.Common.{refl}
 use Rattle.regress_match.specs.ProgramTreesAndAnswers.{tree_for_byte_units}
-use Rattle.regress_match.proofs.Starts.{ascii_start}
+use Rattle.regress_match.proofs.SearchStartLemmas.{ascii_start}
 use Rattle.test_searches.proofs.backends.write_by_name_in_ascii.Goals as goal
 
 pub find_ascii-requires : goal.find_ascii-requires

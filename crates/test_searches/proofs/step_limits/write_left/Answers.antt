@@ -1,5 +1,5 @@
 use Rattle.std.proofs.Common.{rules}
-use Rattle.regress_match.proofs.Starts.{utf8_start}
+use Rattle.regress_match.proofs.SearchStartLemmas.{utf8_start}
 use Rattle.test_searches.proofs.step_limits.write_left.Goals as goal
 
 pub first_from-requires : goal.first_from-requires

@@ -1,7 +1,7 @@
 use Rattle.std.proofs.Common.{inl, refl}
 use Rattle.std.proofs.lemmas.Str.{IsCharBoundary-start}
 use Rattle.regress_match.specs.ProgramTreesAndAnswers.{tree_for_byte_units}
-use Rattle.regress_match.proofs.Starts.{utf8_start}
+use Rattle.regress_match.proofs.SearchStartLemmas.{utf8_start}
 use Rattle.test_trials.proofs.checks.is_copied.Goals as goal
 
 pub find-requires : goal.find-requires

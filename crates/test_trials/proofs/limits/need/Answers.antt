@@ -1,4 +1,4 @@
-use Rattle.regress_match.proofs.Starts.{utf8_start}
+use Rattle.regress_match.proofs.SearchStartLemmas.{utf8_start}
 use Rattle.test_trials.proofs.limits.need.Goals as goal
 
 pub ask-requires : goal.ask-requires

@@ -1,8 +1,8 @@
 use Rattle.std.proofs.Common.{◌≡◌, ◌<◌, ◌∙◌, ap, rules, sym}
 use Rattle.regex_pattern_front.specs.AstToSpecTree.{node_of}
 use Rattle.regress_program.specs.LeafNodesAndOptimizableLoops.{cat_of}
-use Rattle.regress_program.proofs.NodeLemmas.{node_of-Cat}
-use Rattle.regress_program.proofs.Weights.{inner_node_count, weight-child}
+use Rattle.regress_program.proofs.NodeListLemmas.{node_of-Cat}
+use Rattle.regress_program.proofs.InnerNodeCountLemmas.{inner_node_count, weight-child}
 use Rattle.use_grep.specs.Local.{is_local}
 use Rattle.use_grep.proofs.local.+is_local_node.Goals as goal
 

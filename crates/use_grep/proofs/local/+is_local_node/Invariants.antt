@@ -1,7 +1,7 @@
 use Rattle.std.proofs.Common.{◌≡◌, ◌+◌, ◌*◌, ◌≤◌, drop}
 use Rattle.regex_pattern_front.specs.AstToSpecTree.{node_of}
 use Rattle.regress_program.specs.LeafNodesAndOptimizableLoops.{cat_of}
-use Rattle.regress_program.proofs.Weights.{inner_node_count}
+use Rattle.regress_program.proofs.InnerNodeCountLemmas.{inner_node_count}
 use Rattle.use_grep.specs.Local.{is_local}
 use Rattle.use_grep.proofs.local.+is_local_node.Given as goal
 

@@ -1,7 +1,7 @@
 use Rattle.std.proofs.Common.{◌≡◌, ◌∙◌, ◌++◌, false, ap, string_bytes}
 use Rattle.regress_search.specs.MatchesAsSpecAnswers.{answer_of}
 use Rattle.regress_search.specs.RemainingAnswers.{RemainingView}
-use Rattle.regress_match.proofs.CallerLemmas.{IsReached, reached-unlimited, takes-next}
+use Rattle.regress_match.proofs.MatchRangeLemmas.{IsReached, reached-unlimited, takes-next}
 use Rattle.use_grep.specs.Selecting.{colored, colored_from}
 use Rattle.use_grep.proofs.Parts.{painted-more, painted-end}
 use Rattle.use_grep.proofs.select.colored.Goals.{In_ok-from}

@@ -1,5 +1,5 @@
 use Rattle.std.proofs.Common.{◌≡◌, ◌++◌, false, string_bytes}
-use Rattle.regress_match.proofs.CallerLemmas.{IsReached}
+use Rattle.regress_match.proofs.MatchRangeLemmas.{IsReached}
 use Rattle.use_grep.specs.Selecting.{colored, colored_from}
 use Rattle.use_grep.proofs.select.colored.Given as goal
 

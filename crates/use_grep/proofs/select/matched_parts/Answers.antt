@@ -1,6 +1,6 @@
 use Rattle.std.proofs.Common.{◌∙◌, ◌++◌, List, map, ap}
 use Rattle.regress_search.specs.RemainingAnswers.{RemainingView}
-use Rattle.regress_match.proofs.CallerLemmas.{reached-unlimited}
+use Rattle.regress_match.proofs.MatchRangeLemmas.{reached-unlimited}
 use Rattle.use_grep.specs.Selecting.{matched_parts, shown_part}
 use Rattle.use_grep.proofs.select.matched_parts.Goals as goal
 

@@ -1,6 +1,6 @@
 use Rattle.std.proofs.Common.{◌≡◌, ◌++◌, ℕ, map, false}
 use Rattle.regress_match.specs.ProgramTreesAndAnswers.{utf8_answers}
-use Rattle.regress_match.proofs.CallerLemmas.{IsReached}
+use Rattle.regress_match.proofs.MatchRangeLemmas.{IsReached}
 use Rattle.use_grep.specs.Selecting.{matched_parts, shown_part}
 use Rattle.use_grep.proofs.select.matched_parts.Given as goal
 

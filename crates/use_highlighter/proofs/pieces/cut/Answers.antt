@@ -4,7 +4,7 @@ use Rattle.std.proofs.lemmas.Str.{IsCharBoundary-end}
 use Rattle.regress_search.specs.MatchesAsSpecAnswers.{answer_of}
 use Rattle.regress_search.specs.RemainingAnswers.{RemainingView}
 use Rattle.regress_match.specs.ProgramTreesAndAnswers.{utf8_answers}
-use Rattle.regress_match.proofs.CallerLemmas.{IsReached, reached-unlimited, takes-next}
+use Rattle.regress_match.proofs.MatchRangeLemmas.{IsReached, reached-unlimited, takes-next}
 use Rattle.use_highlighter.specs.Tokens.{names_of}
 use Rattle.use_highlighter.proofs.Rows.{IsCutTo, cut-more, cut-none, cut-rest, piece}
 use Rattle.use_highlighter.proofs.pieces.cut.Goals.{In_ok-push-2}

@@ -1,6 +1,6 @@
 use Rattle.std.proofs.Common.{false}
 use Rattle.regress_match.specs.ProgramTreesAndAnswers.{utf8_answers}
-use Rattle.regress_match.proofs.CallerLemmas.{IsReached}
+use Rattle.regress_match.proofs.MatchRangeLemmas.{IsReached}
 use Rattle.use_highlighter.specs.Tokens.{names_of}
 use Rattle.use_highlighter.proofs.Rows.{IsCutTo}
 use Rattle.use_highlighter.proofs.pieces.cut.Given as goal

@@ -13,4 +13,4 @@ pub returns : goal.returns
 returns c =
     let re = c.args.re.now in
     let text = c.args.text.now in
-    first text (utf8_answers re text 0) (c.matches_stand_in_text.ensures re text 0 c.utf8.text)
+    first text (utf8_answers re text 0) (c.matches_lie_in_text_in_order.ensures re text 0 c.utf8.text)

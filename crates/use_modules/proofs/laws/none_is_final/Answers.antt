@@ -4,4 +4,4 @@ use Rattle.use_modules.proofs.laws.none_is_final.Goals as goal
 
 pub returns : goal.returns
 returns c = λ tree text start it behind rs yields calls.
-    (c.searches_answer_in_turn.ensures tree text start it behind (None ∷ rs) yields calls).1
+    (c.searches_return_matches_in_order.ensures tree text start it behind (None ∷ rs) yields calls).1

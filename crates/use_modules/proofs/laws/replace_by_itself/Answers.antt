@@ -4,4 +4,4 @@ use Rattle.use_modules.proofs.laws.replace_by_itself.Goals as goal
 
 pub returns : goal.returns
 returns c =
-    IfOk-map c.replace_all.result _ _ (λ s made. made ∙ (c.whole_matches_give_back.ensures c.args.re.now c.args.text.now).1) c.replace_all.ensures.made
+    IfOk-map c.replace_all.result _ _ (λ s made. made ∙ (c.replacing_by_match_keeps_text.ensures c.args.re.now c.args.text.now).1) c.replace_all.ensures.made

@@ -5,4 +5,4 @@ use Rattle.use_modules.proofs.laws.work_limit_means_too_small_a_budget.Goals as 
 
 pub returns : goal.returns
 returns c = λ tree text start per_unit work it behind rs yields calls.
-    (c.searches_answer_in_work.ensures tree text start per_unit work it behind (Some (Err WorkLimit) ∷ rs) yields calls).0.0
+    (c.searches_return_matches_within_work.ensures tree text start per_unit work it behind (Some (Err WorkLimit) ∷ rs) yields calls).0.0

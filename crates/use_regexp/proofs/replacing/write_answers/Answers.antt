@@ -1,8 +1,8 @@
 use Rattle.std.proofs.Common.{◌∙◌, ◌++◌, ap, map, refl}
 use Rattle.std.proofs.lemmas.List.{take_rest}
 use Rattle.regress_search.specs.MatchesAsSpecAnswers.{answer_of}
-use Rattle.regress_match.proofs.Answering.{ends, goes-answered, refuses-answered}
-use Rattle.regress_match.proofs.Replacing.{callable-next, callable-rest}
+use Rattle.regress_match.proofs.ClosureReplacementLemmas.{ends, goes-answered, refuses-answered}
+use Rattle.regress_match.proofs.StringClosureLemmas.{callable-next, callable-rest}
 use Rattle.use_regexp.specs.Replace.{units_of}
 use Rattle.use_regexp.proofs.Replaced.{map-none, stand-behind}
 use Rattle.use_regexp.proofs.replacing.write_answers.Goals as goal

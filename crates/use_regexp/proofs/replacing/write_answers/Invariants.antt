@@ -1,7 +1,7 @@
 use Rattle.std.proofs.Common.{length, map}
 use Rattle.regress_search.specs.MatchesAsSpecAnswers.{answer_of}
 use Rattle.regress_match.specs.StringClosures.{ClosureCanBeCalled}
-use Rattle.regress_match.proofs.Answering.{IsBegun}
+use Rattle.regress_match.proofs.ClosureReplacementLemmas.{IsBegun}
 use Rattle.use_regexp.specs.Replace.{StandInUnits, units_of}
 use Rattle.use_regexp.proofs.replacing.write_answers.Given as goal
 

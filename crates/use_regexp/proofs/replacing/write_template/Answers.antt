@@ -1,7 +1,7 @@
 use Rattle.std.proofs.Common.{◌∙◌, ◌++◌, ap, map}
 use Rattle.std.proofs.lemmas.List.{take_rest}
 use Rattle.regress_search.specs.MatchesAsSpecAnswers.{answer_of}
-use Rattle.regress_match.proofs.Replacing.{replaced-end, replaced-more}
+use Rattle.regress_match.proofs.StringClosureLemmas.{replaced-end, replaced-more}
 use Rattle.use_regexp.specs.Template.{substitution}
 use Rattle.use_regexp.proofs.Replaced.{map-none, stand-behind}
 use Rattle.use_regexp.proofs.replacing.write_template.Goals as goal

@@ -3,7 +3,7 @@ use Rattle.std.specs.Prelude.{IfSome, Option}
 use Rattle.regex_meaning.specs.Laws.{Each}
 use Rattle.regress_search.specs.MatchesAsSpecAnswers.{answer_of}
 use Rattle.regress_match.specs.ExpansionsAndMatchRanges.{IsCharBoundaryRange}
-use Rattle.regress_match.proofs.CallerLemmas.{named-fit}
+use Rattle.regress_match.proofs.MatchRangeLemmas.{named-fit}
 use Rattle.use_renamer.specs.Names.{described}
 use Rattle.use_renamer.proofs.groups.show.Goals as goal
 

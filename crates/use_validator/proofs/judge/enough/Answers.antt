@@ -1,5 +1,5 @@
 use Rattle.std.proofs.Common.{◌+◌, ap, sym}
-use Rattle.regex_meaning.proofs.UnitLengths.{utf8_text-units}
+use Rattle.regex_meaning.proofs.CodeUnitLengthLemmas.{utf8_text-units}
 use Rattle.regress_match.specs.ProgramTreesAndAnswers.{tree_for_byte_units}
 use Rattle.use_validator.proofs.Decided.{enough-same}
 use Rattle.use_validator.proofs.judge.enough.Goals as goal

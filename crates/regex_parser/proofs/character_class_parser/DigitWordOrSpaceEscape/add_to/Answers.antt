@@ -2,7 +2,7 @@ use Rattle.std.proofs.Common.{◌∙◌, ap}
 use Rattle.regex_meaning.specs.Outcomes.{in_intervals}
 use Rattle.regex_parser.specs.ClassReaderContracts.{class_member_of_character_class_escape}
 use Rattle.regex_pattern_front.specs.AstToSpecTree.{spec_flags_of}
-use Rattle.regex_parser.proofs.ClassLemmas.{ok-on, adds-set}
+use Rattle.regex_parser.proofs.ClassReaderLemmas.{ok-on, adds-set}
 use Rattle.regex_parser.proofs.character_class_parser.DigitWordOrSpaceEscape.add_to.Goals as goal
 
 pub returns : goal.returns

@@ -1,7 +1,7 @@
 use Rattle.std.proofs.Common.{◌∙◌, sym}
 use Rattle.regex_parser.specs.ClassReaderContracts.{uninverted_digit_word_or_space_set}
 use Rattle.regex_pattern_front.specs.AstToSpecTree.{spec_flags_of}
-use Rattle.regex_parser.proofs.ClassLemmas.{ok-map, class-has, class-has_not}
+use Rattle.regex_parser.proofs.ClassReaderLemmas.{ok-map, class-has, class-has_not}
 use Rattle.regex_parser.proofs.character_class_parser.DigitWordOrSpaceEscape.set.Goals as goal
 
 pub returns-then-contents : goal.returns-then-contents

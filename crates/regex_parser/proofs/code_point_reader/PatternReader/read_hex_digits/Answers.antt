@@ -1,5 +1,5 @@
 use Rattle.std.proofs.Common.{◌≡◌, arith}
-use Rattle.regex_parser.proofs.ReadLemmas.{hex-none, hex-next, hex-short, hex-end}
+use Rattle.regex_parser.proofs.NumberReaderLemmas.{hex-none, hex-next, hex-short, hex-end}
 use Rattle.regex_parser.proofs.code_point_reader.PatternReader.read_hex_digits.Goals as goal
 
 pub loop-init : goal.loop-init

@@ -1,5 +1,5 @@
 use Rattle.std.proofs.Common.{◌≤◌, length}
-use Rattle.regex_parser.proofs.ReadLemmas.{HexSoFar}
+use Rattle.regex_parser.proofs.NumberReaderLemmas.{HexSoFar}
 use Rattle.regex_parser.proofs.code_point_reader.PatternReader.read_hex_digits.Given as goal
 
 abbrev pub invariant-loop : goal.invariant-loop

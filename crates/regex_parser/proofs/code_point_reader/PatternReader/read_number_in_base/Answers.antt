@@ -1,5 +1,5 @@
 use Rattle.std.proofs.Common.{◌^◌, ◌-◌, arith, refl}
-use Rattle.regex_parser.proofs.ReadLemmas.{number-first, number-next, number-end}
+use Rattle.regex_parser.proofs.NumberReaderLemmas.{number-first, number-next, number-end}
 use Rattle.regex_parser.proofs.code_point_reader.PatternReader.read_number_in_base.Goals as goal
 
 pub loop-digit-init : goal.loop-digit-init

@@ -1,5 +1,5 @@
 use Rattle.std.proofs.Common.{◌<◌, length, ◌^◌, ◌-◌}
-use Rattle.regex_parser.proofs.ReadLemmas.{NumberSoFar}
+use Rattle.regex_parser.proofs.NumberReaderLemmas.{NumberSoFar}
 use Rattle.regex_parser.proofs.code_point_reader.PatternReader.read_number_in_base.Given as goal
 
 abbrev pub invariant-loop-digit : goal.invariant-loop-digit

@@ -1,7 +1,7 @@
 use Rattle.std.proofs.Common.{◌≡◌, ℕ, ◌-◌, ◌+◌, ◌≤◌, ◌⊎◌, ap, sym, ◌∙◌, arith, subst, inl, inr, length, chars}
 use Rattle.std.proofs.lemmas.Str.{IsCharBoundary-from_drop}
 use Rattle.std.specs.Str.{IsUtf8}
-use Rattle.regex_parser.proofs.PlaceLemmas.{StandsBehind, behind-none, behind-next, behind-rest, nothing-behind, rest-begins, rest-fits}
+use Rattle.regex_parser.proofs.PatternPositionLemmas.{StandsBehind, behind-none, behind-next, behind-rest, nothing-behind, rest-begins, rest-fits}
 use Rattle.regex_parser.proofs.diagnosis.Diagnosis.offset_in.Goals as goal
 use Rattle.regex_parser.proofs.diagnosis.Diagnosis.offset_in.Goals.{then-loop-left-test+else-is_some, else-loop-left-test}
 

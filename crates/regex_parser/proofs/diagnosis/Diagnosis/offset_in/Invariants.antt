@@ -1,5 +1,5 @@
 use Rattle.std.proofs.Common.{◌-◌, ◌≤◌}
-use Rattle.regex_parser.proofs.PlaceLemmas.{StandsBehind}
+use Rattle.regex_parser.proofs.PatternPositionLemmas.{StandsBehind}
 use Rattle.regex_parser.proofs.diagnosis.Diagnosis.offset_in.Given as goal
 
 abbrev pub invariant-loop-left : goal.invariant-loop-left

@@ -1,8 +1,8 @@
 use Rattle.std.proofs.Common.{◌∷◌, [], refl, sym, subst}
 use Rattle.regex_parser.specs.GroupReaderContracts.{RecordsFurtherGroupsInScan}
 use Rattle.regex_parser.specs.SyntaxDialects.{spec_syntax_of}
-use Rattle.regex_parser.proofs.ClassLemmas.{ok-on}
-use Rattle.regex_parser.proofs.ScanLemmas.{records-none, records-nameless, opens-capture, opens-plain, opens-look, opens-none}
+use Rattle.regex_parser.proofs.ClassReaderLemmas.{ok-on}
+use Rattle.regex_parser.proofs.GroupScanLemmas.{records-none, records-nameless, opens-capture, opens-plain, opens-look, opens-none}
 use Rattle.regex_parser.proofs.group_openings_and_names.GroupAndNameScanState.note_group.Goals as goal
 
 pub returns-in-Ok-Capture : goal.returns-in-Ok-Capture

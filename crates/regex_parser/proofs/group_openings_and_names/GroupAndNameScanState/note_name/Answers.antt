@@ -1,7 +1,7 @@
 use Rattle.std.proofs.Common.{◌∷◌, [], refl, ap, string_bytes}
 use Rattle.regex_parser.specs.CodePointReaderContracts.{is_syntax_error}
 use Rattle.regex_parser.specs.SyntaxDialects.{spec_syntax_of}
-use Rattle.regex_parser.proofs.ScanLemmas.{records-named, records-nameless, opens-wrong, name-positive, on-all}
+use Rattle.regex_parser.proofs.GroupScanLemmas.{records-named, records-nameless, opens-wrong, name-positive, on-all}
 use Rattle.regex_parser.proofs.group_openings_and_names.GroupAndNameScanState.note_name.Goals as goal
 
 pub returns-in-Ok : goal.returns-in-Ok

@@ -1,7 +1,7 @@
 use Rattle.std.proofs.Common.{◌≡◌, ◌∙◌, sym, ap, string_bytes, false}
 use Rattle.std.specs.Prelude.{is_some}
 use Rattle.std.specs.BTreeMap.{get_by_text}
-use Rattle.regex_parser.proofs.ScanLemmas.{number-inserted, entries-positive}
+use Rattle.regex_parser.proofs.GroupScanLemmas.{number-inserted, entries-positive}
 use Rattle.regex_parser.proofs.group_openings_and_names.GroupAndNameScanState.number.Goals as goal
 
 pub returns-clause-numbers : goal.returns-clause-numbers

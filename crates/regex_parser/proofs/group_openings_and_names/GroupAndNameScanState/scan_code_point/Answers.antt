@@ -1,7 +1,7 @@
 use Rattle.std.proofs.Common.{◌∙◌, sym, refl}
 use Rattle.regex_parser.specs.SyntaxDialects.{spec_syntax_of}
-use Rattle.regex_parser.proofs.ClassLemmas.{ok-on}
-use Rattle.regex_parser.proofs.ScanLemmas.{processes-none, processes-opened}
+use Rattle.regex_parser.proofs.ClassReaderLemmas.{ok-on}
+use Rattle.regex_parser.proofs.GroupScanLemmas.{processes-none, processes-opened}
 use Rattle.regex_parser.proofs.group_openings_and_names.GroupAndNameScanState.scan_code_point.Goals as goal
 
 pub returns-then-c : goal.returns-then-c

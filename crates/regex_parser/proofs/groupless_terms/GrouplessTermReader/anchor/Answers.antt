@@ -1,5 +1,5 @@
-use Rattle.regex_pattern_front.proofs.LeafLemmas.{leaf-Anchor}
-use Rattle.regex_parser.proofs.TermLemmas.{anchored}
+use Rattle.regex_pattern_front.proofs.GrouplessNodeLemmas.{leaf-Anchor}
+use Rattle.regex_parser.proofs.GrouplessTermLemmas.{anchored}
 use Rattle.regex_parser.proofs.EcmaTermLemmas.{anchored-ecma}
 use Rattle.regex_parser.proofs.groupless_terms.GrouplessTermReader.anchor.Goals as goal
 

@@ -1,11 +1,11 @@
 use Rattle.std.proofs.Common.{◌∙◌, sym, refl, [], ◌∷◌}
 use Rattle.regex_meaning.specs.Grammar.{character_escape}
-use Rattle.regex_meaning.proofs.Found.{scanned}
+use Rattle.regex_meaning.proofs.GroupNameScanLemmas.{scanned}
 use Rattle.regex_parser.specs.GrouplessTermContracts.{pattern_context, NoSimpleAtom}
 use Rattle.std.specs.BTreeMap.{get_by_text}
-use Rattle.regex_parser.proofs.ClassLemmas.{no_class}
-use Rattle.regex_parser.proofs.TermLemmas.{leaf-of, read-leaf, read-err, character-read, in-all}
-use Rattle.regex_parser.proofs.ReferenceLemmas.{class-escaped, reference-none, reference-read, reference-passed, unescaped-none}
+use Rattle.regex_parser.proofs.ClassReaderLemmas.{no_class}
+use Rattle.regex_parser.proofs.GrouplessTermLemmas.{leaf-of, read-leaf, read-err, character-read, in-all}
+use Rattle.regex_parser.proofs.BackreferenceLemmas.{class-escaped, reference-none, reference-read, reference-passed, unescaped-none}
 use Rattle.regex_parser.proofs.groupless_terms.GrouplessTermReader.atom_escape.Goals as goal
 
 pub returns-in-Some-clause-passed : goal.returns-in-Some-clause-passed

@@ -1,6 +1,6 @@
 use Rattle.std.proofs.Common.{arith}
-use Rattle.regex_pattern_front.proofs.LeafLemmas.{leaf-WordBoundary}
-use Rattle.regex_parser.proofs.TermLemmas.{bounded}
+use Rattle.regex_pattern_front.proofs.GrouplessNodeLemmas.{leaf-WordBoundary}
+use Rattle.regex_parser.proofs.GrouplessTermLemmas.{bounded}
 use Rattle.regex_parser.proofs.EcmaTermLemmas.{bounded-ecma}
 use Rattle.regex_parser.proofs.groupless_terms.GrouplessTermReader.boundary.Goals.{then-self, else-self}
 use Rattle.regex_parser.proofs.groupless_terms.GrouplessTermReader.boundary.Goals as goal

@@ -1,6 +1,6 @@
 use Rattle.std.proofs.Common.{arith}
-use Rattle.regex_pattern_front.proofs.LeafLemmas.{leaf-Char, leaf-CharSet, few_members}
-use Rattle.regex_parser.proofs.TermLemmas.{node-set, node-one}
+use Rattle.regex_pattern_front.proofs.GrouplessNodeLemmas.{leaf-Char, leaf-CharSet, few_members}
+use Rattle.regex_parser.proofs.GrouplessTermLemmas.{node-set, node-one}
 use Rattle.regex_parser.proofs.groupless_terms.GrouplessTermReader.character.Goals as goal
 
 pub returns-then-len-gt1-clause-leaf : goal.returns-then-len-gt1-clause-leaf

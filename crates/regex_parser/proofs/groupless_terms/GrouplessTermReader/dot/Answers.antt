@@ -1,5 +1,5 @@
-use Rattle.regex_pattern_front.proofs.LeafLemmas.{leaf-MatchAny, leaf-MatchAnyExceptLineTerminator}
-use Rattle.regex_parser.proofs.TermLemmas.{dot-all, dot-other}
+use Rattle.regex_pattern_front.proofs.GrouplessNodeLemmas.{leaf-MatchAny, leaf-MatchAnyExceptLineTerminator}
+use Rattle.regex_parser.proofs.GrouplessTermLemmas.{dot-all, dot-other}
 use Rattle.regex_parser.proofs.EcmaTermLemmas.{dot-all-ecma, dot-other-ecma}
 use Rattle.regex_parser.proofs.groupless_terms.GrouplessTermReader.dot.Goals as goal
 

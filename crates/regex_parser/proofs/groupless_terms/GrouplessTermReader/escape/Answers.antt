@@ -1,6 +1,6 @@
 use Rattle.std.proofs.Common.{◌∙◌, sym}
 use Rattle.regex_parser.specs.GrouplessTermContracts.{pattern_context}
-use Rattle.regex_parser.proofs.TermLemmas.{escape-read, escape-passed}
+use Rattle.regex_parser.proofs.GrouplessTermLemmas.{escape-read, escape-passed}
 use Rattle.regex_parser.proofs.groupless_terms.GrouplessTermReader.escape.Goals as goal
 
 pub returns-then-eat-clause-leaf : goal.returns-then-eat-clause-leaf

@@ -1,6 +1,6 @@
 use Rattle.std.proofs.Common.{arith, length, ◌≤◌}
 use Rattle.regex_parser.specs.GrouplessTermContracts.{pattern_context}
-use Rattle.regex_parser.proofs.DialectTerms.{reference-within}
+use Rattle.regex_parser.proofs.DialectTermLemmas.{reference-within}
 use Rattle.regex_parser.proofs.EcmaTermLemmas.{parameters-same, nothing-before, atom-none, atom-character, err-escape}
 use Rattle.regex_parser.proofs.groupless_terms.GrouplessTermReader.read_ecmascript_atom_escape.Goals as goal
 

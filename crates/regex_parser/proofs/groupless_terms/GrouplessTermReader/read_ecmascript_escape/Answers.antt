@@ -1,7 +1,7 @@
 use Rattle.std.proofs.Common.{◌∙◌, sym, subst}
 use Rattle.regex_meaning.specs.EcmaEscapesAndNames.{CharacterEscape}
 use Rattle.regex_parser.specs.GrouplessTermContracts.{pattern_context}
-use Rattle.regex_pattern_front.proofs.LeafLemmas.{leaf-Char}
+use Rattle.regex_pattern_front.proofs.GrouplessNodeLemmas.{leaf-Char}
 use Rattle.regex_parser.proofs.EcmaTermLemmas.{parameters-same, escape-read, control-read, slash-read}
 use Rattle.regex_parser.proofs.groupless_terms.GrouplessTermReader.read_ecmascript_escape.Goals as goal
 

@@ -2,7 +2,7 @@ use Rattle.std.proofs.Common.{[], ◌∷◌, ◌∙◌, sym}
 use Rattle.std.proofs.lemmas.Bool.{ne_eqb}
 use Rattle.regex_pattern_front.specs.AstToSpecTree.{class_as_spec}
 use Rattle.regex_parser.specs.GrouplessTermContracts.{pattern_context}
-use Rattle.regex_pattern_front.proofs.LeafLemmas.{leaf-Char}
+use Rattle.regex_pattern_front.proofs.GrouplessNodeLemmas.{leaf-Char}
 use Rattle.regex_parser.proofs.EcmaTermLemmas.{class-term, class-none, err-term, alone-none-ecma, brace-term, character-term}
 use Rattle.regex_parser.proofs.groupless_terms.GrouplessTermReader.read_ecmascript_term.Goals as goal
 

@@ -1,7 +1,7 @@
 use Rattle.std.proofs.Common.{◌∷◌, subst, sym}
 use Rattle.regex_parser.specs.GrouplessTermContracts.{pattern_context, IsTermReadIn}
 use Rattle.regex_parser.specs.SyntaxDialects.{spec_syntax_of, AreGroupsKnownIn}
-use Rattle.regex_parser.proofs.DialectTerms.{profile-known, profile-term, ecmascript-known, ecmascript-term}
+use Rattle.regex_parser.proofs.DialectTermLemmas.{profile-known, profile-term, ecmascript-known, ecmascript-term}
 use Rattle.regex_parser.proofs.groupless_terms.GrouplessTermReader.read_term_without_group.Goals as goal
 
 pub returns-in-Profile-clause-text : goal.returns-in-Profile-clause-text

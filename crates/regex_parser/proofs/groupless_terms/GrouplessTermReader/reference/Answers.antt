@@ -1,6 +1,6 @@
 use Rattle.std.proofs.Common.{arith}
-use Rattle.regex_pattern_front.proofs.LeafLemmas.{leaf-BackRef}
-use Rattle.regex_parser.proofs.TermLemmas.{node-BackRef}
+use Rattle.regex_pattern_front.proofs.GrouplessNodeLemmas.{leaf-BackRef}
+use Rattle.regex_parser.proofs.GrouplessTermLemmas.{node-BackRef}
 use Rattle.regex_parser.proofs.groupless_terms.GrouplessTermReader.reference.Goals as goal
 
 pub returns-clause-leaf : goal.returns-clause-leaf

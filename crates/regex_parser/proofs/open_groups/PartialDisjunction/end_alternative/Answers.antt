@@ -1,7 +1,7 @@
 use Rattle.std.proofs.Common.{◌++◌, ◌∷◌, [], append-nil}
 use Rattle.regex_pattern_front.specs.AstToSpecTree.{node_of}
 use Rattle.regex_pattern_front.specs.SubtreeListInvariants.{CombinesGroupsAndGoalsOfNodes}
-use Rattle.regex_pattern_front.proofs.PartLemmas.{parts-made}
+use Rattle.regex_pattern_front.proofs.SubtreeListLemmas.{parts-made}
 use Rattle.regex_parser.proofs.open_groups.PartialDisjunction.end_alternative.Goals as goal
 
 pub returns-clause-parts : goal.returns-clause-parts

@@ -2,14 +2,14 @@ use Rattle.std.proofs.Common.{◌≡◌, ◌∙◌, ◌++◌, ◌∷◌, [], Lis
 use Rattle.regex_meaning.specs.Tree as tree
 use Rattle.regex_parser.specs.ParseStack.{nest_alternatives}
 use Rattle.regex_parser.specs.PartialDisjunctionModel.{nest_all_alternatives}
-use Rattle.regex_parser.proofs.ModelLemmas.{join-is}
+use Rattle.regex_parser.proofs.PartialDisjunctionLemmas.{join-is}
 use Rattle.std.specs.Prelude.{Result, IfOk}
 use Rattle.regex_pattern_front.specs.AstToSpecTree.{node_of}
-use Rattle.regex_pattern_front.specs.SubtreeListInvariants.{SoundSubtreesMakeSoundNode, KeepsSubtrees}
+use Rattle.regex_pattern_front.specs.SubtreeListInvariants.{SoundSubtreesMakeSoundNode, KeepsSubtreeInvariant}
 use Rattle.regex_pattern_front.specs.declared.ir.Node.{Node}
 use Rattle.regex_parser.proofs.open_groups.PartialDisjunction.into_alternation_node.Goals as goal
 
-joins : {E : Type 0} (r : Result Node E) (xs ys : List Node) → KeepsSubtrees xs ys → IfOk r (λ n. SoundSubtreesMakeSoundNode ys (node_of n)) → IfOk r (λ n. SoundSubtreesMakeSoundNode xs (node_of n))
+joins : {E : Type 0} (r : Result Node E) (xs ys : List Node) → KeepsSubtreeInvariant xs ys → IfOk r (λ n. SoundSubtreesMakeSoundNode ys (node_of n)) → IfOk r (λ n. SoundSubtreesMakeSoundNode xs (node_of n))
 joins (Ok n) xs ys keeps h = λ first end greatest parts. h first end greatest (keeps first end greatest parts)
 joins (Err e) xs ys keeps h = tt
 

@@ -2,13 +2,13 @@ use Rattle.std.proofs.Common.{arith}
 use Rattle.regex_pattern_front.specs.AstToSpecTree.{node_of}
 use Rattle.regex_pattern_front.specs.SubtreeListInvariants.{IsSoundSubtreeWithGroupIds}
 use Rattle.regex_parser.specs.GroupIdInvariant.{nodes_at}
-use Rattle.regex_pattern_front.proofs.PartLemmas.{parts-push, empty-list}
-use Rattle.regex_parser.proofs.LevelLemmas.{IsLast, open-pop}
+use Rattle.regex_pattern_front.proofs.SubtreeListLemmas.{parts-push, empty-list}
+use Rattle.regex_parser.proofs.GroupIdInvariantLemmas.{IsLast, open-pop}
 use Rattle.std.proofs.Common.{◌≡◌, [], refl}
-use Rattle.regex_parser.proofs.Readable.{readable}
-use Rattle.regex_parser.proofs.Standing.{none-opened}
+use Rattle.regex_parser.proofs.DialectRequirementLemmas.{readable}
+use Rattle.regex_parser.proofs.ParserInvariantsLemmas.{none-opened}
 use Rattle.regex_pattern_front.specs.AstToSpecTree.{group_name_bytes, spec_flags_of}
-use Rattle.regex_parser.proofs.ParsedLemmas.{err-reads, at-last, leave-refused, left, reads-on}
+use Rattle.regex_parser.proofs.ParserContractsLemmas.{err-reads, at-last, leave-refused, left, reads-on}
 use Rattle.regex_parser.proofs.parse.Parser.close_open_group.Goals as goal
 
 pub returns-clause-reading : goal.returns-clause-reading

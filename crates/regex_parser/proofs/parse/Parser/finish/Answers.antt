@@ -3,12 +3,12 @@ use Rattle.std.proofs.lemmas.Bool.{eqb-true, eq-eqb}
 use Rattle.regex_meaning.specs.Tree.{goal as the_goal}
 use Rattle.regex_pattern_front.specs.AstToSpecTree.{node_of}
 use Rattle.regex_pattern_front.specs.declared.ir.Node.TheVariants.{Goal}
-use Rattle.regex_pattern_front.proofs.NodeLemmas.{node_of-Cat}
-use Rattle.regex_pattern_front.proofs.PartLemmas.{empty-list, whole, whole-plain, whole-reads_none}
-use Rattle.regex_parser.proofs.LevelLemmas.{parts-whole}
-use Rattle.regex_parser.proofs.Readable.{readable}
-use Rattle.regex_parser.proofs.Standing.{past-groups, stands-end}
-use Rattle.regex_parser.proofs.ParsedLemmas.{ends-open}
+use Rattle.regex_pattern_front.proofs.AstToSpecTreeLemmas.{node_of-Cat}
+use Rattle.regex_pattern_front.proofs.SubtreeListLemmas.{empty-list, whole, whole-plain, whole-reads_none}
+use Rattle.regex_parser.proofs.GroupIdInvariantLemmas.{parts-whole}
+use Rattle.regex_parser.proofs.DialectRequirementLemmas.{readable}
+use Rattle.regex_parser.proofs.ParserInvariantsLemmas.{past-groups, stands-end}
+use Rattle.regex_parser.proofs.ParserContractsLemmas.{ends-open}
 use Rattle.regex_parser.proofs.parse.Parser.finish.Goals as goal
 
 node_of-Goal : node_of Goal ≡ the_goal

@@ -1,5 +1,5 @@
 use Rattle.std.proofs.Common.{◌∙◌}
-use Rattle.regex_parser.proofs.ParsedLemmas.{err-reads, no-tree-same}
+use Rattle.regex_parser.proofs.ParserContractsLemmas.{err-reads, no-tree-same}
 use Rattle.regex_parser.proofs.parse.Parser.read_all.Goals as goal
 
 pub loop-c-preserved : goal.loop-c-preserved

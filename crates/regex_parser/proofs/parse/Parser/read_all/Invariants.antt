@@ -1,5 +1,5 @@
 use Rattle.std.proofs.Common.{length}
-use Rattle.regex_parser.proofs.ParsedLemmas.{GoesOn}
+use Rattle.regex_parser.proofs.ParserContractsLemmas.{GoesOn}
 use Rattle.regex_parser.proofs.parse.Parser.read_all.Given as goal
 
 abbrev pub invariant-loop-c : goal.invariant-loop-c

@@ -1,6 +1,6 @@
 use Rattle.std.proofs.Common.{◌≡◌, ◌∙◌, sym}
-use Rattle.regex_parser.proofs.Readable.{readable}
-use Rattle.regex_parser.proofs.Standing.{stands-bar}
+use Rattle.regex_parser.proofs.DialectRequirementLemmas.{readable}
+use Rattle.regex_parser.proofs.ParserInvariantsLemmas.{stands-bar}
 use Rattle.regex_parser.proofs.parse.Parser.read_what_code_point_begins.Goals as goal
 
 pub returns-in_ok-end_alternative-in-Some-eq124-clause-reading : goal.returns-in_ok-end_alternative-in-Some-eq124-clause-reading

@@ -1,11 +1,11 @@
 use Rattle.std.proofs.Common.{◌≤◌}
 use Rattle.regex_pattern_front.specs.AstToSpecTree.{node_of}
 use Rattle.regex_parser.specs.GroupIdInvariant.{nodes_at}
-use Rattle.regex_pattern_front.proofs.PartLemmas.{part-leaf, parts-push}
-use Rattle.regex_parser.proofs.LevelLemmas.{open-more}
-use Rattle.regex_parser.proofs.Readable.{readable}
-use Rattle.regex_parser.proofs.Standing.{no-term}
-use Rattle.regex_parser.proofs.ParsedLemmas.{err-reads, not-ended, no-parenthesis, term-refused, term-repeated, reads-on, same-then}
+use Rattle.regex_pattern_front.proofs.SubtreeListLemmas.{part-leaf, parts-push}
+use Rattle.regex_parser.proofs.GroupIdInvariantLemmas.{open-more}
+use Rattle.regex_parser.proofs.DialectRequirementLemmas.{readable}
+use Rattle.regex_parser.proofs.ParserInvariantsLemmas.{no-term}
+use Rattle.regex_parser.proofs.ParserContractsLemmas.{err-reads, not-ended, no-parenthesis, term-refused, term-repeated, reads-on, same-then}
 use Rattle.regex_parser.proofs.parse.Parser.term.Goals as goal
 
 pub returns-clause-reading : goal.returns-clause-reading

@@ -1,4 +1,4 @@
-use Rattle.regex_pattern_front.proofs.ByteLemmas.{bits-set}
+use Rattle.regex_pattern_front.proofs.ByteSetMemberLemmas.{bits-set}
 use Rattle.regex_pattern_front.proofs.bytesearch.AsciiBitmap.set.Goals as goal
 
 pub returns-then-byte-lt128-clause-added : goal.returns-then-byte-lt128-clause-added

@@ -1,6 +1,6 @@
 use Rattle.std.proofs.Common.{sym, ◌∙◌}
 use Rattle.std.proofs.lemmas.Bool.{le-ltb}
-use Rattle.regex_pattern_front.proofs.ByteLemmas.{ascii-beyond}
+use Rattle.regex_pattern_front.proofs.ByteSetMemberLemmas.{ascii-beyond}
 use Rattle.regex_pattern_front.proofs.bytesearch.AsciiBitmapByteSet.byte_set_has_char.Goals as goal
 
 pub returns-else-c-lt128 : goal.returns-else-c-lt128

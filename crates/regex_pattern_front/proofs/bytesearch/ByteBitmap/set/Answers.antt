@@ -1,5 +1,5 @@
 use Rattle.std.proofs.Common.{arith}
-use Rattle.regex_pattern_front.proofs.ByteLemmas.{table-set}
+use Rattle.regex_pattern_front.proofs.ByteSetMemberLemmas.{table-set}
 use Rattle.regex_pattern_front.proofs.bytesearch.ByteBitmap.set.Goals as goal
 
 pub returns : goal.returns

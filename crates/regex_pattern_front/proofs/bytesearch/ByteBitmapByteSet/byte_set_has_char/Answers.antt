@@ -1,6 +1,6 @@
 use Rattle.std.proofs.Common.{sym, ◌∙◌, get_or, false}
 use Rattle.std.proofs.lemmas.Bool.{le-ltb}
-use Rattle.regex_pattern_front.proofs.ByteLemmas.{contains-beyond}
+use Rattle.regex_pattern_front.proofs.ByteSetMemberLemmas.{contains-beyond}
 use Rattle.regex_pattern_front.proofs.bytesearch.ByteBitmapByteSet.byte_set_has_char.Goals as goal
 
 pub returns-else-c-lt256 : goal.returns-else-c-lt256

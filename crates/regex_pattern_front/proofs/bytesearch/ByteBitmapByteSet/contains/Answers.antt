@@ -1,5 +1,5 @@
 use Rattle.std.proofs.Common.{arith, sym, get_or, false}
-use Rattle.regex_pattern_front.proofs.ByteLemmas.{contains-bytes_where}
+use Rattle.regex_pattern_front.proofs.ByteSetMemberLemmas.{contains-bytes_where}
 use Rattle.regex_pattern_front.proofs.bytesearch.ByteBitmapByteSet.contains.Goals as goal
 
 pub returns : goal.returns

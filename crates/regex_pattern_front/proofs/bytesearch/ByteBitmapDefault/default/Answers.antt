@@ -1,4 +1,4 @@
-use Rattle.regex_pattern_front.proofs.ByteLemmas.{table-none}
+use Rattle.regex_pattern_front.proofs.ByteSetMemberLemmas.{table-none}
 use Rattle.regex_pattern_front.proofs.bytesearch.ByteBitmapDefault.default.Goals as goal
 
 pub returns : goal.returns

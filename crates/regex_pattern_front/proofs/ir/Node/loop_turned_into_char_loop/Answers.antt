@@ -1,5 +1,5 @@
 use Rattle.regex_pattern_front.specs.AstToSpecTree.{node_of}
-use Rattle.regex_pattern_front.proofs.NodeLemmas.{narrowed-other}
+use Rattle.regex_pattern_front.proofs.AstToSpecTreeLemmas.{narrowed-other}
 use Rattle.regex_pattern_front.proofs.ir.Node.loop_turned_into_char_loop.Goals as goal
 
 pub returns-in-Loop : goal.returns-in-Loop

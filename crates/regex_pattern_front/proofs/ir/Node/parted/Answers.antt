@@ -1,8 +1,8 @@
 use Rattle.std.proofs.Common.{◌≡◌, ◌∙◌, ap, arith}
 use Rattle.regex_pattern_front.specs.IterativeDropMeasure.{tree_size, node_size}
 use Rattle.regex_pattern_front.specs.AstToSpecTree.{cat_of, node_of}
-use Rattle.regex_pattern_front.proofs.NodeLemmas.{node_of-Cat}
-use Rattle.regex_pattern_front.proofs.PartingLemmas.{inside-less}
+use Rattle.regex_pattern_front.proofs.AstToSpecTreeLemmas.{node_of-Cat}
+use Rattle.regex_pattern_front.proofs.IterativeDropLemmas.{inside-less}
 use Rattle.regex_pattern_front.proofs.ir.Node.parted.Goals as goal
 
 pub returns-in-Cat : goal.returns-in-Cat

@@ -4,8 +4,8 @@ use Rattle.regress_search.specs.declared.exec.SearchError.{SearchError}
 use Rattle.regress_backtrack.specs.ProgramsAndPlans.{executed_tree_of}
 use Rattle.regex_pattern_front.specs.AstToSpecTree.{tree_of}
 use Rattle.regress_backtrack.specs.State.{current_thread_state_of}
-use Rattle.regress_search.proofs.InWork.{goes-on-free}
-use Rattle.regress_backtrack.proofs.InPlace.{can-be, can-run, end-context, ends-context, search-run}
+use Rattle.regress_search.proofs.MatchesWithinWorkLemmas.{goes-on-free}
+use Rattle.regress_backtrack.proofs.PlannedTreeLemmas.{can-be, can-run, end-context, ends-context, search-run}
 use Rattle.regress_backtrack.proofs.classicalbacktrack.BacktrackExecutorSingleAttemptExecutor.attempt.Goals as goal
 
 pub leaps_over_if_due-requires-clause-executable : goal.leaps_over_if_due-requires-clause-executable

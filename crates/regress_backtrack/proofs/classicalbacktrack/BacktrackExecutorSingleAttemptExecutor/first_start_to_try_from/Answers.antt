@@ -3,8 +3,8 @@ use Rattle.std.specs.Prelude.{option_map}
 use Rattle.regex_pattern_front.specs.AstToSpecTree.{tree_of}
 use Rattle.regress_program.specs.OptimizedTreeUnlessNoOpt.{planned_tree}
 use Rattle.regress_search.specs.AttemptsAndStarts.{NextStartSkipsNoMatch, NoMatchAt}
-use Rattle.regress_backtrack.proofs.NextStarts.{next-one}
-use Rattle.regress_backtrack.proofs.InPlace.{can-be, search-run, next-tree, end-context}
+use Rattle.regress_backtrack.proofs.CandidateStartLemmas.{next-one}
+use Rattle.regress_backtrack.proofs.PlannedTreeLemmas.{can-be, search-run, next-tree, end-context}
 use Rattle.regress_backtrack.proofs.classicalbacktrack.BacktrackExecutorSingleAttemptExecutor.first_start_to_try_from.Goals as goal
 
 pub next_candidate_start-requires-clause-executable : goal.next_candidate_start-requires-clause-executable

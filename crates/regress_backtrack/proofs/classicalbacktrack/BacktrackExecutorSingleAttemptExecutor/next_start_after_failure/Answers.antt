@@ -2,8 +2,8 @@ use Rattle.std.proofs.Common.{◌+◌, Some, None, arith, sym, ◌∙◌, subst}
 use Rattle.std.specs.Prelude.{option_map}
 use Rattle.regex_pattern_front.specs.AstToSpecTree.{tree_of}
 use Rattle.regress_search.specs.AttemptsAndStarts.{NextStartSkipsNoMatch}
-use Rattle.regress_backtrack.proofs.NextStarts.{next-further}
-use Rattle.regress_backtrack.proofs.InPlace.{can-be, search-run, end-context, next-tree, next-context}
+use Rattle.regress_backtrack.proofs.CandidateStartLemmas.{next-further}
+use Rattle.regress_backtrack.proofs.PlannedTreeLemmas.{can-be, search-run, end-context, next-tree, next-context}
 use Rattle.regress_backtrack.proofs.classicalbacktrack.BacktrackExecutorSingleAttemptExecutor.next_start_after_failure.Goals as goal
 
 pub next_candidate_past_leap-requires-clause-leapt : goal.next_candidate_past_leap-requires-clause-leapt

@@ -1,7 +1,7 @@
 use Rattle.std.proofs.Common.{◌≡◌, ap, ◌∙◌, subst}
 use Rattle.regress_memo.specs.MemoSearch.{Key}
 use Rattle.regress_memo.specs.MemoContents.{has_failure}
-use Rattle.regress_backtrack.proofs.MemoKeys.{unknown}
+use Rattle.regress_backtrack.proofs.ThreadKeyLemmas.{unknown}
 use Rattle.regress_backtrack.proofs.failures_in_memo_table.MemoTableFailureMemo.is_known_to_fail.Goals as goal
 
 pub returns-then-has : goal.returns-then-has

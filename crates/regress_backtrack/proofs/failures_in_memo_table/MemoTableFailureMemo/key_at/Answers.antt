@@ -6,7 +6,7 @@ use Rattle.regress_memo.specs.declared.analysis_result.MemoAnalysis.{MemoAnalysi
 use Rattle.regress_memo.specs.declared.analysis_result.InsnAnalysis.{InsnAnalysis}
 use Rattle.regress_memo.specs.AnalysisAsPotentials.{insn_analysis_of, analysis_as_liveness, insn_direction}
 use Rattle.regress_backtrack.specs.State.{current_thread_state_of}
-use Rattle.regress_backtrack.proofs.MemoKeys.{key-of-thread, stored-key, same-way}
+use Rattle.regress_backtrack.proofs.ThreadKeyLemmas.{key-of-thread, stored-key, same-way}
 use Rattle.regress_backtrack.proofs.failures_in_memo_table.MemoTableFailureMemo.key_at.Goals as goal
 
 pub returns : goal.returns

@@ -3,7 +3,7 @@ use Rattle.std.specs.Prelude.{◌⊎◌, IsTrue}
 use Rattle.regress_memo.specs.MemoSearch.{Key}
 use Rattle.regress_memo.specs.MemoContents.{has_failure}
 use Rattle.regress_memo.specs.CheckedAnalysis.{IsRecordableMemoKey}
-use Rattle.regress_backtrack.proofs.MemoKeys.{noted-itself, noted-kept, noted-more}
+use Rattle.regress_backtrack.proofs.ThreadKeyLemmas.{noted-itself, noted-kept, noted-more}
 use Rattle.regress_backtrack.proofs.failures_in_memo_table.MemoTableFailureMemo.record_key_failed.Goals as goal
 
 pub returns-then-has-clause-failed : goal.returns-then-has-clause-failed

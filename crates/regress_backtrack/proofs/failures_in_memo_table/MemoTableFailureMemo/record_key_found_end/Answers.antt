@@ -2,7 +2,7 @@ use Rattle.std.proofs.Common.{◌≡◌, true, sym, subst}
 use Rattle.std.specs.Prelude.{◌⊎◌}
 use Rattle.regress_memo.specs.MemoSearch.{Key}
 use Rattle.regress_memo.specs.MemoContents.{has_success}
-use Rattle.regress_backtrack.proofs.MemoKeys.{found-more}
+use Rattle.regress_backtrack.proofs.ThreadKeyLemmas.{found-more}
 use Rattle.regress_backtrack.proofs.failures_in_memo_table.MemoTableFailureMemo.record_key_found_end.Goals as goal
 
 pub returns-then-has-clause-failed : goal.returns-then-has-clause-failed

@@ -1,7 +1,7 @@
 use Rattle.std.proofs.Common.{sym, subst}
 use Rattle.std.specs.Prelude.{IfSome}
 use Rattle.regress_search.specs.TreePlanAndText.{program_of}
-use Rattle.regress_backtrack.specs.FailureMemo.{AreFailuresRightIn, memo_key_as_spec, scheme_in, failed_in}
+use Rattle.regress_backtrack.specs.FailureMemo.{AreFailuresSoundIn, memo_key_as_spec, scheme_in, failed_in}
 use Rattle.regress_backtrack.specs.MemoizedCharLoops.{DecidesLoopRest}
 use Rattle.regress_backtrack.proofs.failures_in_memo_table.OptionBoxFailureMemo.unbounded_char_loop_rest_key.Goals as goal
 
@@ -10,8 +10,8 @@ unbounded_char_loop_rest_key-requires g c =
     let w = g.W.SearchContext.searching c.args.context.now in
     record {
       sound =
-          subst (λ m. AreFailuresRightIn (program_of w) w.text (g.M.FailureMemo.terms m) (g.M.FailureMemo.failed m)) (sym c.deref.ensures)
-          (subst (λ o. AreFailuresRightIn (program_of w) w.text (scheme_in (λ memo. g.M.FailureMemo.terms memo.value) o) (failed_in (λ memo. g.M.FailureMemo.failed memo.value) o))
+          subst (λ m. AreFailuresSoundIn (program_of w) w.text (g.M.FailureMemo.terms m) (g.M.FailureMemo.failed m)) (sym c.deref.ensures)
+          (subst (λ o. AreFailuresSoundIn (program_of w) w.text (scheme_in (λ memo. g.M.FailureMemo.terms memo.value) o) (failed_in (λ memo. g.M.FailureMemo.failed memo.value) o))
           c.in-Some.is c.requires.sound);
     }
 

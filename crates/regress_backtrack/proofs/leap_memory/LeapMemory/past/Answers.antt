@@ -1,6 +1,6 @@
 use Rattle.std.proofs.Common.{ℕ, Some, sym, subst, arith}
 use Rattle.regress_search.specs.AttemptsAndStarts.{NextStartSkipsNoMatch}
-use Rattle.regress_backtrack.proofs.LeapStarts.{past-to, past-none, at-once}
+use Rattle.regress_backtrack.proofs.LeapMemoryLemmas.{past-to, past-none, at-once}
 use Rattle.regress_backtrack.proofs.leap_memory.LeapMemory.past.Goals as goal
 
 pub returns-then-at-self : goal.returns-then-at-self

@@ -2,7 +2,7 @@ use Rattle.regress_backtrack.specs.State.{StateModel, SetsSlotUndoably, with_loo
 use Rattle.std.proofs.Common.{ap, subst}
 use Rattle.std.specs.Prelude.{◌+◌, OnOk, false, true}
 use Rattle.regress_backtrack.specs.declared.state.GroupOrLoopState.{GroupOrLoopState}
-use Rattle.regress_backtrack.proofs.Slots.{ok-more, becomes, enters}
+use Rattle.regress_backtrack.proofs.SlotChangeLemmas.{ok-more, becomes, enters}
 use Rattle.regress_backtrack.proofs.state.BacktrackState.begin_loop_iteration.Goals as goal
 
 pub returns-clause-entered : goal.returns-clause-entered

@@ -1,7 +1,7 @@
 use Rattle.std.proofs.Common.{Some, None, ap, ◌∙◌}
 use Rattle.std.specs.Prelude.{if◌then◌else◌}
 use Rattle.regress_backtrack.specs.State.{range_in}
-use Rattle.regress_backtrack.proofs.Slots.{of-group}
+use Rattle.regress_backtrack.proofs.SlotChangeLemmas.{of-group}
 use Rattle.regress_backtrack.proofs.state.BacktrackState.captured_range_of.Goals as goal
 
 pub returns-then-slot : goal.returns-then-slot

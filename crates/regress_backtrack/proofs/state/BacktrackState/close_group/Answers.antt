@@ -3,7 +3,7 @@ use Rattle.std.proofs.lemmas.Option.{get_or_from_slice_get}
 use Rattle.std.specs.Prelude.{true}
 use Rattle.regress_backtrack.specs.State.{with_group_range}
 use Rattle.regress_backtrack.specs.declared.state.GroupOrLoopState.{GroupOrLoopState}
-use Rattle.regress_backtrack.proofs.Slots.{ok-more, becomes, keeps}
+use Rattle.regress_backtrack.proofs.SlotChangeLemmas.{ok-more, becomes, keeps}
 use Rattle.regress_backtrack.proofs.state.BacktrackState.close_group.Goals as goal
 
 pub returns-clause-closed : goal.returns-clause-closed

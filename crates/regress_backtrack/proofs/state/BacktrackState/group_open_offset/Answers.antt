@@ -1,4 +1,4 @@
-use Rattle.regress_backtrack.proofs.Slots.{of-group}
+use Rattle.regress_backtrack.proofs.SlotChangeLemmas.{of-group}
 use Rattle.regress_backtrack.proofs.state.BacktrackState.group_open_offset.Goals as goal
 
 pub returns : goal.returns

@@ -1,7 +1,7 @@
 use Rattle.std.specs.Prelude.{false, true}
 use Rattle.regress_backtrack.specs.State.{with_group_open}
 use Rattle.regress_backtrack.specs.declared.state.GroupOrLoopState.{GroupOrLoopState}
-use Rattle.regress_backtrack.proofs.Slots.{ok-more, becomes, opens}
+use Rattle.regress_backtrack.proofs.SlotChangeLemmas.{ok-more, becomes, opens}
 use Rattle.regress_backtrack.proofs.state.BacktrackState.open_group.Goals as goal
 
 pub returns-clause-opened : goal.returns-clause-opened

@@ -2,7 +2,7 @@ use Rattle.std.proofs.Common.{refl, sym}
 use Rattle.std.proofs.lemmas.Option.{get_or_from_slice_get}
 use Rattle.std.specs.Prelude.{false, true}
 use Rattle.regress_backtrack.specs.State.{state_with_group_unset}
-use Rattle.regress_backtrack.proofs.Slots.{ok-more, becomes, keeps}
+use Rattle.regress_backtrack.proofs.SlotChangeLemmas.{ok-more, becomes, keeps}
 use Rattle.regress_backtrack.proofs.state.BacktrackState.reset_group.Goals as goal
 
 pub returns-clause-reset : goal.returns-clause-reset

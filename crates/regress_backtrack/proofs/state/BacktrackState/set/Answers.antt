@@ -1,7 +1,7 @@
 use Rattle.std.proofs.Common.{◌<◌, length, subst, sym, take, arith}
 use Rattle.regress_backtrack.specs.State.{StateModel, undo_entry_logged_for_slot, log_len_at_choice_point}
 use Rattle.regress_backtrack.specs.UndoLog.{IsLoggedOnce}
-use Rattle.regress_backtrack.proofs.Fresh.{length-seen, set-there, set-seen}
+use Rattle.regress_backtrack.proofs.LogicalSlotLemmas.{length-seen, set-there, set-seen}
 use Rattle.regress_backtrack.proofs.state.BacktrackState.set.Goals.{After-self-1}
 use Rattle.regress_backtrack.proofs.state.BacktrackState.set.Goals as goal
 

@@ -1,5 +1,5 @@
 use Rattle.std.proofs.Common.{ap, ◌∙◌, length, drop}
-use Rattle.regress_backtrack.proofs.Fresh.{length-undone}
+use Rattle.regress_backtrack.proofs.LogicalSlotLemmas.{length-undone}
 use Rattle.regress_backtrack.proofs.state.BacktrackState.undo_all.Goals as goal
 
 pub returns-else-self-len-clause-slots : goal.returns-else-self-len-clause-slots

@@ -1,6 +1,6 @@
 use Rattle.std.proofs.Common.{◌<◌, length, subst, sym, take}
 use Rattle.regress_backtrack.specs.State.{StateModel}
-use Rattle.regress_backtrack.proofs.Fresh.{some-logged, back-there, back-seen}
+use Rattle.regress_backtrack.proofs.LogicalSlotLemmas.{some-logged, back-there, back-seen}
 use Rattle.regress_backtrack.proofs.state.BacktrackState.undo_last.Goals.{After-self-2-1}
 use Rattle.regress_backtrack.proofs.state.BacktrackState.undo_last.Goals as goal
 

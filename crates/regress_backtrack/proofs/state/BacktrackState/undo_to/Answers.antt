@@ -1,7 +1,7 @@
 use Rattle.std.proofs.Common.{◌≡◌, ◌<◌, ◌-◌, ap, ap₂, ◌∙◌, length, take, drop, arith}
 use Rattle.std.proofs.lemmas.List.{length-take-le, take-take}
 use Rattle.regress_backtrack.specs.State.{undone}
-use Rattle.regress_backtrack.proofs.Undoing.{undone-in-two}
+use Rattle.regress_backtrack.proofs.UndoLogLemmas.{undone-in-two}
 use Rattle.regress_backtrack.proofs.state.BacktrackState.undo_to.Goals as goal
 
 pub changes-preserved : goal.changes-preserved

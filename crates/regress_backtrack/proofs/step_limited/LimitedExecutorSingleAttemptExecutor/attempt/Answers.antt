@@ -4,8 +4,8 @@ use Rattle.regex_meaning.specs.Text.{utf8_text}
 use Rattle.regex_pattern_front.specs.AstToSpecTree.{tree_of}
 use Rattle.regress_search.specs.AttemptsAndStarts.{match_end_and_groups_at, ticks_of_attempt_at}
 use Rattle.regress_search.specs.SearchEffects.{SpendsNeedOrReachesLimit}
-use Rattle.regress_search.proofs.InWork.{goes-on-free}
-use Rattle.regress_backtrack.proofs.InPlace.{can-be, can-context, context-single_unit}
+use Rattle.regress_search.proofs.MatchesWithinWorkLemmas.{goes-on-free}
+use Rattle.regress_backtrack.proofs.PlannedTreeLemmas.{can-be, can-context, context-single_unit}
 use Rattle.regress_backtrack.proofs.step_limited.LimitedExecutorSingleAttemptExecutor.attempt.Goals as goal
 
 pub attempt-end-requires-clause-executable : goal.attempt-end-requires-clause-executable

@@ -1,5 +1,5 @@
 use Rattle.regex_pattern_front.specs.AstToSpecTree.{tree_of}
-use Rattle.regress_backtrack.proofs.InPlace.{can-be}
+use Rattle.regress_backtrack.proofs.PlannedTreeLemmas.{can-be}
 use Rattle.regress_backtrack.proofs.step_limited.LimitedExecutorSingleAttemptExecutor.first_start_to_try_from.Goals as goal
 
 pub returns-clause-counted : goal.returns-clause-counted

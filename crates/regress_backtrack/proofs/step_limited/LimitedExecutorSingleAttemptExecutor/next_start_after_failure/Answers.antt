@@ -1,5 +1,5 @@
 use Rattle.regex_pattern_front.specs.AstToSpecTree.{tree_of}
-use Rattle.regress_backtrack.proofs.InPlace.{can-be}
+use Rattle.regress_backtrack.proofs.PlannedTreeLemmas.{can-be}
 use Rattle.regress_backtrack.proofs.step_limited.LimitedExecutorSingleAttemptExecutor.next_start_after_failure.Goals as goal
 
 pub returns-clause-next : goal.returns-clause-next

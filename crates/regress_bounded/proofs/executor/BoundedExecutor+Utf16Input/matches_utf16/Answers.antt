@@ -1,6 +1,6 @@
 use Rattle.std.proofs.Common.{◌∙◌, ap, nat_le, not, subst, sym}
 use Rattle.regex_meaning.specs.CodeUnitOffsets.{units, IsBoundaryOrPastEnd}
-use Rattle.regress_bounded.proofs.MatchLemmas.{begun-Yields, begun-costs}
+use Rattle.regress_bounded.proofs.MatchIteratorLemmas.{begun-Yields, begun-costs}
 use Rattle.regress_bounded.proofs.executor.BoundedExecutor+Utf16Input.matches_utf16.Goals as goal
 
 pub new-requires : goal.new-requires

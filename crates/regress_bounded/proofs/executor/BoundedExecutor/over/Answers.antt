@@ -8,9 +8,9 @@ use Rattle.regex_meaning.specs.CodeUnitOffsets.{units}
 use Rattle.regex_pattern_front.specs.AstToSpecTree.{tree_of}
 use Rattle.regress_memo.specs.MemoContents.{IsEmptyMemo}
 use Rattle.regress_program.specs.CompilationOfTreesAsFunction.{compiled}
-use Rattle.regress_pikevm.proofs.Remains.{reads-literals}
+use Rattle.regress_pikevm.proofs.ExecutorTurnLemmas.{reads-literals}
 use Rattle.regress_bounded.specs.WorkBoundForAllMatches.{work_per_unit}
-use Rattle.regress_bounded.proofs.Ending.{begun-right, begun-walked}
+use Rattle.regress_bounded.proofs.AttemptResultLemmas.{begun-right, begun-walked}
 use Rattle.regress_bounded.proofs.executor.BoundedExecutor.over.Goals as goal
 
 pub empty_memo_table-requires : goal.empty_memo_table-requires

@@ -1,15 +1,15 @@
 use Rattle.std.proofs.Common.{◌≡◌, ◌≤◌, ◌+◌, true, false, ap, sym, subst, ◌∙◌, arith}
 use Rattle.std.proofs.lemmas.Bool.{leb-true}
 use Rattle.regex_pattern_front.specs.AstToSpecTree.{tree_of}
-use Rattle.regress_input.proofs.Places.{boundary_inside}
+use Rattle.regress_input.proofs.BoundaryPositions.{boundary_inside}
 use Rattle.regress_machine.specs.SearchFindsFirstOutcomeAtPlace.{TreeProgramCanSearchText}
 use Rattle.regress_program.specs.CompilationOfTreesAsFunction.{compiled}
 use Rattle.regress_search.specs.MatchesWithinWork.{least_offset_after_match}
-use Rattle.regress_search.proofs.Searchable.{can-search}
+use Rattle.regress_search.proofs.SearchableProgramLemmas.{can-search}
 use Rattle.regress_bounded.specs.CostsOfAttempts.{AttemptCosts, failures_of}
 use Rattle.regress_bounded.specs.WorkOfSuccessiveAttempts.{HasWalked}
-use Rattle.regress_search.proofs.Costing.{stops-out, stops-without}
-use Rattle.regress_bounded.proofs.Ending.{exact-cost, found-inside, more-than-left, none-left, on-by-none, on-by-found, never-wanted}
+use Rattle.regress_search.proofs.SearchCostLemmas.{stops-out, stops-without}
+use Rattle.regress_bounded.proofs.AttemptResultLemmas.{exact-cost, found-inside, more-than-left, none-left, on-by-none, on-by-found, never-wanted}
 use Rattle.regress_bounded.proofs.executor.BoundedExecutorSingleAttemptExecutor.attempt.Goals.{then-self, else-self, in-Work, in_default, Start}
 use Rattle.regress_bounded.proofs.executor.BoundedExecutorSingleAttemptExecutor.attempt.Given.{Over}
 use Rattle.regress_bounded.proofs.executor.BoundedExecutorSingleAttemptExecutor.attempt.Goals as goal

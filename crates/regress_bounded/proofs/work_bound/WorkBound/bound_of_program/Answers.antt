@@ -7,9 +7,9 @@ use Rattle.regress_program.specs.CompilationOfTreesAsFunction.{compiled}
 use Rattle.regress_memo.specs.WorkBound.{IsWorkBounded, work_per_position}
 use Rattle.regress_memo.specs.Successors.{AreInsnsOfProgram}
 use Rattle.regress_memo.specs.CheckedAnalysis.{IsAnalysisOf}
-use Rattle.regress_bounded.specs.WorkBoundForAllMatches.{HasBound, most_memo_codes_per_insn, program_size, size_of_insn, work_per_unit}
-use Rattle.regress_bounded.proofs.Looks.{code-has-none, memory-refused, no-looks, plain-by, tree-has}
-use Rattle.regress_bounded.proofs.Sizes.{few-by}
+use Rattle.regress_bounded.specs.WorkBoundForAllMatches.{AnalysisBoundsProgram, most_memo_codes_per_insn, program_size, size_of_insn, work_per_unit}
+use Rattle.regress_bounded.proofs.UnboundednessLemmas.{code-has-none, memory-refused, no-looks, plain-by, tree-has}
+use Rattle.regress_bounded.proofs.ProgramSizeLemmas.{few-by}
 use Rattle.regress_bounded.proofs.work_bound.WorkBound.bound_of_program.Goals as goal
 
 pub returns-clause-bound : goal.returns-clause-bound
@@ -30,7 +30,7 @@ returns-clause-bound c =
     let large : c.program_size.result ≡ min (program_size program) (2 ^ 64 - 1) = c.program_size.ensures ∙ ap (λ xs. min (sum_by size_of_insn xs) (2 ^ 64 - 1)) c.insns-insns.ensures.code in
     let few = few-by per_unit (program_size program) c.program_size.result c.most_memo_codes_per_insn.result large (sym c.is_few.ensures ∙ c.if-not-is_few.false) in
     ∣ record {
-      has = subst (HasBound program) (sym c.in_ok-memo_analysis-2.ensures.ok) (record { memo_analysis = of; bounded = bounded; no_look = none });
+      has = subst (AnalysisBoundsProgram program) (sym c.in_ok-memo_analysis-2.ensures.ok) (record { memo_analysis = of; bounded = bounded; no_look = none });
       per_unit = all ∙ ap (λ w. 1 + (w + w / 3)) work ∙ ap work_per_unit (sym c.in_ok-memo_analysis-2.ensures.ok);
       few = subst (λ n. per_unit ≤ 64 * (program_size program * n)) (c.most_memo_codes_per_insn.ensures ∙ ap most_memo_codes_per_insn (sym c.in_ok-memo_analysis-2.ensures.ok)) few;
     } ∣₁

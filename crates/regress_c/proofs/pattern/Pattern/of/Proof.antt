@@ -26,7 +26,7 @@ use Rattle.std.specs.contracts.impls.GlobalAllocator.TheImpl.{ghosts}
 use Rattle.std.proofs.raw_atomic.Walks.{proved_at, leaves}
 use Rattle.regress_match.specs.contracts.api.regex.Regex as regex
 use Rattle.regress_c.specs.contracts.pattern.Pattern as pattern
-use Rattle.regress_c.proofs.Values.{both, Loose, loose_good, loose_out}
+use Rattle.regress_c.proofs.LooseValueLemmas.{both, RawBox, loose_good, loose_out}
 use Rattle.regress_c.specs.contracts.pattern.Pattern.of.{ended, clauses}
 use Rattle.regress_c.specs.contracts.pattern.Pattern.of.Key.{name as #self}
 use Rattle.regress_c.proofs.pattern.Pattern.of.Statement.{statement}
@@ -35,7 +35,7 @@ use Rattle.regress_c.proofs.pattern.Pattern.of.Code as code
 pub of_spec : {M : Type 1} → statement M
 of_spec 𝓤 𝓛 𝓜 𝓡 wired =
     let H = 𝓛.H in let 𝓣 = tables 𝓤 H 𝓜 𝓡 𝓡.env in let R : RattleType = regex.the_row in let Z : RattleType = heap.the_row in let LZ = heap_laws.the_row_laws in
-    let fn = code.function in let c = clauses 𝓛 𝓜.mem 𝓡.returns in let Lr : RattleType = Loose R Z LZ ghosts in let S = ended.signature in
+    let fn = code.function in let c = clauses 𝓛 𝓜.mem 𝓡.returns in let Lr : RattleType = RawBox R Z LZ ghosts in let S = ended.signature in
     let hs : Stays S.params ended.kept = (stay_dropped (plain (λ _. Lr)) yes, tt) in
     proved_at 𝓛 ended hs c 𝓜 𝓡 (Goes-dropped 𝓛 0 (plain (λ _. Lr)) yes (λ κs x f. refl), tt) #self fn (code.unfolded 𝓤 H 𝓜 𝓡 wired) (λ z are.
     let v = z.0.3.0 in let Post : Val → SProp 𝓤 = (walk_of 𝓛 ended hs c).post z in let Run : List Val → SProp 𝓤 = λ ws. WpFn 𝓤 H 𝓣.C 𝓣.Λ fn ws Post in

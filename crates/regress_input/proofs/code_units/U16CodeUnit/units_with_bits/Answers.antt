@@ -1,7 +1,7 @@
 use Rattle.std.proofs.Common.{w16, sym, subst}
 use Rattle.std.proofs.lemmas.List.{map-id}
 use Rattle.regress_input.specs.TextCodeUnits.{MarksUnitsWithBits}
-use Rattle.regress_input.proofs.Marks.{compared, compared-marks}
+use Rattle.regress_input.proofs.MarkedUnitLemmas.{compared, compared-marks}
 use Rattle.regress_input.proofs.code_units.U16CodeUnit.units_with_bits.Goals as goal
 
 pub returns : goal.returns

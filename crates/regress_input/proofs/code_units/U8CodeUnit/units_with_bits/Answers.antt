@@ -1,7 +1,7 @@
 use Rattle.std.proofs.Common.{w8, sym, subst, ◌%◌}
 use Rattle.std.proofs.lemmas.List.{map-id}
 use Rattle.regress_input.specs.TextCodeUnits.{MarksUnitsWithBits}
-use Rattle.regress_input.proofs.Marks.{compared, compared-marks, marks-none, marks-narrow}
+use Rattle.regress_input.proofs.MarkedUnitLemmas.{compared, compared-marks, marks-none, marks-narrow}
 use Rattle.regress_input.proofs.code_units.U8CodeUnit.units_with_bits.Goals as goal
 
 pub returns-then-bits-gt255 : goal.returns-then-bits-gt255

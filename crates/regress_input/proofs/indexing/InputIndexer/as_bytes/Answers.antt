@@ -1,5 +1,5 @@
 use Rattle.std.proofs.Common.{◌∙◌}
-use Rattle.regress_input.proofs.HeldUnits.{bytes-are}
+use Rattle.regress_input.proofs.StoredUnitLemmas.{bytes-are}
 use Rattle.regress_input.proofs.indexing.InputIndexer.as_bytes.Goals as goal
 
 pub returns : goal.returns

@@ -1,5 +1,5 @@
 use Rattle.std.proofs.Common.{arith}
-use Rattle.regress_input.proofs.Moves.{inside_bytes}
+use Rattle.regress_input.proofs.ByteReadLemmas.{inside_bytes}
 use Rattle.regress_input.proofs.indexing.InputIndexer.find_bytes.Goals as goal
 
 pub find_by_byte_searcher_from-requires : goal.find_by_byte_searcher_from-requires

@@ -1,5 +1,5 @@
 use Rattle.std.proofs.Common.{arith}
-use Rattle.regress_input.proofs.Moves.{inside_bytes}
+use Rattle.regress_input.proofs.ByteReadLemmas.{inside_bytes}
 use Rattle.regress_input.proofs.indexing.InputIndexer.match_bytes.Goals as goal
 
 pub past_units_if_next-to-requires : goal.past_units_if_next-to-requires

@@ -1,4 +1,4 @@
-use Rattle.regress_input.proofs.Places.{boundary_inside, left_ahead, left_boundary}
+use Rattle.regress_input.proofs.BoundaryPositions.{boundary_inside, left_ahead, left_boundary}
 use Rattle.regress_input.proofs.indexing.InputIndexer.next_left.Goals as goal
 
 pub returns-clause-ahead : goal.returns-clause-ahead

@@ -1,4 +1,4 @@
-use Rattle.regress_input.proofs.Places.{boundary_inside, before_ahead, before_boundary}
+use Rattle.regress_input.proofs.BoundaryPositions.{boundary_inside, before_ahead, before_boundary}
 use Rattle.regress_input.proofs.indexing.InputIndexer.next_left_pos.Goals as goal
 
 pub returns-clause-ahead : goal.returns-clause-ahead

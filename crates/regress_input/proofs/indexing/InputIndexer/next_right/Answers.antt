@@ -1,5 +1,5 @@
 use Rattle.std.proofs.Common.{sym, ◌∙◌, arith}
-use Rattle.regress_input.proofs.Places.{boundary_inside, right_ahead, right_boundary, read-last}
+use Rattle.regress_input.proofs.BoundaryPositions.{boundary_inside, right_ahead, right_boundary, read-last}
 use Rattle.regress_input.proofs.indexing.InputIndexer.next_right.Goals as goal
 
 pub returns-then-to_offset-unit_count-clause-read : goal.returns-then-to_offset-unit_count-clause-read

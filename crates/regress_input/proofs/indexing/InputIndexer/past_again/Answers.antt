@@ -1,7 +1,7 @@
 use Rattle.std.proofs.Common.{◌∙◌, ap, arith}
 use Rattle.regress_input.specs.CharAndByteReadsFromOffset.{direction_of_forward_flag}
-use Rattle.regress_input.proofs.Places.{boundary_inside}
-use Rattle.regress_input.proofs.HeldUnits.{count-is, again-is}
+use Rattle.regress_input.proofs.BoundaryPositions.{boundary_inside}
+use Rattle.regress_input.proofs.StoredUnitLemmas.{count-is, again-is}
 use Rattle.regress_input.proofs.indexing.InputIndexer.past_again.Goals as goal
 
 pub past_repeated_range_if_next-to-requires-clause-at : goal.past_repeated_range_if_next-to-requires-clause-at

@@ -1,5 +1,5 @@
 use Rattle.std.proofs.Common.{arith}
-use Rattle.regress_input.proofs.Moves.{inside_bytes}
+use Rattle.regress_input.proofs.ByteReadLemmas.{inside_bytes}
 use Rattle.regress_input.proofs.indexing.InputIndexer.peek_byte_left.Goals as goal
 
 pub byte_left-requires : goal.byte_left-requires

@@ -1,5 +1,5 @@
 use Rattle.std.proofs.Common.{◌∙◌}
-use Rattle.regress_input.proofs.Places.{end_boundary}
+use Rattle.regress_input.proofs.BoundaryPositions.{end_boundary}
 use Rattle.regress_input.proofs.indexing.InputIndexer.right_end.Goals as goal
 
 pub returns-clause-boundary : goal.returns-clause-boundary

@@ -1,5 +1,5 @@
 use Rattle.std.proofs.Common.{arith}
-use Rattle.regress_input.proofs.HeldUnits.{count-is, unit-is}
+use Rattle.regress_input.proofs.StoredUnitLemmas.{count-is, unit-is}
 use Rattle.regress_input.proofs.indexing.InputIndexer.unit.Goals as goal
 
 pub offset_bounds-code_units-to_offset : goal.offset_bounds-code_units-to_offset

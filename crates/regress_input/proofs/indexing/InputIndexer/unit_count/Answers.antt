@@ -1,4 +1,4 @@
-use Rattle.regress_input.proofs.HeldUnits.{count-is}
+use Rattle.regress_input.proofs.StoredUnitLemmas.{count-is}
 use Rattle.regress_input.proofs.indexing.InputIndexer.unit_count.Goals as goal
 
 pub returns : goal.returns

@@ -1,7 +1,7 @@
 use Rattle.std.proofs.Common.{◌≡◌, Bool, true, sym, ◌∙◌, ap, arith}
-use Rattle.regress_input.specs.CharAndByteReadsFromOffset.{direction_of_forward_flag, past_bytes_if_next, bytes_of, read_if_units_are_bytes}
-use Rattle.regress_input.proofs.Places.{boundary_inside}
-use Rattle.regress_input.proofs.ByteTests.{literal_accepts}
+use Rattle.regress_input.specs.CharAndByteReadsFromOffset.{direction_of_forward_flag, past_numbers_if_next, bytes_of, read_if_units_are_bytes}
+use Rattle.regress_input.proofs.BoundaryPositions.{boundary_inside}
+use Rattle.regress_input.proofs.ByteTestsOfCharacters.{literal_accepts}
 use Rattle.regress_input.proofs.scm.MatchByteSeqSingleCharMatcher.matches.Goals as goal
 
 pub match_bytes-requires : goal.match_bytes-requires
@@ -18,7 +18,7 @@ returns-then-ARE_BYTES g c =
     let one = c.requires.executable.1 in
     let are : g.Input.Units.CodeUnitEncoding.ARE_BYTES ≡ true = sym c.ARE_BYTES.ensures ∙ c.if-ARE_BYTES.true in
     c.match_bytes.ensures
-    ∙ ap (λ (b : Bool). read_if_units_are_bytes b (past_bytes_if_next (bytes_of text) literal d at)) are
+    ∙ ap (λ (b : Bool). read_if_units_are_bytes b (past_numbers_if_next (bytes_of text) literal d at)) are
     ∙ literal_accepts text (laws.is_text input) (laws.in_utf8 input are) literal one.0 one.1 one.2 d at c.requires.at
 
 pub shared_whole_as_slice-match_bytes : goal.shared_whole_as_slice-match_bytes

@@ -2,8 +2,8 @@ use Rattle.std.proofs.Common.{◌≡◌, ◌∙◌, ◌++◌, ap, string_bytes}
 use Rattle.regex_meaning.specs.Replace.{expansion, replaced}
 use Rattle.regress_search.specs.RemainingAnswers.{RemainingView}
 use Rattle.regress_match.specs.ExpansionsAndMatchRanges.{matches_with_expansions}
-use Rattle.regress_match.proofs.CallerLemmas.{IsReached, reached-none, takes-next}
-use Rattle.regress_match.proofs.Replacing.{replaced-more, replaced-end}
+use Rattle.regress_match.proofs.MatchRangeLemmas.{IsReached, reached-none, takes-next}
+use Rattle.regress_match.proofs.StringClosureLemmas.{replaced-more, replaced-end}
 use Rattle.regress_match.proofs.api.replace.expand_each.Given.{Over}
 use Rattle.regress_match.proofs.api.replace.expand_each.Goals.{In_ok-expand}
 use Rattle.regress_match.proofs.api.replace.expand_each.Goals as goal

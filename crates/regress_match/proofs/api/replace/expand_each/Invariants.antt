@@ -1,7 +1,7 @@
 use Rattle.std.proofs.Common.{◌≡◌, ◌++◌, string_bytes}
 use Rattle.regex_meaning.specs.Replace.{replaced}
 use Rattle.regress_match.specs.ExpansionsAndMatchRanges.{matches_with_expansions}
-use Rattle.regress_match.proofs.CallerLemmas.{IsReached}
+use Rattle.regress_match.proofs.MatchRangeLemmas.{IsReached}
 use Rattle.regress_match.proofs.api.replace.expand_each.Given as goal
 
 abbrev pub invariant-loop-item : goal.invariant-loop-item

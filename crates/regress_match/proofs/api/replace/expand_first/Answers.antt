@@ -3,8 +3,8 @@ use Rattle.std.proofs.lemmas.Str.{IsCharBoundary-start}
 use Rattle.regex_meaning.specs.Replace.{expansion, replaced}
 use Rattle.regress_search.specs.MatchesAsSpecAnswers.{answer_of}
 use Rattle.regress_match.specs.ExpansionsAndMatchRanges.{matches_with_expansions}
-use Rattle.regress_match.proofs.CallerLemmas.{reached-none, takes-next}
-use Rattle.regress_match.proofs.Replacing.{replaced-more, replaced-end}
+use Rattle.regress_match.proofs.MatchRangeLemmas.{reached-none, takes-next}
+use Rattle.regress_match.proofs.StringClosureLemmas.{replaced-more, replaced-end}
 use Rattle.regress_match.proofs.api.replace.expand_first.Goals as goal
 
 pub append_rest-requires : goal.append_rest-requires

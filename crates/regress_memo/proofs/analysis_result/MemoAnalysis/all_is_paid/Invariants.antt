@@ -1,5 +1,5 @@
 use Rattle.std.proofs.Common.{◌<◌, ℕ, map, slice_get}
-use Rattle.regress_program.specs.InsnsAsSpecInsns.{insn_as_spec_insn}
+use Rattle.regress_program.specs.InsnsAsSpec.{insn_as_spec_insn}
 use Rattle.regress_memo.specs.WorkBound.{IsStepWorkBounded}
 use Rattle.regress_memo.specs.Successors.{successors_of_insn_if_any}
 use Rattle.regress_memo.proofs.analysis_result.MemoAnalysis.all_is_paid.Given as goal

@@ -1,6 +1,6 @@
 use Rattle.std.proofs.Common.{◌<◌, false, arith}
 use Rattle.regress_memo.specs.declared.analysis_result.EnclosingLoop.{EnclosingLoop}
-use Rattle.regress_memo.proofs.AnalysisRows.{rows-more, rows-all}
+use Rattle.regress_memo.proofs.LoopFactFlowLemmas.{rows-more, rows-all}
 use Rattle.regress_memo.proofs.analysis_result.MemoAnalysis.are_left.Goals as goal
 
 pub loop-row-preserved : goal.loop-row-preserved

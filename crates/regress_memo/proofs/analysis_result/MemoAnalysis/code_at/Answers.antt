@@ -2,7 +2,7 @@ use Rattle.std.proofs.Common.{ℕ, ap, arith}
 use Rattle.regress_memo.specs.LoopDataKeyCodes.{codes_of}
 use Rattle.regress_memo.specs.declared.loop_data_key_codes.KeyCodePrefix.{KeyCodePrefix}
 use Rattle.regress_memo.specs.AnalysisAsPotentials.{count_bound_of, questions_on}
-use Rattle.regress_memo.proofs.Digits.{few-here, so-far-next, so-far-done}
+use Rattle.regress_memo.proofs.KeyCodeDigits.{few-here, so-far-next, so-far-done}
 use Rattle.regress_memo.proofs.analysis_result.MemoAnalysis.code_at.Goals as goal
 
 pub append_digit-digits-requires-clause-few : goal.append_digit-digits-requires-clause-few

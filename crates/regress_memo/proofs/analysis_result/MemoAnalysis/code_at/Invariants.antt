@@ -1,6 +1,6 @@
 use Rattle.std.proofs.Common.{ℕ, drop}
 use Rattle.regress_memo.specs.AnalysisAsPotentials.{count_bound_of}
-use Rattle.regress_memo.proofs.Digits.{SoFar}
+use Rattle.regress_memo.proofs.KeyCodeDigits.{SoFar}
 use Rattle.regress_memo.proofs.analysis_result.MemoAnalysis.code_at.Given as goal
 
 abbrev pub invariant-loop-row : goal.invariant-loop-row

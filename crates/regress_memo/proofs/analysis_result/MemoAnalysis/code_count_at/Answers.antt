@@ -1,6 +1,6 @@
 use Rattle.std.proofs.Common.{ℕ, arith}
 use Rattle.regress_memo.specs.AnalysisAsPotentials.{count_bound_of}
-use Rattle.regress_memo.proofs.Digits.{few-next}
+use Rattle.regress_memo.proofs.KeyCodeDigits.{few-next}
 use Rattle.regress_memo.proofs.analysis_result.MemoAnalysis.code_count_at.Goals as goal
 
 pub loop-row-preserved : goal.loop-row-preserved

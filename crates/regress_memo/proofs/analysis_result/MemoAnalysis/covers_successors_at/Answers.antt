@@ -1,5 +1,5 @@
 use Rattle.regress_memo.specs.AnalysisChecks.{IsCoveredAt}
-use Rattle.regress_memo.proofs.StepLemmas.{at-step}
+use Rattle.regress_memo.proofs.AnalysisCheckLemmas.{at-step}
 use Rattle.regress_memo.proofs.analysis_result.MemoAnalysis.covers_successors_at.Goals as goal
 
 pub returns-in-Run : goal.returns-in-Run

@@ -1,5 +1,5 @@
 use Rattle.std.proofs.Common.{arith}
-use Rattle.regress_memo.proofs.WholeLemmas.{some-program, whole}
+use Rattle.regress_memo.proofs.CheckedAnalysisLemmas.{some-program, whole}
 use Rattle.regress_memo.proofs.analysis_result.MemoAnalysis.is_analysis_of_program.Goals as goal
 
 pub returns-then-len-insns : goal.returns-then-len-insns

@@ -3,8 +3,8 @@ use Rattle.std.proofs.lemmas.Option.{slice_get-get_or}
 use Rattle.regress_memo.specs.declared.analysis_result.InsnAnalysis.{InsnAnalysis}
 use Rattle.regress_memo.specs.declared.analysis_result.EnclosingLoop.{EnclosingLoop}
 use Rattle.regress_memo.specs.ReachableThreadLoopStates.{direction_from_forward, ThreadLoopStateFitsAnalysis}
-use Rattle.regress_memo.proofs.AnalysisRows.{rows-more, rows-all}
-use Rattle.regress_memo.proofs.SoundRows.{sound-all, sound-row-there}
+use Rattle.regress_memo.proofs.LoopFactFlowLemmas.{rows-more, rows-all}
+use Rattle.regress_memo.proofs.ReachableLoopStateLemmas.{sound-all, sound-row-there}
 use Rattle.regress_memo.proofs.analysis_result.MemoAnalysis.is_reachable_loop_state.Goals as goal
 
 pub returns-then-not-is_sound_row : goal.returns-then-not-is_sound_row

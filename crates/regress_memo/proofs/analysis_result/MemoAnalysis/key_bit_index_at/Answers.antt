@@ -1,5 +1,5 @@
 use Rattle.std.proofs.Common.{arith}
-use Rattle.regress_memo.proofs.Bits.{bit-bound}
+use Rattle.regress_memo.proofs.BitsOfMemoKeys.{bit-bound}
 use Rattle.regress_memo.proofs.analysis_result.MemoAnalysis.key_bit_index_at.Goals as goal
 
 pub overflow_mul-result : goal.overflow_mul-result

@@ -1,4 +1,4 @@
-use Rattle.regress_memo.proofs.AnalysisRows.{lines-lead}
+use Rattle.regress_memo.proofs.LoopFactFlowLemmas.{lines-lead}
 use Rattle.regress_memo.proofs.analysis_result.MemoAnalysis.leads.Goals as goal
 
 pub returns-then-is_onward : goal.returns-then-is_onward

@@ -1,6 +1,6 @@
 use Rattle.std.proofs.Common.{arith}
 use Rattle.regress_memo.specs.AnalysisChecks.{LoopFactsFlow}
-use Rattle.regress_memo.proofs.AnalysisRows.{rows-more, rows-all}
+use Rattle.regress_memo.proofs.LoopFactFlowLemmas.{rows-more, rows-all}
 use Rattle.regress_memo.proofs.analysis_result.MemoAnalysis.rows_lead.Goals as goal
 
 pub loop-row-preserved : goal.loop-row-preserved

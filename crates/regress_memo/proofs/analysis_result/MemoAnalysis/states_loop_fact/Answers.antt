@@ -1,7 +1,7 @@
 use Rattle.std.proofs.Common.{◌≡◌, true, subst, sym, ◌∙◌}
 use Rattle.std.proofs.lemmas.Option.{slice_get-get_or}
 use Rattle.regress_memo.specs.AnalysisAsPotentials.{states_loop_fact}
-use Rattle.regress_memo.proofs.AnalysisRows.{holds-there}
+use Rattle.regress_memo.proofs.LoopFactFlowLemmas.{holds-there}
 use Rattle.regress_memo.proofs.analysis_result.MemoAnalysis.states_loop_fact.Goals as goal
 
 pub returns-then-says_of : goal.returns-then-says_of

@@ -1,6 +1,6 @@
 use Rattle.std.proofs.Common.{◌≡◌, ◌*◌, ◌/◌, ◌%◌, ◌^◌, ◌<◌, length, get_or, set, bit_or, refl, ap, ◌∙◌, arith}
 use Rattle.std.proofs.lemmas.List.{get_or_read_under}
-use Rattle.regex_pattern_front.proofs.Bits.{bit-set}
+use Rattle.regex_pattern_front.proofs.BitmapLemmas.{bit-set}
 use Rattle.regress_memo.specs.BitSet.{is_set}
 use Rattle.regress_memo.proofs.bit_set.Bits.set.Goals as goal
 

@@ -6,7 +6,7 @@ use Rattle.regress_memo.specs.AnalysisAsPotentials.{insn_analysis_of, key_code_q
 use Rattle.regress_memo.specs.CheckedAnalysis.{IsRecordableMemoKey}
 use Rattle.regress_memo.specs.MemoContractView.{MemoView}
 use Rattle.regress_memo.specs.MemoContents.{memo_key_at as key_of_state}
-use Rattle.regress_memo.proofs.MemoLemmas.{one-code, key-is, code-bit, told-bit}
+use Rattle.regress_memo.proofs.MemoContentsLemmas.{one-code, key-is, code-bit, told-bit}
 use Rattle.regress_memo.proofs.memo.MemoTable.key_at.Goals as goal
 
 pub returns-then-line-eq1-clause-key : goal.returns-then-line-eq1-clause-key

@@ -4,7 +4,7 @@ use Rattle.regress_memo.specs.AnalysisAsPotentials.{memo_bit_index_of_key}
 use Rattle.regress_memo.specs.CheckedAnalysis.{IsRecordableMemoKey}
 use Rattle.regress_memo.specs.MemoContractView.{MemoView}
 use Rattle.regress_memo.specs.MemoContents.{memo_key_as_spec, RecordsSuccess}
-use Rattle.regress_memo.proofs.MemoLemmas.{known_by, notes-end}
+use Rattle.regress_memo.proofs.MemoContentsLemmas.{known_by, notes-end}
 use Rattle.regress_memo.proofs.memo.MemoTable.record_success.Goals as goal
 
 pub returns : goal.returns

@@ -1,12 +1,12 @@
 use Rattle.std.proofs.Common.{sym, subst, arith, map, Some, ◌+◌}
-use Rattle.regex_meaning.proofs.TextLemmas.{IsBoundary-place}
+use Rattle.regex_meaning.proofs.CodeUnitOffsetsLemmas.{IsBoundary-place}
 use Rattle.regex_pattern_front.specs.AstToSpecTree.{tree_of}
 use Rattle.regress_input.specs.CharAndByteReadsFromOffset.{direction_of_forward_flag}
 use Rattle.regress_program.specs.CompilationOfTreesAsFunction.{compiled}
 use Rattle.regress_program.specs.InsnsAsSpec.{insn_as_spec_insn}
 use Rattle.regress_machine.specs.Machine.{test_of}
 use Rattle.regress_pikevm.specs.States.{state_of}
-use Rattle.regress_search.proofs.Reach.{IsReaching, reach-none, reach-most, reach-end, reach-more, reaching-boundary, some-of}
+use Rattle.regress_search.proofs.CharLoopReach.{IsReaching, reach-none, reach-most, reach-end, reach-more, reaching-boundary, some-of}
 use Rattle.regress_pikevm.proofs.pikevm.char_loops.loop_exits.Goals as goal
 
 pub characters-init : goal.characters-init

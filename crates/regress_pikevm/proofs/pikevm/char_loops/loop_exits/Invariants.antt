@@ -6,7 +6,7 @@ use Rattle.regress_program.specs.CompilationOfTreesAsFunction.{compiled}
 use Rattle.regress_program.specs.InsnsAsSpec.{insn_as_spec_insn}
 use Rattle.regress_machine.specs.Machine.{test_of}
 use Rattle.regress_pikevm.specs.States.{state_of}
-use Rattle.regress_search.proofs.Reach.{IsReaching}
+use Rattle.regress_search.proofs.CharLoopReach.{IsReaching}
 use Rattle.regress_pikevm.proofs.pikevm.char_loops.loop_exits.Given as goal
 
 abbrev pub invariant-characters : goal.invariant-characters

@@ -1,6 +1,6 @@
 use Rattle.std.proofs.Common.{ap, sym, ◌∙◌, option_map}
 use Rattle.regress_input.specs.CharAndByteReadsFromOffset.{direction_of_forward_flag}
-use Rattle.regress_search.proofs.Readers.{read-scalar}
+use Rattle.regress_search.proofs.TextReadLemmas.{read-scalar}
 use Rattle.regress_pikevm.proofs.pikevm.insn_matchers.insn_accepts_next_char.Goals as goal
 
 pub accepts-requires-clause-scalar : goal.accepts-requires-clause-scalar

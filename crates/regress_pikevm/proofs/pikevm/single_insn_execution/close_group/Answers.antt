@@ -1,5 +1,5 @@
 use Rattle.regress_input.specs.CharAndByteReadsFromOffset.{direction_of_forward_flag}
-use Rattle.regress_pikevm.proofs.Turns.{closes}
+use Rattle.regress_pikevm.proofs.InsnEffectLemmas.{closes}
 use Rattle.regress_pikevm.proofs.pikevm.single_insn_execution.close_group.Goals as goal
 
 pub returns : goal.returns

@@ -1,4 +1,4 @@
-use Rattle.regress_pikevm.proofs.Turns.{enters}
+use Rattle.regress_pikevm.proofs.InsnEffectLemmas.{enters}
 use Rattle.regress_pikevm.proofs.pikevm.single_insn_execution.enter_iteration.Goals as goal
 
 pub returns : goal.returns

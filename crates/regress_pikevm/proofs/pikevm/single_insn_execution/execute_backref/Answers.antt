@@ -1,8 +1,8 @@
-use Rattle.regex_pattern_front.specs.AstToSpecTree.{sameness_of}
+use Rattle.regex_pattern_front.specs.AstToSpecTree.{spec_sameness_of}
 use Rattle.regress_input.specs.CharAndByteReadsFromOffset.{direction_of_forward_flag}
 use Rattle.regress_machine.specs.Machine.{read_group}
 use Rattle.regress_pikevm.specs.States.{range_of, state_of}
-use Rattle.regress_pikevm.proofs.Turns.{by-index}
+use Rattle.regress_pikevm.proofs.InsnEffectLemmas.{by-index}
 use Rattle.regress_pikevm.proofs.pikevm.single_insn_execution.execute_backref.Goals as goal
 
 pub returns : goal.returns
@@ -10,4 +10,4 @@ returns g c =
     let text = g.Input.InputIndexer.text c.args.searched.now.input in
     let offset = g.Input.Position.PositionType.offset in
     by-index (range_of offset) c.args.state.groups.items c.args.group c.index-range.result.now
-    (λ range. read_group text (sameness_of c.args.same) (direction_of_forward_flag g.Dir.Direction.FORWARD) range (state_of offset c.args.state)) _ c.index-range.ensures c.requires.executable c.match_range_again.ensures
+    (λ range. read_group text (spec_sameness_of c.args.same) (direction_of_forward_flag g.Dir.Direction.FORWARD) range (state_of offset c.args.state)) _ c.index-range.ensures c.requires.executable c.match_range_again.ensures

@@ -5,10 +5,10 @@ use Rattle.regress_input.specs.CharAndByteReadsFromOffset.{direction_of_forward_
 use Rattle.regress_program.specs.CompilationOfTreesAsFunction.{compiled}
 use Rattle.regress_program.specs.InsnsAsSpec.{insn_as_spec_insn}
 use Rattle.regress_machine.specs.Machine.{act_on}
-use Rattle.regress_pikevm.specs.States.{state_of, next_threads}
+use Rattle.regress_pikevm.specs.States.{state_of, effect_of_next_states}
 use Rattle.regress_machine.specs.InsnEffects.{IsNotStuck}
-use Rattle.regress_search.proofs.Literals.{literal-reads}
-use Rattle.regress_pikevm.proofs.Fetching.{insn-here, fits-here}
+use Rattle.regress_search.proofs.LiteralBytesInCode.{literal-reads}
+use Rattle.regress_pikevm.proofs.InsnFetchLemmas.{insn-here, fits-here}
 use Rattle.regress_pikevm.proofs.pikevm.single_insn_execution.execute_insn.Goals as goal
 
 pub perform-requires-clause-executable : goal.perform-requires-clause-executable
@@ -40,4 +40,4 @@ returns g c =
     let offset = g.Input.Position.PositionType.offset in
     let s = state_of offset c.args.state in
     let is = insn-here re c.args.insns.now c.requires.code text (direction_of_forward_flag g.Dir.Direction.FORWARD) s c.requires.executable c.index-insns-state.result c.index-insns-state.is in
-    subst (λ o. IfOk c.perform.result (λ t. next_threads offset t ≡ act_on (compiled (tree_of re)) text (direction_of_forward_flag g.Dir.Direction.FORWARD) o s)) (sym is) c.perform.ensures
+    subst (λ o. IfOk c.perform.result (λ t. effect_of_next_states offset t ≡ act_on (compiled (tree_of re)) text (direction_of_forward_flag g.Dir.Direction.FORWARD) o s)) (sym is) c.perform.ensures

@@ -7,7 +7,7 @@ use Rattle.regress_machine.specs.Machine as machine
 use Rattle.regress_machine.specs.Machine.{go_if}
 use Rattle.regress_pikevm.specs.States.{state_of}
 use Rattle.regress_pikevm.specs.InsnEffects.{effect_of_insn}
-use Rattle.regress_search.proofs.Passing.{turn-leads, turn-passes}
+use Rattle.regress_search.proofs.MatchedInsnOffsetLemmas.{turn-leads, turn-passes}
 use Rattle.regress_pikevm.proofs.pikevm.single_insn_execution.execute_test.Given.{Over}
 use Rattle.regress_pikevm.proofs.pikevm.single_insn_execution.execute_test.Goals.{After-read_or_assertion_insn_matches}
 use Rattle.regress_pikevm.proofs.pikevm.single_insn_execution.execute_test.Goals as goal

@@ -1,11 +1,11 @@
 use Rattle.std.proofs.Common.{◌≡◌, ◌+◌, Bool, ap, sym, subst, ◌∙◌, true, false}
-use Rattle.regex_pattern_front.specs.AstToSpecTree.{sameness_of}
+use Rattle.regex_pattern_front.specs.AstToSpecTree.{spec_sameness_of}
 use Rattle.regress_input.specs.CharAndByteReadsFromOffset.{end_if_matched, direction_of_forward_flag}
 use Rattle.regress_machine.specs.Machine as machine
 use Rattle.regress_machine.specs.Machine.{go_if, read_group}
 use Rattle.regress_pikevm.specs.States.{range_of, state_of}
 use Rattle.regress_machine.specs.InsnEffects.{IsNotStuck}
-use Rattle.regress_search.proofs.Readers.{nothing-read, group-read}
+use Rattle.regress_search.proofs.TextReadLemmas.{nothing-read, group-read}
 use Rattle.regress_pikevm.specs.InsnEffects.{effect_of_range_backref}
 use Rattle.regress_pikevm.proofs.pikevm.single_insn_execution.match_range_again.Given.{Over}
 use Rattle.regress_pikevm.proofs.pikevm.single_insn_execution.match_range_again.Goals.{After-backref_matches}
@@ -17,24 +17,24 @@ returns-in_default g c =
     let offset = g.Input.Position.PositionType.offset in
     let d = direction_of_forward_flag g.Dir.Direction.FORWARD in
     let s = state_of offset c.args.state in
-    let can = subst (λ r. IsNotStuck (read_group text (sameness_of c.args.same) d (range_of offset r) s)) c.in_default.is c.requires.executable in
-    nothing-read text (g.met.Input.InputIndexer.is_text c.args.searched.now.input) (sameness_of c.args.same) d s can ∙ ap (λ r. read_group text (sameness_of c.args.same) d (range_of offset r) s) (sym c.in_default.is)
+    let can = subst (λ r. IsNotStuck (read_group text (spec_sameness_of c.args.same) d (range_of offset r) s)) c.in_default.is c.requires.executable in
+    nothing-read text (g.met.Input.InputIndexer.is_text c.args.searched.now.input) (spec_sameness_of c.args.same) d s can ∙ ap (λ r. read_group text (spec_sameness_of c.args.same) d (range_of offset r) s) (sym c.in_default.is)
 
 -- where it goes, by whether they stand there
 again : (g : Over) (c : After-backref_matches g) (b : Bool) → c.backref_matches.result ≡ b
     → (let s : machine.State = state_of g.Input.Position.PositionType.offset c.args.state in
     go_if b (record s { ip = s.ip + 1; pos = g.Input.Position.PositionType.offset c.backref_matches.new.pos })
-    ≡ effect_of_range_backref g.Input.Position.PositionType.offset (g.Input.InputIndexer.text c.args.searched.now.input) g.Dir.Direction.FORWARD (sameness_of c.args.same)
+    ≡ effect_of_range_backref g.Input.Position.PositionType.offset (g.Input.InputIndexer.text c.args.searched.now.input) g.Dir.Direction.FORWARD (spec_sameness_of c.args.same)
     c.args.range c.args.state)
 again g c b stands =
     let text = g.Input.InputIndexer.text c.args.searched.now.input in
     let offset = g.Input.Position.PositionType.offset in
     let d = direction_of_forward_flag g.Dir.Direction.FORWARD in
     let s = state_of offset c.args.state in
-    let can = subst (λ r. IsNotStuck (read_group text (sameness_of c.args.same) d (range_of offset r) s)) c.in-Some.is c.requires.executable in
+    let can = subst (λ r. IsNotStuck (read_group text (spec_sameness_of c.args.same) d (range_of offset r) s)) c.in-Some.is c.requires.executable in
     let to = offset c.backref_matches.new.pos in
-    group-read text (g.met.Input.InputIndexer.is_text c.args.searched.now.input) (sameness_of c.args.same) d (offset c.in-Some.span.0) (offset c.in-Some.span.1) s b to can
-    (ap (λ b. end_if_matched b to) (sym stands) ∙ c.backref_matches.ensures) ∙ ap (λ r. read_group text (sameness_of c.args.same) d (range_of offset r) s) (sym c.in-Some.is)
+    group-read text (g.met.Input.InputIndexer.is_text c.args.searched.now.input) (spec_sameness_of c.args.same) d (offset c.in-Some.span.0) (offset c.in-Some.span.1) s b to can
+    (ap (λ b. end_if_matched b to) (sym stands) ∙ c.backref_matches.ensures) ∙ ap (λ r. read_group text (spec_sameness_of c.args.same) d (range_of offset r) s) (sym c.in-Some.is)
 
 pub returns-then-backref_matches : goal.returns-then-backref_matches
 returns-then-backref_matches g c = again g (goal.at.returns-then-backref_matches g c).After-backref_matches true c.if-backref_matches.true

@@ -1,4 +1,4 @@
-use Rattle.regress_pikevm.proofs.Turns.{opens}
+use Rattle.regress_pikevm.proofs.InsnEffectLemmas.{opens}
 use Rattle.regress_pikevm.proofs.pikevm.single_insn_execution.open_group.Goals as goal
 
 pub returns : goal.returns

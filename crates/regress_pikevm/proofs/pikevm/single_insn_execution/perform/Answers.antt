@@ -6,11 +6,11 @@ use Rattle.regress_input.specs.CharAndByteReadsFromOffset.{direction_of_forward_
 use Rattle.regress_program.specs.CompilationOfTreesAsFunction.{compiled}
 use Rattle.regress_program.specs.InsnsAsSpec.{insn_as_spec_insn}
 use Rattle.regress_machine.specs.Machine.{act_on, loop_again_effect, with_some, test_of, scan}
-use Rattle.regress_pikevm.specs.States.{state_of, next_threads}
+use Rattle.regress_pikevm.specs.States.{state_of, effect_of_next_states}
 use Rattle.regress_machine.specs.InsnEffects.{IsNotStuck}
-use Rattle.regress_search.proofs.Literals.{literal-reads}
-use Rattle.regress_machine.proofs.Fetched.{again-some, fetched-some}
-use Rattle.regress_pikevm.proofs.Fetching.{insn-behind, fits-behind}
+use Rattle.regress_search.proofs.LiteralBytesInCode.{literal-reads}
+use Rattle.regress_machine.proofs.InsnFetchLemmas.{again-some, fetched-some}
+use Rattle.regress_pikevm.proofs.InsnFetchLemmas.{insn-behind, fits-behind}
 use Rattle.regress_pikevm.proofs.pikevm.single_insn_execution.perform.Goals as goal
 
 pub execute_test-requires-clause-executable : goal.execute_test-requires-clause-executable
@@ -36,8 +36,8 @@ returns-in-LoopAgain g c =
     let can = subst (λ i. IsNotStuck (act_on program text d (Some (insn_as_spec_insn i)) s)) c.in-LoopAgain.is c.requires.executable in
     let there = again-some (slice_get program.insns begin) begin s can in
     let head = fetched-some insn_as_spec_insn c.args.insns.now program.insns begin c.index-insns-begin.result c.index-insns-begin.is c.requires.code there in
-    subst (λ i. IfOk c.end_body.result (λ t. next_threads offset t ≡ act_on program text d (Some (insn_as_spec_insn i)) s)) (sym c.in-LoopAgain.is)
-    (subst (λ o. IfOk c.end_body.result (λ t. next_threads offset t ≡ loop_again_effect o begin s)) (sym head) c.end_body.ensures)
+    subst (λ i. IfOk c.end_body.result (λ t. effect_of_next_states offset t ≡ act_on program text d (Some (insn_as_spec_insn i)) s)) (sym c.in-LoopAgain.is)
+    (subst (λ o. IfOk c.end_body.result (λ t. effect_of_next_states offset t ≡ loop_again_effect o begin s)) (sym head) c.end_body.ensures)
 
 pub execute_char_loop-requires-clause-bytes : goal.execute_char_loop-requires-clause-bytes
 execute_char_loop-requires-clause-bytes g c = λ literal.
@@ -66,6 +66,6 @@ returns-in-Loop1CharBody g c =
     let s = state_of offset c.args.state in
     let can = subst (λ i. IsNotStuck (act_on program text d (Some (insn_as_spec_insn i)) s)) c.in-Loop1CharBody.is c.requires.executable in
     let body = insn-behind re c.args.insns.now c.requires.code (s.ip + 1) _ can c.index-insns-state.result c.index-insns-state.is in
-    subst (λ i. IfOk c.execute_char_loop.result (λ t. next_threads offset t ≡ act_on program text d (Some (insn_as_spec_insn i)) s)) (sym c.in-Loop1CharBody.is)
-    (subst (λ o. IfOk c.execute_char_loop.result (λ t. next_threads offset t ≡ with_some (test_of program o) (λ test. with_some (place_at text s.pos) (λ p.
+    subst (λ i. IfOk c.execute_char_loop.result (λ t. effect_of_next_states offset t ≡ act_on program text d (Some (insn_as_spec_insn i)) s)) (sym c.in-Loop1CharBody.is)
+    (subst (λ o. IfOk c.execute_char_loop.result (λ t. effect_of_next_states offset t ≡ with_some (test_of program o) (λ test. with_some (place_at text s.pos) (λ p.
     scan text c.in-Loop1CharBody.min_iters c.in-Loop1CharBody.max_iters c.in-Loop1CharBody.greedy test d p s)))) (sym body) c.execute_char_loop.ensures)

@@ -1,4 +1,4 @@
-use Rattle.regress_pikevm.proofs.Turns.{resets}
+use Rattle.regress_pikevm.proofs.InsnEffectLemmas.{resets}
 use Rattle.regress_pikevm.proofs.pikevm.single_insn_execution.reset_group.Goals as goal
 
 pub returns : goal.returns

@@ -1,7 +1,7 @@
 use Rattle.std.proofs.Common.{refl}
 use Rattle.regex_pattern_front.specs.AstToSpecTree.{tree_of}
 use Rattle.regress_program.specs.CompilationOfTreesAsFunction.{compiled}
-use Rattle.regress_pikevm.proofs.Remains.{initial-is}
+use Rattle.regress_pikevm.proofs.ExecutorTurnLemmas.{initial-is}
 use Rattle.regress_pikevm.proofs.pikevm.states.initial_state.Goals as goal
 
 pub returns : goal.returns

@@ -1,13 +1,13 @@
 use Rattle.std.proofs.Common.{◌∙◌, arith}
 use Rattle.std.specs.Prelude.{nat_lt, ◌&&◌}
 use Rattle.std.specs.Int.{is_in_range}
-use Rattle.regex_pattern_front.specs.ByteSetMembers.{member_bytes_of_ascii_bitmap, is_bit_set}
-use Rattle.regex_pattern_front.proofs.AddedBytes.{with_bytes-from, with_bytes-more, with_bytes-to}
-use Rattle.regress_program.proofs.AsciiLemmas.{fails_below, fails_above, passes_between}
+use Rattle.regex_pattern_front.specs.ByteSetMembers.{member_bytes_of_ascii_bitmap, is_ascii_bit_set}
+use Rattle.regex_pattern_front.proofs.ByteSetAdditionLoop.{with_bytes-from, with_bytes-more, with_bytes-to}
+use Rattle.regress_program.proofs.AsciiIntervalMembers.{fails_below, fails_above, passes_between}
 use Rattle.regress_program.proofs.emit.brackets.add_ascii_members.Goals as goal
 
 pub loop-member-init : goal.loop-member-init
-loop-member-init c = with_bytes-from (is_bit_set c.args.bitmap.now.bits) _ _ (fails_below c.args.interval.first c.args.interval.last)
+loop-member-init c = with_bytes-from (is_ascii_bit_set c.args.bitmap.now.bits) _ _ (fails_below c.args.interval.first c.args.interval.last)
 
 pub loop-member-preserved : goal.loop-member-preserved
 loop-member-preserved c =

@@ -2,7 +2,7 @@ use Rattle.std.proofs.Common.{◌≡◌}
 use Rattle.std.specs.Prelude.{nat_lt, ◌&&◌}
 use Rattle.std.specs.Int.{is_in_range}
 use Rattle.regex_pattern_front.specs.ByteSetMembers.{member_bytes_of_ascii_bitmap}
-use Rattle.regex_pattern_front.proofs.AddedBytes.{with_bytes_below}
+use Rattle.regex_pattern_front.proofs.ByteSetAdditionLoop.{with_bytes_below}
 use Rattle.regress_program.proofs.emit.brackets.add_ascii_members.Given as goal
 
 abbrev pub invariant-loop-member : goal.invariant-loop-member

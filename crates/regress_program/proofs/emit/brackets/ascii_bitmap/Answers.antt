@@ -2,8 +2,8 @@ use Rattle.std.proofs.Common.{◌∙◌, ap, sym}
 use Rattle.std.specs.Prelude.{nat_lt, ◌&&◌}
 use Rattle.regex_meaning.specs.Outcomes.{in_intervals}
 use Rattle.regex_meaning.specs.StartPredicate.{bytes_that_pass}
-use Rattle.regex_meaning.proofs.Booleans.{and-right}
-use Rattle.regress_program.proofs.AsciiLemmas.{ascii_bytes}
+use Rattle.regex_meaning.proofs.BoolLemmas.{and-right}
+use Rattle.regress_program.proofs.AsciiIntervalMembers.{ascii_bytes}
 use Rattle.regress_program.proofs.emit.brackets.ascii_bitmap.Goals as goal
 
 pub returns-clause-members : goal.returns-clause-members

@@ -4,7 +4,7 @@ use Rattle.regex_meaning.specs.Outcomes.{in_intervals}
 use Rattle.regex_meaning.specs.StartPredicate.{bytes_that_pass}
 use Rattle.regex_pattern_front.specs.ByteSetMembers.{member_bytes_of_ascii_bitmap}
 use Rattle.regex_pattern_front.specs.Intervals.{interval_of}
-use Rattle.regress_program.proofs.AsciiLemmas.{ascii_none, ascii_more}
+use Rattle.regress_program.proofs.AsciiIntervalMembers.{ascii_none, ascii_more}
 use Rattle.std.proofs.lemmas.List.{length-map}
 use Rattle.regress_program.proofs.emit.brackets.ascii_members.Goals as goal
 

@@ -1,5 +1,5 @@
 use Rattle.std.proofs.Common.{sym, ◌∙◌}
-use Rattle.regress_program.proofs.TextLemmas.{length-chunks}
+use Rattle.regress_program.proofs.ByteAndStringCodeLemmas.{length-chunks}
 use Rattle.regress_program.proofs.emit.byte_sequences_and_string_sets.chunk_count.Goals as goal
 
 pub returns : goal.returns

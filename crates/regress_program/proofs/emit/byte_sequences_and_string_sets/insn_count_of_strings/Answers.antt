@@ -2,7 +2,7 @@ use Rattle.std.proofs.Common.{◌≡◌, ◌+◌, ◌∙◌, ◌∷◌, [], ap, 
 use Rattle.std.proofs.lemmas.List.{drop_all}
 use Rattle.regress_program.specs.CompilationOfTreesAsFunction.{strings_size}
 use Rattle.regress_program.specs.EmitterStateAndAppendedCode.{strings_as_code_points}
-use Rattle.regress_program.proofs.TextLemmas.{strings_size-cons, front_size, front_size-next}
+use Rattle.regress_program.proofs.ByteAndStringCodeLemmas.{strings_size-cons, front_size, front_size-next}
 use Rattle.regress_program.proofs.emit.byte_sequences_and_string_sets.insn_count_of_strings.Goals as goal
 
 pub loop-string-preserved : goal.loop-string-preserved

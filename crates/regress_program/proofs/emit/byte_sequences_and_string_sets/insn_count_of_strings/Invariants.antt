@@ -1,6 +1,6 @@
 use Rattle.std.proofs.Common.{◌≡◌, ◌+◌, ◌-◌, ◌<◌, ◌^◌, min, drop}
 use Rattle.regress_program.specs.EmitterStateAndAppendedCode.{strings_as_code_points}
-use Rattle.regress_program.proofs.TextLemmas.{front_size}
+use Rattle.regress_program.proofs.ByteAndStringCodeLemmas.{front_size}
 use Rattle.regress_program.proofs.emit.byte_sequences_and_string_sets.insn_count_of_strings.Given as goal
 
 abbrev pub invariant-loop-string : goal.invariant-loop-string

@@ -1,7 +1,7 @@
 use Rattle.std.proofs.Common.{◌∙◌}
 use Rattle.regex_meaning.specs.Tree.{group_ids}
 use Rattle.regex_pattern_front.specs.AstToSpecTree.{node_of}
-use Rattle.regress_program.proofs.IdLemmas.{joined-none}
+use Rattle.regress_program.proofs.GroupIdCheckLemmas.{joined-none}
 use Rattle.regress_program.proofs.emit.group_id_and_range_check.span_in.Goals as goal
 
 pub returns-then-check_ids-clause-span : goal.returns-then-check_ids-clause-span

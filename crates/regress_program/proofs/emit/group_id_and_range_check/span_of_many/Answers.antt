@@ -1,6 +1,6 @@
 use Rattle.std.proofs.Common.{◌∙◌}
 use Rattle.regex_pattern_front.specs.AstToSpecTree.{node_of}
-use Rattle.regress_program.proofs.IdLemmas.{none_stand}
+use Rattle.regress_program.proofs.GroupIdCheckLemmas.{none_stand}
 use Rattle.regress_program.proofs.emit.group_id_and_range_check.span_of_many.Goals as goal
 
 pub returns-clause-in_text : goal.returns-clause-in_text

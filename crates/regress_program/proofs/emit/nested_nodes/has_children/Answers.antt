@@ -2,7 +2,7 @@ use Rattle.std.proofs.Common.{◌≡◌, List, [], ◌∷◌, true, refl}
 use Rattle.std.specs.Prelude.{not}
 use Rattle.regex_pattern_front.specs.declared.ir.Node.{Node}
 use Rattle.regress_program.specs.LeafNodesAndOptimizableLoops.{cat_of, is_leaf}
-use Rattle.regress_program.proofs.NodeLemmas.{node_of-Cat}
+use Rattle.regress_program.proofs.NodeListLemmas.{node_of-Cat}
 use Rattle.regress_program.proofs.emit.nested_nodes.has_children.Goals as goal
 
 row-holds : (nodes : List Node) → true ≡ not (is_leaf (cat_of nodes))

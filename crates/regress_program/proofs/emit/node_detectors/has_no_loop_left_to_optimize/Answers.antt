@@ -2,8 +2,8 @@ use Rattle.std.proofs.Common.{◌≡◌, ◌∙◌, sym, true}
 use Rattle.std.specs.Prelude.{not}
 use Rattle.regex_pattern_front.specs.AstToSpecTree.{node_of}
 use Rattle.regress_program.specs.LeafNodesAndOptimizableLoops.{becomes_char_loop}
-use Rattle.regress_program.proofs.ShapedLemmas.{optimized-same}
-use Rattle.regress_program.proofs.WalkedLemmas.{every-passes}
+use Rattle.regress_program.proofs.CharLoopNodeLemmas.{optimized-same}
+use Rattle.regress_program.proofs.TreeWalkLemmas.{every-passes}
 use Rattle.regress_program.proofs.emit.node_detectors.has_no_loop_left_to_optimize.Goals as goal
 
 pub returns : goal.returns

@@ -1,7 +1,7 @@
 use Rattle.std.specs.Prelude.{not}
 use Rattle.regex_meaning.specs.CompilationRelation.{is_byte_node}
 use Rattle.regex_pattern_front.specs.AstToSpecTree.{node_of}
-use Rattle.regress_program.proofs.WalkedLemmas.{every-passes, none-passes}
+use Rattle.regress_program.proofs.TreeWalkLemmas.{every-passes, none-passes}
 use Rattle.regress_program.proofs.emit.node_detectors.tree_contains_byte_nodes.Goals as goal
 
 pub returns : goal.returns

@@ -1,5 +1,5 @@
 use Rattle.std.proofs.Common.{◌-◌, ◌^◌, ap, sym, min}
-use Rattle.regress_program.proofs.NodeLemmas.{node_of-Cat, own_size-cat_of}
+use Rattle.regress_program.proofs.NodeListLemmas.{node_of-Cat, own_size-cat_of}
 use Rattle.regress_program.proofs.emit.program_size.own_size.Goals as goal
 
 pub returns-in-Cat : goal.returns-in-Cat

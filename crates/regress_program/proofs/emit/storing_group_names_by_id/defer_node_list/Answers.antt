@@ -2,8 +2,8 @@ use Rattle.std.proofs.Common.{◌≡◌, ◌∙◌, ◌∷◌, sym, true, arith}
 use Rattle.regex_meaning.specs.MatchGroupsByNumberAndName.{capturing_group_ids_and_names}
 use Rattle.regex_pattern_front.specs.AstToSpecTree.{node_of}
 use Rattle.regress_program.specs.LeafNodesAndOptimizableLoops.{cat_of, is_leaf}
-use Rattle.regress_program.specs.StoringGroupNamesById.{naming_measure_of_pending_part, node_list_measure, names_in_pending_part}
-use Rattle.regress_program.proofs.FilingLemmas.{files-none, files-two, row-load, row-names, row-none, row-skips}
+use Rattle.regress_program.specs.StoringGroupNamesById.{naming_measure_of_part, naming_measure_of_nodes, names_in_pending_part}
+use Rattle.regress_program.proofs.StoringGroupNamesLemmas.{files-none, files-two, row-load, row-names, row-none, row-skips}
 use Rattle.regress_program.proofs.emit.storing_group_names_by_id.defer_node_list.Goals as goal
 
 pub loop-first-preserved : goal.loop-first-preserved
@@ -24,12 +24,12 @@ pub returns : goal.returns
 returns c names =
     let i = c.loop-first.invariant in
     let nodes = c.args.nodes.now in
-    let none = files-none (capturing_group_ids_and_names (cat_of nodes)) (node_list_measure nodes) names c.args.rest.now.items
+    let none = files-none (capturing_group_ids_and_names (cat_of nodes)) (naming_measure_of_nodes nodes) names c.args.rest.now.items
     (sym i.named ∙ row-none c.loop-first.left.now c.in_default.ensures.cases) (omega arith) in
     rw i.rest none
 
 pub returns-then-has_children : goal.returns-then-has_children
-unfolding names_in_pending_part naming_measure_of_pending_part
+unfolding names_in_pending_part naming_measure_of_part
 returns-then-has_children c names =
     let whole = c.args.nodes.now in
     let nodes = c.loop-first.left.now in
@@ -37,7 +37,7 @@ returns-then-has_children c names =
     let others = c.in-Some.others.now in
     let i = c.loop-first.invariant in
     let is : nodes ≡ first ∷ others = c.in-Some.ensures.cases.0 in
-    files-two (capturing_group_ids_and_names (cat_of whole)) (node_list_measure whole) names c.args.rest.now.items c.push_pending.new.rest.items c.push_pending-then-has_children.new.rest.items _ _
+    files-two (capturing_group_ids_and_names (cat_of whole)) (naming_measure_of_nodes whole) names c.args.rest.now.items c.push_pending.new.rest.items c.push_pending-then-has_children.new.rest.items _ _
     (rw i.rest at c.in_ok-push_pending.ensures) c.in_ok-push_pending-2.ensures
     (sym i.named ∙ row-names first others nodes is)
     (omega (arith, row-load first others nodes is, i.light))

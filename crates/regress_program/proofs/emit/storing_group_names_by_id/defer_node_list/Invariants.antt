@@ -1,14 +1,14 @@
 use Rattle.std.proofs.Common.{◌≡◌, ◌≤◌, length}
 use Rattle.regex_meaning.specs.MatchGroupsByNumberAndName.{capturing_group_ids_and_names}
 use Rattle.regress_program.specs.LeafNodesAndOptimizableLoops.{cat_of}
-use Rattle.regress_program.specs.StoringGroupNamesById.{node_list_measure}
+use Rattle.regress_program.specs.StoringGroupNamesById.{naming_measure_of_nodes}
 use Rattle.regress_program.proofs.emit.storing_group_names_by_id.defer_node_list.Given as goal
 
 abbrev pub invariant-loop-first : goal.invariant-loop-first
 invariant-loop-first l = record {
   rest : l.rest.items ≡ l.fn.rest.items;
   named : capturing_group_ids_and_names (cat_of l.left) ≡ capturing_group_ids_and_names (cat_of l.fn.nodes);
-  light : node_list_measure l.left ≤ node_list_measure l.fn.nodes;
+  light : naming_measure_of_nodes l.left ≤ naming_measure_of_nodes l.fn.nodes;
 }
 
 abbrev pub decreases-loop-first : goal.decreases-loop-first

@@ -2,7 +2,7 @@ use Rattle.std.proofs.Common.{◌≡◌, ◌∙◌, ap, sym, length, map, string
 use Rattle.regex_meaning.specs.MatchGroupsByNumberAndName.{capturing_group_ids_and_names}
 use Rattle.regex_pattern_front.specs.AstToSpecTree.{node_of}
 use Rattle.regress_program.specs.StoringGroupNamesById.{with_names_stored_by_id}
-use Rattle.regress_program.proofs.FilingLemmas.{written_over, names-filed}
+use Rattle.regress_program.proofs.StoringGroupNamesLemmas.{written_over, names-filed}
 use Rattle.regress_program.proofs.emit.storing_group_names_by_id.names_by_id.Goals as goal
 
 pub returns : goal.returns

@@ -2,7 +2,7 @@ use Rattle.std.proofs.Common.{◌∙◌, ap, refl, map, string_bytes}
 use Rattle.regex_meaning.specs.MatchGroupsByNumberAndName.{capturing_group_ids_and_names}
 use Rattle.regex_pattern_front.specs.AstToSpecTree.{node_of}
 use Rattle.regress_program.specs.StoringGroupNamesById.{with_names_stored_by_id, pending_names_stored, names_in_pending_part}
-use Rattle.regress_program.proofs.FilingLemmas.{next-filed, next-less}
+use Rattle.regress_program.proofs.StoringGroupNamesLemmas.{next-filed, next-less}
 use Rattle.regress_program.proofs.emit.storing_group_names_by_id.store_names.Goals as goal
 
 pub loop-next-init : goal.loop-next-init

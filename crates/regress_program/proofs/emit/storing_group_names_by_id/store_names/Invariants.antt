@@ -1,7 +1,7 @@
 use Rattle.std.proofs.Common.{◌≡◌, length, map, string_bytes}
 use Rattle.regex_meaning.specs.MatchGroupsByNumberAndName.{capturing_group_ids_and_names}
 use Rattle.regex_pattern_front.specs.AstToSpecTree.{node_of}
-use Rattle.regress_program.specs.StoringGroupNamesById.{with_names_stored_by_id, pending_names_stored, total_measure}
+use Rattle.regress_program.specs.StoringGroupNamesById.{with_names_stored_by_id, pending_names_stored, total_naming_measure}
 use Rattle.regress_program.proofs.emit.storing_group_names_by_id.store_names.Given as goal
 
 abbrev pub invariant-loop-next : goal.invariant-loop-next
@@ -11,4 +11,4 @@ invariant-loop-next l = record {
 }
 
 abbrev pub decreases-loop-next : goal.decreases-loop-next
-decreases-loop-next l = total_measure l.rest.items
+decreases-loop-next l = total_naming_measure l.rest.items

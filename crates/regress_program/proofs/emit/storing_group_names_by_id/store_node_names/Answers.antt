@@ -4,10 +4,10 @@ use Rattle.regex_meaning.specs.MatchGroupsByNumberAndName.{capturing_group_ids_a
 use Rattle.regex_pattern_front.specs.AstToSpecTree.{node_of, group_name_bytes}
 use Rattle.regress_program.specs.LeafNodesAndOptimizableLoops.{cat_of}
 use Rattle.regress_program.specs.InnerNodeCountMeasure.{inner_node_count}
-use Rattle.regress_program.specs.StoringGroupNamesById.{node_measure, naming_measure_of_pending_part, node_list_measure, names_in_pending_part}
-use Rattle.regress_program.proofs.FilingLemmas.{files-alternatives, files-cheap, files-group, files-inside, files-none}
-use Rattle.regress_program.proofs.LeafLemmas.{leaf-bare, leaf-left}
-use Rattle.regress_program.proofs.NodeLemmas.{node_of-Cat}
+use Rattle.regress_program.specs.StoringGroupNamesById.{naming_measure_of_node, naming_measure_of_part, naming_measure_of_nodes, names_in_pending_part}
+use Rattle.regress_program.proofs.StoringGroupNamesLemmas.{files-alternatives, files-cheap, files-group, files-inside, files-none}
+use Rattle.regress_program.proofs.NodeKindLemmas.{leaf-bare, leaf-left}
+use Rattle.regress_program.proofs.NodeListLemmas.{node_of-Cat}
 use Rattle.regress_program.proofs.emit.storing_group_names_by_id.store_node_names.Goals as goal
 
 pub returns-in-Cat-clause-with_names_stored_by_id : goal.returns-in-Cat-clause-with_names_stored_by_id
@@ -17,7 +17,7 @@ returns-in-Cat-clause-with_names_stored_by_id c =
     let row = c.deref.result.now in
     rw same
     (IfOk-weaker c.defer_node_list.result _ _
-    (λ _ f. files-cheap (capturing_group_ids_and_names (cat_of row)) (node_list_measure row) (node_measure (cat_of row)) names names c.args.rest.now.items c.defer_node_list.new.rest.items (f names) (omega arith))
+    (λ _ f. files-cheap (capturing_group_ids_and_names (cat_of row)) (naming_measure_of_nodes row) (naming_measure_of_node (cat_of row)) names names c.args.rest.now.items c.defer_node_list.new.rest.items (f names) (omega arith))
     c.defer_node_list.ensures)
 
 pub returns-in-Alt-clause-with_names_stored_by_id : goal.returns-in-Alt-clause-with_names_stored_by_id
@@ -49,7 +49,7 @@ returns-in-CaptureGroup-clause-with_names_stored_by_id c =
     c.store_group_name.ensures.with_names_stored_by_id
 
 pub returns-in-LookaroundAssertion-clause-with_names_stored_by_id : goal.returns-in-LookaroundAssertion-clause-with_names_stored_by_id
-unfolding node_of names_in_pending_part naming_measure_of_pending_part inner_node_count
+unfolding node_of names_in_pending_part naming_measure_of_part inner_node_count
 returns-in-LookaroundAssertion-clause-with_names_stored_by_id c =
     let names = map string_bytes c.args.names.now in
     let whole = node_of c.args.node.now in
@@ -58,11 +58,11 @@ returns-in-LookaroundAssertion-clause-with_names_stored_by_id c =
     let more : inner_node_count whole ≡ inner_node_count inner + 1 = ap (λ n. inner_node_count (node_of n)) c.in-LookaroundAssertion.is in
     IfOk-weaker c.push_pending.result _ _
     (λ _ is. files-inside whole inner names c.args.rest.now.items c.push_pending.new.rest.items _ is
-    (ap (λ n. capturing_group_ids_and_names (node_of n)) c.deref-in-LookaroundAssertion.ensures) (ap (λ n. node_measure (node_of n)) c.deref-in-LookaroundAssertion.ensures) same more)
+    (ap (λ n. capturing_group_ids_and_names (node_of n)) c.deref-in-LookaroundAssertion.ensures) (ap (λ n. naming_measure_of_node (node_of n)) c.deref-in-LookaroundAssertion.ensures) same more)
     c.push_pending.ensures
 
 pub returns-in-Loop-clause-with_names_stored_by_id : goal.returns-in-Loop-clause-with_names_stored_by_id
-unfolding node_of names_in_pending_part naming_measure_of_pending_part inner_node_count
+unfolding node_of names_in_pending_part naming_measure_of_part inner_node_count
 returns-in-Loop-clause-with_names_stored_by_id c =
     let names = map string_bytes c.args.names.now in
     let whole = node_of c.args.node.now in
@@ -71,11 +71,11 @@ returns-in-Loop-clause-with_names_stored_by_id c =
     let more : inner_node_count whole ≡ inner_node_count inner + 1 = ap (λ n. inner_node_count (node_of n)) c.in-Loop.is in
     IfOk-weaker c.push_pending-in-Loop.result _ _
     (λ _ is. files-inside whole inner names c.args.rest.now.items c.push_pending-in-Loop.new.rest.items _ is
-    (ap (λ n. capturing_group_ids_and_names (node_of n)) c.deref-in-Loop.ensures) (ap (λ n. node_measure (node_of n)) c.deref-in-Loop.ensures) same more)
+    (ap (λ n. capturing_group_ids_and_names (node_of n)) c.deref-in-Loop.ensures) (ap (λ n. naming_measure_of_node (node_of n)) c.deref-in-Loop.ensures) same more)
     c.push_pending-in-Loop.ensures
 
 pub returns-in-Loop1CharBody-clause-with_names_stored_by_id : goal.returns-in-Loop1CharBody-clause-with_names_stored_by_id
-unfolding node_of names_in_pending_part naming_measure_of_pending_part inner_node_count
+unfolding node_of names_in_pending_part naming_measure_of_part inner_node_count
 returns-in-Loop1CharBody-clause-with_names_stored_by_id c =
     let names = map string_bytes c.args.names.now in
     let whole = node_of c.args.node.now in
@@ -84,7 +84,7 @@ returns-in-Loop1CharBody-clause-with_names_stored_by_id c =
     let more : inner_node_count whole ≡ inner_node_count inner + 1 = ap (λ n. inner_node_count (node_of n)) c.in-Loop1CharBody.is in
     IfOk-weaker c.push_pending-in-Loop1CharBody.result _ _
     (λ _ is. files-inside whole inner names c.args.rest.now.items c.push_pending-in-Loop1CharBody.new.rest.items _ is
-    (ap (λ n. capturing_group_ids_and_names (node_of n)) c.deref-in-Loop1CharBody.ensures) (ap (λ n. node_measure (node_of n)) c.deref-in-Loop1CharBody.ensures) same more)
+    (ap (λ n. capturing_group_ids_and_names (node_of n)) c.deref-in-Loop1CharBody.ensures) (ap (λ n. naming_measure_of_node (node_of n)) c.deref-in-Loop1CharBody.ensures) same more)
     c.push_pending-in-Loop1CharBody.ensures
 
 pub returns-in_default-clause-with_names_stored_by_id : goal.returns-in_default-clause-with_names_stored_by_id
@@ -92,4 +92,4 @@ returns-in_default-clause-with_names_stored_by_id c =
     let d = c.in_default in
     let n = node_of c.args.node.now in
     let leaf = leaf-left c.args.node.now d.not-Cat d.not-Alt d.not-CaptureGroup d.not-LookaroundAssertion d.not-Loop d.not-Loop1CharBody in
-    files-none (capturing_group_ids_and_names n) (node_measure n) (map string_bytes c.args.names.now) c.args.rest.now.items (leaf-bare n leaf).named (omega arith)
+    files-none (capturing_group_ids_and_names n) (naming_measure_of_node n) (map string_bytes c.args.names.now) c.args.rest.now.items (leaf-bare n leaf).named (omega arith)

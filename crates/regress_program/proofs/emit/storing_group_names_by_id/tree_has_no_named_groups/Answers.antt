@@ -5,7 +5,7 @@ use Rattle.std.proofs.lemmas.List.Folds.{list_all-append}
 use Rattle.regex_meaning.specs.MatchGroupsByNumberAndName.{own_name}
 use Rattle.regex_pattern_front.specs.AstToSpecTree.{node_of}
 use Rattle.regress_program.specs.StoringGroupNamesById.{is_nameless}
-use Rattle.regress_program.proofs.WalkedLemmas.{every-passes, gathered-through}
+use Rattle.regress_program.proofs.TreeWalkLemmas.{every-passes, gathered-through}
 use Rattle.regress_program.proofs.emit.storing_group_names_by_id.tree_has_no_named_groups.Goals as goal
 
 pub returns : goal.returns

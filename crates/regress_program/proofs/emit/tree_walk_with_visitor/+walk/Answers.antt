@@ -4,9 +4,9 @@ use Rattle.std.proofs.lemmas.List.{drop_all}
 use Rattle.regex_pattern_front.specs.AstToSpecTree.{node_of}
 use Rattle.regress_program.specs.LeafNodesAndOptimizableLoops.{cat_of}
 use Rattle.regress_program.specs.TryFoldOverTreeNodes.{try_fold_tree_nodes}
-use Rattle.regress_program.proofs.NodeLemmas.{node_of-Cat}
-use Rattle.regress_program.proofs.WalkedLemmas.{row-same, walk-stops}
-use Rattle.regress_program.proofs.Weights.{inner_node_count, weight-child}
+use Rattle.regress_program.proofs.NodeListLemmas.{node_of-Cat}
+use Rattle.regress_program.proofs.TreeWalkLemmas.{row-same, walk-stops}
+use Rattle.regress_program.proofs.InnerNodeCountLemmas.{inner_node_count, weight-child}
 use Rattle.regress_program.proofs.emit.tree_walk_with_visitor.+walk.Goals as goal
 
 pub walk-walk_row-requires : goal.walk-walk_row-requires

@@ -2,7 +2,7 @@ use Rattle.std.proofs.Common.{◌≡◌, ◌+◌, ◌*◌, ◌≤◌, drop}
 use Rattle.regex_pattern_front.specs.AstToSpecTree.{node_of}
 use Rattle.regress_program.specs.LeafNodesAndOptimizableLoops.{cat_of}
 use Rattle.regress_program.specs.TryFoldOverTreeNodes.{try_fold_tree_nodes}
-use Rattle.regress_program.proofs.Weights.{inner_node_count}
+use Rattle.regress_program.proofs.InnerNodeCountLemmas.{inner_node_count}
 use Rattle.regress_program.proofs.emit.tree_walk_with_visitor.+walk.Given as goal
 
 abbrev pub decreases-walk : goal.decreases-walk

@@ -2,7 +2,7 @@ use Rattle.std.proofs.Common.{◌≡◌, ◌+◌, ◌&&◌, true, false, ◌∙�
 use Rattle.std.specs.Prelude.{nat_le}
 use Rattle.std.specs.List.{list_all}
 use Rattle.regress_program.specs.EmitterStateAndAppendedCode.{strings_as_code_points}
-use Rattle.regress_program.proofs.TextLemmas.{code_points-next}
+use Rattle.regress_program.proofs.ByteAndStringCodeLemmas.{code_points-next}
 use Rattle.regress_program.proofs.emit.well_formedness_check.are_code_points.Goals as goal
 
 pub loop-string-preserved : goal.loop-string-preserved

@@ -1,6 +1,6 @@
 use Rattle.std.proofs.Common.{sym, ◌∙◌}
 use Rattle.regex_pattern_front.specs.AstToSpecTree.{node_of}
-use Rattle.regress_program.proofs.GoalLemmas.{one_goal-went, one_goal-stopped}
+use Rattle.regress_program.proofs.GoalNodeCheckLemmas.{one_goal-went, one_goal-stopped}
 use Rattle.regress_program.proofs.emit.well_formedness_check.has_one_goal.Goals as goal
 
 pub returns-then-walk : goal.returns-then-walk

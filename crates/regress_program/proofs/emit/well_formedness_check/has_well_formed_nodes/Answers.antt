@@ -1,6 +1,6 @@
 use Rattle.regex_pattern_front.specs.AstToSpecTree.{node_of}
 use Rattle.regress_program.specs.GroupIdCheck.{is_well_formed_node}
-use Rattle.regress_program.proofs.WalkedLemmas.{every-passes}
+use Rattle.regress_program.proofs.TreeWalkLemmas.{every-passes}
 use Rattle.regress_program.proofs.emit.well_formedness_check.has_well_formed_nodes.Goals as goal
 
 pub returns : goal.returns

@@ -2,9 +2,9 @@ use Rattle.std.proofs.Common.{◌≡◌, ◌∙◌, ap, sym, arith}
 use Rattle.regex_meaning.specs.WellFormedTrees.{ends_in_goal}
 use Rattle.regex_pattern_front.specs.AstToSpecTree.{node_of}
 use Rattle.regress_program.specs.LeafNodesAndOptimizableLoops.{cat_of}
-use Rattle.regress_program.proofs.LeafLemmas.{ends-other}
-use Rattle.regress_program.proofs.NodeLemmas.{node_of-Cat, ends_in_goal-none, ends_in_goal-last}
-use Rattle.regress_program.proofs.Weights.{inner_node_count, weight-member}
+use Rattle.regress_program.proofs.NodeKindLemmas.{ends-other}
+use Rattle.regress_program.proofs.NodeListLemmas.{node_of-Cat, ends_in_goal-none, ends_in_goal-last}
+use Rattle.regress_program.proofs.InnerNodeCountLemmas.{inner_node_count, weight-member}
 use Rattle.regress_program.proofs.emit.well_formedness_check.is_goal_at_end.Goals as goal
 
 pub returns-in-None : goal.returns-in-None

@@ -1,7 +1,7 @@
 use Rattle.std.proofs.Common.{◌≡◌}
 use Rattle.regex_meaning.specs.WellFormedTrees.{ends_in_goal}
 use Rattle.regex_pattern_front.specs.AstToSpecTree.{node_of}
-use Rattle.regress_program.proofs.Weights.{inner_node_count}
+use Rattle.regress_program.proofs.InnerNodeCountLemmas.{inner_node_count}
 use Rattle.regress_program.proofs.emit.well_formedness_check.is_goal_at_end.Given as goal
 
 abbrev pub invariant-loop-rest : goal.invariant-loop-rest

@@ -2,7 +2,7 @@ use Rattle.std.proofs.Common.{◌≡◌, true, false, not, ◌∙◌, ap, sym, l
 use Rattle.std.specs.Prelude.{nat_lt}
 use Rattle.std.specs.Str.{is_utf8}
 use Rattle.std.proofs.lemmas.Str.{IsUtf8-from_is_utf8, is_utf8-from_IsUtf8}
-use Rattle.regress_program.proofs.IdLemmas.{some_bytes}
+use Rattle.regress_program.proofs.GroupIdCheckLemmas.{some_bytes}
 use Rattle.regress_program.proofs.emit.well_formedness_check.is_nonempty_utf8.Goals as goal
 use Rattle.std.proofs.lemmas.Bool.{and_right, false_from_ne_true}
 

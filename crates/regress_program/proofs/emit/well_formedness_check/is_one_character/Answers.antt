@@ -1,5 +1,5 @@
 use Rattle.std.proofs.Common.{sym}
-use Rattle.regress_program.proofs.NodeLemmas.{node_of-Cat, is_one_character-cat_of}
+use Rattle.regress_program.proofs.NodeListLemmas.{node_of-Cat, is_one_character-cat_of}
 use Rattle.regress_program.proofs.emit.well_formedness_check.is_one_character.Goals as goal
 
 pub returns-in-Cat : goal.returns-in-Cat

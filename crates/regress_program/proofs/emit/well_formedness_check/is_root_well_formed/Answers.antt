@@ -1,10 +1,10 @@
 use Rattle.std.proofs.Common.{◌≡◌, ◌≤◌, true, false, length, ◌∙◌, ap, sym, refl, arith}
 use Rattle.regex_meaning.specs.Tree.{group_ids}
-use Rattle.regex_meaning.proofs.WellFormedLemmas.{clauses}
+use Rattle.regex_meaning.proofs.WellFormedTreesLemmas.{clauses}
 use Rattle.regex_pattern_front.specs.AstToSpecTree.{node_of}
 use Rattle.regress_program.specs.GroupIdCheck.{id_end, has_exact_group_ids}
-use Rattle.regress_program.proofs.IdLemmas.{sound_is_well_formed, well_formed_is_sound, well_formed_is_found, well_formed_has_room, few_ids}
-use Rattle.regress_program.proofs.IdLemmas.{false_is_true}
+use Rattle.regress_program.proofs.GroupIdCheckLemmas.{sound_is_well_formed, well_formed_is_sound, well_formed_is_found, well_formed_has_room, few_ids}
+use Rattle.regress_program.proofs.GroupIdCheckLemmas.{false_is_true}
 use Rattle.regress_program.proofs.emit.well_formedness_check.is_root_well_formed.Goals as goal
 
 pub returns-then-not-is_goal_last : goal.returns-then-not-is_goal_last

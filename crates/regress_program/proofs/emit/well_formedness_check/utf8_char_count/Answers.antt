@@ -1,9 +1,9 @@
 use Rattle.std.proofs.Common.{◌≡◌, ◌+◌, ◌∙◌, ◌∷◌, ap, sym, [], arith, length, drop, get_or}
 use Rattle.std.proofs.lemmas.List.{drop_all, drop_more}
 use Rattle.std.specs.Str.{chars}
-use Rattle.regress_program.proofs.TextLemmas.{no_length}
-use Rattle.regress_program.proofs.CharLemmas.{left_count, length-chars-nil, length-chars-cons, left_count-ready, left_count-more, left_count-done}
-use Rattle.regress_program.proofs.CharLemmas.{left_count-cut}
+use Rattle.regress_program.proofs.ByteAndStringCodeLemmas.{no_length}
+use Rattle.regress_program.proofs.Utf8CharCountLemmas.{left_count, length-chars-nil, length-chars-cons, left_count-ready, left_count-more, left_count-done}
+use Rattle.regress_program.proofs.Utf8CharCountLemmas.{left_count-cut}
 use Rattle.regress_program.proofs.emit.well_formedness_check.utf8_char_count.Goals as goal
 use Rattle.regress_program.proofs.emit.well_formedness_check.utf8_char_count.Goals.{then-left-eq0, else-left-eq0}
 

@@ -1,5 +1,5 @@
 use Rattle.std.proofs.Common.{◌≡◌, ◌+◌, ◌≤◌, drop}
-use Rattle.regress_program.proofs.CharLemmas.{left_count}
+use Rattle.regress_program.proofs.Utf8CharCountLemmas.{left_count}
 use Rattle.regress_program.proofs.emit.well_formedness_check.utf8_char_count.Given as goal
 
 abbrev pub invariant-loop-byte : goal.invariant-loop-byte

@@ -1,5 +1,5 @@
 use Rattle.std.proofs.Common.{◌≡◌, true, false, length, rules, arith}
-use Rattle.regress_program.proofs.SetLemmas.{within-end, compared-next}
+use Rattle.regress_program.proofs.FirstSetLemmas.{within-end, compared-next}
 use Rattle.regress_program.proofs.first_set_type.FirstSet.is_superset_of.Goals as goal
 
 pub loop-key-preserved : goal.loop-key-preserved

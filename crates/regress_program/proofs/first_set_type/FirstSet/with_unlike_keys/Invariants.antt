@@ -1,4 +1,4 @@
-use Rattle.regress_program.proofs.SetLemmas.{AreToldBelow}
+use Rattle.regress_program.proofs.FirstSetLemmas.{AreToldBelow}
 use Rattle.regress_program.proofs.first_set_type.FirstSet.with_unlike_keys.Given as goal
 
 abbrev pub invariant-loop-key : goal.invariant-loop-key

@@ -27,7 +27,7 @@ use denote.Triple.Entry.{alive}
 use denote.Triple.Spec.{Meets, triple_of}
 use denote.Triple.Table.{entered}
 use denote.Triple.Walked.{says, Stays, stay_dropped, walk_of, ends_at, walk_Meets, Goes-dropped}
-use Rattle.regress_program.proofs.Walks.{none, none_made}
+use Rattle.regress_program.proofs.FieldlessValueLemmas.{none, none_made}
 use Rattle.regress_program.specs.contracts.ghost_source_tree.GhostSourceTree as Carried
 use Rattle.regress_program.specs.declared.ghost_source_tree.HasTree.{Ghosts}
 use Rattle.regress_program.specs.contracts.ghost_source_tree.GhostSourceTree.of as F

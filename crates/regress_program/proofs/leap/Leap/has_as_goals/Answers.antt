@@ -1,7 +1,7 @@
 use Rattle.std.proofs.Common.{◌≡◌, ℕ, true, arith}
 use Rattle.regress_program.specs.Leaps.{is_goal_key}
 use Rattle.regress_program.specs.TableKeysOfUnits.{unit_table_of_set}
-use Rattle.regress_program.proofs.ChoiceLemmas.{below-more}
+use Rattle.regress_program.proofs.AlternationDispatchLemmas.{below-more}
 use Rattle.regress_program.proofs.leap.Leap.has_as_goals.Goals as goal
 
 pub loop-key-preserved : goal.loop-key-preserved

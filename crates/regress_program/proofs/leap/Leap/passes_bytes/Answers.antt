@@ -1,7 +1,7 @@
 use Rattle.std.proofs.Common.{◌≡◌, ℕ, true, get_or, sym, ◌∙◌, subst, arith}
 use Rattle.regress_program.specs.Leaps.{is_passed_key}
-use Rattle.regress_program.proofs.ChoiceLemmas.{below-more}
-use Rattle.regress_program.proofs.LeapChecks.{all-of-each, get-default}
+use Rattle.regress_program.proofs.AlternationDispatchLemmas.{below-more}
+use Rattle.regress_program.proofs.LeapOpsLemmas.{all-of-each, get-default}
 use Rattle.regress_program.proofs.leap.Leap.passes_bytes.Goals as goal
 
 pub loop-i-preserved : goal.loop-i-preserved

@@ -1,7 +1,7 @@
 use Rattle.std.proofs.Common.{◌≡◌, ◌≢◌, ℕ, true, arith}
 use Rattle.std.specs.Prelude.{slice_index_or}
 use Rattle.regress_program.specs.Leaps.{is_passed_key}
-use Rattle.regress_program.proofs.ChoiceLemmas.{below-more}
+use Rattle.regress_program.proofs.AlternationDispatchLemmas.{below-more}
 use Rattle.regress_program.proofs.leap.Leap.passes_class.Goals as goal
 
 pub loop-key-preserved : goal.loop-key-preserved

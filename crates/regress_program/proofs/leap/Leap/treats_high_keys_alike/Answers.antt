@@ -1,6 +1,6 @@
 use Rattle.std.proofs.Common.{◌≡◌, ◌≤◌, ℕ, arith}
 use Rattle.regress_program.specs.Leaps.{is_passed_key}
-use Rattle.regress_program.proofs.ChoiceLemmas.{below-more}
+use Rattle.regress_program.proofs.AlternationDispatchLemmas.{below-more}
 use Rattle.regress_program.proofs.leap.Leap.treats_high_keys_alike.Goals as goal
 
 pub loop-key-init : goal.loop-key-init

@@ -1,6 +1,6 @@
 use Rattle.std.proofs.Common.{◌≡◌, ℕ, true, sym, ◌∙◌, subst, arith}
 use Rattle.regress_program.specs.Leaps.{is_goal_key}
-use Rattle.regress_program.proofs.LeapChecks.{arrives-by-unit, arrives-by-units}
+use Rattle.regress_program.proofs.LeapOpsLemmas.{arrives-by-unit, arrives-by-units}
 use Rattle.regress_program.proofs.leap.LeapCheck.arrives.Goals as goal
 
 pub returns-in-OneUnit : goal.returns-in-OneUnit

@@ -1,9 +1,9 @@
 use Rattle.std.proofs.Common.{sym, ◌∙◌}
 use Rattle.regress_program.specs.Leaps.{leap_to_goal}
-use Rattle.regress_program.specs.LeapOps.{is_on_way}
+use Rattle.regress_program.specs.LeapCertificatesOfPlans.{is_on_way}
 use Rattle.regress_program.specs.TableKeysOfUnits.{is_16_bit_width}
-use Rattle.regress_program.proofs.LeapChecks.{certified}
-use Rattle.regress_program.proofs.LeapLemmas.{certified-sound}
+use Rattle.regress_program.proofs.LeapOpsLemmas.{certified}
+use Rattle.regress_program.proofs.LeapCertificatesLemmas.{certified-sound}
 use Rattle.regress_program.proofs.leap.LeapCheck.is_leap.Goals as goal
 
 pub returns : goal.returns
@@ -18,5 +18,5 @@ returns c = λ yes program ops.
       ascii = c.has_few_ascii_goals.ensures c.if-not-has_few_ascii_goals.false;
       sound =
           certified-sound wide program (leap_to_goal leap) way
-          (certified wide program plan leap way ops alike (sym c.has.ensures ∙ c.if-not-has.false) (c.all_lead.ensures yes));
+          (certified wide program plan leap way ops alike (sym c.has.ensures ∙ c.if-not-has.false) (c.every_op_on_way_reaches_goal.ensures yes));
     }

@@ -9,7 +9,7 @@ use Rattle.regress_program.specs.LookbehindFilter.{IsLookbehindFilter}
 use Rattle.regress_program.specs.PrecedingCharFilterFromOps.{FilterIncludesAllKeysOfSet}
 use Rattle.regress_program.specs.TableKeysOfUnits.{is_16_bit_width}
 use Rattle.regress_program.specs.RequiredPrefixAnalysis.{AreOpsOfProgram}
-use Rattle.regress_program.proofs.BeforeLemmas.{all-some, line-of-op}
+use Rattle.regress_program.proofs.LookbehindFilterLemmas.{all-some, line-of-op}
 use Rattle.regress_program.proofs.plan.Plan.before.Goals as goal
 
 pub returns-in-Some-LineStart : goal.returns-in-Some-LineStart

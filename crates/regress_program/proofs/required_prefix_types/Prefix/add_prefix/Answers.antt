@@ -1,6 +1,6 @@
 use Rattle.std.proofs.Common.{rules, get_or, refl, ap, ◌∙◌, arith}
 use Rattle.regress_program.specs.RequiredPrefixAnalysis.{joined_masks}
-use Rattle.regress_program.proofs.PrefixLemmas.{change-none, change-next, then-of}
+use Rattle.regress_program.proofs.RequiredPrefixLemmas.{change-none, change-next, then-of}
 use Rattle.regress_program.proofs.required_prefix_types.Prefix.add_prefix.Goals as goal
 
 pub loop-key-init : goal.loop-key-init

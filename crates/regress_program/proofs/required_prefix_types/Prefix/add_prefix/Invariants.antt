@@ -1,6 +1,6 @@
 use Rattle.std.proofs.Common.{◌≡◌, get_or}
 use Rattle.regress_program.specs.RequiredPrefixAnalysis.{joined_masks}
-use Rattle.regress_program.proofs.PrefixLemmas.{AreChanged}
+use Rattle.regress_program.proofs.RequiredPrefixLemmas.{AreChanged}
 use Rattle.regress_program.proofs.required_prefix_types.Prefix.add_prefix.Given as goal
 
 abbrev pub invariant-loop-key : goal.invariant-loop-key

@@ -1,5 +1,5 @@
 use Rattle.std.proofs.Common.{rules, ◌≡◌, ◌<◌, length, refl}
-use Rattle.regress_program.proofs.PrefixLemmas.{unit-cleared}
+use Rattle.regress_program.proofs.RequiredPrefixLemmas.{unit-cleared}
 use Rattle.regress_program.proofs.required_prefix_types.Prefix.add_unit.Goals as goal
 
 pub returns : goal.returns

@@ -2,7 +2,7 @@ use Rattle.std.proofs.Common.{rules, ◌≡◌, ◌<◌, Bool, true, false, leng
 use Rattle.std.specs.Prelude.{if◌then◌else◌}
 use Rattle.std.proofs.lemmas.List.{get_or_default}
 use Rattle.regress_program.specs.TableKeysOfUnits.{unit_table_of_set}
-use Rattle.regress_program.proofs.PrefixLemmas.{change-none, change-next, units-cleared}
+use Rattle.regress_program.proofs.RequiredPrefixLemmas.{change-none, change-next, units-cleared}
 use Rattle.regress_program.proofs.required_prefix_types.Prefix.add_units.Goals.{then-set-key, else-set-key}
 use Rattle.regress_program.proofs.required_prefix_types.Prefix.add_units.Goals as goal
 

@@ -1,6 +1,6 @@
 use Rattle.std.proofs.Common.{◌≡◌, true, bit_and, get_or}
 use Rattle.std.specs.Prelude.{if◌then◌else◌}
-use Rattle.regress_program.proofs.PrefixLemmas.{AreChanged}
+use Rattle.regress_program.proofs.RequiredPrefixLemmas.{AreChanged}
 use Rattle.regress_program.proofs.required_prefix_types.Prefix.add_units.Given as goal
 
 abbrev pub invariant-loop-key : goal.invariant-loop-key

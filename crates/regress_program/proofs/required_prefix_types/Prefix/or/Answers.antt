@@ -1,5 +1,5 @@
 use Rattle.std.proofs.Common.{rules, arith}
-use Rattle.regress_program.proofs.PrefixLemmas.{change-none, change-next, either-of}
+use Rattle.regress_program.proofs.RequiredPrefixLemmas.{change-none, change-next, either-of}
 use Rattle.regress_program.proofs.required_prefix_types.Prefix.or.Goals as goal
 
 pub loop-key-init : goal.loop-key-init

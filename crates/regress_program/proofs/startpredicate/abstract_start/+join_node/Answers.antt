@@ -6,9 +6,9 @@ use Rattle.regress_program.specs.JoinedStarts.{abstract_start_as_spec, join_none
 use Rattle.regress_program.specs.JoinedStarts.{join_starts_of_alternatives}
 use Rattle.regress_program.specs.LeafNodesAndOptimizableLoops.{cat_of}
 use Rattle.regress_program.specs.StartPredicates.{making_node_start_predicate_may_allocate}
-use Rattle.regress_program.proofs.BeginningLemmas.{arms-after, arms-next, quiet-arms}
-use Rattle.regress_program.proofs.NodeLemmas.{node_of-Cat}
-use Rattle.regress_program.proofs.Weights.{inner_node_count, weight-child}
+use Rattle.regress_program.proofs.JoinedStartsLemmas.{arms-after, arms-next, quiet-arms}
+use Rattle.regress_program.proofs.NodeListLemmas.{node_of-Cat}
+use Rattle.regress_program.proofs.InnerNodeCountLemmas.{inner_node_count, weight-child}
 use Rattle.regress_program.proofs.startpredicate.abstract_start.+join_node.Goals as goal
 
 pub join_node-join_node_list-requires : goal.join_node-join_node_list-requires

@@ -4,7 +4,7 @@ use Rattle.regex_pattern_front.specs.AstToSpecTree.{node_of}
 use Rattle.regress_program.specs.JoinedStarts.{abstract_start_as_spec, join_starts_of_alternatives}
 use Rattle.regress_program.specs.LeafNodesAndOptimizableLoops.{cat_of}
 use Rattle.regress_program.specs.StartPredicates.{making_node_start_predicate_may_allocate}
-use Rattle.regress_program.proofs.Weights.{inner_node_count}
+use Rattle.regress_program.proofs.InnerNodeCountLemmas.{inner_node_count}
 use Rattle.regress_program.proofs.startpredicate.abstract_start.+join_node.Given as goal
 
 abbrev pub decreases-join_node : goal.decreases-join_node

@@ -1,5 +1,5 @@
 use Rattle.std.proofs.Common.{◌∙◌}
-use Rattle.regress_program.proofs.BeginningLemmas.{after-nothing}
+use Rattle.regress_program.proofs.JoinedStartsLemmas.{after-nothing}
 use Rattle.regress_program.proofs.startpredicate.abstract_start.abstract_start_of.Goals as goal
 
 pub returns-clause-beginning : goal.returns-clause-beginning

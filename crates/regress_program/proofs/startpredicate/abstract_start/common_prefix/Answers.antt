@@ -1,4 +1,4 @@
-use Rattle.regress_program.proofs.BeginningLemmas.{ends_left, ends_right, differ_here, front_ends}
+use Rattle.regress_program.proofs.JoinedStartsLemmas.{ends_left, ends_right, differ_here, front_ends}
 use Rattle.regress_program.proofs.startpredicate.abstract_start.common_prefix.Goals as goal
 use Rattle.regress_program.proofs.startpredicate.abstract_start.common_prefix.Goals.{then-loop-shared-test+then-shared-ys+else-xs-shared}
 use Rattle.regress_program.proofs.startpredicate.abstract_start.common_prefix.Goals.{then-loop-shared-test+else-shared-ys, else-loop-shared-test}

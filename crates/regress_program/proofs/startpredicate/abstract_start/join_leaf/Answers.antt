@@ -1,5 +1,5 @@
 use Rattle.regex_pattern_front.specs.AstToSpecTree.{node_of}
-use Rattle.regress_program.proofs.BeginningLemmas.{leaf-after}
+use Rattle.regress_program.proofs.JoinedStartsLemmas.{leaf-after}
 use Rattle.regress_program.proofs.startpredicate.abstract_start.join_leaf.Goals as goal
 
 pub returns-clause-shared : goal.returns-clause-shared

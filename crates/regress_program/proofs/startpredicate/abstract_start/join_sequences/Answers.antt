@@ -1,7 +1,7 @@
 use Rattle.std.proofs.Common.{◌∙◌, ap, sym}
 use Rattle.std.proofs.lemmas.Bool.{eqb-true}
 use Rattle.regex_meaning.specs.StartPredicate.{union_of_byte_sets, first_byte_as_set}
-use Rattle.regress_program.proofs.BeginningLemmas.{first_bytes_alone}
+use Rattle.regress_program.proofs.JoinedStartsLemmas.{first_bytes_alone}
 use Rattle.regress_program.proofs.startpredicate.abstract_start.join_sequences.Goals as goal
 
 pub returns : goal.returns

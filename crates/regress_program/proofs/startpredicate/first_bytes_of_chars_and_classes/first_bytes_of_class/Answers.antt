@@ -1,6 +1,6 @@
 use Rattle.std.proofs.Common.{◌∙◌, ap}
 use Rattle.regex_meaning.specs.StartPredicate.{first_bytes}
-use Rattle.regress_program.proofs.ClassLemmas.{first_bytes-inverted}
+use Rattle.regress_program.proofs.FirstBytesOfSetsLemmas.{first_bytes-inverted}
 use Rattle.regress_program.proofs.startpredicate.first_bytes_of_chars_and_classes.first_bytes_of_class.Goals as goal
 
 pub returns-in_ok-outside-clause-bytes : goal.returns-in_ok-outside-clause-bytes

@@ -1,7 +1,7 @@
 use Rattle.std.proofs.Common.{◌+◌, ◌∙◌, sym, false, get_or, arith}
 use Rattle.regex_meaning.specs.NumberListHelpers.{contains}
 use Rattle.regex_pattern_front.specs.ByteSetMembers.{member_bytes_of_byte_bitmap}
-use Rattle.regex_pattern_front.proofs.AddedBytes.{with_bytes-none, with_bytes-more, with_bytes-same, with_bytes-all}
+use Rattle.regex_pattern_front.proofs.ByteSetAdditionLoop.{with_bytes-none, with_bytes-more, with_bytes-same, with_bytes-all}
 use Rattle.regress_program.proofs.startpredicate.first_bytes_of_chars_and_classes.union_byte_bitmap_into.Goals as goal
 use Rattle.regress_program.proofs.startpredicate.first_bytes_of_chars_and_classes.union_byte_bitmap_into.Goals.{then-contains, else-contains}
 

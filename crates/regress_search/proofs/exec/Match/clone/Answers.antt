@@ -1,7 +1,7 @@
 use Rattle.std.proofs.Common.{ap, map, option_map, rules}
 use Rattle.std.proofs.lemmas.List.Elements.{same_from_all_zip}
 use Rattle.regress_search.specs.MatchesAsSpecAnswers.{range_as_pair}
-use Rattle.regress_search.proofs.FirstMatch.{same-answer}
+use Rattle.regress_search.proofs.FirstMatchLemmas.{same-answer}
 use Rattle.regress_search.proofs.exec.Match.clone.Goals as goal
 
 pub returns : goal.returns

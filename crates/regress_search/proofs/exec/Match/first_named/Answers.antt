@@ -1,7 +1,7 @@
 use Rattle.std.proofs.Common.{◌<◌, length, string_bytes, bytes_eq, map, option_map, true, false, ap, sym, ◌∙◌, arith}
 use Rattle.regex_meaning.specs.Outcomes.{group_range}
 use Rattle.regress_search.specs.MatchesAsSpecAnswers.{answer_of, range_as_pair}
-use Rattle.regress_search.proofs.Groups.{found-first, other-name, none-here, is_some-image}
+use Rattle.regress_search.proofs.NamedGroupLookup.{found-first, other-name, none-here, is_some-image}
 use Rattle.regress_search.proofs.exec.Match.first_named.Goals as goal
 
 pub returns-then-is_some : goal.returns-then-is_some

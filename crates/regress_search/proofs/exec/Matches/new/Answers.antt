@@ -1,5 +1,5 @@
 use Rattle.std.proofs.Common.{ap, not}
-use Rattle.regress_search.proofs.Coming.{new-comes}
+use Rattle.regress_search.proofs.RemainingAnswerLemmas.{new-comes}
 use Rattle.regress_search.proofs.exec.Matches.new.Goals as goal
 
 pub returns-clause-answers : goal.returns-clause-answers

@@ -1,5 +1,5 @@
 use Rattle.std.proofs.Common.{not, string_bytes, ap, sym, ◌∙◌}
-use Rattle.regress_search.proofs.InTurn.{new-not_among}
+use Rattle.regress_search.proofs.GroupIteratorLemmas.{new-not_among}
 use Rattle.regress_search.proofs.exec.group_iterators.is_new.Goals as goal
 
 pub returns-then-not-is_empty : goal.returns-then-not-is_empty

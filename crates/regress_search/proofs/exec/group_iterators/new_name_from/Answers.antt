@@ -1,6 +1,6 @@
 use Rattle.std.proofs.Common.{◌+◌, ◌∷◌, map, string_bytes, take, true, false, ap, sym, ◌∙◌, arith}
 use Rattle.regress_search.specs.GroupIterators.{is_new, distinct_names_from}
-use Rattle.regress_search.proofs.InTurn.{names-here}
+use Rattle.regress_search.proofs.GroupIteratorLemmas.{names-here}
 use Rattle.regress_search.proofs.exec.group_iterators.new_name_from.Goals as goal
 
 pub returns-then-is_new : goal.returns-then-is_new

@@ -1,6 +1,6 @@
 use Rattle.std.proofs.Common.{◌<◌, length, map, string_bytes, take, true, false, ap, sym, ◌∙◌, arith}
 use Rattle.regress_search.specs.GroupIterators.{is_new}
-use Rattle.regress_search.proofs.InTurn.{names-here}
+use Rattle.regress_search.proofs.GroupIteratorLemmas.{names-here}
 use Rattle.regress_search.proofs.exec.group_iterators.new_names_from.Goals as goal
 
 pub loop-id-preserved : goal.loop-id-preserved

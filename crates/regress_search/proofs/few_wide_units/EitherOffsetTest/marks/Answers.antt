@@ -1,4 +1,4 @@
-use Rattle.regress_search.proofs.Marked.{marks-either}
+use Rattle.regress_search.proofs.MarkedOffsetLemmas.{marks-either}
 use Rattle.regress_search.proofs.few_wide_units.EitherOffsetTest.marks.Goals as goal
 
 pub returns : goal.returns

@@ -1,5 +1,5 @@
 use Rattle.std.proofs.Common.{arith}
-use Rattle.regress_search.proofs.WideLemmas.{bits-mark}
+use Rattle.regress_search.proofs.WideUnitLemmas.{bits-mark}
 use Rattle.regress_search.proofs.few_wide_units.UnitBitsOffsetTest.marks.Goals as goal
 
 pub returns : goal.returns

@@ -1,8 +1,8 @@
 use Rattle.std.proofs.Common.{refl, sym, subst}
 use Rattle.regress_machine.specs.TextsForBytePrograms.{HasUtf8CharactersAndOffsets}
-use Rattle.regress_machine.proofs.ByteTexts.{ascii_text-ReadsBytes}
-use Rattle.regress_search.proofs.Searchable.{all-ascii}
-use Rattle.regress_search.proofs.FirstMatch.{read-as}
+use Rattle.regress_machine.proofs.ByteProgramTextLemmas.{ascii_text-ReadsBytes}
+use Rattle.regress_search.proofs.SearchableProgramLemmas.{all-ascii}
+use Rattle.regress_search.proofs.FirstMatchLemmas.{read-as}
 use Rattle.regress_search.proofs.program_and_input.ProgramAndInput+AsciiInput.pair_with_ascii_text.Goals as goal
 
 pub pair_with_bytes-requires-clause-unicode : goal.pair_with_bytes-requires-clause-unicode

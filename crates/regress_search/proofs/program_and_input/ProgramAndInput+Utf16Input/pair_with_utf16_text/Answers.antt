@@ -1,5 +1,5 @@
 use Rattle.std.proofs.Common.{refl}
-use Rattle.regress_search.proofs.FirstMatch.{read-as}
+use Rattle.regress_search.proofs.FirstMatchLemmas.{read-as}
 use Rattle.regress_search.proofs.program_and_input.ProgramAndInput+Utf16Input.pair_with_utf16_text.Goals as goal
 
 pub pair_with_units-requires : goal.pair_with_units-requires

@@ -1,8 +1,8 @@
 use Rattle.std.proofs.Common.{refl, sym, subst}
 use Rattle.regress_machine.specs.TextsForBytePrograms.{HasUtf8CharactersAndOffsets}
-use Rattle.regress_machine.proofs.ByteTexts.{utf8_text-ReadsBytes}
+use Rattle.regress_machine.proofs.ByteProgramTextLemmas.{utf8_text-ReadsBytes}
 use Rattle.std.proofs.lemmas.Str.{is_utf8-from_IsUtf8}
-use Rattle.regress_search.proofs.FirstMatch.{read-as}
+use Rattle.regress_search.proofs.FirstMatchLemmas.{read-as}
 use Rattle.regress_search.proofs.program_and_input.ProgramAndInput+Utf8Input.pair_with_utf8_text.Goals as goal
 
 pub pair_with_bytes-requires-clause-unicode : goal.pair_with_bytes-requires-clause-unicode

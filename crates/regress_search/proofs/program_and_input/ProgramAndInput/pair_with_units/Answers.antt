@@ -1,7 +1,7 @@
 use Rattle.std.proofs.Common.{refl, ap, sym, ◌∙◌}
 use Rattle.regex_pattern_front.specs.AstToSpecTree.{tree_of}
 use Rattle.regress_program.specs.StartPredicates.{is_anchored_tree}
-use Rattle.regress_search.proofs.Searchable.{without-bytes}
+use Rattle.regress_search.proofs.SearchableProgramLemmas.{without-bytes}
 use Rattle.regress_search.proofs.program_and_input.ProgramAndInput.pair_with_units.Goals as goal
 
 pub invariant_of-result : goal.invariant_of-result

@@ -1,7 +1,7 @@
 use Rattle.std.proofs.Common.{◌+◌, ap, subst, sym, ◌∙◌}
 use Rattle.regex_pattern_front.specs.AstToSpecTree.{tree_of}
 use Rattle.regress_search.specs.AttemptsAndStarts.{NextStartSkipsNoMatch, offset_after_failed_attempt}
-use Rattle.regress_search.proofs.Anchored.{anchored-behind, tried-behind}
+use Rattle.regress_search.proofs.StartPredicateLemmas.{anchored-behind, tried-behind}
 use Rattle.regress_search.proofs.program_and_input.ProgramAndInput.position_after_failure.Goals as goal
 
 pub returns-clause-next : goal.returns-clause-next

@@ -9,11 +9,11 @@ use Rattle.regress_search.specs.CostsOfSearches.{SearchCosts}
 use Rattle.regress_search.specs.declared.exec.Match.{Match}
 use Rattle.regress_search.specs.MatchesWithinWork.{is_work_enough}
 use Rattle.regress_search.specs.declared.exec.SearchError.TheVariants.{Memory}
-use Rattle.regress_search.proofs.Budget.{handed, refused-last, spent-begins}
-use Rattle.regress_search.proofs.Skips.{untried, walk-begins}
-use Rattle.regress_search.proofs.Costing.{counted₁, counted₂, counted₃, failing-begins, failing-ends, failing-finds, failing-goes, failing-stops, handed-cost, stops-without}
-use Rattle.regress_search.proofs.InWork.{enough-behind, enough-next, turn-behind}
-use Rattle.regress_search.proofs.Walking.{walk-at, attempt-refused, found-there, goes-there}
+use Rattle.regress_search.proofs.StepBudgetLemmas.{handed, refused-last, spent-begins}
+use Rattle.regress_search.proofs.SkippedStartLemmas.{untried, walk-begins}
+use Rattle.regress_search.proofs.SearchCostLemmas.{counted₁, counted₂, counted₃, failing-begins, failing-ends, failing-finds, failing-goes, failing-stops, handed-cost, stops-without}
+use Rattle.regress_search.proofs.MatchesWithinWorkLemmas.{enough-behind, enough-next, turn-behind}
+use Rattle.regress_search.proofs.SearchLoopLemmas.{walk-at, attempt-refused, found-there, goes-there}
 use Rattle.regress_search.proofs.search_loop.AnyMatchProducer.next_match.Goals as goal
 
 pub places-init : goal.places-init

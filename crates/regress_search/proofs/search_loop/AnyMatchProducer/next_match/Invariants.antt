@@ -1,9 +1,9 @@
 use Rattle.std.proofs.Common.{◌≡◌, ◌≤◌, option_map, true}
 use Rattle.regress_search.specs.MatchesWithinWork.{IsOrderedAttempt, is_work_enough}
-use Rattle.regress_search.specs.CostsOfSearches.{IfCounted}
-use Rattle.regress_search.proofs.Costing.{Failing}
-use Rattle.regress_search.proofs.Skips.{untried}
-use Rattle.regress_search.proofs.Walking.{Walk}
+use Rattle.regress_search.specs.CostsOfSearches.{IfWorkIsCounted}
+use Rattle.regress_search.proofs.SearchCostLemmas.{Failing}
+use Rattle.regress_search.proofs.SkippedStartLemmas.{untried}
+use Rattle.regress_search.proofs.SearchLoopLemmas.{Walk}
 use Rattle.regress_search.proofs.search_loop.AnyMatchProducer.next_match.Given as goal
 
 abbrev pub invariant-places : goal.invariant-places
@@ -18,7 +18,7 @@ invariant-places g l =
       next_start : l.next_start ≡ l.initial.next_start;
       left : a.left l.self ≤ a.left l.initial.self;
       progress :
-          IfCounted a.counts_work (Failing a.attempt_costs (a.tree l.initial.self) (a.text l.initial.self) (a.failures l.initial.self) (offset l.fn.pos) (a.left l.initial.self)
+          IfWorkIsCounted a.counts_work (Failing a.attempt_costs (a.tree l.initial.self) (a.text l.initial.self) (a.failures l.initial.self) (offset l.fn.pos) (a.left l.initial.self)
           (a.failures l.self) (a.left l.self) (option_map offset l.next));
     }
 

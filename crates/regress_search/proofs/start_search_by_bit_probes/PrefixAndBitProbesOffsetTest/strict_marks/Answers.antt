@@ -2,7 +2,7 @@ use Rattle.std.proofs.Common.{◌≡◌, Some, arith, bit_and, slice_get, slice_
 use Rattle.std.proofs.lemmas.Option.{slice_get-get_or}
 use Rattle.regress_program.specs.declared.required_prefix_prefilters.MaskedUnitProbe.{MaskedUnitProbe}
 use Rattle.regress_search.specs.StartSearch.{prefix_fits_at}
-use Rattle.regress_search.proofs.Marked.{marks-both}
+use Rattle.regress_search.proofs.MarkedOffsetLemmas.{marks-both}
 use Rattle.regress_search.proofs.start_search_by_bit_probes.PrefixAndBitProbesOffsetTest.strict_marks.Goals as goal
 
 -- what stands for a probe where there is none

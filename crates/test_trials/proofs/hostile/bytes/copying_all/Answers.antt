@@ -1,6 +1,6 @@
 use Rattle.std.proofs.Common.{refl}
 use Rattle.regress_match.specs.ProgramTreesAndAnswers.{tree_for_byte_units}
-use Rattle.regress_match.proofs.Starts.{utf8_start}
+use Rattle.regress_match.proofs.SearchStartLemmas.{utf8_start}
 use Rattle.test_trials.proofs.hostile.bytes.copying_all.Goals as goal
 
 pub find-requires : goal.find-requires

@@ -1,4 +1,4 @@
-use Rattle.regress_match.proofs.Starts.{utf8_start}
+use Rattle.regress_match.proofs.SearchStartLemmas.{utf8_start}
 use Rattle.test_trials.proofs.hostile.bytes.copying_asked.Goals as goal
 
 pub finds-requires : goal.finds-requires

@@ -1,4 +1,4 @@
-use Rattle.regress_match.proofs.Starts.{ascii_start}
+use Rattle.regress_match.proofs.SearchStartLemmas.{ascii_start}
 use Rattle.test_trials.proofs.hostile.bytes.copying_asked_in_ascii.Goals as goal
 
 pub finds-requires : goal.finds-requires

@@ -1,4 +1,4 @@
-use Rattle.regress_match.proofs.Starts.{utf8_start}
+use Rattle.regress_match.proofs.SearchStartLemmas.{utf8_start}
 use Rattle.test_trials.proofs.hostile.limits.is_asked.Goals as goal
 
 pub answers-requires : goal.answers-requires

@@ -1,4 +1,4 @@
-use Rattle.regress_match.proofs.Starts.{utf8_start}
+use Rattle.regress_match.proofs.SearchStartLemmas.{utf8_start}
 use Rattle.test_trials.proofs.hostile.limits.is_taken.Goals as goal
 
 pub finds_both-requires-clause-first : goal.finds_both-requires-clause-first

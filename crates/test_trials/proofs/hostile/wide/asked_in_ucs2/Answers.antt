@@ -1,4 +1,4 @@
-use Rattle.regress_match.proofs.Starts.{ucs2_start}
+use Rattle.regress_match.proofs.SearchStartLemmas.{ucs2_start}
 use Rattle.test_trials.proofs.hostile.wide.asked_in_ucs2.Goals as goal
 
 pub finds-requires : goal.finds-requires

@@ -1,4 +1,4 @@
-use Rattle.regress_match.proofs.Starts.{utf16_start}
+use Rattle.regress_match.proofs.SearchStartLemmas.{utf16_start}
 use Rattle.test_trials.proofs.hostile.wide.asked_in_utf16.Goals as goal
 
 pub finds-requires : goal.finds-requires

@@ -1,9 +1,9 @@
 use Rattle.std.proofs.Common.{refl}
 use Rattle.regex_meaning.specs.Text.{ascii_text, fold_ascii}
 use Rattle.regex_meaning.specs.CodeUnits.{utf8}
-use Rattle.regress_input.proofs.HeldUnits.{numbers, stand}
-use Rattle.regress_input.proofs.OneUnit.{literal-one}
-use Rattle.regress_input.proofs.UnitsIn.{ascii_text-units_in}
+use Rattle.regress_input.proofs.StoredUnitLemmas.{numbers, stand}
+use Rattle.regress_input.proofs.OneUnitCharacters.{literal-one}
+use Rattle.regress_input.proofs.UnitsOfInputTexts.{ascii_text-units_in}
 use Rattle.regress_input.proofs.indexing.ascii_input.AsciiInputInputIndexer.code_units.Goals as goal
 
 pub returns-clause-units : goal.returns-clause-units

@@ -1,6 +1,6 @@
 use Rattle.std.proofs.Common.{◌-◌, arith}
 use Rattle.regex_meaning.specs.Text.{fold_ascii}
-use Rattle.regress_input.proofs.OneUnit.{inside, reads-back}
+use Rattle.regress_input.proofs.OneUnitCharacters.{inside, reads-back}
 use Rattle.regress_input.proofs.indexing.ascii_input.AsciiInputInputIndexer.read_existing_char_left.Goals as goal
 
 pub bounds-self-start : goal.bounds-self-start

@@ -1,6 +1,6 @@
 use Rattle.std.proofs.Common.{arith}
 use Rattle.regex_meaning.specs.Text.{fold_ascii}
-use Rattle.regress_input.proofs.OneUnit.{within, reads-on}
+use Rattle.regress_input.proofs.OneUnitCharacters.{within, reads-on}
 use Rattle.regress_input.proofs.indexing.ascii_input.AsciiInputInputIndexer.read_existing_char_right.Goals as goal
 
 pub bounds-self-pos : goal.bounds-self-pos

@@ -1,5 +1,5 @@
 use Rattle.regex_meaning.specs.Text.{fold_ascii}
-use Rattle.regress_input.proofs.OneUnit.{inside, part-one}
+use Rattle.regress_input.proofs.OneUnitCharacters.{inside, part-one}
 use Rattle.regress_input.proofs.indexing.ascii_input.AsciiInputInputIndexer.text_between.Goals as goal
 
 pub slice_bounds-result-end : goal.slice_bounds-result-end

@@ -1,9 +1,9 @@
 use Rattle.std.proofs.Common.{refl}
 use Rattle.regex_meaning.specs.Text.{ucs2_text, fold_code_point}
 use Rattle.regex_meaning.specs.CodeUnits.{ucs2}
-use Rattle.regress_input.proofs.HeldUnits.{numbers, stand}
-use Rattle.regress_input.proofs.OneUnit.{literal-one}
-use Rattle.regress_input.proofs.UnitsIn.{ucs2_text-units_in}
+use Rattle.regress_input.proofs.StoredUnitLemmas.{numbers, stand}
+use Rattle.regress_input.proofs.OneUnitCharacters.{literal-one}
+use Rattle.regress_input.proofs.UnitsOfInputTexts.{ucs2_text-units_in}
 use Rattle.regress_input.proofs.indexing.ucs2_input.Ucs2InputInputIndexer.code_units.Goals as goal
 
 pub returns-clause-units : goal.returns-clause-units

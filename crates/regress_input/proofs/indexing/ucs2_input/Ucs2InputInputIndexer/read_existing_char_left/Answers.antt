@@ -1,6 +1,6 @@
 use Rattle.std.proofs.Common.{◌-◌, arith}
 use Rattle.regex_meaning.specs.Text.{fold_code_point}
-use Rattle.regress_input.proofs.OneUnit.{inside, reads-back}
+use Rattle.regress_input.proofs.OneUnitCharacters.{inside, reads-back}
 use Rattle.regress_input.proofs.indexing.ucs2_input.Ucs2InputInputIndexer.read_existing_char_left.Goals as goal
 
 pub offset_bounds-self-start : goal.offset_bounds-self-start

@@ -1,9 +1,9 @@
 use Rattle.std.proofs.Common.{refl}
 use Rattle.regex_meaning.specs.Text.{utf16_text}
 use Rattle.regex_meaning.specs.CodeUnits.{utf16}
-use Rattle.regress_input.proofs.HeldUnits.{numbers, stand}
+use Rattle.regress_input.proofs.StoredUnitLemmas.{numbers, stand}
 use Rattle.regress_input.proofs.Utf16Slices.{literal}
-use Rattle.regress_input.proofs.UnitsIn.{utf16_text-units_in}
+use Rattle.regress_input.proofs.UnitsOfInputTexts.{utf16_text-units_in}
 use Rattle.regress_input.proofs.indexing.utf16_input.Utf16InputInputIndexer.code_units.Goals as goal
 
 pub returns-clause-units : goal.returns-clause-units

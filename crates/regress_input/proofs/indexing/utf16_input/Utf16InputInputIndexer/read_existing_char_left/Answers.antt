@@ -1,5 +1,5 @@
 use Rattle.std.proofs.Common.{Some, sym, ◌∙◌, ap, arith}
-use Rattle.regress_input.proofs.Places.{pair}
+use Rattle.regress_input.proofs.BoundaryPositions.{pair}
 use Rattle.regress_input.proofs.Utf16Reads.{inside, left-is}
 use Rattle.regress_input.proofs.indexing.utf16_input.Utf16InputInputIndexer.read_existing_char_left.Goals as goal
 

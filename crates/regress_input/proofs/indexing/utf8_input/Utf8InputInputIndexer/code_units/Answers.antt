@@ -1,8 +1,8 @@
 use Rattle.regex_meaning.specs.Text.{utf8_text}
 use Rattle.regex_meaning.specs.CodeUnits.{utf8}
-use Rattle.regress_input.proofs.HeldUnits.{numbers, stand}
+use Rattle.regress_input.proofs.StoredUnitLemmas.{numbers, stand}
 use Rattle.regress_input.proofs.Utf8Slices.{literal}
-use Rattle.regress_input.proofs.UnitsIn.{utf8_text-units_in}
+use Rattle.regress_input.proofs.UnitsOfInputTexts.{utf8_text-units_in}
 use Rattle.regress_input.proofs.indexing.utf8_input.Utf8InputInputIndexer.code_units.Goals as goal
 
 pub returns-clause-units : goal.returns-clause-units

@@ -1,5 +1,5 @@
 use Rattle.std.proofs.Common.{Some, sym, ◌∙◌, ap, arith}
-use Rattle.regress_input.proofs.Places.{pair}
+use Rattle.regress_input.proofs.BoundaryPositions.{pair}
 use Rattle.regress_input.proofs.Utf8Reads.{ends_at, read-character-left}
 use Rattle.regress_input.proofs.indexing.utf8_input.Utf8InputInputIndexer.read_existing_char_left.Goals as goal
 

@@ -1,5 +1,5 @@
 use Rattle.std.proofs.Common.{Some, sym, ◌∙◌, ap}
-use Rattle.regress_input.proofs.Places.{pair}
+use Rattle.regress_input.proofs.BoundaryPositions.{pair}
 use Rattle.regress_input.proofs.Utf8Reads.{stands_at, read-character, not-ended}
 use Rattle.regress_input.proofs.indexing.utf8_input.Utf8InputInputIndexer.read_existing_char_right.Goals as goal
 

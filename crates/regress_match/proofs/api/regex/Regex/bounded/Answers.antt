@@ -1,6 +1,6 @@
 use Rattle.std.proofs.Common.{ap, refl}
 use Rattle.regex_pattern_front.specs.AstToSpecTree.{tree_of}
-use Rattle.regress_match.proofs.WorkLemmas.{bound-came, bytes-unbounded, plain-came, units-unbounded}
+use Rattle.regress_match.proofs.WorkBoundLemmas.{bound-came, bytes-unbounded, plain-came, units-unbounded}
 use Rattle.regress_match.proofs.api.regex.Regex.bounded.Goals as goal
 
 pub returns-clause-enough : goal.returns-clause-enough

@@ -1,4 +1,4 @@
-use Rattle.regress_match.proofs.CallerLemmas.{first-fits}
+use Rattle.regress_match.proofs.MatchRangeLemmas.{first-fits}
 use Rattle.regress_match.proofs.FlagLemmas.{IfOk-map}
 use Rattle.regress_match.proofs.api.regex.Regex.find.Goals as goal
 

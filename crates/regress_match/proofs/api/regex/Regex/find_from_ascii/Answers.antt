@@ -1,9 +1,9 @@
 use Rattle.std.proofs.Common.{◌∙◌, ap, nat_le, not, refl, subst, sym}
 use Rattle.regress_match.specs.ProgramTreesAndAnswers.{tree_for_byte_units}
 use Rattle.regress_match.specs.ExpansionsAndMatchRanges.{MatchesFitTextInOrderFrom}
-use Rattle.regress_match.proofs.CallerLemmas.{ascii-stand}
+use Rattle.regress_match.proofs.MatchRangeLemmas.{ascii-stand}
 use Rattle.regress_match.proofs.FlagLemmas.{IfOk-map}
-use Rattle.regress_match.proofs.Starts.{ascii_start, ascii_units}
+use Rattle.regress_match.proofs.SearchStartLemmas.{ascii_start, ascii_units}
 use Rattle.regress_match.proofs.api.regex.Regex.find_from_ascii.Goals as goal
 
 pub search_with_executor_from-requires : goal.search_with_executor_from-requires

@@ -1,8 +1,8 @@
 use Rattle.std.proofs.Common.{◌≡◌, ◌∙◌, ap, nat_le, not, rules, subst, sym}
 use Rattle.regress_match.specs.ProgramTreesAndAnswers.{utf8_answers_within_steps}
 use Rattle.regress_match.specs.ExpansionsAndMatchRanges.{MatchesFitTextInOrderFrom}
-use Rattle.regress_match.proofs.CallerLemmas.{matches-stand, within-stand}
-use Rattle.regress_match.proofs.Starts.{utf8_start, utf8_units}
+use Rattle.regress_match.proofs.MatchRangeLemmas.{matches-stand, within-stand}
+use Rattle.regress_match.proofs.SearchStartLemmas.{utf8_start, utf8_units}
 use Rattle.regress_match.proofs.api.regex.Regex.find_from_limited.Goals as goal
 
 pub new-matches-requires : goal.new-matches-requires

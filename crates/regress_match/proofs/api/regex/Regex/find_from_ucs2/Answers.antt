@@ -1,5 +1,5 @@
 use Rattle.std.proofs.Common.{◌∙◌, ap, nat_le, not}
-use Rattle.regress_match.proofs.Starts.{ucs2_start, ucs2_units}
+use Rattle.regress_match.proofs.SearchStartLemmas.{ucs2_start, ucs2_units}
 use Rattle.regress_match.proofs.api.regex.Regex.find_from_ucs2.Goals as goal
 
 pub new-requires : goal.new-requires

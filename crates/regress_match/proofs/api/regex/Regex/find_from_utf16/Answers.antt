@@ -1,5 +1,5 @@
 use Rattle.std.proofs.Common.{◌∙◌, ap, nat_le, not}
-use Rattle.regress_match.proofs.Starts.{utf16_start, utf16_units}
+use Rattle.regress_match.proofs.SearchStartLemmas.{utf16_start, utf16_units}
 use Rattle.regress_match.proofs.api.regex.Regex.find_from_utf16.Goals as goal
 
 pub new-requires : goal.new-requires

@@ -11,7 +11,7 @@ use Rattle.regex_parser.specs.ParseErrors.{IsParseErrorIn}
 use Rattle.regex_meaning.specs.Grammar.{ParsesBy}
 use Rattle.regex_parser.specs.SyntaxDialects.{spec_syntax_of}
 use Rattle.regress_match.specs.CompileErrors.{error_of_emit, error_of_parse}
-use Rattle.regress_match.proofs.RefusalLemmas.{parse-refuses, emit-refuses, err-refused, reads-not}
+use Rattle.regress_match.proofs.CompileErrorLemmas.{parse-refuses, emit-refuses, err-refused, reads-not}
 use Rattle.regress_match.proofs.api.regex.Regex.from_unicode_with_syntax.Goals as goal
 
 pub returns-clause-compiled : goal.returns-clause-compiled

@@ -1,11 +1,11 @@
 use Rattle.std.proofs.Common.{refl}
 use Rattle.regex_meaning.specs.Text.{utf8_text}
 use Rattle.regress_match.proofs.FlagLemmas.{IfOk-map}
-use Rattle.regex_meaning.proofs.TextLemmas.{utf8_text-IsText}
+use Rattle.regex_meaning.proofs.CodeUnitOffsetsLemmas.{utf8_text-IsText}
 use Rattle.regress_match.specs.ProgramTreesAndAnswers.{bytes_as_utf8_text, tree_for_byte_units}
-use Rattle.regress_match.proofs.CallerLemmas.{matches-stand}
-use Rattle.regress_match.proofs.FoundLemmas.{at-fits_text, at-found}
-use Rattle.regress_match.proofs.Starts.{utf8_start}
+use Rattle.regress_match.proofs.MatchRangeLemmas.{matches-stand}
+use Rattle.regress_match.proofs.FirstMatchLemmas.{at-fits_text, at-found}
+use Rattle.regress_match.proofs.SearchStartLemmas.{utf8_start}
 use Rattle.regress_match.proofs.api.regex.Regex.match_at.Goals as goal
 
 pub match_at-requires : goal.match_at-requires

@@ -1,10 +1,10 @@
 use Rattle.regex_meaning.specs.Text.{ascii_text}
 use Rattle.regress_match.proofs.FlagLemmas.{IfOk-map}
-use Rattle.regex_meaning.proofs.TextLemmas.{ascii_text-IsText}
+use Rattle.regex_meaning.proofs.CodeUnitOffsetsLemmas.{ascii_text-IsText}
 use Rattle.regress_match.specs.ProgramTreesAndAnswers.{bytes_as_ascii_text, tree_for_byte_units}
-use Rattle.regress_match.proofs.CallerLemmas.{ascii-stand}
-use Rattle.regress_match.proofs.FoundLemmas.{at-fits_text, at-found}
-use Rattle.regress_match.proofs.Starts.{ascii_start}
+use Rattle.regress_match.proofs.MatchRangeLemmas.{ascii-stand}
+use Rattle.regress_match.proofs.FirstMatchLemmas.{at-fits_text, at-found}
+use Rattle.regress_match.proofs.SearchStartLemmas.{ascii_start}
 use Rattle.regress_match.proofs.api.regex.Regex.match_at_ascii.Goals as goal
 
 pub match_at-requires : goal.match_at-requires

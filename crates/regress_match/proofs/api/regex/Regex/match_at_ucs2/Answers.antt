@@ -1,11 +1,11 @@
 use Rattle.std.proofs.Common.{refl}
 use Rattle.regex_meaning.specs.Text.{ucs2_text}
 use Rattle.regress_match.proofs.FlagLemmas.{IfOk-map}
-use Rattle.regex_meaning.proofs.TextLemmas.{ucs2_text-IsText}
-use Rattle.regex_meaning.proofs.UnitLengths.{ucs2_text-units}
+use Rattle.regex_meaning.proofs.CodeUnitOffsetsLemmas.{ucs2_text-IsText}
+use Rattle.regex_meaning.proofs.CodeUnitLengthLemmas.{ucs2_text-units}
 use Rattle.regress_match.specs.ProgramTreesAndAnswers.{units_as_ucs2_text, tree_for_16_bit_units}
-use Rattle.regress_match.proofs.FoundLemmas.{at-fits_units, at-found}
-use Rattle.regress_match.proofs.Starts.{ucs2_start}
+use Rattle.regress_match.proofs.FirstMatchLemmas.{at-fits_units, at-found}
+use Rattle.regress_match.proofs.SearchStartLemmas.{ucs2_start}
 use Rattle.regress_match.proofs.api.regex.Regex.match_at_ucs2.Goals as goal
 
 pub match_at-requires : goal.match_at-requires

@@ -1,11 +1,11 @@
 use Rattle.std.proofs.Common.{refl}
 use Rattle.regex_meaning.specs.Text.{utf16_text}
 use Rattle.regress_match.proofs.FlagLemmas.{IfOk-map}
-use Rattle.regex_meaning.proofs.TextLemmas.{utf16_text-IsText}
-use Rattle.regex_meaning.proofs.UnitLemmas.{units-utf16}
+use Rattle.regex_meaning.proofs.CodeUnitOffsetsLemmas.{utf16_text-IsText}
+use Rattle.regex_meaning.proofs.UnitBoundaryLemmas.{units-utf16}
 use Rattle.regress_match.specs.ProgramTreesAndAnswers.{units_as_utf16_text, tree_for_16_bit_units}
-use Rattle.regress_match.proofs.FoundLemmas.{at-fits_units, at-found}
-use Rattle.regress_match.proofs.Starts.{utf16_start}
+use Rattle.regress_match.proofs.FirstMatchLemmas.{at-fits_units, at-found}
+use Rattle.regress_match.proofs.SearchStartLemmas.{utf16_start}
 use Rattle.regress_match.proofs.api.regex.Regex.match_at_utf16.Goals as goal
 
 pub match_at-requires : goal.match_at-requires

@@ -1,10 +1,10 @@
 use Rattle.std.proofs.Common.{◌≡◌, ap, refl, string_bytes}
 use Rattle.regress_search.specs.MatchesAsSpecAnswers.{answer_of}
 use Rattle.regress_search.specs.RemainingAnswers.{RemainingView}
-use Rattle.regress_match.proofs.Answering.{IsBegun, begins, ends, goes-answered, refuses-answered}
+use Rattle.regress_match.proofs.ClosureReplacementLemmas.{IsBegun, begins, ends, goes-answered, refuses-answered}
 use Rattle.regress_match.specs.StringClosures.{ClosureCanBeCalled}
-use Rattle.regress_match.proofs.CallerLemmas.{IsReached, reached-none, takes-next}
-use Rattle.regress_match.proofs.Replacing.{callable-all, callable-next, callable-rest}
+use Rattle.regress_match.proofs.MatchRangeLemmas.{IsReached, reached-none, takes-next}
+use Rattle.regress_match.proofs.StringClosureLemmas.{callable-all, callable-next, callable-rest}
 use Rattle.regress_match.proofs.api.replace.closures.replace_each_match.Given as given
 use Rattle.regress_match.proofs.api.replace.closures.replace_each_match.Given.{Over}
 use Rattle.regress_match.proofs.api.replace.closures.replace_each_match.Goals.{In_ok-append_closure_result}

@@ -1,7 +1,7 @@
 use Rattle.std.proofs.Common.{string_bytes}
 use Rattle.regress_match.specs.StringClosures.{ClosureCanBeCalled}
-use Rattle.regress_match.proofs.CallerLemmas.{IsReached}
-use Rattle.regress_match.proofs.Answering.{IsBegun}
+use Rattle.regress_match.proofs.MatchRangeLemmas.{IsReached}
+use Rattle.regress_match.proofs.ClosureReplacementLemmas.{IsBegun}
 use Rattle.regress_match.proofs.api.replace.closures.replace_each_match.Given as goal
 
 abbrev pub invariant-loop-item : goal.invariant-loop-item

@@ -1,8 +1,8 @@
 use Rattle.std.proofs.Common.{ap, refl, string_bytes, take, []}
 use Rattle.std.proofs.lemmas.Str.{IsCharBoundary-start}
 use Rattle.regress_search.specs.MatchesAsSpecAnswers.{answer_of}
-use Rattle.regress_match.proofs.Answering.{begins, ends, goes-answered, refuses-answered}
-use Rattle.regress_match.proofs.CallerLemmas.{reached-none, takes-next}
+use Rattle.regress_match.proofs.ClosureReplacementLemmas.{begins, ends, goes-answered, refuses-answered}
+use Rattle.regress_match.proofs.MatchRangeLemmas.{reached-none, takes-next}
 use Rattle.regress_match.proofs.api.replace.closures.write_first.Goals as goal
 
 pub append_rest-requires : goal.append_rest-requires

@@ -2,7 +2,7 @@ use Rattle.std.proofs.Common.{◌∙◌, ap, arith, rules, string_bytes}
 use Rattle.std.proofs.lemmas.Str.Pattern.{split_once_first}
 use Rattle.regress_search.specs.MatchesAsSpecAnswers.{answer_of}
 use Rattle.regress_match.specs.ReplacementPartsAsSpecParts.{spec_parts_of_substitution}
-use Rattle.regress_match.proofs.Expansion.{expansion-more, expansion-end, left-less}
+use Rattle.regress_match.proofs.ReplacementExpansionLemmas.{expansion-more, expansion-end, left-less}
 use Rattle.regress_match.proofs.api.replace.expansion.expand.Goals as goal
 
 pub loop-before-preserved : goal.loop-before-preserved

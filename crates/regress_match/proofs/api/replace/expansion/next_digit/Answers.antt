@@ -1,5 +1,5 @@
 use Rattle.std.proofs.Common.{rules}
-use Rattle.regress_match.proofs.Expansion.{behind-first}
+use Rattle.regress_match.proofs.ReplacementExpansionLemmas.{behind-first}
 use Rattle.regress_match.proofs.api.replace.expansion.next_digit.Goals as goal
 
 pub range_from-requires : goal.range_from-requires

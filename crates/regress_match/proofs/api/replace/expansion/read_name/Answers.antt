@@ -1,6 +1,6 @@
 use Rattle.std.proofs.Common.{◌∙◌, ap, refl, sym, arith}
 use Rattle.std.proofs.lemmas.Str.Pattern.{split_once_first}
-use Rattle.regress_match.proofs.Expansion.{behind-first, name-read, name-unclosed}
+use Rattle.regress_match.proofs.ReplacementExpansionLemmas.{behind-first, name-read, name-unclosed}
 use Rattle.regress_match.proofs.api.replace.expansion.read_name.Goals as goal
 
 pub range_from-requires : goal.range_from-requires

@@ -4,7 +4,7 @@ use Rattle.regex_meaning.specs.Replace.{literal, group_part, named_part, text_of
 use Rattle.regress_search.specs.MatchesAsSpecAnswers.{answer_of, range_as_pair}
 use Rattle.regress_match.specs.ReplacementPartsAsSpecParts.{spec_parts_of_substitution}
 use Rattle.regress_match.specs.ExpansionsAndMatchRanges.{IsCharBoundaryRange}
-use Rattle.regress_match.proofs.Expansion.{named-fits, dollar-written, part-written}
+use Rattle.regress_match.proofs.ReplacementExpansionLemmas.{named-fits, dollar-written, part-written}
 use Rattle.regress_match.proofs.api.replace.expansion.write_part.Goals as goal
 
 pub append_text_of_range-requires-in-Named : goal.append_text_of_range-requires-in-Named

@@ -4,9 +4,9 @@ use Rattle.regex_pattern_front.specs.AstToSpecTree.{tree_of}
 use Rattle.regress_bounded.specs.WorkBoundForAllMatches.{TreeHasWorkBound}
 use Rattle.regress_match.specs.ProgramTreesAndAnswers.{tree_for_byte_units}
 use Rattle.regress_match.specs.ExpansionsAndMatchRanges.{MatchesFitTextInOrderFrom}
-use Rattle.regress_match.proofs.CallerLemmas.{matches-stand}
-use Rattle.regress_match.proofs.Starts.{utf8_start, utf8_units}
-use Rattle.regress_match.proofs.WorkLemmas.{bound-Begins, bound-Yields, higher-left}
+use Rattle.regress_match.proofs.MatchRangeLemmas.{matches-stand}
+use Rattle.regress_match.proofs.SearchStartLemmas.{utf8_start, utf8_units}
+use Rattle.regress_match.proofs.WorkBoundLemmas.{bound-Begins, bound-Yields, higher-left}
 use Rattle.regress_match.proofs.api.work_budget_searches.BoundedRegex.find_from.Goals as goal
 
 pub matches_utf8-requires : goal.matches_utf8-requires

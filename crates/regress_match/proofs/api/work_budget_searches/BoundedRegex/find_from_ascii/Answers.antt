@@ -4,9 +4,9 @@ use Rattle.regex_pattern_front.specs.AstToSpecTree.{tree_of}
 use Rattle.regress_bounded.specs.WorkBoundForAllMatches.{TreeHasWorkBound}
 use Rattle.regress_match.specs.ProgramTreesAndAnswers.{tree_for_byte_units}
 use Rattle.regress_match.specs.ExpansionsAndMatchRanges.{MatchesFitTextInOrderFrom}
-use Rattle.regress_match.proofs.CallerLemmas.{ascii-stand}
-use Rattle.regress_match.proofs.Starts.{ascii_start, ascii_units}
-use Rattle.regress_match.proofs.WorkLemmas.{bound-Begins, bound-Yields, higher-left}
+use Rattle.regress_match.proofs.MatchRangeLemmas.{ascii-stand}
+use Rattle.regress_match.proofs.SearchStartLemmas.{ascii_start, ascii_units}
+use Rattle.regress_match.proofs.WorkBoundLemmas.{bound-Begins, bound-Yields, higher-left}
 use Rattle.regress_match.proofs.api.work_budget_searches.BoundedRegex.find_from_ascii.Goals as goal
 
 pub matches_ascii-requires : goal.matches_ascii-requires

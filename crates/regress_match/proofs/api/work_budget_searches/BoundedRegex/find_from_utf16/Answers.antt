@@ -3,8 +3,8 @@ use Rattle.regex_meaning.specs.Text.{utf16_text}
 use Rattle.regex_pattern_front.specs.AstToSpecTree.{tree_of}
 use Rattle.regress_bounded.specs.WorkBoundForAllMatches.{TreeHasWorkBound}
 use Rattle.regress_match.specs.ProgramTreesAndAnswers.{tree_for_16_bit_units}
-use Rattle.regress_match.proofs.Starts.{utf16_start, utf16_units}
-use Rattle.regress_match.proofs.WorkLemmas.{bound-Begins, bound-Yields, higher-right}
+use Rattle.regress_match.proofs.SearchStartLemmas.{utf16_start, utf16_units}
+use Rattle.regress_match.proofs.WorkBoundLemmas.{bound-Begins, bound-Yields, higher-right}
 use Rattle.regress_match.proofs.api.work_budget_searches.BoundedRegex.find_from_utf16.Goals as goal
 
 pub matches_utf16-requires : goal.matches_utf16-requires

@@ -7,11 +7,11 @@ use Rattle.regress_program.specs.CompilationOfTreesAsFunction.{code_of, loop_cou
 use Rattle.regress_program.specs.InnerNodeCountMeasure.{inner_node_count}
 use Rattle.regress_program.specs.EmitterStateAndAppendedCode.{HasIndexRoomForNode, node_with_char_loops_if_enabled, emitter_state, with_code}
 use Rattle.regress_program.specs.PendingEmission.{node_measure}
-use Rattle.regress_program.proofs.EmitLemmas.{room-unnamed}
-use Rattle.regress_program.proofs.LeafLemmas.{leaf-left}
-use Rattle.regress_program.proofs.NodeLemmas.{node_of-Cat}
-use Rattle.regress_program.proofs.ShapedLemmas.{shaped-leaf}
-use Rattle.regress_program.proofs.RemainingLemmas.{begun-cheap, begun-whole, grows-code}
+use Rattle.regress_program.proofs.AppendedCodeLemmas.{room-unnamed}
+use Rattle.regress_program.proofs.NodeKindLemmas.{leaf-left}
+use Rattle.regress_program.proofs.NodeListLemmas.{node_of-Cat}
+use Rattle.regress_program.proofs.CharLoopNodeLemmas.{shaped-leaf}
+use Rattle.regress_program.proofs.PendingEmissionLemmas.{begun-cheap, begun-whole, grows-code}
 use Rattle.regress_program.proofs.emit.emitter.Emitter.begin.Goals as goal
 
 pub begin_group-requires-clause-room : goal.begin_group-requires-clause-room

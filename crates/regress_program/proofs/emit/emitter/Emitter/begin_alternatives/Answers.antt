@@ -8,7 +8,7 @@ use Rattle.regex_pattern_front.specs.AstToSpecTree.{node_of}
 use Rattle.regress_program.specs.InnerNodeCountMeasure.{inner_node_count}
 use Rattle.regress_program.specs.EmitterStateAndAppendedCode.{node_with_char_loops_if_enabled, emitter_state, with_code}
 use Rattle.regress_program.specs.PendingEmission.{node_measure, pending_measure, is_emittable, with_pending}
-use Rattle.regress_program.proofs.RemainingLemmas.{begun-two, grows-put, place-put, put-alternatives}
+use Rattle.regress_program.proofs.PendingEmissionLemmas.{begun-two, grows-put, place-put, put-alternatives}
 use Rattle.regress_program.proofs.emit.emitter.Emitter.begin_alternatives.Goals as goal
 
 pub returns : goal.returns

@@ -5,8 +5,8 @@ use Rattle.regex_pattern_front.specs.AstToSpecTree.{node_of}
 use Rattle.regress_program.specs.InnerNodeCountMeasure.{inner_node_count}
 use Rattle.regress_program.specs.EmitterStateAndAppendedCode.{node_with_char_loops_if_enabled, emitter_state, with_code, with_insn_appended}
 use Rattle.regress_program.specs.PendingEmission.{node_measure, pending_measure, is_emittable, with_pending}
-use Rattle.regress_program.proofs.EmitLemmas.{with_code-capture_group}
-use Rattle.regress_program.proofs.RemainingLemmas.{begun-two, grows-put}
+use Rattle.regress_program.proofs.AppendedCodeLemmas.{with_code-capture_group}
+use Rattle.regress_program.proofs.PendingEmissionLemmas.{begun-two, grows-put}
 use Rattle.regress_program.proofs.emit.emitter.Emitter.begin_group.Goals as goal
 
 pub returns : goal.returns

@@ -5,7 +5,7 @@ use Rattle.regress_program.specs.InsnsAsSpec.{insn_as_spec_insn}
 use Rattle.regress_program.specs.InnerNodeCountMeasure.{inner_node_count}
 use Rattle.regress_program.specs.EmitterStateAndAppendedCode.{lookaround_as_spec, node_with_char_loops_if_enabled, emitter_state, with_code}
 use Rattle.regress_program.specs.PendingEmission.{node_measure, pending_measure, is_emittable, with_pending}
-use Rattle.regress_program.proofs.RemainingLemmas.{begun-two, grows-put, place-put, put-lookaround}
+use Rattle.regress_program.proofs.PendingEmissionLemmas.{begun-two, grows-put, place-put, put-lookaround}
 use Rattle.regress_program.proofs.emit.emitter.Emitter.begin_lookaround.Goals as goal
 
 pub returns : goal.returns

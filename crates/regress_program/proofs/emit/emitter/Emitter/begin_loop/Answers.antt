@@ -5,8 +5,8 @@ use Rattle.regress_program.specs.declared.instructions.LoopFields.{LoopFields}
 use Rattle.regress_program.specs.InnerNodeCountMeasure.{inner_node_count}
 use Rattle.regress_program.specs.EmitterStateAndAppendedCode.{node_with_char_loops_if_enabled, emitter_state, with_code}
 use Rattle.regress_program.specs.PendingEmission.{node_measure, pending_measure, is_emittable, with_pending}
-use Rattle.regress_program.proofs.EmitLemmas.{loop_fits}
-use Rattle.regress_program.proofs.RemainingLemmas.{begun-two, grows-loop, place-loop, put-loop}
+use Rattle.regress_program.proofs.AppendedCodeLemmas.{loop_fits}
+use Rattle.regress_program.proofs.PendingEmissionLemmas.{begun-two, grows-loop, place-loop, put-loop}
 use Rattle.regress_program.proofs.emit.emitter.Emitter.begin_loop.Goals as goal
 
 pub increment_loop_count-requires : goal.increment_loop_count-requires

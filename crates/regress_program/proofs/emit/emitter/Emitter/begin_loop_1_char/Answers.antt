@@ -6,8 +6,8 @@ use Rattle.regex_pattern_front.specs.AstToSpecTree.{node_of, spec_quantifier_of}
 use Rattle.regress_program.specs.InnerNodeCountMeasure.{inner_node_count}
 use Rattle.regress_program.specs.EmitterStateAndAppendedCode.{node_with_char_loops_if_enabled, emitter_state, with_code, with_insn_appended}
 use Rattle.regress_program.specs.PendingEmission.{node_measure, pending_measure, is_emittable, with_pending}
-use Rattle.regress_program.proofs.EmitLemmas.{with_code-loop_1_char_body}
-use Rattle.regress_program.proofs.RemainingLemmas.{begun-one, grows-put}
+use Rattle.regress_program.proofs.AppendedCodeLemmas.{with_code-loop_1_char_body}
+use Rattle.regress_program.proofs.PendingEmissionLemmas.{begun-one, grows-put}
 use Rattle.regress_program.proofs.emit.emitter.Emitter.begin_loop_1_char.Goals as goal
 
 pub returns : goal.returns

@@ -4,7 +4,7 @@ use Rattle.regex_meaning.specs.WellFormedTrees.{set_sizes_and_characters_fit_ins
 use Rattle.regress_program.specs.LeafNodesAndOptimizableLoops.{cat_of}
 use Rattle.regress_program.specs.InnerNodeCountMeasure.{inner_node_count}
 use Rattle.regress_program.specs.EmitterStateAndAppendedCode.{HasIndexRoomForNode, node_with_char_loops_if_enabled, emitter_state, with_code}
-use Rattle.regress_program.proofs.RemainingLemmas.{Grows}
+use Rattle.regress_program.proofs.PendingEmissionLemmas.{Grows}
 use Rattle.regress_program.proofs.emit.emitter.Emitter.begin_node_list.Given as goal
 
 abbrev pub invariant-loop-first : goal.invariant-loop-first

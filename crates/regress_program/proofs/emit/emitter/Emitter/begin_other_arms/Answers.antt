@@ -2,7 +2,7 @@ use Rattle.std.proofs.Common.{◌+◌, arith}
 use Rattle.regex_pattern_front.specs.AstToSpecTree.{node_of}
 use Rattle.regress_program.specs.EmitterStateAndAppendedCode.{node_with_char_loops_if_enabled, emitter_state}
 use Rattle.regress_program.specs.PendingEmission.{node_measure, pending_measure, is_emittable, with_pending, with_alternatives_emitted}
-use Rattle.regress_program.proofs.RemainingLemmas.{arm-ended, begun-two, grows-arm, place-arm, put-others}
+use Rattle.regress_program.proofs.PendingEmissionLemmas.{arm-ended, begun-two, grows-arm, place-arm, put-others}
 use Rattle.regress_program.proofs.emit.emitter.Emitter.begin_other_arms.Goals as goal
 
 pub returns : goal.returns

@@ -5,7 +5,7 @@ use Rattle.regex_meaning.specs.WellFormedTrees.{set_sizes_and_characters_fit_ins
 use Rattle.regex_pattern_front.specs.AstToSpecTree.{node_of}
 use Rattle.regress_program.specs.EmitterStateAndAppendedCode.{node_with_char_loops_if_enabled, emitter_state, with_code}
 use Rattle.regress_program.specs.PendingEmission.{are_emittable, is_emittable, with_all_pending, with_pending}
-use Rattle.regress_program.proofs.RemainingLemmas.{fits-of, next-can, next-code, next-less, next-ready}
+use Rattle.regress_program.proofs.PendingEmissionLemmas.{fits-of, next-can, next-code, next-less, next-ready}
 use Rattle.regress_program.proofs.emit.emitter.Emitter.emit.Goals as goal
 
 pub loop-next-init : goal.loop-next-init

@@ -3,7 +3,7 @@ use Rattle.std.proofs.lemmas.List.{length-map}
 use Rattle.regex_meaning.specs.CompilationRelation.{is_uninverted_ascii_class}
 use Rattle.regex_pattern_front.specs.AstToSpecTree.{class_as_spec}
 use Rattle.regress_program.specs.EmitterStateAndAppendedCode.{emitter_state}
-use Rattle.regress_program.proofs.EmitLemmas.{with_code-ascii, with_code-bracket}
+use Rattle.regress_program.proofs.AppendedCodeLemmas.{with_code-ascii, with_code-bracket}
 use Rattle.regress_program.proofs.emit.emitter.Emitter.emit_bracket.Goals as goal
 
 pub returns-in_ok-append_insn-in-Some : goal.returns-in_ok-append_insn-in-Some

@@ -1,9 +1,9 @@
 use Rattle.std.proofs.Common.{◌*◌, ◌<◌, ◌∙◌, sym, arith, length, take, drop}
 use Rattle.regex_meaning.specs.CompilationRelation.{ByteSeq, ordered, chunks}
 use Rattle.regress_program.specs.EmitterStateAndAppendedCode.{emitter_state}
-use Rattle.regress_program.proofs.TextLemmas.{chunk_begins, chunk_at, ordered-next, parts_step, parts_end, with_code-byte_sequence}
+use Rattle.regress_program.proofs.ByteAndStringCodeLemmas.{chunk_begins, chunk_at, ordered-next, parts_step, parts_end, with_code-byte_sequence}
 use Rattle.regress_program.proofs.emit.emitter.Emitter.emit_bytes.Goals as goal
-use Rattle.regress_program.proofs.EmitLemmas.{length-ordered}
+use Rattle.regress_program.proofs.AppendedCodeLemmas.{length-ordered}
 
 pub emit_chunk-requires : goal.emit_chunk-requires
 emit_chunk-requires c =

@@ -1,7 +1,7 @@
 use Rattle.std.proofs.Common.{◌+◌, ◌∙◌, ap, sym}
 use Rattle.regress_program.specs.CompilationOfTreesAsFunction.{group_reset_insns}
 use Rattle.regress_program.specs.EmitterStateAndAppendedCode.{emitter_state, with_insns_appended}
-use Rattle.regress_program.proofs.TextLemmas.{insns_step, with_insns-none, resets-next, resets-past}
+use Rattle.regress_program.proofs.ByteAndStringCodeLemmas.{insns_step, with_insns-none, resets-next, resets-past}
 use Rattle.regress_program.proofs.emit.emitter.Emitter.emit_group_resets.Goals as goal
 
 pub loop-id-preserved : goal.loop-id-preserved

@@ -1,7 +1,7 @@
 use Rattle.std.proofs.Common.{sym, ap, ◌∙◌}
 use Rattle.regex_pattern_front.specs.AstToSpecTree.{node_of}
 use Rattle.regress_program.specs.LeafNodesAndOptimizableLoops.{is_leaf}
-use Rattle.regress_program.proofs.NodeLemmas.{node_of-Cat, no_leaf}
+use Rattle.regress_program.proofs.NodeListLemmas.{node_of-Cat, no_leaf}
 use Rattle.regress_program.proofs.emit.emitter.Emitter.emit_leaf.Goals as goal
 
 pub unreachable-requires : goal.unreachable-requires

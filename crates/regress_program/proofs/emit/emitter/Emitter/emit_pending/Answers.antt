@@ -2,13 +2,13 @@ use Rattle.std.proofs.Common.{◌∙◌, ap, arith, length}
 use Rattle.std.proofs.lemmas.Bool.{ltb-true}
 use Rattle.std.proofs.lemmas.Result.{IfOk-weaker}
 use Rattle.regex_meaning.specs.CompilationRelation.{Goal, Jump as JumpInsn, LoopAgain}
-use Rattle.regex_meaning.proofs.Booleans.{and-left, and-right}
+use Rattle.regex_meaning.proofs.BoolLemmas.{and-left, and-right}
 use Rattle.regex_pattern_front.specs.AstToSpecTree.{node_of}
 use Rattle.regress_program.specs.LeafNodesAndOptimizableLoops.{cat_of}
 use Rattle.regress_program.specs.EmitterStateAndAppendedCode.{node_with_char_loops_if_enabled, emitter_state, with_insn_at}
 use Rattle.regress_program.specs.PendingEmission.{is_emittable, pending_measure, with_pending}
 use Rattle.regress_program.specs.declared.emit.nested_nodes.UnemittedCodePart.TheVariants.{Jump, GroupEnd, LookaroundEnd, LoopEnd}
-use Rattle.regress_program.proofs.RemainingLemmas.{end-room, jump-room, put-whole, room-of}
+use Rattle.regress_program.proofs.PendingEmissionLemmas.{end-room, jump-room, put-whole, room-of}
 use Rattle.regress_program.proofs.emit.emitter.Emitter.emit_pending.Goals as goal
 
 pub begin-requires-clause-sets : goal.begin-requires-clause-sets

@@ -3,7 +3,7 @@ use Rattle.std.proofs.lemmas.Option.{slice_get-get_or}
 use Rattle.regex_meaning.specs.Text.{expand_code_point}
 use Rattle.regex_meaning.specs.CompilationRelation.{case_variants_insn, ordered}
 use Rattle.regress_program.specs.EmitterStateAndAppendedCode.{emitter_state}
-use Rattle.regress_program.proofs.TextLemmas.{ordered-next, parts_step}
+use Rattle.regress_program.proofs.ByteAndStringCodeLemmas.{ordered-next, parts_step}
 use Rattle.regress_program.proofs.emit.emitter.Emitter.emit_string.Goals as goal
 
 pub loop-at-preserved : goal.loop-at-preserved

@@ -3,8 +3,8 @@ use borrow.Author.Tests.{eqb-true}
 use Rattle.regex_meaning.specs.Tree.{string_set}
 use Rattle.regress_program.specs.CompilationOfTreesAsFunction.{string_code, strings_code, strings_size}
 use Rattle.regress_program.specs.EmitterStateAndAppendedCode.{emitter_state, with_insns_appended, with_code, strings_as_code_points}
-use Rattle.regress_program.proofs.TextLemmas.{code_points-next, length-code_points, size_from, last_code, strings_step, strings_target}
-use Rattle.regress_program.proofs.TextLemmas.{with_code-string_set, no_length, ne_zero}
+use Rattle.regress_program.proofs.ByteAndStringCodeLemmas.{code_points-next, length-code_points, size_from, last_code, strings_step, strings_target}
+use Rattle.regress_program.proofs.ByteAndStringCodeLemmas.{with_code-string_set, no_length, ne_zero}
 use Rattle.regress_program.proofs.emit.emitter.Emitter.emit_strings.Goals as goal
 
 pub returns-then-is_empty : goal.returns-then-is_empty

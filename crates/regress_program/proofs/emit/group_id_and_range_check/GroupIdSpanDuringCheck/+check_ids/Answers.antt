@@ -2,16 +2,16 @@ use Rattle.std.proofs.Common.{◌≡◌, ℕ, ◌+◌, ◌<◌, rules, ◌||◌,
 use Rattle.std.proofs.lemmas.List.{drop_all}
 use Rattle.regex_meaning.specs.NumberListHelpers.{contains}
 use Rattle.regex_meaning.specs.Tree.{alt, cat, end_of_cat, capture_group, group_ids, every_node_passes}
-use Rattle.regex_meaning.specs.WellFormedTrees.{names_the_groups_inside}
+use Rattle.regex_meaning.specs.WellFormedTrees.{has_exact_group_range}
 use Rattle.regex_pattern_front.specs.AstToSpecTree.{node_of, group_name_bytes}
 use Rattle.regress_program.specs.LeafNodesAndOptimizableLoops.{cat_of}
 use Rattle.regress_program.specs.GroupIdCheck.{is_group_id_seen, has_exact_group_ids, count_and_span_of_group_ids, joined}
 use Rattle.regress_program.specs.GroupIdSpans.{group_id_span_as_numbers}
-use Rattle.regress_program.proofs.NodeLemmas.{node_of-Cat, cat_of-drop}
-use Rattle.regress_program.proofs.LeafLemmas.{leaf-left}
-use Rattle.regress_program.proofs.IdLemmas.{left-same, left-next, left-fails, left-leaf, left-found, left-span, left-seen, fills-encloses}
-use Rattle.regress_program.proofs.IdLemmas.{joined-none, one_is_fresh, one_contained}
-use Rattle.regress_program.proofs.Weights.{inner_node_count, weight-child}
+use Rattle.regress_program.proofs.NodeListLemmas.{node_of-Cat, cat_of-drop}
+use Rattle.regress_program.proofs.NodeKindLemmas.{leaf-left}
+use Rattle.regress_program.proofs.GroupIdCheckLemmas.{left-same, left-next, left-fails, left-leaf, left-found, left-span, left-seen, fills-encloses}
+use Rattle.regress_program.proofs.GroupIdCheckLemmas.{joined-none, one_is_fresh, one_contained}
+use Rattle.regress_program.proofs.InnerNodeCountLemmas.{inner_node_count, weight-child}
 use Rattle.regress_program.proofs.emit.group_id_and_range_check.GroupIdSpanDuringCheck.+check_ids.Goals as goal
 
 pub check_ids_along-check_list_ids-requires : goal.check_ids_along-check_list_ids-requires
@@ -49,7 +49,7 @@ check_ids_along-returns-then-not-check_arm_ids-clause-found t c =
     let l = left-same _ _ _ _ f (group_id_span_as_numbers c.loop-rest.self.inside) (node_of c.loop-rest.rest.now) (alt a b) is c.loop-rest.invariant.left in
     let node : node_of c.deref-in-Alt.result.now ≡ a = ap node_of c.deref-in-Alt.ensures in
     let fails : false ≡ has_exact_group_ids f a = sym c.if-not-check_arm_ids.true ∙ c.check_arm_ids.ensures.found ∙ ap (has_exact_group_ids f) node in
-    left-fails _ _ _ _ f (group_id_span_as_numbers c.loop-rest.self.inside) (group_ids a) (group_ids b) (every_node_passes names_the_groups_inside a) (every_node_passes names_the_groups_inside b) l fails
+    left-fails _ _ _ _ f (group_id_span_as_numbers c.loop-rest.self.inside) (group_ids a) (group_ids b) (every_node_passes has_exact_group_range a) (every_node_passes has_exact_group_range b) l fails
 
 pub check_ids_along-loop-rest-preserved-in-Alt : goal.check_ids_along-loop-rest-preserved-in-Alt
 unfolding node_of inner_node_count
@@ -72,7 +72,7 @@ check_ids_along-loop-rest-preserved-in-Alt t c =
     record {
       within = omega (arith, ap inner_node_count next, smaller, c.loop-rest.invariant.within);
       left = left-same _ _ _ _ g t b (node_of c.deref-rest.result.now) (sym next)
-          (left-next _ _ _ _ f g s t (group_ids a) (group_ids b) (every_node_passes names_the_groups_inside a) (every_node_passes names_the_groups_inside b) l found span seen);
+          (left-next _ _ _ _ f g s t (group_ids a) (group_ids b) (every_node_passes has_exact_group_range a) (every_node_passes has_exact_group_range b) l found span seen);
     }
 
 pub check_ids_along-loop-rest-preserved-in-CaptureGroup : goal.check_ids_along-loop-rest-preserved-in-CaptureGroup
@@ -91,7 +91,7 @@ check_ids_along-loop-rest-preserved-in-CaptureGroup t c =
     record {
       within = omega (arith, ap inner_node_count next, smaller, c.loop-rest.invariant.within);
       left = left-same _ _ _ _ g t n (node_of c.deref-rest-in-CaptureGroup.result.now) (sym next)
-          (left-next _ _ _ _ f g s t (id ∷ []) (group_ids n) true (every_node_passes names_the_groups_inside n) l (one_is_fresh f id true (sym c.if-not-mark_seen.false ∙ c.mark_seen.ensures.fresh)) c.mark_seen.ensures.span
+          (left-next _ _ _ _ f g s t (id ∷ []) (group_ids n) true (every_node_passes has_exact_group_range n) l (one_is_fresh f id true (sym c.if-not-mark_seen.false ∙ c.mark_seen.ensures.fresh)) c.mark_seen.ensures.span
           (λ k. c.mark_seen.ensures.seen k ∙ one_contained f id k));
     }
 
@@ -135,7 +135,7 @@ check_enclosed_ids-returns-clause-found t c =
     let i = c.check_ids_along.new.self.inside in
     let went = sym c.if-not-check_ids_along.false in
     let span : group_id_span_as_numbers i ≡ count_and_span_of_group_ids (group_ids n) = c.check_ids_along.ensures.span (sym went) ∙ joined-none (group_ids n) in
-    fills-encloses n (is_group_id_seen c.args.bits.now) c.args.start c.args.end i.count i.low i.high c.covers_range.result (every_node_passes names_the_groups_inside n) c.ranges.start.fits c.ranges.end.fits
+    fills-encloses n (is_group_id_seen c.args.bits.now) c.args.start c.args.end i.count i.low i.high c.covers_range.result (every_node_passes has_exact_group_range n) c.ranges.start.fits c.ranges.end.fits
     (went ∙ c.check_ids_along.ensures.found) (ap (λ s. s.count) span) (ap (λ s. s.low) span) (ap (λ s. s.high) span) c.covers_range.ensures
 
 pub check_list_ids-check_part_ids-requires : goal.check_list_ids-check_part_ids-requires
@@ -151,7 +151,7 @@ check_list_ids-returns-then-not-check_part_ids-clause-found t c =
     let f = is_group_id_seen c.loop-node.bits in
     let s = group_id_span_as_numbers c.loop-node.self.inside in
     let l = left-same _ _ _ _ f s (cat_of (drop c.loop-node.node-index nodes)) (cat n rest) next c.loop-node.invariant in
-    left-fails _ _ _ _ f s (group_ids n) (group_ids rest) (every_node_passes names_the_groups_inside n) (every_node_passes names_the_groups_inside rest) l (sym c.if-not-check_part_ids.true ∙ c.check_part_ids.ensures.found)
+    left-fails _ _ _ _ f s (group_ids n) (group_ids rest) (every_node_passes has_exact_group_range n) (every_node_passes has_exact_group_range rest) l (sym c.if-not-check_part_ids.true ∙ c.check_part_ids.ensures.found)
 
 pub check_list_ids-loop-node-preserved : goal.check_list_ids-loop-node-preserved
 check_list_ids-loop-node-preserved t c =
@@ -165,7 +165,7 @@ check_list_ids-loop-node-preserved t c =
     let t = group_id_span_as_numbers c.check_part_ids.new.self.inside in
     let l = left-same _ _ _ _ f s (cat_of (drop c.loop-node.node-index nodes)) (cat n rest) next c.loop-node.invariant in
     let went = sym c.if-not-check_part_ids.false in
-    left-next _ _ _ _ f g s t (group_ids n) (group_ids rest) (every_node_passes names_the_groups_inside n) (every_node_passes names_the_groups_inside rest) l (went ∙ c.check_part_ids.ensures.found)
+    left-next _ _ _ _ f g s t (group_ids n) (group_ids rest) (every_node_passes has_exact_group_range n) (every_node_passes has_exact_group_range rest) l (went ∙ c.check_part_ids.ensures.found)
     (c.check_part_ids.ensures.span (sym went)) (c.check_part_ids.ensures.seen (sym went))
 
 pub check_list_ids-returns-clause-span : goal.check_list_ids-returns-clause-span

@@ -1,12 +1,12 @@
 use Rattle.std.proofs.Common.{◌+◌, ◌*◌, ◌≤◌, drop}
 use Rattle.regex_meaning.specs.Tree.{group_ids, every_node_passes}
-use Rattle.regex_meaning.specs.WellFormedTrees.{names_the_groups_inside}
+use Rattle.regex_meaning.specs.WellFormedTrees.{has_exact_group_range}
 use Rattle.regex_pattern_front.specs.AstToSpecTree.{node_of}
 use Rattle.regress_program.specs.LeafNodesAndOptimizableLoops.{cat_of}
 use Rattle.regress_program.specs.GroupIdCheck.{is_group_id_seen}
 use Rattle.regress_program.specs.GroupIdSpans.{group_id_span_as_numbers}
-use Rattle.regress_program.proofs.IdLemmas.{IsLeft}
-use Rattle.regress_program.proofs.Weights.{inner_node_count}
+use Rattle.regress_program.proofs.GroupIdCheckLemmas.{IsLeft}
+use Rattle.regress_program.proofs.InnerNodeCountLemmas.{inner_node_count}
 use Rattle.regress_program.proofs.emit.group_id_and_range_check.GroupIdSpanDuringCheck.+check_ids.Given as goal
 
 abbrev pub decreases-check_ids : goal.decreases-check_ids
@@ -30,8 +30,8 @@ decreases-check_enclosed_ids l = 4 * inner_node_count (node_of l.contents.now) +
 abbrev pub invariant-check_ids_along-loop-rest : goal.invariant-check_ids_along-loop-rest
 invariant-check_ids_along-loop-rest l = record {
   within : inner_node_count (node_of l.rest) ≤ inner_node_count (node_of l.root);
-  left : IsLeft (is_group_id_seen l.fn.bits) (group_id_span_as_numbers l.fn.self.inside) (group_ids (node_of l.root)) (every_node_passes names_the_groups_inside (node_of l.root))
-      (is_group_id_seen l.bits) (group_id_span_as_numbers l.self.inside) (group_ids (node_of l.rest)) (every_node_passes names_the_groups_inside (node_of l.rest));
+  left : IsLeft (is_group_id_seen l.fn.bits) (group_id_span_as_numbers l.fn.self.inside) (group_ids (node_of l.root)) (every_node_passes has_exact_group_range (node_of l.root))
+      (is_group_id_seen l.bits) (group_id_span_as_numbers l.self.inside) (group_ids (node_of l.rest)) (every_node_passes has_exact_group_range (node_of l.rest));
 }
 
 abbrev pub decreases-check_ids_along-loop-rest : goal.decreases-check_ids_along-loop-rest
@@ -39,5 +39,5 @@ decreases-check_ids_along-loop-rest l = inner_node_count (node_of l.rest)
 
 abbrev pub invariant-check_list_ids-loop-node : goal.invariant-check_list_ids-loop-node
 invariant-check_list_ids-loop-node l =
-    IsLeft (is_group_id_seen l.fn.bits) (group_id_span_as_numbers l.fn.self.inside) (group_ids (cat_of l.nodes)) (every_node_passes names_the_groups_inside (cat_of l.nodes))
-    (is_group_id_seen l.bits) (group_id_span_as_numbers l.self.inside) (group_ids (cat_of (drop l.node-index l.nodes))) (every_node_passes names_the_groups_inside (cat_of (drop l.node-index l.nodes)))
+    IsLeft (is_group_id_seen l.fn.bits) (group_id_span_as_numbers l.fn.self.inside) (group_ids (cat_of l.nodes)) (every_node_passes has_exact_group_range (cat_of l.nodes))
+    (is_group_id_seen l.bits) (group_id_span_as_numbers l.self.inside) (group_ids (cat_of (drop l.node-index l.nodes))) (every_node_passes has_exact_group_range (cat_of (drop l.node-index l.nodes)))

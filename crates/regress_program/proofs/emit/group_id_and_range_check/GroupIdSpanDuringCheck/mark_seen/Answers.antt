@@ -1,5 +1,5 @@
 use Rattle.std.proofs.Common.{arith}
-use Rattle.regress_program.proofs.IdLemmas.{seen-set}
+use Rattle.regress_program.proofs.GroupIdCheckLemmas.{seen-set}
 use Rattle.regress_program.proofs.emit.group_id_and_range_check.GroupIdSpanDuringCheck.mark_seen.Goals as goal
 
 pub returns-clause-seen : goal.returns-clause-seen

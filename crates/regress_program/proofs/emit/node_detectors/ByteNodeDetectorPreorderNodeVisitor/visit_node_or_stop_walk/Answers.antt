@@ -1,7 +1,7 @@
 use Rattle.std.proofs.Common.{ap, sym}
 use Rattle.std.specs.Prelude.{is_some, not}
 use Rattle.regress_program.specs.TryFoldOverTreeNodes.{step_of_test}
-use Rattle.regress_program.proofs.LeafLemmas.{bytes-other}
+use Rattle.regress_program.proofs.NodeKindLemmas.{bytes-other}
 use Rattle.regress_program.proofs.emit.node_detectors.ByteNodeDetectorPreorderNodeVisitor.visit_node_or_stop_walk.Goals as goal
 
 pub returns-in_default-clause-goes_on : goal.returns-in_default-clause-goes_on

@@ -1,8 +1,8 @@
 use Rattle.std.proofs.Common.{sym, subst}
 use Rattle.regex_pattern_front.specs.AstToSpecTree.{node_of}
 use Rattle.regress_program.specs.GroupLoopInsnCountsPerNode.{count_node}
-use Rattle.regress_program.proofs.TallyLemmas.{IsTallied, tallied}
-use Rattle.regress_program.proofs.WalkedLemmas.{always-went}
+use Rattle.regress_program.proofs.NodeInsnCountLemmas.{IsTallied, tallied}
+use Rattle.regress_program.proofs.TreeWalkLemmas.{always-went}
 use Rattle.regress_program.proofs.emit.program_size.ProgramSize.count_node_and_descendants.Goals as goal
 
 pub returns : goal.returns

@@ -1,8 +1,8 @@
 use Rattle.std.proofs.Common.{refl, ap, ◌∙◌, Some}
 use Rattle.regex_pattern_front.specs.AstToSpecTree.{node_of}
 use Rattle.regress_program.specs.GroupLoopInsnCountsPerNode.{count_node}
-use Rattle.regress_program.proofs.NodeLemmas.{node_of-Cat}
-use Rattle.regress_program.proofs.WalkedLemmas.{row-goes}
+use Rattle.regress_program.proofs.NodeListLemmas.{node_of-Cat}
+use Rattle.regress_program.proofs.TreeWalkLemmas.{row-goes}
 use Rattle.regress_program.proofs.emit.program_size.ProgramSizePreorderNodeVisitor.visit_node_or_stop_walk.Goals as goal
 
 pub returns-in-Cat-clause-step : goal.returns-in-Cat-clause-step

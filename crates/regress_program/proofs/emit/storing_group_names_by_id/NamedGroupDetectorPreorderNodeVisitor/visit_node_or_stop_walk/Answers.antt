@@ -1,7 +1,7 @@
 use Rattle.std.proofs.Common.{ap, sym}
 use Rattle.std.specs.Prelude.{is_some}
 use Rattle.regress_program.specs.TryFoldOverTreeNodes.{step_of_test}
-use Rattle.regress_program.proofs.LeafLemmas.{names-other}
+use Rattle.regress_program.proofs.NodeKindLemmas.{names-other}
 use Rattle.regress_program.proofs.emit.storing_group_names_by_id.NamedGroupDetectorPreorderNodeVisitor.visit_node_or_stop_walk.Goals as goal
 
 pub returns-in_default-clause-goes_on : goal.returns-in_default-clause-goes_on

@@ -1,6 +1,6 @@
 use Rattle.std.proofs.Common.{ap, sym}
 use Rattle.std.specs.Prelude.{is_some}
-use Rattle.regress_program.proofs.LeafLemmas.{goals-other}
+use Rattle.regress_program.proofs.NodeKindLemmas.{goals-other}
 use Rattle.regress_program.proofs.emit.well_formedness_check.SecondGoalNodeDetectorPreorderNodeVisitor.visit_node_or_stop_walk.Goals as goal
 
 pub returns-in_default-clause-goes_on : goal.returns-in_default-clause-goes_on

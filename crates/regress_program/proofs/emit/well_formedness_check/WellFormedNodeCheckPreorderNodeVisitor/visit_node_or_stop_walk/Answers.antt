@@ -3,7 +3,7 @@ use Rattle.std.specs.Prelude.{is_some}
 use Rattle.regex_pattern_front.specs.AstToSpecTree.{node_of}
 use Rattle.regress_program.specs.GroupIdCheck.{is_well_formed_node}
 use Rattle.regress_program.specs.TryFoldOverTreeNodes.{step_of_test}
-use Rattle.regress_program.proofs.LeafLemmas.{sound-other}
+use Rattle.regress_program.proofs.NodeKindLemmas.{sound-other}
 use Rattle.regress_program.proofs.emit.well_formedness_check.WellFormedNodeCheckPreorderNodeVisitor.visit_node_or_stop_walk.Goals as goal
 
 other : (c : goal.In_default) → is_well_formed_node c.args.self.now.groups (node_of c.args.node.now) ≡ true

@@ -2,7 +2,7 @@ use Rattle.std.proofs.Common.{false, subst, sym}
 use Rattle.regex_pattern_front.specs.AstToSpecTree.{tree_of}
 use Rattle.regress_program.specs.CompilationOfTreesAsFunction.{compiled}
 use Rattle.regress_program.specs.ProgramFieldsMatchTree.{IsPlanForUnitWidth}
-use Rattle.regress_program.proofs.PredicateLemmas.{copy-start}
+use Rattle.regress_program.proofs.StartPredicatesLemmas.{copy-start}
 use Rattle.regress_program.proofs.insn.byte_and_unit_programs.CompiledRegex.clone.Goals as goal
 
 pub invariant_of-result : goal.invariant_of-result

@@ -2,8 +2,8 @@ use Rattle.std.proofs.Common.{List, length, ap, arith}
 use Rattle.std.proofs.lemmas.List.{length-map}
 use Rattle.regex_meaning.specs.CompilationRelation.{Insn}
 use Rattle.regex_pattern_front.specs.AstToSpecTree.{tree_of}
-use Rattle.regress_program.specs.InsnsAsSpecInsns.{insn_as_spec_insn}
-use Rattle.regress_program.proofs.CodeLemmas.{compiled-length}
+use Rattle.regress_program.specs.InsnsAsSpec.{insn_as_spec_insn}
+use Rattle.regress_program.proofs.CompiledTreeLemmas.{compiled-length}
 use Rattle.regress_program.proofs.insn.common_program_part.Program.plan_of_own_code.Goals as goal
 
 pub new-requires : goal.new-requires

@@ -1,7 +1,7 @@
 use Rattle.std.proofs.Common.{◌≡◌, ◌∙◌, ap, sym}
 use Rattle.regex_pattern_front.specs.AstToSpecTree.{tree_of}
 use Rattle.regress_program.specs.OptimizedTreeUnlessNoOpt.{optimized_tree_unless_no_opt}
-use Rattle.regress_program.proofs.RunningLemmas.{run-groups, run-names, run-flags, run-well_formed}
+use Rattle.regress_program.proofs.TreeToRunLemmas.{run-groups, run-names, run-flags, run-well_formed}
 use Rattle.regress_program.proofs.insn.common_program_part.Program.with_code_of_tree_to_run.Goals as goal
 
 pub invariant_of-result : goal.invariant_of-result

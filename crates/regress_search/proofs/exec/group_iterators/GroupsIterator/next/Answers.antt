@@ -2,7 +2,7 @@ use Rattle.std.proofs.Common.{◌+◌, ◌≤◌, ◌∷◌, drop, length, optio
 use Rattle.std.proofs.lemmas.List.{length-map}
 use Rattle.regress_search.specs.MatchesAsSpecAnswers.{answer_of, range_as_pair}
 use Rattle.regress_search.specs.GroupIterators.{all_groups}
-use Rattle.regress_search.proofs.InTurn.{groups-here}
+use Rattle.regress_search.proofs.GroupIteratorLemmas.{groups-here}
 use Rattle.regress_search.proofs.exec.group_iterators.GroupsIterator.next.Goals as goal
 
 pub returns-clause-steps : goal.returns-clause-steps

@@ -1,7 +1,7 @@
 use Rattle.std.proofs.Common.{Some, ap, subst, ◌∙◌}
 use Rattle.regress_search.specs.CostsOfCalls.{NextYieldsAtCost}
-use Rattle.regress_search.proofs.CallCosts.{CalledBy, gives-Err, gives-Ok, view-of}
-use Rattle.regress_search.proofs.Costing.{of-counted}
+use Rattle.regress_search.proofs.CallCostLemmas.{CalledBy, gives-Err, gives-Ok, view-of}
+use Rattle.regress_search.proofs.SearchCostLemmas.{of-counted}
 use Rattle.regress_search.proofs.exec.work_matches.WorkMatchesIterator.next.Goals.{in-Ok, in-Err}
 use Rattle.regress_search.proofs.exec.work_matches.WorkMatchesIterator.next.Goals as goal
 

@@ -1,6 +1,0 @@
-use Rattle.regress_match.proofs.Starts.{utf16_start}
-use Rattle.regress_c.proofs.going.in_utf16.Goals as goal
-
-pub fill-requires-clause-starts : goal.fill-requires-clause-starts
-fill-requires-clause-starts c =
-    utf16_start _ c.args.units.now _ c.in_ok-executor.ensures.text (λ k _. (c.type_inv.units k).fits) c.args.start (c.cuts_utf16.ensures.whole c.if-cuts_utf16.false)

@@ -1,0 +1,51 @@
+use Rattle.std.proofs.Common.{◌<◌, ◌∙◌, Ok, Err, Some, None, refl, subst, arith}
+use Rattle.regex_meaning.specs.CodeUnitOffsets.{units}
+use Rattle.regress_c.proofs.BufferFillingLemmas.{begun, fills-full, fills-over, fills-refused, goes-same, one_more}
+use Rattle.regress_c.proofs.next_matches.fill.Goals as goal
+
+pub matches-init : goal.matches-init
+matches-init g c = (begun c.requires.starts, omega arith, refl, refl, refl, refl)
+
+pub matches-preserved : goal.matches-preserved
+matches-preserved g c =
+    let e = g.E.SingleAttemptExecutor in
+    let was = c.matches.invariant in
+    let step = goes-same (e.tree c.args.search.now) (e.tree c.matches.search) (e.text c.args.search.now) (e.text c.matches.search)
+    (e.budget c.matches.search) c.matches.filled.next (Ok (Some c.in-Ok-Some.step)) (e.budget c.next_from.new.search) was.2 was.3
+    (rw c.in-Ok-Some.field-0-is at c.in-Ok-Some.ensures.continues) in (
+      one_more c.matches.spans c.write_step.new.spans c.matches.filled.matches c.matches.filled.next c.matches.at c.args.ranges c.write_step.result
+          (e.budget c.matches.search) (e.budget c.next_from.new.search) c.in-Ok-Some.step was.0 step c.requires.ranges c.write_step.ensures.next
+          c.write_step.ensures.written,
+      omega arith,
+      c.in-Ok-Some.ensures.same_tree ∙ was.2,
+      c.in-Ok-Some.ensures.same_text ∙ was.3,
+      was.4,
+      was.5,
+    )
+
+pub returns-in-Ok-None-clause-fills : goal.returns-in-Ok-None-clause-fills
+returns-in-Ok-None-clause-fills g c =
+    let e = g.E.SingleAttemptExecutor in
+    let was = c.matches.invariant in
+    let over = goes-same (e.tree c.args.search.now) (e.tree c.matches.search) (e.text c.args.search.now) (e.text c.matches.search)
+    (e.budget c.matches.search) c.matches.filled.next (Ok None) (e.budget c.next_from.new.search) was.2 was.3
+    (rw c.in-Ok-None.field-0-is at c.in-Ok-None.ensures.continues) in
+    let past : units (e.text c.args.search.now) < c.past_end.result =
+    subst (λ t. units t < c.past_end.result) (c.in-Ok-None.ensures.same_text ∙ was.3) c.past_end.ensures.past in
+    fills-over c.matches.spans _ c.matches.filled.next c.matches.at (e.budget c.matches.search) (e.budget c.next_from.new.search)
+    (g.met.E.SingleAttemptExecutor.is_text c.args.search.now) past was.0 refl over
+
+pub returns-in-Err-clause-fills : goal.returns-in-Err-clause-fills
+returns-in-Err-clause-fills g c =
+    let e = g.E.SingleAttemptExecutor in
+    let was = c.matches.invariant in
+    let refused = goes-same (e.tree c.args.search.now) (e.tree c.matches.search) (e.text c.args.search.now) (e.text c.matches.search)
+    (e.budget c.matches.search) c.matches.filled.next (Err c.in-Err.error) (e.budget c.next_from.new.search) was.2 was.3 c.in-Err.ensures.continues in
+    fills-refused c.matches.spans _ c.matches.at (e.budget c.matches.search) (e.budget c.next_from.new.search) c.in-Err.error was.0 refl refused
+
+pub returns-clause-fills : goal.returns-clause-fills
+returns-clause-fills g c =
+    let was = c.matches.invariant in
+    let same = c.matches.auto.spans in
+    let room = c.matches-test.false in
+    fills-full c.matches.spans c.matches.filled c.matches.at c.args.ranges (g.E.SingleAttemptExecutor.budget c.matches.search) was.0 was.4 (omega arith) c.requires.ranges

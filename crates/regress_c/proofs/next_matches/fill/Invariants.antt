@@ -1,0 +1,15 @@
+use Rattle.std.proofs.Common.{◌≡◌, ◌-◌, ◌≤◌, length, None}
+use Rattle.regress_c.proofs.BufferFillingLemmas.{Filling}
+use Rattle.regress_c.specs.declared.next_matches.Stop.TheVariants.{Full}
+use Rattle.regress_c.proofs.next_matches.fill.Given as goal
+
+-- what was written, of which search, and that nothing is said of it yet
+abbrev pub invariant-matches : goal.invariant-matches
+invariant-matches g l =
+    let e = g.E.SingleAttemptExecutor in
+    Filling (e.tree l.fn.search) (e.text l.fn.search) (e.budget l.fn.search) l.fn.start l.fn.spans l.spans l.filled.matches l.filled.next l.at (e.budget l.search)
+    × (l.at ≤ length l.spans) × (e.tree l.search ≡ e.tree l.fn.search) × (e.text l.search ≡ e.text l.fn.search)
+    × (l.filled.stop ≡ Full) × (l.filled.left ≡ None)
+
+abbrev pub decreases-matches : goal.decreases-matches
+decreases-matches g l = length l.spans - l.at

@@ -1,0 +1,74 @@
+-- The results of a search within a work budget.
+use Rattle.std.specs.Prelude.{◌≡◌, ◌<◌, ◌≤◌, ℕ, List, Option, Some, None, Result, Ok, Err, IsUtf8, length, option_map, slice_get}
+use Rattle.regex_meaning.specs.MatchGroupsByNumberAndName.{Answer}
+use Rattle.regress_search.specs.MatchesAsSpecAnswers.{answer_of}
+use Rattle.regress_search.specs.declared.exec.Match.{Match}
+use Rattle.regress_match.specs.ProgramTreesAndAnswers.{bytes_as_utf8_text, utf8_answers}
+use Rattle.regress_match.specs.WorkBounds.{IsHigherOfProgramWorkBounds, IsPatternUnboundedBy, enough_work_for_text}
+use Rattle.regress_match.specs.declared.api.regex.Regex.{Regex}
+use Rattle.regress_c.specs.Codes.{code_of, done}
+use Rattle.regress_c.specs.Replies.{buffer_after_search, reply_to}
+use Rattle.regress_c.specs.Searching.{can_start_utf8}
+use Rattle.regress_c.specs.declared.refusal.Refusal.{Refusal}
+use Rattle.regress_c.specs.declared.refusal.Refusal.TheVariants.{Empty, NotUtf8, NotBoundary, Memory, Unbounded, WorkLimit}
+use Rattle.regress_c.specs.declared.reply.Reply.{Reply}
+use Rattle.regress_c.specs.declared.reply.Span.{Span}
+
+-- No work is left, and the budget was less than the pattern's bound requires for the text.
+abbrev pub IsUsedUp : Regex → (text : List ℕ) → (work left : ℕ) → Type 0
+IsUsedUp re text work left = (left ≡ 0) × ((per_unit : ℕ) × IsHigherOfProgramWorkBounds re per_unit
+    × (work < enough_work_for_text per_unit (bytes_as_utf8_text re text)))
+
+-- The result is the first match from `start` on, or `None` exactly if there is none; or a refusal.
+abbrev pub IsFirstInWork : Regex → (text : List ℕ) → (start work : ℕ) → Result (Option Match) Refusal → (left : ℕ)
+    → Type 0
+IsFirstInWork re text start work (Ok m) left = (option_map answer_of m ≡ slice_get (utf8_answers re text start) 0)
+    × (left ≤ work)
+IsFirstInWork re text start work (Err Memory) left = left ≤ work
+IsFirstInWork re text start work (Err (Unbounded reason)) left = (left ≡ work) × IsPatternUnboundedBy re reason
+IsFirstInWork re text start work (Err WorkLimit) left = IsUsedUp re text work left
+IsFirstInWork re text start work (Err _) left = ⊥
+
+-- The result for bytes that are first checked to be UTF-8, and a start that is checked.
+abbrev pub FindsInWork : Regex → (text : List ℕ) → (start work : ℕ) → Result (Option Match) Refusal → (left : ℕ)
+    → Type 0
+FindsInWork re text start work (Err NotUtf8) left = (¬ IsUtf8 text) × (left ≡ work)
+FindsInWork re text start work (Err NotBoundary) left = IsUtf8 text × (¬ can_start_utf8 text start) × (left ≡ work)
+FindsInWork re text start work found left = IsUtf8 text × can_start_utf8 text start
+    × IsFirstInWork re text start work found left
+
+-- The result with the handle's pattern, which is refused if the handle is empty.
+abbrev pub FindsInWorkBy : (held : Option Regex) → (text : List ℕ) → (start work : ℕ) → Result (Option Match) Refusal
+    → (left : ℕ) → Type 0
+FindsInWorkBy None text start work found left = (found ≡ Err Empty) × (left ≡ work)
+FindsInWorkBy (Some re) text start work found left = FindsInWork re text start work found left
+
+-- The reply and the buffer afterwards are those of a result, and `left` is the work that is left.
+abbrev pub RepliesInWork : (held : Option Regex) → (text : List ℕ) → (start work left : ℕ) → (before after : List Span)
+    → Reply → Type 0
+RepliesInWork held text start work left before after reply = (found : Result (Option Match) Refusal)
+    × FindsInWorkBy held text start work found left × (reply ≡ reply_to found (length before))
+    × (after ≡ buffer_after_search found before)
+
+-- The result is the work bound of the handle's pattern, or why there is none.
+abbrev pub IsWorkBoundResult : (held : Option Regex) → Result ℕ Refusal → Type 0
+IsWorkBoundResult None result = result ≡ Err Empty
+IsWorkBoundResult (Some re) (Ok per_unit) = IsHigherOfProgramWorkBounds re per_unit
+IsWorkBoundResult (Some re) (Err (Unbounded reason)) = IsPatternUnboundedBy re reason
+IsWorkBoundResult (Some re) (Err _) = ⊥
+
+-- The code of a result.
+abbrev pub code_of_work_bound : Result ℕ Refusal → ℕ
+code_of_work_bound (Ok per_unit) = done
+code_of_work_bound (Err refusal) = code_of refusal
+
+-- The number in the caller's variable after a result.
+abbrev pub number_after_work_bound : Result ℕ Refusal → (before : ℕ) → ℕ
+number_after_work_bound (Ok per_unit) before = per_unit
+number_after_work_bound (Err refusal) before = before
+
+-- The code and the caller's variable afterwards are those of a result.
+abbrev pub RepliesWorkBound : (held : Option Regex) → (before after : ℕ) → (code : ℕ) → Type 0
+RepliesWorkBound held before after code = (work_bound_found : Result ℕ Refusal)
+    × IsWorkBoundResult held work_bound_found × (code ≡ code_of_work_bound work_bound_found)
+    × (after ≡ number_after_work_bound work_bound_found before)

@@ -1,0 +1,272 @@
+//! The next matches of an open search.
+
+ghost use Rattle.std.specs.Prelude.{◌≡◌, ◌<◌, ◌≤◌, ◌+◌, ◌++◌, None, Some, drop, length, take};
+ghost use Rattle.regress_c.specs.Codes.{code_of as number_of};
+ghost use Rattle.regress_c.specs.NextMatches.{Fills, FillsFrom, FillsIn, RepliesNext, code_of_stop, ranges_of as ranges_by, tree_by};
+ghost use Rattle.regress_c.specs.{Searching.{can_start_utf8, can_start_utf16}, Replies.{spans_of}};
+ghost use Rattle.regex_meaning.specs.CodeUnitOffsets.{units, IsBoundaryOrPastEnd};
+ghost use Rattle.regress_search.specs.MatchesAsSpecAnswers.{answer_of};
+ghost use Rattle.regress_match.specs.ProgramTreesAndAnswers.{units_as_ucs2_text, units_as_utf16_text, bytes_as_utf8_text, tree_for_byte_units};
+ghost use Rattle.regress_match.specs.ProgramTreesAndAnswers.{tree_for_16_bit_units};
+
+use crate::opening::{splits_surrogate_pair, splits_utf8_character};
+use crate::pattern::Pattern;
+use crate::refusal::{DONE, NO_MATCH, Refusal};
+use crate::reply::{Reply, Span, write_at};
+use crate::search::{Encoding, Search};
+use regress_match::{Regex, SearchError, Step, next_from};
+use regress_search::search_loop::SingleAttemptExecutor;
+use std::alloc::Global;
+
+/// Why no further match was written.
+#[derive(Clone, Copy)]
+pub(crate) enum Stop {
+    /// There is no room for one more match.
+    Full,
+    /// No match remains.
+    Over,
+    /// The search for the next match was refused.
+    Refused(SearchError),
+}
+
+impl Stop {
+    // Returns the code that reports it.
+    fn code(self) -> u32
+        ensures { result ≡ code_of_stop self }
+    {
+        match self {
+            Stop::Full => DONE,
+            Stop::Over => NO_MATCH,
+            Stop::Refused(error) => Refusal::from(error).code(),
+        }
+    }
+}
+
+/// The result of writing matches: how many were written, the offset from which the list continues
+/// after them, and why no more were written.
+#[derive(Clone, Copy)]
+pub(crate) struct Filled {
+    pub(crate) matches: usize,
+    pub(crate) next: usize,
+    pub(crate) stop: Stop,
+    /// How many steps are left, if they are counted.
+    pub(crate) left: Option<u64>,
+}
+
+/// The reply of a call, and how many steps are left, if they are counted.
+#[derive(Clone, Copy)]
+pub(crate) struct CallOutcome {
+    pub(crate) reply: Reply,
+    pub(crate) left: Option<u64>,
+}
+
+/// Writes the next matches of a search with the handle's pattern, as many as there is room for. If
+/// steps are counted, returns how many are left.
+pub(crate) fn write_next_matches(
+    alloc: Global,
+    pattern: &mut Pattern,
+    search: &mut Search<'_>,
+    steps: Option<u64>,
+    spans: &mut [Span],
+) -> CallOutcome
+    ensures replies { RepliesNext pattern.old.held search.old search.new steps result.left spans.old
+        spans.new result.reply }
+    ensures kept { pattern.new.held ≡ pattern.old.held }
+{
+    let Some(re) = pattern.take(alloc) else {
+        return refused(Refusal::Empty, steps);
+    };
+    let went = write_next_matches_by(&re, search, steps, spans);
+    pattern.put(re);
+    went
+}
+
+// Writes the next matches of a search with this pattern.
+fn write_next_matches_by(
+    re: &Regex,
+    search: &mut Search<'_>,
+    steps: Option<u64>,
+    spans: &mut [Span],
+) -> CallOutcome
+    ensures { RepliesNext (Some re.now) search.old search.new steps result.left spans.old spans.new result.reply }
+{
+    let Some(encoding) = search.encoding() else {
+        return refused(Refusal::NotOpen, steps);
+    };
+    let ranges = ranges_of(re, encoding);
+    if spans.len() < ranges {
+        let code = Refusal::ShortBuffer.code();
+        let reply = Reply {
+            code,
+            count: ranges,
+        };
+        return CallOutcome { reply, left: steps };
+    }
+    match fill_in_encoding(re, search, encoding, steps, spans) {
+        Ok(filled) => {
+            search.next = filled.next;
+            let reply = Reply {
+                code: filled.stop.code(),
+                count: filled.matches,
+            };
+            CallOutcome {
+                reply,
+                left: filled.left,
+            }
+        }
+        Err(refusal) => refused(refusal, steps),
+    }
+}
+
+// Returns the result of a refused call, which uses no steps.
+fn refused(refusal: Refusal, steps: Option<u64>) -> CallOutcome
+    ensures { result ≡ record { reply = record { code = number_of refusal; count = 0 }; left = steps } }
+{
+    let reply = refusal.reply();
+    CallOutcome { reply, left: steps }
+}
+
+// Returns the number of ranges of a match.
+fn ranges_of(re: &Regex, encoding: Encoding) -> usize
+    ensures { result ≡ ranges_by (tree_by re.now encoding) }
+{
+    match encoding {
+        Encoding::Utf8 => re.group_count() + 1,
+        Encoding::Utf16 | Encoding::Ucs2 => re.unit_group_count() + 1,
+    }
+}
+
+// Writes the next matches of a search in this encoding. Steps are counted in UTF-8 only.
+fn fill_in_encoding(
+    re: &Regex,
+    search: &Search<'_>,
+    encoding: Encoding,
+    steps: Option<u64>,
+    spans: &mut [Span],
+) -> Result<Filled, Refusal>
+    ensures { FillsIn re.now search.now encoding steps spans.old spans.new result }
+{
+    let start = search.next;
+    match (encoding, steps) {
+        (Encoding::Utf8, None) => in_utf8(re, search.text(), start, spans),
+        (Encoding::Utf8, Some(steps)) => in_utf8_within(re, search.text(), start, steps, spans),
+        (Encoding::Utf16, None) => in_utf16(re, search.units, start, spans),
+        (Encoding::Ucs2, None) => in_ucs2(re, search.units, start, spans),
+        (Encoding::Utf16 | Encoding::Ucs2, Some(_)) => Err(Refusal::NotCounted),
+    }
+}
+
+// Writes the next matches in a UTF-8 text.
+fn in_utf8(re: &Regex, text: &str, start: usize, spans: &mut [Span]) -> Result<Filled, Refusal>
+    ensures { FillsFrom (tree_for_byte_units re.now) (bytes_as_utf8_text re.now text.now)
+        (can_start_utf8 text.now start) None start spans.old spans.new result }
+{
+    if splits_utf8_character(text, start) {
+        return Err(Refusal::NotBoundary);
+    }
+    let mut executor = re.utf8_search(text)?;
+    Ok(fill(&mut executor, start, re.group_count() + 1, spans))
+}
+
+// Writes the next matches in a UTF-8 text, with at most `steps` steps.
+fn in_utf8_within(
+    re: &Regex,
+    text: &str,
+    start: usize,
+    steps: u64,
+    spans: &mut [Span],
+) -> Result<Filled, Refusal>
+    ensures { FillsFrom (tree_for_byte_units re.now) (bytes_as_utf8_text re.now text.now)
+        (can_start_utf8 text.now start) (Some steps) start spans.old spans.new result }
+{
+    if splits_utf8_character(text, start) {
+        return Err(Refusal::NotBoundary);
+    }
+    let mut executor = re.utf8_search_limited(text, steps)?;
+    let mut filled = fill(&mut executor, start, re.group_count() + 1, spans);
+    filled.left = Some(executor.steps_left());
+    Ok(filled)
+}
+
+// Writes the next matches in a UTF-16 text.
+fn in_utf16(re: &Regex, units: &[u16], start: usize, spans: &mut [Span]) -> Result<Filled, Refusal>
+    ensures { FillsFrom (tree_for_16_bit_units re.now) (units_as_utf16_text re.now units.now)
+        (can_start_utf16 units.now start) None start spans.old spans.new result }
+{
+    if splits_surrogate_pair(units, start) {
+        return Err(Refusal::NotBoundary);
+    }
+    let mut executor = re.utf16_search(units)?;
+    Ok(fill(&mut executor, start, re.unit_group_count() + 1, spans))
+}
+
+// Writes the next matches in a UCS-2 text.
+fn in_ucs2(re: &Regex, units: &[u16], start: usize, spans: &mut [Span]) -> Result<Filled, Refusal>
+    ensures { FillsFrom (tree_for_16_bit_units re.now) (units_as_ucs2_text re.now units.now) (Unit {0}) None
+        start spans.old spans.new result }
+{
+    let mut executor = re.ucs2_search(units)?;
+    Ok(fill(&mut executor, start, re.unit_group_count() + 1, spans))
+}
+
+// Writes matches from an offset on, as many as there is room for, each with `ranges` ranges.
+fn fill<E: SingleAttemptExecutor>(
+    search: &mut E,
+    start: usize,
+    ranges: usize,
+    spans: &mut [Span],
+) -> Filled
+    requires starts { IsBoundaryOrPastEnd (E.text search.old) start }
+    requires ranges { ranges ≡ ranges_by (E.tree search.old) }
+    ensures fills { Fills (E.tree search.old) (E.text search.old) (E.budget search.old) start spans.old
+        spans.new result (E.budget search.new) }
+    ensures unset { result.left ≡ None }
+{
+    let mut filled = Filled {
+        matches: 0,
+        next: start,
+        stop: Stop::Full,
+        left: None,
+    };
+    let mut at = 0;
+    'matches: while spans.len() - at >= ranges {
+        match next_from(search, filled.next) {
+            Ok(Some(step)) => {
+                filled.next = write_step(step, ranges, at, spans);
+                filled.matches += 1;
+                at += ranges;
+            }
+            Ok(None) => {
+                filled.next = past_end(search);
+                filled.stop = Stop::Over;
+                return filled;
+            }
+            Err(error) => {
+                filled.stop = Stop::Refused(error);
+                return filled;
+            }
+        }
+    }
+    filled
+}
+
+// Writes the `count` ranges of a match to the buffer from index `at` on. Returns the offset from
+// which the list of matches continues.
+fn write_step(step: Step, count: usize, at: usize, spans: &mut [Span]) -> usize
+    requires all { count ≡ length (spans_of (answer_of step.found)) }
+    requires room { at + count ≤ length spans.old }
+    ensures next { result ≡ step.next }
+    ensures written { spans.new ≡ take at spans.old ++ spans_of (answer_of step.found) ++ drop (at + count) spans.old }
+{
+    write_at(&step.found, count, at, spans);
+    step.next
+}
+
+// Returns `usize::MAX`, which is past the end of every text.
+fn past_end<E: SingleAttemptExecutor>(search: &E) -> usize
+    ensures greatest { result ≡ usize.MAX }
+    ensures past { units (E.text search.now) < result }
+{
+    let _input = search.input();
+    usize::MAX
+}

@@ -1,0 +1,106 @@
+-- Distinct elements of a list cost together at most as much as the whole list.
+use Rattle.std.proofs.Common.{◌≡◌, ◌≤◌, ℕ, ◌+◌, List, [], ◌∷◌, ◌++◌, length, sum_by, refl, sym, ◌∙◌, ap, subst, arith}
+use mathlib.Core.Logic.{inl, inr}
+use Rattle.std.proofs.lemmas.List.Sums.{sum_by-cons, sum_by-append}
+use Rattle.regex_meaning.specs.Laws.{Each}
+use Rattle.regex_meaning.proofs.EachElementLemmas.{Each-append}
+use Rattle.regress_memo.specs.DistinctLists.{IsIn, IsNew, AreDistinct, AreIn}
+use Rattle.regress_memo.specs.MemoSearch.{DistinctKeysCostAtMostList}
+
+module _ {K : Type 0} where
+  -- the list without this key, once
+  without : (k : K) (all : List K) → IsIn k all → List K
+  without k [] h = []
+  without k (j ∷ all) (inl e) = all
+  without k (j ∷ all) (inr h) = j ∷ without k all h
+
+  sum-without : (price : K → ℕ) (k : K) (all : List K) (h : IsIn k all) → price k + sum_by price (without k all h) ≡ sum_by price all
+  unfolding without
+  sum-without price k [] h = absurd h
+  sum-without price k (j ∷ all) (inl e) = ap (λ i. price i + sum_by price all) (sym e) ∙ sym (sum_by-cons price j all)
+  sum-without price k (j ∷ all) (inr h) =
+      let a = sum-without price k all h in let b = sum_by-cons price j all in let c = sum_by-cons price j (without k all h) in omega (arith, a, b, c)
+
+  in-without : (k : K) (all : List K) (h : IsIn k all) (i : K) → (i ≡ k → ⊥) → IsIn i all → IsIn i (without k all h)
+  unfolding without
+  in-without k [] h i other there = absurd h
+  in-without k (j ∷ all) (inl e) i other (inl f) = absurd (other (sym f ∙ e))
+  in-without k (j ∷ all) (inl e) i other (inr there) = there
+  in-without k (j ∷ all) (inr h) i other (inl f) = inl f
+  in-without k (j ∷ all) (inr h) i other (inr there) = inr (in-without k all h i other there)
+
+  are-without : (k : K) (all : List K) (h : IsIn k all) (ks : List K) → IsNew k ks → AreIn ks all → AreIn ks (without k all h)
+  are-without k all h [] new there = tt
+  are-without k all h (i ∷ ks) new there = (in-without k all h i new.0 there.0, are-without k all h ks new.1 there.1)
+
+  few-price : (price : K → ℕ) (ks all : List K) → AreDistinct ks → AreIn ks all → sum_by price ks ≤ sum_by price all
+  few-price price [] all distinct there = omega arith
+  few-price price (k ∷ ks) all distinct there =
+      let less = few-price price ks (without k all there.0) distinct.1 (are-without k all there.0 ks distinct.0 there.1) in
+      let a = sum-without price k all there.0 in
+      let b = sum_by-cons price k ks in
+      omega (arith, less, a, b)
+
+  sum-ones : (ks : List K) → sum_by (λ k. 1) ks ≡ length ks
+  sum-ones [] = refl
+  sum-ones (k ∷ ks) = let a = sum_by-cons (λ (k : K). 1) k ks in let b = sum-ones ks in omega (arith, a, b)
+
+  few-number : (ks all : List K) → AreDistinct ks → AreIn ks all → length ks ≤ length all
+  few-number ks all distinct there = let few = few-price (λ k. 1) ks all distinct there in let a = sum-ones ks in let b = sum-ones all in omega (arith, few, a, b)
+
+  -- ---- Lists that are joined
+
+  pub Each-left : (P : K → Type 0) (xs ys : List K) → Each P (xs ++ ys) → Each P xs
+  Each-left P [] ys h = tt
+  Each-left P (x ∷ xs) ys h = (h.0, Each-left P xs ys h.1)
+
+  pub Each-right : (P : K → Type 0) (xs ys : List K) → Each P (xs ++ ys) → Each P ys
+  Each-right P [] ys h = h
+  Each-right P (x ∷ xs) ys h = Each-right P xs ys h.1
+
+  pub distinct-left : (xs ys : List K) → AreDistinct (xs ++ ys) → AreDistinct xs
+  distinct-left [] ys h = tt
+  distinct-left (x ∷ xs) ys h = (Each-left (λ j. j ≡ x → ⊥) xs ys h.0, distinct-left xs ys h.1)
+
+  pub distinct-right : (xs ys : List K) → AreDistinct (xs ++ ys) → AreDistinct ys
+  distinct-right [] ys h = h
+  distinct-right (x ∷ xs) ys h = distinct-right xs ys h.1
+
+  -- the first key of all stands further behind
+  pub distinct-moved : (k : K) (xs ys : List K) → AreDistinct (k ∷ (xs ++ ys)) → AreDistinct (xs ++ k ∷ ys)
+  distinct-moved k [] ys h = h
+  distinct-moved k (x ∷ xs) ys h = (
+    Each-append (λ j. j ≡ x → ⊥) xs (k ∷ ys) (Each-left (λ j. j ≡ x → ⊥) xs ys h.1.0) ((λ e. h.0.0 (sym e), Each-right (λ j. j ≡ x → ⊥) xs ys h.1.0)),
+    distinct-moved k xs ys (h.0.1, h.1.1),
+  )
+
+  pub in-moved : (k : K) (xs ys all : List K) → AreIn (k ∷ (xs ++ ys)) all → AreIn (xs ++ k ∷ ys) all
+  in-moved k xs ys all h = Each-append (λ j. IsIn j all) xs (k ∷ ys) (Each-left (λ j. IsIn j all) xs ys h.1) (h.0, Each-right (λ j. IsIn j all) xs ys h.1)
+
+  pub sum-moved : (price : K → ℕ) (k : K) (xs ys : List K) → sum_by price (xs ++ k ∷ ys) ≡ sum_by price (k ∷ (xs ++ ys))
+  sum-moved price k xs ys =
+      let a = sum_by-append price xs (k ∷ ys) in
+      let b = sum_by-cons price k ys in
+      let c = sum_by-cons price k (xs ++ ys) in
+      let e = sum_by-append price xs ys in
+      omega (arith, a, b, c, e)
+
+  -- different keys before different ones, among which none of them is
+  pub distinct-joined : (xs ys : List K) → AreDistinct xs → Each (λ x. IsNew x ys) xs → AreDistinct ys → AreDistinct (xs ++ ys)
+  distinct-joined [] ys d new e = e
+  distinct-joined (x ∷ xs) ys d new e = (Each-append (λ j. j ≡ x → ⊥) xs ys d.0 new.0, distinct-joined xs ys d.1 new.1 e)
+
+  -- a fact of all keys of a list is one of each
+  pub each-in : (P : K → Type 0) (k : K) (ks : List K) → IsIn k ks → Each P ks → P k
+  each-in P k [] h all = absurd h
+  each-in P k (j ∷ ks) (inl e) all = subst P e all.0
+  each-in P k (j ∷ ks) (inr h) all = each-in P k ks h all.1
+
+  pub price-few : (price : K → ℕ) (ks all : List K) → AreDistinct ks → AreIn ks all → sum_by price ks ≤ sum_by price all
+  price-few price ks all distinct there = few-price price ks all distinct there
+
+pub distinct-few : DistinctKeysCostAtMostList
+distinct-few = record {
+  price = λ price ks all distinct there. few-price price ks all distinct there;
+  number = λ ks all distinct there. few-number ks all distinct there;
+}

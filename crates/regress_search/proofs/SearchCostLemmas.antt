@@ -1,0 +1,126 @@
+-- A search costs exactly what its attempts cost, one after another.
+use Rattle.std.proofs.Common.{◌≡◌, ◌+◌, ◌≤◌, ℕ, Bool, true, false, Option, Some, None, option_map, Result, Ok, Err, ap, ap₂, refl, subst, sym, ◌∙◌, arith}
+use Rattle.std.specs.Prelude.{IsErrAnd, IsSome}
+use Rattle.std.proofs.Math.Logic.{∥∥₁_map}
+use Rattle.regex_meaning.specs.Tree.{Tree}
+use Rattle.regex_meaning.specs.Text.{Text}
+use Rattle.regex_meaning.specs.Outcomes.{Groups}
+use Rattle.regress_search.specs.AttemptsAndStarts.{NoMatchAt, end_with_groups, match_end_and_groups_at}
+use Rattle.regress_search.specs.CostsOfSearches.{AttemptsFail, CallSpendsExactCost, CostsMoreThanLeft, Failures, IfWorkIsCounted, MayStopShort, SearchCosts, SpendsExactCost, TakesExactCost, no_attempt, one_more}
+use Rattle.regress_search.specs.CostsOfSearches.{finds_none, finds_match, is_begun, next_attempt_offset}
+
+-- ---- Statements of producers that count work
+
+pub counted : (b : Bool) {X : Type 0} → X → IfWorkIsCounted b X
+counted false x = tt
+counted true x = x
+
+-- what is true of one that counts
+pub of-counted : (b : Bool) {X : Type 0} → b ≡ true → IfWorkIsCounted b X → X
+of-counted b {X} e x = subst (λ b. IfWorkIsCounted b X) e x
+
+pub counted₁ : (b : Bool) {X Y : Type 0} → (X → Y) → IfWorkIsCounted b X → IfWorkIsCounted b Y
+counted₁ false f x = tt
+counted₁ true f x = f x
+
+pub counted₂ : (b : Bool) {X Y Z : Type 0} → (X → Y → Z) → IfWorkIsCounted b X → IfWorkIsCounted b Y → IfWorkIsCounted b Z
+counted₂ false f x y = tt
+counted₂ true f x y = f x y
+
+pub counted₃ : (b : Bool) {W X Y Z : Type 0} → (W → X → Y → Z) → IfWorkIsCounted b W → IfWorkIsCounted b X → IfWorkIsCounted b Y → IfWorkIsCounted b Z
+counted₃ false f w x y = tt
+counted₃ true f w x y = f w x y
+
+-- ---- Attempts
+
+module _ (attempt_costs : Tree → Text → (before : Failures) → (at cost : ℕ) → (after : Option Failures) → Type 0) where
+  -- a call behind the end of the list costs nothing
+  pub nothing-costs : {X E : Type 0} (tree : Tree) (text : Text) (before : Failures) (position : Option ℕ) (left : ℕ) (out : Bool) (r : Option (Result X E)) → r ≡ None → position ≡ None
+      → CallSpendsExactCost (SearchCosts attempt_costs tree text before position) left r out left before
+  nothing-costs tree text before position left out r none e =
+      subst (λ r. CallSpendsExactCost (SearchCosts attempt_costs tree text before position) left r out left before) (sym none)
+      (0, finds_none 0 before (subst (λ p. AttemptsFail attempt_costs tree text before position 0 before p) e no_attempt), omega arith)
+
+  -- The attempts so far found no match, and cost what is no longer left.
+  pub record Failing (tree : Tree) (text : Text) (before : Failures) (first left : ℕ) (now : Failures) (left' : ℕ) (next : Option ℕ) : Type 0 where
+    pub done : ℕ
+    pub fail : AttemptsFail attempt_costs tree text before (Some first) done now next
+    pub spent : left ≡ done + left'
+
+  pub failing-begins : (tree : Tree) (text : Text) (before : Failures) (first left : ℕ) (next : Option ℕ) → next ≡ Some first
+      → Failing tree text before first left before left next
+  failing-begins tree text before first left next e = record {
+    done = 0;
+    fail = subst (λ n. AttemptsFail attempt_costs tree text before (Some first) 0 before n) (sym e) no_attempt;
+    spent = omega arith;
+  }
+
+  module _ {tree : Tree} {text : Text} {before : Failures} {first left : ℕ} where
+    -- no offset is left to try
+    pub failing-ends : (now : Failures) (left' : ℕ) (next : Option ℕ) → next ≡ None → Failing tree text before first left now left' next
+        → TakesExactCost (SearchCosts attempt_costs tree text before (Some first)) left left' now
+    failing-ends now left' next e f =
+        (f.done, finds_none f.done now (subst (λ n. AttemptsFail attempt_costs tree text before (Some first) f.done now n) e f.fail), f.spent)
+
+    -- An attempt at the next offset, of a tree and a text that are the same.
+    module _ {P : Type 0} (offset : P → ℕ) (next : Option P) (at : P) (here : next ≡ Some at) (tree' : Tree) (text' : Text) (same_tree : tree' ≡ tree) (same_text : text' ≡ text)
+        (now : Failures) (now_left : ℕ) (f : Failing tree text before first left now now_left (option_map offset next)) where
+      fail-here : AttemptsFail attempt_costs tree text before (Some first) f.done now (Some (offset at))
+      fail-here = subst (λ o. AttemptsFail attempt_costs tree text before (Some first) f.done now (option_map offset o)) here f.fail
+
+      costs-here : (cost : ℕ) (after : Option Failures) → attempt_costs tree' text' now (offset at) cost after → attempt_costs tree text now (offset at) cost after
+      costs-here cost after c =
+          subst (λ t. attempt_costs t text now (offset at) cost after) same_tree (subst (λ x. attempt_costs tree' x now (offset at) cost after) same_text c)
+
+      module _ (groups : Groups) (end : Option P) (found : end_with_groups offset end groups ≡ match_end_and_groups_at tree' text' (offset at)) where
+        match-here : match_end_and_groups_at tree text (offset at) ≡ end_with_groups offset end groups
+        match-here = sym (found ∙ ap₂ (λ t x. match_end_and_groups_at t x (offset at)) same_tree same_text)
+
+        -- It finds no match.
+        pub failing-goes : end ≡ None → (further : Option ℕ) (tree'' : Tree) (text'' : Text) → tree'' ≡ tree' → text'' ≡ text' → (after : Failures) (left' : ℕ)
+            → TakesExactCost (attempt_costs tree' text' now (offset at)) now_left left' after → further ≡ next_attempt_offset tree'' text'' (offset at)
+            → Failing tree text before first left after left' further
+        failing-goes none further tree'' text'' t x after left' takes on =
+            let vain : NoMatchAt tree text (offset at) = match-here ∙ ap (λ o. end_with_groups offset o groups) none in
+            let is : further ≡ next_attempt_offset tree text (offset at) = on ∙ ap₂ (λ t x. next_attempt_offset t x (offset at)) (t ∙ same_tree) (x ∙ same_text) in
+            record {
+              done = f.done + takes.0;
+              fail = subst (λ n. AttemptsFail attempt_costs tree text before (Some first) (f.done + takes.0) after n) (sym is)
+                  (one_more f.done takes.0 (offset at) now after fail-here (costs-here takes.0 (Some after) takes.1) vain);
+              spent = let s = f.spent in let l = takes.2 in omega (arith, s, l);
+            }
+
+        -- It finds a match.
+        pub failing-finds : (e : P) → end ≡ Some e → (after : Failures) (left' : ℕ) → TakesExactCost (attempt_costs tree' text' now (offset at)) now_left left' after
+            → TakesExactCost (SearchCosts attempt_costs tree text before (Some first)) left left' after
+        failing-finds e some after left' takes =
+            let is : match_end_and_groups_at tree text (offset at) ≡ Some (offset e, groups) = match-here ∙ ap (λ o. end_with_groups offset o groups) some in
+            let found : IsSome (match_end_and_groups_at tree text (offset at)) = subst IsSome (sym is) refl in (
+              f.done + takes.0,
+              finds_match f.done takes.0 (offset at) now after fail-here (costs-here takes.0 (Some after) takes.1) found,
+              (let s = f.spent in let l = takes.2 in omega (arith, s, l)),
+            )
+
+      -- It is given up.
+      pub failing-stops : (out : Bool) (left' : ℕ) → MayStopShort (attempt_costs tree' text' now (offset at)) now_left out left'
+          → MayStopShort (SearchCosts attempt_costs tree text before (Some first)) left out left'
+      failing-stops false left' less = let s = f.spent in omega (arith, s, less)
+      failing-stops true left' more = ∥∥₁_map more (λ c. (
+        f.done + c.0,
+        is_begun f.done c.0 (offset at) now fail-here (costs-here c.0 None c.1),
+        (let s = f.spent in let l = c.2 in omega (arith, s, l)),
+      ))
+
+-- an error that does not report the work limit
+pub stops-without : (costs : (cost : ℕ) → (after : Option Failures) → Type 0) (left : ℕ) (out : Bool) (left' : ℕ) → out ≡ false → left' ≤ left → MayStopShort costs left out left'
+stops-without costs left out left' e less = subst (λ b. MayStopShort costs left b left') (sym e) less
+
+-- and one that does
+pub stops-out : (costs : (cost : ℕ) → (after : Option Failures) → Type 0) (left : ℕ) (out : Bool) (left' : ℕ) → out ≡ true → CostsMoreThanLeft costs left → MayStopShort costs left out left'
+stops-out costs left out left' e more = subst (λ b. MayStopShort costs left b left') (sym e) more
+
+-- what is handed up
+pub handed-cost : {Y E : Type 0} (costs : (cost : ℕ) → (after : Option Failures) → Type 0) (left : ℕ) (r : Result Y E) (e : E) (out : Bool) (left' : ℕ) (after : Failures)
+    → IsErrAnd r (λ f. f ≡ e) → MayStopShort costs left out left' → SpendsExactCost costs left r out left' after
+handed-cost costs left (Ok y) e out left' after h s = absurd h
+handed-cost costs left (Err f) e out left' after h s = s

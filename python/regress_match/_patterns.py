@@ -286,7 +286,7 @@ class Match:
         else:
             number = group.__index__() if hasattr(group, "__index__") else -1
         if not 0 <= number <= self.re.groups:
-            raise IndexError("no such group")
+            raise IndexError(f"no such group: {group!r}")
         return number
 
     def _text(self, number, default=None):

@@ -1,4 +1,4 @@
--- A matcher that reads to the right goes onward, to a boundary.
+-- A matcher that reads to the right moves forward, to a boundary.
 use Rattle.std.proofs.Common.{◌≡◌, ℕ, ◌<◌, ◌≤◌, ◌-◌, Bool, true, false, Option, Some, None, option_and_then, if◌then◌else◌, refl, sym, ◌∙◌, ap}
 use Rattle.std.proofs.Common.{subst, arith}
 use Rattle.regex_meaning.specs.Text.{Text, rightwards}

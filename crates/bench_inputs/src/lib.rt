@@ -1,5 +1,5 @@
-//! Loops over an input, to be timed from Rust beside the same loops written there (`bench/inputs.rs`). Each takes the
-//! bytes of a text, or its 16-bit units.
+//! Loops over an input. Rust code times them beside the same loops written in Rust
+//! (`bench/inputs.rs`). Each loop takes the bytes of a text, or its 16-bit units.
 #![tactic(auto)]
 
 ghost use Rattle.std.specs.Prelude.{◌<◌, ◌≤◌, All, IfSome, IsAscii, IsUtf8};
@@ -16,7 +16,7 @@ use regress_input::indexing::{
 use regress_input::scm::{Bracket, MatchByteSet, SingleCharMatcher};
 use std::alloc::{AllocError, Global};
 
-// How many characters stand to the right of the left end, up to the first of this number.
+// Counts the characters to the right of the left end, up to the first one with this number.
 #[inline(always)]
 fn count_right<Input: InputIndexer>(input: &Input, stop: u32) -> usize {
     let mut pos = input.left_end();
@@ -30,7 +30,7 @@ fn count_right<Input: InputIndexer>(input: &Input, stop: u32) -> usize {
     count
 }
 
-// How many characters stand to the left of the right end, up to the first of this number.
+// Counts the characters to the left of the right end, up to the first one with this number.
 #[inline(always)]
 fn count_left<Input: InputIndexer>(input: &Input, stop: u32) -> usize {
     let mut pos = input.right_end();
@@ -44,7 +44,7 @@ fn count_left<Input: InputIndexer>(input: &Input, stop: u32) -> usize {
     count
 }
 
-// How many characters from the left end on the matcher takes.
+// Counts the characters from the left end on that the matcher accepts.
 #[inline(always)]
 fn count_taken<Input: InputIndexer, Matcher: SingleCharMatcher<Input, Forward>>(
     input: &Input,
@@ -60,7 +60,7 @@ fn count_taken<Input: InputIndexer, Matcher: SingleCharMatcher<Input, Forward>>(
     count
 }
 
-// The position of an offset in units.
+// Returns the position of an offset in units.
 #[inline(always)]
 fn position_at<Input: InputIndexer>(input: &Input, offset: usize) -> Option<Input::Position>
     ensures { IfSome result (λ p. Input.Position.offset p ≤ units (Input.text input.now)) }
@@ -68,7 +68,7 @@ fn position_at<Input: InputIndexer>(input: &Input, offset: usize) -> Option<Inpu
     input.try_move_right(input.left_end(), offset)
 }
 
-// At how many offsets the literal stands.
+// Counts the offsets at which the literal occurs.
 #[inline(always)]
 fn count_literals<const N: usize, Input: InputIndexer>(input: &Input, literal: &[u8; N]) -> usize {
     let end = input.pos_to_offset(input.right_end());
@@ -86,7 +86,8 @@ fn count_literals<const N: usize, Input: InputIndexer>(input: &Input, literal: &
     count
 }
 
-// Where the bytes stand first, or the length.
+// Returns the first offset at which the searcher finds its bytes, or the length of the text if it
+// finds none.
 #[inline(always)]
 fn first_found<Input: InputIndexer, Search: ByteSearcher>(input: &Input, search: &Search) -> usize {
     let found = input.find_bytes(input.left_end(), search);
@@ -163,7 +164,7 @@ fn interval(first: u32, last: u32) -> Interval {
     Interval { first, last }
 }
 
-// Letters, digits, `_`, and the letters of two more scripts.
+// Returns the class of letters, digits, `_`, and the letters of two more scripts.
 fn letters(alloc: Global) -> Result<BracketContents, AllocError> {
     let intervals = [
         interval(0x30, 0x39),
@@ -179,7 +180,8 @@ fn letters(alloc: Global) -> Result<BracketContents, AllocError> {
     })
 }
 
-// How many characters from the left end on are of the class; 0 where the class could not be made.
+// Counts the characters from the left end on that are in the class. Returns 0 if the class could
+// not be allocated.
 #[inline(always)]
 fn count_in_class<Input: InputIndexer>(alloc: Global, input: &Input) -> usize {
     match letters(alloc) {
@@ -205,7 +207,7 @@ pub extern "C" fn regress_input_bench_ucs2_bracket(alloc: Global, units: &[u16])
     count_in_class(alloc, &Ucs2Input::new(units, false))
 }
 
-// The lower letters.
+// Returns the set of lower-case letters.
 #[inline(always)]
 fn lower_letters() -> AsciiBitmap
     ensures { All (λ b. b < 128) (member_bytes_of_ascii_bitmap result) }

@@ -1,7 +1,7 @@
 //! Times a search of a file: `bench_searches PATTERN FLAGS FILE`.
 //!
-//! Prints the number of matches, and the nanoseconds of the fastest of some passes over the file. Each pass looks
-//! for all matches in turn.
+//! Prints the number of matches, and the nanoseconds of the fastest of several passes over the
+//! file. Each pass finds all matches.
 #![tactic(auto)]
 
 use anyhow::{Context, Result, bail};
@@ -11,10 +11,10 @@ use std::rt::Clock;
 use std::time::Instant;
 use std::{env, fs};
 
-/// How often the file is searched.
+/// The number of passes.
 const PASSES: u32 = 5;
 
-// The number of matches in the text.
+// Returns the number of matches in the text.
 fn count(re: &Regex, text: &str) -> Result<u64> {
     let Ok(found) = re.find_iter(text) else {
         bail!("out of memory");
@@ -29,14 +29,14 @@ fn count(re: &Regex, text: &str) -> Result<u64> {
     Ok(matches)
 }
 
-// The number of matches in the text, and the nanoseconds that it took to find them.
+// Returns the number of matches in the text, and the nanoseconds that finding them took.
 fn pass(clock: &impl Clock, re: &Regex, text: &str) -> Result<(u64, u128)> {
     let start = Instant::now(clock)?;
     let matches = count(re, text)?;
     Ok((matches, start.elapsed(clock)?.as_nanos()))
 }
 
-// The number of matches in the text, and the nanoseconds of the fastest pass.
+// Returns the number of matches in the text, and the nanoseconds of the fastest pass.
 fn fastest(clock: &impl Clock, re: &Regex, text: &str) -> Result<(u64, u128)> {
     let (matches, mut nanoseconds) = pass(clock, re, text)?;
     for _ in 1..PASSES {
@@ -45,7 +45,7 @@ fn fastest(clock: &impl Clock, re: &Regex, text: &str) -> Result<(u64, u128)> {
     Ok((matches, nanoseconds))
 }
 
-// The words behind the program's name.
+// Returns the arguments after the program's name.
 fn words(rt: &HostRuntime, alloc: Global) -> Result<Vec<String>> {
     let mut words = Vec::new(alloc);
     for word in env::args(rt)?.skip(1) {

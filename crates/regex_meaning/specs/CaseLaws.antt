@@ -8,18 +8,18 @@ abbrev pub AlikeWithoutUnicodeIsAlikeWithUnicode : Type 0
 AlikeWithoutUnicodeIsAlikeWithUnicode = (c d : ℕ) → canonicalize false c ≡ canonicalize false d
     → canonicalize true c ≡ canonicalize true d
 
--- Of the characters beyond ASCII, only U+017F and U+212A fold into ASCII, and only with `u`.
+-- The only characters beyond ASCII that fold into ASCII are U+017F and U+212A, and only with `u`.
 abbrev pub OnlyTwoCharactersFoldIntoAscii : Type 0
 OnlyTwoCharactersFoldIntoAscii = (unicode : Bool) (c : ℕ) → 128 ≤ c → canonicalize unicode c < 128
     → IsTrue (unicode && nonascii_folds_to_ascii_word_char c)
 
--- The profile folds the characters of its table as all of Unicode does.
+-- For ASCII, U+017F and U+212A, the profile's table agrees with *Canonicalize* over all of Unicode.
 abbrev pub ProfileFoldsTableAsUnicodeDoes : Type 0
 ProfileFoldsTableAsUnicodeDoes = (unicode : Bool) (c : ℕ) → IsTrue (nat_lt c 128 || nonascii_folds_to_ascii_word_char c)
     → canonicalize unicode c ≡ fold_code_point unicode c
 
--- A character is a word character if and only if its canonical form is one of the 63 word characters of
--- ASCII (21.2.2.6.1).
+-- A character is a word character if and only if its canonical form is one of the 63 word
+-- characters of ASCII (21.2.2.6.1).
 abbrev pub WordCharacterIffAsciiWordFold : Type 0
 WordCharacterIffAsciiWordFold = (icase unicode : Bool) (c : ℕ)
     → is_word_char (icase && unicode) c ≡ is_word_char false (canonical_character icase unicode c)

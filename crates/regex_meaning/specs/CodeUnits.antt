@@ -2,8 +2,8 @@
 use Rattle.std.specs.Prelude.{◌≡◌, ℕ, ◌+◌, ◌-◌, ◌/◌, ◌%◌, Bool, List, [], ◌∷◌, length, map, flat_map, if◌then◌else◌, nat_lt, encode_utf8_all}
 use Rattle.regex_meaning.specs.Text.{Text, offsets_from, is_scalar}
 
--- The code units are bytes in UTF-8, of which ASCII is a part, and have 16 bits in UTF-16 and
--- UCS-2.
+-- An encoding of texts. Code units are bytes in UTF-8, which contains ASCII, and have 16 bits in
+-- UTF-16 and UCS-2.
 pub data Encoding : Type 0 where
   utf8 : Encoding
   utf16 : Encoding
@@ -15,7 +15,7 @@ is_character_in_encoding utf8 c = is_scalar c
 is_character_in_encoding utf16 c = nat_lt c 0x11_0000
 is_character_in_encoding ucs2 c = nat_lt c 0x1_0000
 
--- The surrogate pair of a code point from U+10000 on, the high surrogate first.
+-- The surrogate pair of a code point above U+FFFF, with the high surrogate first.
 abbrev pub surrogate_pair : ℕ → List ℕ
 surrogate_pair c = (0xD800 + (c - 0x1_0000) / 0x400) ∷ (0xDC00 + (c - 0x1_0000) % 0x400) ∷ []
 
@@ -29,6 +29,6 @@ spelled_in ucs2 c = c ∷ []
 abbrev pub text_units_in_encoding : Encoding → Text → List ℕ
 text_units_in_encoding e text = flat_map (spelled_in e) text.characters
 
--- The offsets of the text are those of its characters' code units in this encoding.
+-- The offsets of the text are those of its characters in code units of this encoding.
 pub record IsSpelledIn (e : Encoding) (text : Text) : Type 0 where
   pub offsets : text.offsets ≡ offsets_from 0 (map (λ c. length (spelled_in e c)) text.characters)

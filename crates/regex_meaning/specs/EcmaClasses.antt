@@ -14,7 +14,7 @@ use Rattle.regex_meaning.specs.CharacterClasses.{digit_class, space_class, AreCa
 use Rattle.regex_meaning.specs.UnicodeProperties.{has_property, Property}
 use Rattle.regex_meaning.specs.EcmaEscapesAndNames.{GrammarParameters, CharacterEscape, PropertyExpression}
 
--- A member of a class: a character, a range, or the set of a class escape, as a test.
+-- A member of a class: a character, a range, or the set of a class escape, given as a test.
 pub data ClassMember : Type 0 where
   character : ℕ → ClassMember
   range : (first last : ℕ) → ClassMember
@@ -28,7 +28,7 @@ class_member_contains (class test) c = test c
 
 -- ---- CharacterClassEscape, after the backslash
 
--- A set, and whether its complement is meant.
+-- A set, and whether its complement is meant instead.
 abbrev pub InvertibleSet : Type 0
 InvertibleSet = (ℕ → Bool) × Bool
 
@@ -40,7 +40,7 @@ is_in_invertible_set s c = if s.1 then nat_le c 0x10_FFFF && not (s.0 c) else s.
 abbrev pub word_characters : Flags → ℕ → Bool
 word_characters flags c = is_word_char (flags.icase && flags.unicode) c
 
--- The set of one letter (21.2.2.12).
+-- The set of a CharacterClassEscape of one letter (21.2.2.12).
 abbrev pub class_escape_set : Flags → (letter : ℕ) → Option InvertibleSet
 class_escape_set flags c =
     if c ∈ "d" then Some (in_intervals digit_class, false) else if c ∈ "D" then Some (in_intervals digit_class, true)
@@ -49,6 +49,7 @@ class_escape_set flags c =
     else if c ∈ "w" then Some (word_characters flags, false) else if c ∈ "W" then Some (word_characters flags, true)
     else None
 
+-- CharacterClassEscape, and the set that it denotes, as a test
 pub data CharacterClassEscape (flags : Flags) (here : RemainingCodePoints) : (there : RemainingCodePoints) → (ℕ → Bool)
     → Type 0 where
   by_letter : {letter : ℕ} {s : InvertibleSet} {there : RemainingCodePoints}
@@ -59,15 +60,15 @@ pub data CharacterClassEscape (flags : Flags) (here : RemainingCodePoints) : (th
       → IsTrue flags.unicode → here ≡ codes (if invert then "P" else "p") ++ a → PropertyExpression a there p
       → CharacterClassEscape flags here there (is_in_invertible_set (has_property p, invert))
 
--- A CharacterClassEscape is here.
+-- The text begins with a CharacterClassEscape.
 abbrev pub BeginsCharacterClassEscape : Flags → RemainingCodePoints → Type 0
 BeginsCharacterClassEscape flags here = (there : RemainingCodePoints) × (test : ℕ → Bool)
     × CharacterClassEscape flags here there test
 
 -- ---- Sets
 
--- The set, as canonical intervals, is that of *CharacterSetMatcher* (21.2.2.8.1): the characters for which
--- there is a member with the same *Canonicalize*.
+-- `set` is in canonical form, and is the set of *CharacterSetMatcher* (21.2.2.8.1): the characters
+-- c for which a member contains a character with the same *Canonicalize* as c.
 pub record IsSetOf (flags : Flags) (members : List ClassMember) (set : Intervals) : Type 0 where
   pub apart : AreCanonicalIntervals set
   pub same : (c : ℕ) → IsTrue (in_intervals set c)
@@ -76,7 +77,7 @@ pub record IsSetOf (flags : Flags) (members : List ClassMember) (set : Intervals
 
 -- ---- ClassRanges
 
--- The parameters of the grammar, given whether a group has a name.
+-- The parameters of the grammar, given the flags and whether a group has a name.
 abbrev pub grammar_parameters : Flags → (named_groups : Bool) → GrammarParameters
 grammar_parameters flags named_groups = record { unicode = flags.unicode; named_groups = named_groups }
 
@@ -84,7 +85,7 @@ grammar_parameters flags named_groups = record { unicode = flags.unicode; named_
 abbrev pub is_class_control_letter : ℕ → Bool
 is_class_control_letter c = is_ascii_digit c || c ∈ "_"
 
--- ClassEscape, after the backslash: its alternatives before CharacterClassEscape
+-- ClassEscape, after the backslash: the alternatives that precede CharacterClassEscape
 pub data SimpleClassEscape (flags : Flags) (here : RemainingCodePoints) : (there : RemainingCodePoints) (c : ℕ)
     → Type 0 where
   -- `b`
@@ -97,7 +98,7 @@ pub data SimpleClassEscape (flags : Flags) (here : RemainingCodePoints) : (there
       → flags.unicode ≡ false → here ≡ codes "c" ++ letter ∷ there → IsTrue (is_class_control_letter letter)
       → SimpleClassEscape flags here there (letter % 32)
 
--- One of those alternatives is here.
+-- The text begins with one of those alternatives.
 abbrev pub BeginsSimpleClassEscape : Flags → RemainingCodePoints → Type 0
 BeginsSimpleClassEscape flags here = (there : RemainingCodePoints) × (c : ℕ) × SimpleClassEscape flags here there c
 
@@ -111,13 +112,13 @@ pub data ClassEscape (flags : Flags) (named_groups : Bool) (here : RemainingCode
   class_escape : {there : RemainingCodePoints} {test : ℕ → Bool}
       → CharacterClassEscape flags here there test
       → ClassEscape flags named_groups here there (class test)
-  -- CharacterEscape, the last alternative
+  -- CharacterEscape, the last alternative, which applies only if no other does
   character_escape : {c : ℕ} {there : RemainingCodePoints}
       → CharacterEscape (grammar_parameters flags named_groups) here there c
       → ¬ (BeginsSimpleClassEscape flags here) → ¬ (BeginsCharacterClassEscape flags here)
       → ClassEscape flags named_groups here there (character c)
 
--- A ClassEscape is here.
+-- The text begins with a ClassEscape.
 abbrev pub BeginsClassEscape : Flags → (named_groups : Bool) → RemainingCodePoints → Type 0
 BeginsClassEscape flags named_groups here = (there : RemainingCodePoints) × (m : ClassMember)
     × ClassEscape flags named_groups here there m
@@ -133,13 +134,13 @@ pub data ClassAtom (flags : Flags) (named_groups : Bool) (here : RemainingCodePo
   escaped : {m : ClassMember} {a there : RemainingCodePoints}
       → here ≡ codes "\\" ++ a → ClassEscape flags named_groups a there m
       → ClassAtom flags named_groups here there m
-  -- `\` before a `c`, without `u` (B.1.4), the last alternative
+  -- `\` before a `c`, without `u` (B.1.4). This is the last alternative.
   backslash : {a : RemainingCodePoints}
       → flags.unicode ≡ false → here ≡ codes "\\" ++ a → IsTrue (begins_with_characters "c" a)
       → ¬ (BeginsClassEscape flags named_groups a)
       → ClassAtom flags named_groups here a (character 92)
 
--- Both ends of a range are characters.
+-- Both members are characters, so that they can be the ends of a range.
 abbrev pub are_characters : ClassMember → ClassMember → Bool
 are_characters (character c) (character d) = true
 are_characters _ _ = false
@@ -151,21 +152,21 @@ pub data ClassMembers (flags : Flags) (named_groups : Bool) (here : RemainingCod
   alone : {m : ClassMember} {there : RemainingCodePoints}
       → ClassAtom flags named_groups here there m → ¬ (IsRangeDash there)
       → ClassMembers flags named_groups here there (m ∷ [])
-  -- `ClassAtom - ClassAtom`: a range, whose ends are in order (early error)
+  -- `ClassAtom - ClassAtom`: a range, whose first end is at most its last (early error)
   from_to : {first last : ℕ} {a b there : RemainingCodePoints}
       → ClassAtom flags named_groups here a (character first) → a ≡ codes "-" ++ b
       → ClassAtom flags named_groups b there (character last)
       → first ≤ last
       → ClassMembers flags named_groups here there (range first last ∷ [])
-  -- Without `u`, a `-` beside a class escape denotes itself (*CharacterRangeOrUnion*, B.1.4); with `u`
-  -- it is an early error.
+  -- Without `u`, a `-` beside a class escape denotes itself (*CharacterRangeOrUnion*, B.1.4). With
+  -- `u`, it is an early error.
   no_range : {m n : ClassMember} {a b there : RemainingCodePoints}
       → flags.unicode ≡ false → ClassAtom flags named_groups here a m → a ≡ codes "-" ++ b
       → ClassAtom flags named_groups b there n
       → are_characters m n ≡ false
       → ClassMembers flags named_groups here there (m ∷ character 45 ∷ n ∷ [])
 
--- ClassRanges, up to and including the `]`, with the members of all atoms
+-- ClassRanges, up to and including the `]`, and the members of all its atoms
 pub data ClassRanges (flags : Flags) (named_groups : Bool) : (here there : RemainingCodePoints) → List ClassMember
     → Type 0 where
   no_more : {here there : RemainingCodePoints} → here ≡ codes "]" ++ there

@@ -13,21 +13,20 @@ use Rattle.regex_meaning.specs.Canonical.{canonical_character}
 use Rattle.regex_meaning.specs.EcmaClasses.{InvertibleSet, class_escape_set}
 use Rattle.regex_meaning.specs.EcmaGrammarWithAnnexB.{ecmascript, ParsesEcmaScript}
 
--- The text is read from its beginning to its end, and these groups open.
+-- The whole pattern is read as a Disjunction, which opens these groups.
 abbrev pub IsPatternDisjunction : PatternContext → (pattern : RemainingCodePoints) → (groups : List RemainingCodePoints)
     → Node → Type 0
 IsPatternDisjunction w pattern groups n =
     Disjunction ecmascript w false (record { text = pattern; opened = [] }) (record { text = []; opened = groups }) n
 
--- The groups that have opened at the end of a pattern are those of the parentheses that the scan
--- finds.
+-- The groups that a pattern opens are those of the parentheses that the scan finds.
 abbrev pub EcmaScriptGroupsAreFound : Type 0
 EcmaScriptGroupsAreFound =
     (w : PatternContext) (pattern : RemainingCodePoints) (groups : List RemainingCodePoints) (n : Node)
     → IsPatternDisjunction w pattern groups n → OpensGroups ecmascript (texts_after_parentheses false pattern) groups
 
--- The groups of a pattern do not depend on the `PatternContext` in which it is read. So the meaning of `\18`
--- and `\k`, which depends on the groups, is well defined.
+-- The groups of a pattern do not depend on the `PatternContext` in which it is read. So the meaning
+-- of `\18` and `\k`, which depends on the groups, is well defined.
 abbrev pub EcmaScriptGroupsIndependentOfContext : Type 0
 EcmaScriptGroupsIndependentOfContext =
     (w v : PatternContext) (pattern : RemainingCodePoints) (groups others : List RemainingCodePoints) (n m : Node)
@@ -47,8 +46,9 @@ EcmaScriptTreesAreWellFormed =
     → (t.flags ≡ flags) × IsWellFormed t.root × (tree_contains_byte_nodes t.root ≡ false)
     × IsTrue (has_no_char_loops t.root)
 
--- The tree of a pattern has as many groups as the scan finds, and each number below that is the id of
--- exactly one. The names by id are those that the scan finds; the list is empty if no group has a name.
+-- The tree of a pattern has as many groups as the scan finds. Each number below that count is the
+-- id of exactly one group. The names by id are those that the scan finds, or an empty list if no
+-- group has a name.
 abbrev pub EcmaScriptGroupsAgreeWithScan : Type 0
 EcmaScriptGroupsAgreeWithScan =
     (flags : Flags) (pattern : RemainingCodePoints) (t : Tree) (names : List RemainingCodePoints)
@@ -58,8 +58,9 @@ EcmaScriptGroupsAgreeWithScan =
     × ((id : ℕ) → count_by (nat_eq id) (group_ids t.root) ≡ (if nat_lt id (length names) then 1 else 0))
     × (group_names_by_id t.root ≡ (if list_all (λ name. length name == 0) names then [] else names))
 
--- A character that matches a digit is a digit, and so for spaces and word characters. So `\D`, `\S` and `\W`
--- are the complements of the sets of `\d`, `\s` and `\w` also where case is ignored.
+-- A character that matches a digit is a digit, and the same holds for spaces and word characters.
+-- So `\D`, `\S` and `\W` are the complements of the sets of `\d`, `\s` and `\w` even if case is
+-- ignored.
 abbrev pub EcmaScriptClassesAreClosed : Type 0
 EcmaScriptClassesAreClosed =
     (flags : Flags) (letter : ℕ) (s : InvertibleSet) → class_escape_set flags letter ≡ Some s → (c d : ℕ)

@@ -32,7 +32,7 @@ pub data UnicodeEscape (unicode : Bool) (here : RemainingCodePoints) : (there : 
   -- With `u` two surrogates make one code point.
   surrogates : {there : RemainingCodePoints} {c : ℕ} → IsTrue unicode → SurrogatePair here there c
       → UnicodeEscape unicode here there c
-  -- Four digits by themselves; with `u` only where they do not begin a pair.
+  -- Four digits by themselves. With `u`, they must not begin a surrogate pair.
   four_digits : {there : RemainingCodePoints} {c : ℕ}
       → FixedHexDigits 4 here there c → ¬ (IsTrue unicode
       × ((end : RemainingCodePoints) × (d : ℕ) × SurrogatePair here end d))
@@ -49,13 +49,14 @@ control_escape_code_point c =
     if c ∈ "t" then Some 0x09 else if c ∈ "n" then Some 0x0A else if c ∈ "v" then Some 0x0B
     else if c ∈ "f" then Some 0x0C else if c ∈ "r" then Some 0x0D else None
 
--- CharacterEscape, after the backslash, and the code point that it denotes; there is no `\c`
+-- CharacterEscape, after the backslash, and the code point that it denotes. The profile has no
+-- `\c`.
 pub data CharacterEscape (unicode : Bool) (here : RemainingCodePoints) : (there : RemainingCodePoints) (c : ℕ)
     → Type 0 where
   control_escape : {letter c : ℕ} {there : RemainingCodePoints}
       → here ≡ letter ∷ there → control_escape_code_point letter ≡ Some c
       → CharacterEscape unicode here there c
-  -- `0` where no DecimalDigit follows
+  -- `0` that is not followed by a DecimalDigit
   null : {there : RemainingCodePoints}
       → here ≡ codes "0" ++ there
       → ¬ ((d : ℕ) × (end : RemainingCodePoints) × (there ≡ d ∷ end) × IsTrue (is_ascii_digit d))
@@ -67,7 +68,7 @@ pub data CharacterEscape (unicode : Bool) (here : RemainingCodePoints) : (there 
   unicode_escape : {a there : RemainingCodePoints} {c : ℕ}
       → here ≡ codes "u" ++ a → UnicodeEscape unicode a there c
       → CharacterEscape unicode here there c
-  -- IdentityEscape, with every flag: any character except ASCII letters and digits
+  -- IdentityEscape: with every flag, any character except ASCII letters and digits
   identity_escape : {c : ℕ} {there : RemainingCodePoints}
       → here ≡ c ∷ there → is_ascii_alphanumeric c ≡ false
       → CharacterEscape unicode here there c
@@ -79,7 +80,7 @@ pub data CharacterEscape (unicode : Bool) (here : RemainingCodePoints) : (there 
 abbrev pub is_ascii_identifier_start : ℕ → Bool
 is_ascii_identifier_start c = is_ascii_alphabetic c || c ∈ "_$"
 
--- A later character of a name: also an ASCII digit.
+-- A later character of a name: one that may be first, or an ASCII digit.
 abbrev pub is_ascii_identifier_part : ℕ → Bool
 is_ascii_identifier_part c = is_ascii_identifier_start c || is_ascii_digit c
 
@@ -96,11 +97,11 @@ pub data GroupName (here : RemainingCodePoints) : (there name : RemainingCodePoi
 
 -- ---- Quantifier
 
--- The value of DecimalDigits in a quantifier; a number past 2^64 - 1 counts as 2^64 - 1.
+-- The value of DecimalDigits in a quantifier, limited to 2^64 - 1.
 abbrev pub saturated_count : ℕ → ℕ
 saturated_count n = min n (2 ^ 64 - 1)
 
--- QuantifierPrefix, with its minimum and its maximum (none if there is no limit)
+-- QuantifierPrefix, with its minimum and its maximum (`None` if there is no limit)
 pub data QuantifierPrefix (here : RemainingCodePoints) : (there : RemainingCodePoints) (least : ℕ) (most : Option ℕ)
     → Type 0 where
   star : {there : RemainingCodePoints} → here ≡ codes "*" ++ there → QuantifierPrefix here there 0 None
@@ -117,12 +118,12 @@ pub data QuantifierPrefix (here : RemainingCodePoints) : (there : RemainingCodeP
       → d ≡ codes "}" ++ there
       → QuantifierPrefix here there (saturated_count n) (Some (saturated_count m))
 
--- A quantifier begins here.
+-- The text begins with a quantifier.
 abbrev pub BeginsQuantifier : RemainingCodePoints → Type 0
 BeginsQuantifier here = (there : RemainingCodePoints) × (least : ℕ) × (most : Option ℕ)
     × QuantifierPrefix here there least most
 
--- Quantifier; the minimum is at most the maximum (early error)
+-- Quantifier. Its minimum is at most its maximum (early error).
 pub data ValidQuantifier (here : RemainingCodePoints) : (there : RemainingCodePoints) → Quantifier → Type 0 where
   greedy : {there : RemainingCodePoints} {least : ℕ} {most : Option ℕ}
       → QuantifierPrefix here there least most → begins_with_characters "?" there ≡ false

@@ -28,7 +28,7 @@ flags_from_letters letters = record {
 abbrev pub syntax_characters : List ℕ
 syntax_characters = codes "\\^$.|?*+()[]{}"
 
--- The character, with a backslash before it if it is a syntax character.
+-- The character, preceded by a backslash if it is a SyntaxCharacter.
 abbrev pub with_backslash_if_syntax : ℕ → List ℕ
 with_backslash_if_syntax c = if contains syntax_characters c then 92 ∷ c ∷ [] else c ∷ []
 

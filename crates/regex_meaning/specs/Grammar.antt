@@ -1,9 +1,9 @@
--- The grammar of patterns by the productions of ECMA-262, 9th edition, 21.2.1, and the tree of
--- each. Each relation is a production and each constructor a right-hand side: premises read its
--- symbols in order, from the state before to the state after. Lookaheads and early errors
--- (21.2.1.1) are premises too. `w` is what is known of the whole pattern.
--- The productions with groups have a parameter, the dialect (`PatternDialect`): what differs between
--- this profile and another language of patterns.
+-- The grammar of patterns by the productions of ECMA-262, 9th edition, 21.2.1, and the tree of each
+-- production. Each relation is a production, and each constructor is a right-hand side. Its
+-- premises read the symbols in order, from the state before to the state after. Lookaheads and
+-- early errors (21.2.1.1) are premises too. `w` is what is known of the whole pattern. The
+-- productions with groups have a parameter, the dialect (`PatternDialect`), which says what differs
+-- between this profile and other pattern languages.
 use Rattle.std.specs.Prelude.{◌≡◌, ℕ, ◌≤◌, Bool, true, false, ◌&&◌, List, [], ◌∷◌, ◌++◌, AllPairs, nat_lt, length, codes, Some, if◌then◌else◌, IsTrue}
 use Rattle.regex_meaning.specs.Tree.{Node, Tree, Flags, Quantifier, Lookaround, BracketContents, Intervals, goal, char, char_set, cat, end_of_cat, alt, bracket}
 use Rattle.regex_meaning.specs.Tree.{match_any, match_any_except_line_terminator, anchor, start_of_line, end_of_line, word_boundary, capture_group}
@@ -15,21 +15,22 @@ use Rattle.regex_meaning.specs.EscapesNamesQuantifiers.{CharacterEscape, GroupNa
 use Prim.Native.String.{String}
 use Rattle.regex_meaning.specs.CharacterClasses.{class, class_escape, CharacterClass, IsSetOf}
 
--- The node of one character; if several code points fold as it does, with `icase` it is the set of
--- them.
+-- The node of one character. With `icase`, if several code points fold as it does, the node is
+-- their set.
 abbrev pub character_node : Flags → ℕ → Node
 character_node flags c =
     let members = expand_code_point c flags.icase flags.unicode in
     if nat_lt 1 (length members) then char_set members else char c
 
--- Atom, as far as it contains no group
+-- The alternatives of Atom that contain no group
 pub data SimpleAtom (w : PatternContext) (here : RemainingCodePoints) : (there : RemainingCodePoints) → Node
     → Type 0 where
   -- PatternCharacter: SourceCharacter but not SyntaxCharacter
   pattern_character : {c : ℕ} {there : RemainingCodePoints}
       → here ≡ c ∷ there → c ∈ "^$\\.*+?()[]{}|" ≡ false
       → SimpleAtom w here there (character_node w.flags c)
-  -- ExtendedPatternCharacter (B.1.4), without `u`: a `{`, `}` or `]` that begins no quantifier
+  -- ExtendedPatternCharacter (B.1.4), without `u`: a `{`, `}` or `]` that does not begin a
+  -- quantifier
   extended_character : {c : ℕ} {there : RemainingCodePoints}
       → here ≡ c ∷ there → c ∈ "{}]" ≡ true → w.flags.unicode ≡ false → ¬ (BeginsQuantifier here)
       → SimpleAtom w here there (character_node w.flags c)
@@ -37,11 +38,11 @@ pub data SimpleAtom (w : PatternContext) (here : RemainingCodePoints) : (there :
   any_character : {there : RemainingCodePoints}
       → here ≡ codes "." ++ there
       → SimpleAtom w here there (if w.flags.dot_all then match_any else match_any_except_line_terminator)
-  -- AtomEscape, DecimalEscape: there must be a group of this number (early error)
+  -- AtomEscape, DecimalEscape: a group must have this number (early error)
   decimal_escape : {a there : RemainingCodePoints} {n : ℕ}
       → here ≡ codes "\\" ++ a → begins_with_characters "0" a ≡ false → Digits 10 a there n → n ≤ length w.groups
       → SimpleAtom w here there (back_ref n (by_case w.flags.icase))
-  -- AtomEscape, `k GroupName`: there must be a group of this name (early error)
+  -- AtomEscape, `k GroupName`: a group must have this name (early error)
   named_reference : {a there name : RemainingCodePoints} {n : ℕ}
       → here ≡ codes "\\k<" ++ a → GroupName a there name → group_number_of name w.groups ≡ Some n
       → SimpleAtom w here there (back_ref n (by_case w.flags.icase))
@@ -66,9 +67,9 @@ lookaround_opener true false = "(?!"
 lookaround_opener false true = "(?<="
 lookaround_opener true true = "(?<!"
 
--- What differs between languages of patterns.
+-- What differs between pattern languages.
 pub record PatternDialect : Type 1 where
-  -- Atom, as far as it contains no group
+  -- The alternatives of Atom that contain no group
   pub simple_atom : PatternContext → (here there : RemainingCodePoints) → Node → Type 0
   -- GroupName, after the `<`
   pub group_name : (here there name : RemainingCodePoints) → Type 0
@@ -76,7 +77,7 @@ pub record PatternDialect : Type 1 where
   pub may_repeat : Flags → (backwards : Bool) → Bool
 
 mutual
-  -- Disjunction, from one state to another; the index says whether it is inside a lookbehind
+  -- Disjunction, from one state to another. `in_lookbehind` says whether it is inside a lookbehind.
   pub data Disjunction (s : PatternDialect) (w : PatternContext) : (in_lookbehind : Bool) → ParseState → ParseState
       → Node → Type 0 where
     last_alternative : {in_lookbehind : Bool} {p q : ParseState} {terms : List Node}
@@ -86,7 +87,7 @@ mutual
         → Alternative s w in_lookbehind p q terms → q ≡ "|" ▸ r → Disjunction s w in_lookbehind r t right
         → Disjunction s w in_lookbehind p t (alt (arm in_lookbehind terms) right)
 
-  -- Alternative, with the nodes of its terms in the order of the text
+  -- Alternative, and the nodes of its terms in the order of the text
   pub data Alternative (s : PatternDialect) (w : PatternContext) : (in_lookbehind : Bool) → ParseState → ParseState
       → List Node → Type 0 where
     no_terms : {in_lookbehind : Bool} {p : ParseState} → Alternative s w in_lookbehind p p []
@@ -97,8 +98,8 @@ mutual
   -- Term
   pub data Term (s : PatternDialect) (w : PatternContext) : (in_lookbehind : Bool) → ParseState → ParseState → Node
       → Type 0 where
-    -- Assertion, where no quantifier follows; the standard has this since no Term begins with a
-    -- quantifier
+    -- Assertion that is not followed by a quantifier. In the standard this holds because no Term
+    -- begins with a quantifier.
     assertion : {in_lookbehind : Bool} {p q : ParseState} {n : Node}
         → Assertion s w p q n → ¬ (BeginsQuantifier q.text)
         → Term s w in_lookbehind p q n
@@ -109,11 +110,11 @@ mutual
         → ValidQuantifier q.text there quantifier
         → Term s w in_lookbehind p (state_with_text_left there q)
         (loop quantifier (groups_at p) (groups_at q) (lookaround l n))
-    -- Atom, where no quantifier follows
+    -- Atom that is not followed by a quantifier
     atom : {in_lookbehind : Bool} {p q : ParseState} {n : Node}
         → Atom s w in_lookbehind p q n → ¬ (BeginsQuantifier q.text)
         → Term s w in_lookbehind p q n
-    -- `Atom Quantifier`; the loop names the groups that open inside it
+    -- `Atom Quantifier`. The loop contains the range of the group ids that open inside it.
     quantified : {in_lookbehind : Bool} {p q : ParseState} {there : RemainingCodePoints} {n : Node}
         {quantifier : Quantifier}
         → Atom s w in_lookbehind p q n → ValidQuantifier q.text there quantifier
@@ -139,7 +140,7 @@ mutual
     leaf : {in_lookbehind : Bool} {p : ParseState} {there : RemainingCodePoints} {n : Node}
         → s.simple_atom w p.text there n
         → Atom s w in_lookbehind p (state_with_text_left there p) n
-    -- `( GroupSpecifier Disjunction )` without a name, where no `?` follows the parenthesis
+    -- `( GroupSpecifier Disjunction )` without a name: the parenthesis is not followed by a `?`
     group : {in_lookbehind : Bool} {p q r t : ParseState} {n : Node}
         → p ≡ "(" ▸ q → begins_with_characters "?" q.text ≡ false
         → Disjunction s w in_lookbehind (with_opened_group [] q) r n → r ≡ ")" ▸ t
@@ -155,11 +156,12 @@ mutual
         → p ≡ "(?:" ▸ q → Disjunction s w in_lookbehind q r n → r ≡ ")" ▸ t
         → Atom s w in_lookbehind p t n
 
--- No two groups have the same name (early error); the empty name is none.
+-- No two groups have the same name (early error). An empty name means that the group has none.
 abbrev pub AreDistinct : List RemainingCodePoints → Type 0
 AreDistinct names = AllPairs (λ a b. a ≡ b → a ≡ []) names
 
--- Pattern, with the flags given: the groups of the whole are those that have opened at its end
+-- Pattern, with the flags given. The groups of the whole pattern are those that have opened at its
+-- end.
 pub data ParsesBy (s : PatternDialect) (flags : Flags) (pattern : RemainingCodePoints) : Tree → Type 0 where
   pattern_is : {n : Node} (groups : List RemainingCodePoints)
       → Disjunction s (record { flags = flags; groups = groups }) false
@@ -167,7 +169,7 @@ pub data ParsesBy (s : PatternDialect) (flags : Flags) (pattern : RemainingCodeP
       → AreDistinct groups
       → ParsesBy s flags pattern (record { root = cat n (cat goal end_of_cat); flags = flags })
 
--- The dialect of this profile: no lookaround has a quantifier.
+-- The dialect of this profile: a lookaround cannot have a quantifier.
 abbrev pub profile : PatternDialect
 profile =
     record {

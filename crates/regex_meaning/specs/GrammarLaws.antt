@@ -35,14 +35,15 @@ OneTree =
     (flags : Flags) (pattern : RemainingCodePoints) (t u : Tree) → Parses flags pattern t → Parses flags pattern u
     → t ≡ u
 
--- The names of the groups that have opened at the end of a pattern are those that the scan finds.
+-- The groups that have opened at the end of a pattern have the names that the scan finds.
 abbrev pub ScanFindsOpenedGroupNames : Type 0
 ScanFindsOpenedGroupNames =
     (w : PatternContext) (pattern : RemainingCodePoints) (groups : List RemainingCodePoints) (n : Node)
     → Disjunction profile w false (record { text = pattern; opened = [] }) (record { text = []; opened = groups }) n
     → groups ≡ scanned_names_per_capturing_group false pattern
 
--- A tree has as many groups as the scan finds, and each number below that is the id of exactly one.
+-- A tree has as many groups as the scan finds. Each number below that count is the id of exactly
+-- one group.
 abbrev pub ScanCountsPatternGroups : Type 0
 ScanCountsPatternGroups =
     (flags : Flags) (pattern : RemainingCodePoints) (t : Tree) → Parses flags pattern t →
@@ -58,7 +59,7 @@ TreesAreWellFormed =
     → (t.flags ≡ flags) × IsWellFormed t.root × (tree_contains_byte_nodes t.root ≡ false)
     × IsTrue (has_no_char_loops t.root)
 
--- The tree of a sequence of characters.
+-- The tree of a pattern that is a sequence of literal characters.
 abbrev pub literal_tree : Flags → RemainingCodePoints → Tree
 literal_tree flags text =
     record { root = cat (sequence_node (map (character_node flags) text)) (cat goal end_of_cat); flags = flags }
@@ -68,14 +69,14 @@ abbrev pub EscapedTextsAreRead : Type 0
 EscapedTextsAreRead = (flags : Flags) (text : RemainingCodePoints)
     → Parses flags (escape text) (literal_tree flags text)
 
--- With every flag, a UTF-8 text whose bytes were escaped is a pattern whose tree is the sequence of
--- its characters.
+-- With every flag, a UTF-8 text that was escaped byte by byte is a pattern whose tree is the
+-- sequence of the characters of the text.
 abbrev pub EscapedBytesAreRead : Type 0
 EscapedBytesAreRead =
     (flags : Flags) (bytes : List ℕ) → IsTrue (is_utf8 bytes)
     → Parses flags (chars (escape bytes)) (literal_tree flags (chars bytes))
 
--- The names by id of a tree's groups are those that the scan finds; the list is empty if no group
+-- The names by id of a tree's groups are those that the scan finds, or an empty list if no group
 -- has a name.
 abbrev pub ScanFindsGroupNames : Type 0
 ScanFindsGroupNames =

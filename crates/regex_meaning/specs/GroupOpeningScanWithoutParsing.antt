@@ -1,10 +1,11 @@
--- The groups of a pattern of any dialect, found by a scan without parsing: a parenthesis outside
--- classes and escapes opens a group. It is no part of the grammar.
+-- A scan for the groups of a pattern of any dialect that does not parse the pattern: a parenthesis
+-- outside classes and escapes opens a group. The scan is not part of the grammar.
 use Rattle.std.specs.Prelude.{◌≡◌, Bool, true, false, not, ◌&&◌, List, [], ◌∷◌, ◌++◌, codes, if◌then◌else◌}
 use Rattle.regex_meaning.specs.ReadingStatesAndDigits.{RemainingCodePoints, ◌∈◌, begins_with_characters}
 use Rattle.regex_meaning.specs.Grammar.{PatternDialect, lookaround_opener}
 
--- The text after each `(` from here on, in order; `in_class` says whether a class is open.
+-- The text after each `(` that may open a group, in order. `in_class` says whether the text begins
+-- inside a class.
 unfoldable pub texts_after_parentheses : (in_class : Bool) → RemainingCodePoints → List RemainingCodePoints
 texts_after_parentheses in_class [] = []
 texts_after_parentheses in_class (c ∷ []) = if c ∈ "(" && not in_class then [] ∷ [] else []
@@ -15,7 +16,8 @@ texts_after_parentheses in_class (c ∷ d ∷ rest) =
     else if c ∈ "(" && not in_class then (d ∷ rest) ∷ texts_after_parentheses in_class (d ∷ rest)
     else texts_after_parentheses in_class (d ∷ rest)
 
--- The parentheses before these texts open groups with these names, empty where a group has none.
+-- The parentheses before these texts open capturing groups with these names. A name is empty if the
+-- group has none.
 pub data OpensGroups (s : PatternDialect) : (texts names : List RemainingCodePoints) → Type 0 where
   no_parenthesis : OpensGroups s [] []
   -- `(?:`

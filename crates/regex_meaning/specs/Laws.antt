@@ -24,9 +24,9 @@ abbrev pub CountingTicksKeepsOutcomes : Type 0
 CountingTicksKeepsOutcomes = (text : Text) (node : Node) (d : Direction) (place : ℕ) (groups : Groups)
     → outcomes_without_ticks (ticked text node d place groups) ≡ outcomes text node d place groups
 
--- After k iterations of a loop, `repeat` gives two kinds of outcomes: if k is below the maximum,
--- those of another iteration for each outcome that passes the empty check, and if k is at least the
--- minimum, leaving the loop.
+-- After k iterations, a loop has two kinds of outcomes. If k is below the maximum, each outcome of
+-- another iteration that passes the empty check continues the loop. If k is at least the minimum,
+-- the loop may be left.
 abbrev pub LoopRepetitionUnfolds : Type 0
 LoopRepetitionUnfolds = (text : Text) (q : Quantifier) (loopee : Node) (change : Groups → Groups) (d : Direction)
     (k place : ℕ) (groups : Groups)
@@ -37,12 +37,12 @@ LoopRepetitionUnfolds = (text : Text) (q : Quantifier) (loopee : Node) (change :
     (filter (passes_empty_check r k place) (outcomes text loopee d place (change groups))) else [])
     (if nat_le q.min k then record { end = place; groups = groups } ∷ [] else [])
 
--- b is at a or past it in the direction, and within the text if a is
+-- b is equal to a or past it in the direction, and b is within the text if a is.
 abbrev pub IsOnward : Text → Direction → (a b : ℕ) → Type 0
 IsOnward text rightwards a b = (a ≤ b) × (b ≤ max a (last_place text))
 IsOnward text leftwards a b = (b ≤ a) × Unit {0}
 
--- P holds of each element
+-- P holds for each element.
 abbrev pub Each : {A : Type 0} → (A → Type 0) → List A → Type 0
 Each P [] = Unit {0}
 Each P (x ∷ xs) = P x × Each P xs
@@ -52,7 +52,7 @@ abbrev pub OutcomesEndAheadOfPlace : Type 0
 OutcomesEndAheadOfPlace = (text : Text) (node : Node) (d : Direction) (place : ℕ) (groups : Groups)
     → Each (λ o. IsOnward text d place o.end) (outcomes text node d place groups)
 
--- The group is none, or its two places are in order and within the text.
+-- The group is `None`, or its two places are in order and within the text.
 abbrev pub IsWithinText : Text → Option (ℕ × ℕ) → Type 0
 IsWithinText text None = Unit {0}
 IsWithinText text (Some range) = (range.0 ≤ range.1) × (range.1 ≤ last_place text)
@@ -70,22 +70,23 @@ OutcomesStayInText = (text : Text) (node : Node) (d : Direction) (place : ℕ) (
 
 -- ---- Matches
 
--- The matches from a place on; none if there is no place.
+-- The matches from a place on. Empty if there is no place.
 abbrev pub matches_from_optional : Node → Text → Option ℕ → List Found
 matches_from_optional root text next = option_map_or (match_list root text) next []
 
--- A match, followed by the list from its resume place.
+-- A match, if there is one, followed by the matches from the place where the list continues.
 abbrev pub match_then_list : Node → Text → Option Found → List Found
 match_then_list root text found =
     option_map_or (λ m. m ∷ matches_from_optional root text (place_after_match root text m)) found []
 
--- The list of matches from a place is the first match, followed by the list from its resume place.
+-- The list of matches from a place on is the first match, followed by the matches from the place
+-- where the list continues.
 abbrev pub MatchListUnfolds : Type 0
 MatchListUnfolds = (root : Node) (text : Text) (place : ℕ)
     → match_list root text place ≡ match_then_list root text (first_match root text place)
 
--- The first match from a place begins there, or else is the first match from the next place; there
--- is none past the end.
+-- The first match from a place on begins at that place, or is the first match from the next place
+-- on. There is no match past the end.
 abbrev pub FirstMatchUnfolds : Type 0
 FirstMatchUnfolds = (root : Node) (text : Text) (place : ℕ)
     → (place ≤ last_place text → first_match root text place ≡ option_or (match_at root text place)
@@ -100,7 +101,7 @@ pub record HasOffsets (text : Text) : Type 0 where
   pub place : (p : ℕ) → p ≤ last_place text → place_at text (offset text p) ≡ Some p
   pub offset_of_place : (at p : ℕ) → place_at text at ≡ Some p → (offset text p ≡ at) × (p ≤ last_place text)
 
--- In every text each place has one offset and each boundary one place, in the same order.
+-- In every text, places and boundaries correspond one to one, in the same order.
 abbrev pub PlacesCorrespondToBoundaries : Type 0
 PlacesCorrespondToBoundaries = (text : Text) → HasRisingPlaceOffsets text → HasOffsets text
 
@@ -115,7 +116,7 @@ abbrev pub is_within_pair : List ℕ → ℕ → Bool
 is_within_pair units zero = false
 is_within_pair units (suc i) = is_high_surrogate (slice_index units i) && is_low_surrogate (slice_index units (suc i))
 
--- A unit boundary is a boundary of the text; of 16-bit units it is an offset within the text that
+-- A unit boundary is a boundary of the text. For 16-bit units, it is an offset within the text that
 -- cuts no surrogate pair.
 abbrev pub Utf16BoundariesCutNoPair : Type 0
 Utf16BoundariesCutNoPair = (units : List ℕ) (unicode : Bool) (i : ℕ)
@@ -123,7 +124,8 @@ Utf16BoundariesCutNoPair = (units : List ℕ) (unicode : Bool) (i : ℕ)
     × (((k : ℕ) → k < length units → slice_index units k < 0x1_0000)
     → is_unit_boundary units i ≡ (nat_le i (length units) && not (is_within_pair units i)))
 
--- The answers from an offset on are the first answer, followed by those from the next start.
+-- The answers from an offset on are the first answer, followed by the answers from the next start
+-- on.
 abbrev pub AnswersFromOffsetUnfold : Type 0
 AnswersFromOffsetUnfold = (root : Node) (text : Text) → HasRisingPlaceOffsets text → (start : ℕ)
     → answers_from root text start ≡ answer_then_list root text (first_answer root text start)
@@ -134,17 +136,18 @@ abbrev pub NextStartIsAhead : Type 0
 NextStartIsAhead = (root : Node) (text : Text) → HasRisingPlaceOffsets text → (start next : ℕ)
     → next_start root text start ≡ Some next → (start < next) × IsBoundary text next
 
--- Both ends of the range are boundaries, in order.
+-- Both ends of the range are boundaries, and they are in order.
 abbrev pub IsRange : Text → ℕ × ℕ → Type 0
 IsRange text range = (range.0 ≤ range.1) × IsBoundary text range.0 × IsBoundary text range.1
 
--- The first answer from an offset on is a range of whole characters and begins at that offset or
--- after it.
+-- The first answer from an offset on begins at that offset or after it, and its range consists of
+-- whole characters.
 abbrev pub FirstAnswerLiesOnBoundaries : Type 0
 FirstAnswerLiesOnBoundaries = (root : Node) (text : Text) → HasRisingPlaceOffsets text → (start : ℕ) (m : Answer)
     → first_answer root text start ≡ Some m → (start ≤ m.range.0) × IsRange text m.range
 
--- The match and its groups are ranges of whole characters, with an entry for each group of the tree.
+-- The ranges of the match and of its groups consist of whole characters, and each group of the tree
+-- has an entry.
 pub record IsAnswerOf (root : Node) (text : Text) (m : Answer) : Type 0 where
   pub whole : IsRange text m.range
   pub groups : Each (λ g. IfSome g (IsRange text)) m.captures
@@ -161,8 +164,8 @@ abbrev pub AnswersSatisfyIsAnswerOf : Type 0
 AnswersSatisfyIsAnswerOf = (root : Node) (text : Text) → HasRisingPlaceOffsets text → (start : ℕ)
     → Each (IsAnswerOf root text) (answers_from root text start)
 
--- The first answer begins at `from` or after it, and each next one begins after the start of the
--- one before and not before its end.
+-- The first answer begins at `from` or after it. Each later answer begins after the start of the
+-- answer before it, and not before the end of that answer.
 abbrev pub AreAscendingDisjointAnswersFrom : (from : ℕ) → List Answer → Type 0
 AreAscendingDisjointAnswersFrom from [] = Unit {0}
 AreAscendingDisjointAnswersFrom from (m ∷ ms) =
@@ -215,19 +218,19 @@ EscapeIsInjective = (s t : List ℕ) → escape s ≡ escape t → s ≡ t
 
 -- ---- Needs
 
--- The needs of the matches from a place on and of the end, with `spent` added to each; `spent`
--- alone if there is no place.
+-- The needs of the matches from a place on and of the end of the list, with `spent` added to each.
+-- If there is no place, `spent` is the only need.
 abbrev pub needs_on : Tree → Text → (spent : ℕ) → Option ℕ → List ℕ
 needs_on tree text spent None = spent ∷ []
 needs_on tree text spent (Some place) = needs_from tree text (last_place text + 1) spent (Some place)
 
--- The needs after a match; none if there was no match.
+-- The needs after a match. Empty if there is no match.
 abbrev pub needs_after_match : Tree → Text → (spent : ℕ) → Option Found → List ℕ
 needs_after_match tree text spent found =
     option_map_or (λ m. needs_on tree text spent (place_after_match tree.root text m)) found []
 
--- The first need is that of the first match or of there being none, and the others continue from
--- there.
+-- The first need is the need to find the first match, or to find that there is none. The other
+-- needs continue from that match.
 abbrev pub NeededStepsUnfoldMatchByMatch : Type 0
 NeededStepsUnfoldMatchByMatch = (tree : Tree) (text : Text) (spent place : ℕ)
     → needs_on tree text spent (Some place)

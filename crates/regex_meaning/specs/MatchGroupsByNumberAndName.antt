@@ -10,14 +10,14 @@ use Rattle.regex_meaning.specs.FirstAndAllMatches.{Found, match_list}
 use Rattle.regex_meaning.specs.CodeUnitOffsets.{offset, place_at}
 use Rattle.regex_meaning.specs.Outcomes.{Groups, group_range}
 
--- A match in offsets: its range, the range of each group by id, and the name of each id (empty if
--- the group has none).
+-- A match in offsets: its range, the range of each group by id, and the name of each group by id
+-- (empty if the group has none).
 pub record Answer : Type 0 where
   pub range : ℕ × ℕ
   pub captures : Groups
   pub names : List (List ℕ)
 
--- The id and the name of a capturing group; empty for any other node.
+-- The id and the name of a node that is a capturing group. Empty for any other node.
 abbrev pub own_name : Node → List (ℕ × List ℕ)
 own_name (capture_group id name contents) = (id, name) ∷ []
 own_name _ = []
@@ -26,12 +26,13 @@ own_name _ = []
 abbrev pub capturing_group_ids_and_names : Node → List (ℕ × List ℕ)
 capturing_group_ids_and_names root = fold_nodes ◌++◌ own_name root
 
--- The name that a list of ids and names has for an id; empty if the id is not listed.
+-- The name that a list of ids and names has for an id. Empty if the id is not listed.
 abbrev pub group_name_of_id : List (ℕ × List ℕ) → ℕ → List ℕ
 group_name_of_id [] id = []
 group_name_of_id (named ∷ others) id = if named.0 == id then named.1 else group_name_of_id others id
 
--- The name of each id, empty where the group has none; the list is empty if no group has a name.
+-- The name of each group by id, empty if the group has none. The list is empty if no group has a
+-- name.
 abbrev pub group_names_by_id : Node → List (List ℕ)
 group_names_by_id root =
     let named = capturing_group_ids_and_names root in
@@ -46,7 +47,7 @@ module _ (root : Node) (text : Text) where
     names = group_names_by_id root;
   }
 
-  -- All answers from an offset on; none if the offset is no boundary or is past the end.
+  -- All answers from an offset on. Empty if the offset is not a boundary or is past the end.
   unfoldable pub answers_from : (start : ℕ) → List Answer
   answers_from start = option_map_or (λ place. map answer (match_list root text place)) (place_at text start) []
 
@@ -55,7 +56,7 @@ abbrev pub group : Answer → ℕ → Option (ℕ × ℕ)
 group m zero = Some m.range
 group m (suc id) = group_range m.captures id
 
--- The positions in the list of those names that pass the test, counted from `id`.
+-- The positions of the names that pass the test, counted from `id`.
 abbrev pub ids_where : (List ℕ → Bool) → (id : ℕ) → List (List ℕ) → List ℕ
 ids_where test id [] = []
 ids_where test id (name ∷ names) = if test name then id ∷ ids_where test (id + 1) names
@@ -65,12 +66,12 @@ ids_where test id (name ∷ names) = if test name then id ∷ ids_where test (id
 abbrev pub ids_named : Answer → List ℕ → List ℕ
 ids_named m name = ids_where (bytes_eq name) 0 m.names
 
--- The range of the first of these groups that has one.
+-- The range of the first group in the list that has one.
 abbrev pub first_range : Answer → List ℕ → Option (ℕ × ℕ)
 first_range m [] = None
 first_range m (id ∷ ids) = option_or (group_range m.captures id) (first_range m ids)
 
--- The range of the first group of this name, by id, that has one; none for the empty name.
+-- The range of the first group with this name, by id, that has a range. `None` for the empty name.
 abbrev pub named_group : Answer → List ℕ → Option (ℕ × ℕ)
 named_group m [] = None
 named_group m (c ∷ name) = first_range m (ids_named m (c ∷ name))
@@ -83,6 +84,6 @@ first_appearances before ((c ∷ name) ∷ names) =
     if list_any (bytes_eq (c ∷ name)) before then first_appearances before names
     else (c ∷ name) ∷ first_appearances ((c ∷ name) ∷ before) names
 
--- Each nonempty name once, with the range of its first group that matched.
+-- Each nonempty name once, with the range of the first group of that name that has one.
 abbrev pub named_groups : Answer → List (List ℕ × Option (ℕ × ℕ))
 named_groups m = map (λ name. (name, first_range m (ids_named m name))) (first_appearances [] m.names)

@@ -6,7 +6,7 @@ use Rattle.std.specs.List.{list_any}
 abbrev pub contains : List ℕ → ℕ → Bool
 contains members n = list_any (nat_eq n) members
 
--- `count` consecutive numbers from the first on
+-- `count` consecutive numbers, beginning with `first`.
 abbrev pub numbers_from : (first count : ℕ) → List ℕ
 numbers_from first zero = []
 numbers_from first (suc count) = first ∷ numbers_from (first + 1) count

@@ -15,28 +15,30 @@ use Rattle.regex_meaning.specs.Text.{Text, Direction, rightwards, leftwards, is_
 use Rattle.regex_meaning.specs.Text.{character_after, next_character, characters_ahead, moved, next_characters}
 use Rattle.std.specs.Int.{is_in_range}
 
--- An entry for each capturing group by id: none, or its start and end places in order (21.2.2.1,
+-- An entry for each capturing group by id: `None`, or its start and end places in order (21.2.2.1,
 -- *captures* of a *State*).
 abbrev pub Groups : Type 0
 Groups = List (Option (ℕ × ℕ))
 
--- A way in which a node can match: the place where it ends, and the groups then (21.2.2.1, *State*).
+-- A way in which a node can match: the place where the match ends, and the groups at that point
+-- (21.2.2.1, *State*).
 pub record Outcome : Type 0 where
   pub end : ℕ
   pub groups : Groups
 
 -- ---- Groups
 
--- The range of a group; none if it has none or there is no such group.
+-- The range of a group. `None` if the group has no range, or if there is no such group.
 abbrev pub group_range : Groups → ℕ → Option (ℕ × ℕ)
 group_range groups id = unwrap_or (slice_get groups id) None
 
--- The groups with the entries of `count` groups from `id` on set to none.
+-- The groups, with the entries of `count` groups from `id` on set to `None`.
 abbrev pub cleared : (id count : ℕ) → Groups → Groups
 cleared id zero groups = groups
 cleared id (suc count) groups = cleared (id + 1) count (slice_set groups id None)
 
--- Sets the group to the range between the place and the end of the outcome, in order.
+-- Sets the group to the range between the place and the end of the outcome, with the lesser place
+-- first.
 abbrev pub captured : (id place : ℕ) → Outcome → Outcome
 captured id place o = record o { groups = slice_set o.groups id (Some (min place o.end, max place o.end)) }
 
@@ -67,15 +69,15 @@ is_some_and o test = option_map_or test o false
 
 -- ---- Loops
 
--- A loop: its bounds, its greediness, and `body`, the outcomes of one iteration; `most` is always a
--- number.
+-- A loop: its bounds, its greediness, and `body`, the outcomes of one iteration. `most` is a number
+-- even if the quantifier has no maximum.
 pub record Repetition (A : Type 0) : Type 0 where
   pub least : ℕ
   pub most : ℕ
   pub greedy : Bool
   pub body : ℕ → Groups → List A
 
--- The maximum of a quantifier; an absent maximum is `usize::MAX`.
+-- The maximum of a quantifier, or `usize::MAX` (2^64 - 1) if it has none.
 abbrev pub max_iterations : Quantifier → ℕ
 max_iterations q = unwrap_or q.max (2 ^ 64 - 1)
 
@@ -83,8 +85,9 @@ max_iterations q = unwrap_or q.max (2 ^ 64 - 1)
 abbrev pub repetition : {A : Type 0} → Quantifier → (body : ℕ → Groups → List A) → Repetition A
 repetition q body = record { least = q.min; most = max_iterations q; greedy = q.greedy; body = body }
 
--- Whether an outcome of the iteration after k others is kept: it is dropped if it is empty and the
--- minimum has been reached (21.2.2.5.1, the first test of the continuation).
+-- Whether an outcome of the iteration after k others is kept. It is dropped if the iteration
+-- consumed nothing and the minimum was reached before it (21.2.2.5.1, the first test of the
+-- continuation).
 abbrev pub passes_empty_check : {A : Type 0} → Repetition A → (k place : ℕ) → Outcome → Bool
 passes_empty_check r k place o = not (o.end == place && nat_lt r.least (k + 1))
 
@@ -93,8 +96,8 @@ abbrev pub preferred : (greedy : Bool) → (again leave : List Outcome) → List
 preferred true again leave = again ++ leave
 preferred false again leave = leave ++ again
 
--- The outcomes after k iterations, with at most `turns` levels of recursion. `repeat` supplies
--- enough of them.
+-- The outcomes of a loop after k iterations, limited to `turns` levels of recursion. `repeat` gives
+-- enough levels.
 unfoldable pub bounded_repeat : Repetition Outcome → (turns k place : ℕ) → Groups → List Outcome
 bounded_repeat r zero k place groups = []
 bounded_repeat r (suc turns) k place groups =
@@ -105,18 +108,19 @@ bounded_repeat r (suc turns) k place groups =
 
 -- ---- Nodes that match the empty text
 
--- One outcome at the place itself if the test holds, else none.
+-- One outcome at the place itself if `holds` is true, and no outcome otherwise.
 abbrev pub empty_match_if : Bool → ℕ → Groups → List Outcome
 empty_match_if holds place groups = if holds then record { end = place; groups = groups } ∷ [] else []
 
--- Whether a place with this neighbouring character is a line boundary: at an end of the text, or
--- with `multiline` beside a line terminator.
+-- Whether a place with this neighbouring character is a line boundary: it is at an end of the text
+-- or, with `multiline`, beside a line terminator.
 abbrev pub is_line_boundary : Option ℕ → (multiline : Bool) → Bool
 is_line_boundary None multiline = true
 is_line_boundary (Some c) multiline = multiline && is_line_terminator c
 
--- The outcomes of a lookaround, given those of its contents: the place itself with the groups of
--- the first one, or if negated, with the groups unchanged if there is none.
+-- The outcomes of a lookaround, given those of its contents. A positive lookaround has one outcome
+-- if its contents have any: the place itself with the groups of the first. A negative one has one
+-- outcome if its contents have none: the place itself with the groups unchanged.
 abbrev pub lookaround_outcomes : (negate : Bool) → List Outcome → ℕ → Groups → List Outcome
 lookaround_outcomes false [] place groups = []
 lookaround_outcomes false (o ∷ os) place groups = record { end = place; groups = o.groups } ∷ []
@@ -130,14 +134,14 @@ direction_of l = if l.backwards then leftwards else rightwards
 -- ---- The outcomes of a node
 
 module _ (text : Text) where
-  -- One outcome after the next character in the direction, if the test accepts it.
+  -- One outcome after the next character in the direction, if there is one and it passes the test.
   abbrev pub one_character : (ℕ → Bool) → Direction → ℕ → Groups → List Outcome
   one_character test direction place groups =
       if is_some_and (next_character text direction place) test
       then record { end = moved text direction 1 place; groups = groups } ∷ [] else []
 
-  -- One outcome after the next `length cs` characters, if read from left to right they are the same
-  -- as `cs`.
+  -- One outcome after the next `length cs` characters, if there are that many and they are the same
+  -- as `cs`, read from left to right.
   abbrev pub spelled : (ℕ → ℕ → Bool) → List ℕ → Direction → ℕ → Groups → List Outcome
   spelled same cs direction place groups =
       let n = length cs in
@@ -148,14 +152,14 @@ module _ (text : Text) where
   abbrev pub is_case_variant : (icase : Bool) → (c d : ℕ) → Bool
   is_case_variant icase c d = contains (expand_code_point c icase text.unicode) d
 
-  -- Whether a backreference takes the two characters for the same.
+  -- Whether a backreference treats the two characters as the same.
   abbrev pub is_same : Sameness → (c d : ℕ) → Bool
   is_same exact c d = c == d
   is_same folded c d = c == d || text.fold c == text.fold d
   is_same (alike unicode) c d = canonicalize unicode c == canonicalize unicode d
 
-  -- The outcomes of a backreference: the group's characters again, or the empty text if the group
-  -- is none.
+  -- The outcomes of a backreference: the group's characters must occur again. If the group is
+  -- `None`, the backreference matches the empty text.
   abbrev pub backref_outcomes : Sameness → Option (ℕ × ℕ) → Direction → ℕ → Groups → List Outcome
   backref_outcomes same None direction place groups = record { end = place; groups = groups } ∷ []
   backref_outcomes same (Some range) direction place groups =
@@ -172,13 +176,14 @@ module _ (text : Text) where
       exclusive_or (is_some_and (character_before text place) (is_word_char unicode_icase))
       (is_some_and (character_after text place) (is_word_char unicode_icase))
 
-  -- The outcomes after k iterations. Iterations up to the minimum count always, and later ones only
-  -- if they consume a character, so this bound on the recursion suffices.
+  -- The outcomes of a loop after k iterations. Iterations up to the minimum always count, and later
+  -- ones only if they consume a character, so this bound on the recursion is sufficient.
   abbrev pub repeat : Repetition Outcome → Direction → (k place : ℕ) → Groups → List Outcome
   repeat r direction k place groups =
       bounded_repeat r (r.least - k + characters_ahead text direction place + 1) k place groups
 
-  -- Each case names the clause of ECMA-262, 9th edition, whose matcher it states.
+  -- The outcomes of a node at a place. Each case names the clause of ECMA-262, 9th edition, that
+  -- defines its matcher.
   unfoldable pub outcomes : Node → Direction → ℕ → Groups → List Outcome
   -- 21.2.2.4, the empty alternative
   outcomes empty direction place groups = record { end = place; groups = groups } ∷ []
@@ -191,24 +196,24 @@ module _ (text : Text) where
   outcomes match_any direction place groups = one_character (accepts match_any) direction place groups
   outcomes match_any_except_line_terminator direction place groups =
       one_character (accepts match_any_except_line_terminator) direction place groups
-  -- Rule of this crate: the characters that the bytes or the strings encode; of a string set,
-  -- string after string.
+  -- Rules of this crate: a byte node matches the characters that its bytes encode, and a string set
+  -- tries its strings in order.
   outcomes (byte_set members) direction place groups = one_character (accepts (byte_set members)) direction place groups
   outcomes (byte_sequence bytes) direction place groups = spelled nat_eq (chars bytes) direction place groups
   outcomes (string_set strings icase) direction place groups =
       flat_map (λ s. spelled (is_case_variant icase) s direction place groups) strings
-  -- 21.2.2.4: for each outcome of the first child in order, those of the rest from its end
+  -- 21.2.2.4: for each outcome of the first child in order, the outcomes of the rest from its end
   outcomes end_of_cat direction place groups = record { end = place; groups = groups } ∷ []
   outcomes (cat first rest) direction place groups =
       flat_map (λ o. outcomes rest direction o.end o.groups) (outcomes first direction place groups)
   -- 21.2.2.3, the left arm first
   outcomes (alt left right) direction place groups =
       outcomes left direction place groups ++ outcomes right direction place groups
-  -- 21.2.2.8; the range is in order in both directions, and the group is none inside its own
-  -- contents
+  -- 21.2.2.8. The range is in order in both directions. Inside its own contents, the group is
+  -- `None`.
   outcomes (capture_group id name contents) direction place groups =
       map (captured id place) (outcomes contents direction place (cleared id 1 groups))
-  -- 21.2.2.9 and 21.2.2.9.1; the tree numbers groups from 1
+  -- 21.2.2.9 and 21.2.2.9.1. The tree numbers groups from 1.
   outcomes (back_ref group same) direction place groups =
       backref_outcomes same (group_range groups (group - 1)) direction place groups
   -- 21.2.2.6
@@ -218,7 +223,7 @@ module _ (text : Text) where
       empty_match_if (exclusive_or invert (is_at_word_boundary unicode_icase place)) place groups
   outcomes (lookaround l contents) direction place groups =
       lookaround_outcomes l.negate (outcomes contents (direction_of l) place groups) place groups
-  -- 21.2.2.5, 21.2.2.5.1 and 21.2.2.7; each iteration first clears the groups inside
+  -- 21.2.2.5, 21.2.2.5.1 and 21.2.2.7. Each iteration first clears the groups inside the loop.
   outcomes (loop q start_group end_group loopee) direction place groups =
       repeat (repetition q (λ p g. outcomes loopee direction p (cleared start_group (end_group - start_group) g)))
       direction 0 place groups

@@ -1,5 +1,5 @@
--- The outcomes of a node with ticks among them: a tick is a step of a search that tries them in
--- order (a rule of this crate).
+-- The outcomes of a node with ticks among them. A tick is one step of a search that tries the
+-- outcomes in order (a rule of this crate).
 use Rattle.std.specs.Prelude.{ℕ, zero, suc, ◌+◌, ◌-◌, min, Bool, true, false, List, [], ◌∷◌, map, reverse, length, take, drop, replicate, Option}
 use Rattle.std.specs.Prelude.{Some, None, if◌then◌else◌, nat_lt, nat_le, nat_eq, encode_utf8_all, filter, ◌++◌}
 use Rattle.std.specs.List.{starts_with, prefix_len}
@@ -26,7 +26,7 @@ pub data TickOrOutcome : Type 0 where
 abbrev pub ticks : ℕ → List TickOrOutcome
 ticks n = replicate n tick
 
--- Replaces each outcome by a list and leaves the ticks.
+-- Replaces each outcome by a list of items, and keeps the ticks.
 abbrev pub outcomes_replaced_by_lists : List TickOrOutcome → (Outcome → List TickOrOutcome) → List TickOrOutcome
 outcomes_replaced_by_lists [] next = []
 outcomes_replaced_by_lists (tick ∷ items) next = tick ∷ outcomes_replaced_by_lists items next
@@ -61,7 +61,8 @@ with_ticks_between (o ∷ p ∷ os) = pair o ∷ tick ∷ with_ticks_between (p 
 
 -- ---- Nodes of several instructions
 
--- An alternation: one tick first, one before each outcome of the left arm, and one between the arms.
+-- An alternation: a tick at the beginning, a tick before each outcome of the left arm, and a tick
+-- between the arms.
 abbrev pub ticked_alt : (left right : List TickOrOutcome) → List TickOrOutcome
 ticked_alt left right = tick ∷ (ticks_before_outcomes left ++ (tick ∷ right))
 
@@ -74,8 +75,7 @@ ticked_preferred false true greedy again leave = leave
 ticked_preferred true true true again leave = again ++ (tick ∷ leave)
 ticked_preferred true true false again leave = leave ++ (tick ∷ again)
 
--- `bounded_repeat` with ticks: one before each outcome of the body, even if the iteration is
--- dropped
+-- `bounded_repeat` with ticks: one before each outcome of the body, even if the outcome is dropped.
 unfoldable pub ticked_bounded_repeat : Repetition TickOrOutcome → (turns k place : ℕ) → Groups → List TickOrOutcome
 ticked_bounded_repeat r zero k place groups = []
 ticked_bounded_repeat r (suc turns) k place groups =
@@ -125,14 +125,14 @@ module _ (text : Text) where
       ticks (compared_code_point_count icase string direction place) ++ map pair
       (spelled text (is_case_variant text icase) string direction place groups)
 
-  -- A string set: alternatives nested to the right; no string at all takes one tick.
+  -- A string set: alternatives nested to the right. An empty list of strings takes one tick.
   abbrev pub ticked_strings : (icase : Bool) → List (List ℕ) → Direction → ℕ → Groups → List TickOrOutcome
   ticked_strings icase [] direction place groups = tick ∷ []
   ticked_strings icase (s ∷ []) direction place groups = ticked_string icase s direction place groups
   ticked_strings icase (s ∷ t ∷ more) direction place groups =
       ticked_alt (ticked_string icase s direction place groups) (ticked_strings icase (t ∷ more) direction place groups)
 
-  -- How often a loop over one character tries its body.
+  -- The number of times that a loop over one character tries its body.
   abbrev pub body_attempts : Quantifier → Node → Direction → ℕ → ℕ
   body_attempts q loopee direction place =
       min (max_iterations q) (prefix_len (accepts loopee) (nearest_first direction place) + 1)
@@ -179,12 +179,12 @@ module _ (tree : Tree) (text : Text) where
   items_at place = ticked text tree.root rightwards place (no_groups tree.root)
 
   -- The places from this one on that a search tries if none has a match: those that the start
-  -- predicate allows; if it is the left end only, the given place alone.
+  -- predicate allows. With `start_anchored`, the given place is the only one.
   abbrev pub tried_places : StartPredicate → ℕ → List ℕ
   tried_places start_anchored place = if nat_le place (last_place text) then place ∷ [] else []
   tried_places p place = filter (may_start p text) (numbers_from place (last_place text + 1 - place))
 
-  -- The ticks at these places in order, up to the first outcome.
+  -- The number of ticks at these places in order, up to the first outcome.
   abbrev pub ticks_at : List ℕ → ℕ
   ticks_at [] = 0
   ticks_at (place ∷ places) =
@@ -192,12 +192,12 @@ module _ (tree : Tree) (text : Text) where
       let later = ticks_at places in
       ticks_to_first items + (if has_no_outcome (outcomes_without_ticks items) then later else 0)
 
-  -- The number of steps to find the first match from a place on, or that there is none.
+  -- The number of steps to find the first match from a place on, or to find that there is none.
   unfoldable pub need : ℕ → ℕ
   need place = ticks_at (tried_places (start_predicate tree) place)
 
-  -- The need of each match in order and then of the end, each including those before it and
-  -- `spent`; at most `count` matches.
+  -- The need of each match in order, and then of the end of the list. Each includes the needs
+  -- before it and `spent`. The list is limited to `count` matches.
   abbrev pub needs_from : (count spent : ℕ) → Option ℕ → List ℕ
   needs_from zero spent start = spent ∷ []
   needs_from (suc count) spent None = spent ∷ []
@@ -206,6 +206,6 @@ module _ (tree : Tree) (text : Text) where
       (spent + need place) ∷ option_map_or (λ m. needs_from count (spent + need place)
       (place_after_match tree.root text m)) next []
 
-  -- The needs of all matches from a place on and of the end.
+  -- The needs of all matches from a place on, and of the end of the list.
   unfoldable pub needs : ℕ → List ℕ
   needs place = needs_from (last_place text + 1) 0 (Some place)

@@ -1,4 +1,4 @@
--- States, digits and names, with which the grammar reads a pattern.
+-- States, digits and names with which the grammar reads a pattern.
 use Rattle.std.specs.Prelude.{ℕ, suc, ◌+◌, ◌*◌, ◌<◌, Bool, List, [], ◌∷◌, ◌++◌, nat_eq, length, drop, take_while, fold, codes, reverse, Option, Some}
 use Rattle.std.specs.Prelude.{None, option_map, if◌then◌else◌}
 use Rattle.std.specs.List.{starts_with}
@@ -13,14 +13,14 @@ abbrev pub RemainingCodePoints : Type 0
 RemainingCodePoints = List ℕ
 
 -- A position in a pattern: the text that is still to be read, and the name of each group that has
--- opened, empty if it has none; so group ids and the groups inside a loop or a lookaround are
--- lengths of that list (*parenIndex* and *parenCount* of 21.2.2.5 and 21.2.2.8).
+-- opened (empty if it has none). So group ids, and the ranges of groups inside a loop or a
+-- lookaround, are lengths of that list (*parenIndex* and *parenCount* of 21.2.2.5 and 21.2.2.8).
 pub record ParseState : Type 0 where
   pub text : RemainingCodePoints
   pub opened : List RemainingCodePoints
 
--- What is known of the whole pattern: its flags, and the name of each of its groups, since a
--- reference may precede its group.
+-- What is known of the whole pattern: its flags, and the name of each of its groups. It is needed
+-- because a reference may precede its group.
 pub record PatternContext : Type 0 where
   pub flags : Flags
   pub groups : List RemainingCodePoints
@@ -34,7 +34,7 @@ infixr 40 ◌▸◌
 abbrev pub ◌▸◌ : String → ParseState → ParseState
 word ▸ p = record p { text = codes word ++ p.text }
 
--- The state after a text without groups, with `there` left.
+-- The state after a text that opens no group, with `there` left.
 abbrev pub state_with_text_left : RemainingCodePoints → ParseState → ParseState
 state_with_text_left there p = record p { text = there }
 
@@ -42,7 +42,7 @@ state_with_text_left there p = record p { text = there }
 abbrev pub with_opened_group : (name : RemainingCodePoints) → ParseState → ParseState
 with_opened_group name p = record p { opened = p.opened ++ name ∷ [] }
 
--- Whether the character is one of these.
+-- Whether the character occurs in the string.
 infix 60 ◌∈◌
 abbrev pub ◌∈◌ : ℕ → String → Bool
 c ∈ s = contains (codes s) c
@@ -59,7 +59,7 @@ leading_digits base here = take_while (λ c. is_digit c base) here
 abbrev pub value_of_digits : (base : ℕ) → RemainingCodePoints → ℕ
 value_of_digits base here = fold (λ n c. base * n + digit_value c) 0 here
 
--- DecimalDigits or HexDigits and their value: at least one digit, and no digit follows
+-- DecimalDigits or HexDigits, and their value: at least one digit, and no further digit follows
 pub data Digits (base : ℕ) (here : RemainingCodePoints) : (there : RemainingCodePoints) (n : ℕ) → Type 0 where
   digits_from : 0 < length (leading_digits base here)
       → Digits base here (drop (length (leading_digits base here)) here)

@@ -15,7 +15,7 @@ pub data ReplacementPart : Type 0 where
 abbrev pub max_capture_groups : ℕ
 max_capture_groups = 65535
 
--- The parts that the beginning of a replacement is read as, and the bytes that are left.
+-- The parts at the beginning of a replacement that have been read, and the bytes that are left.
 pub record ParsedPart : Type 0 where
   pub parts : List ReplacementPart
   pub rest : List ℕ
@@ -24,8 +24,8 @@ pub record ParsedPart : Type 0 where
 abbrev pub parsed_part_from_single_replacement_part : ReplacementPart → List ℕ → ParsedPart
 parsed_part_from_single_replacement_part part rest = record { parts = part ∷ []; rest = rest }
 
--- Reads the remaining digits of a group number after `$`; `value` is that of the digits read so
--- far, and reading stops once it exceeds `max_capture_groups`.
+-- Reads the remaining digits of a group number after `$`. `value` is the number that the digits
+-- before give. Reading stops once it exceeds `max_capture_groups`.
 abbrev pub parse_digits_of_group_number : (value : ℕ) → List ℕ → ParsedPart
 parse_digits_of_group_number value [] = parsed_part_from_single_replacement_part (group_part value) []
 parse_digits_of_group_number value (b ∷ bytes) =
@@ -33,7 +33,7 @@ parse_digits_of_group_number value (b ∷ bytes) =
     let stop = parsed_part_from_single_replacement_part (group_part value) (b ∷ bytes) in
     if is_ascii_digit b && nat_le value max_capture_groups then more else stop
 
--- Reads what follows `${`: a name up to `}`; if no `}` follows, everything stands for itself.
+-- Reads what follows `${`: a name up to `}`. If no `}` follows, all bytes are literal.
 abbrev pub parse_braced_name : List ℕ → ParsedPart
 parse_braced_name bytes =
     let name = parsed_part_from_single_replacement_part (named_part (before_first is_brace bytes))
@@ -44,8 +44,8 @@ parse_braced_name bytes =
     is_brace : ℕ → Bool
     is_brace b = b == 125
 
--- Reads what follows `$`: `$$` is one `$`, digits and `{name}` are groups, and any other `$` stands
--- for itself.
+-- Reads what follows `$`. `$$` is one `$`, digits and `{name}` refer to groups, and any other `$`
+-- is literal.
 abbrev pub parse_after_dollar : List ℕ → ParsedPart
 parse_after_dollar [] = parsed_part_from_single_replacement_part (literal 36) []
 parse_after_dollar (b ∷ bytes) =
@@ -64,18 +64,18 @@ parse_replacement (suc left) (b ∷ bytes) =
     begun.parts ++ parse_replacement left begun.rest
 
 module _ (text : List ℕ) (m : Answer) where
-  -- The bytes of a range; empty if there is none.
+  -- The bytes of a range. Empty if there is none.
   abbrev pub text_of : Option (ℕ × ℕ) → List ℕ
   text_of None = []
   text_of (Some range) = slice_range text range.0 range.1
 
-  -- The bytes that one part is replaced by.
+  -- The bytes that one part stands for.
   abbrev pub text_of_part : ReplacementPart → List ℕ
   text_of_part (literal b) = b ∷ []
   text_of_part (group_part number) = text_of (group m number)
   text_of_part (named_part name) = text_of (named_group m name)
 
-  -- The bytes that the parts are replaced by, in order.
+  -- The bytes that the parts stand for, in order.
   abbrev pub text_of_parts : List ReplacementPart → List ℕ
   text_of_parts [] = []
   text_of_parts (part ∷ parts) = text_of_part part ++ text_of_parts parts

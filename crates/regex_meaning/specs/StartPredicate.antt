@@ -1,4 +1,5 @@
--- What a text must begin with at a place where a tree has an outcome (a rule of this crate).
+-- The bytes with which a text must begin at a place where a tree has an outcome (a rule of this
+-- crate).
 use Rattle.std.specs.Prelude.{◌≢◌, ℕ, ◌+◌, ◌*◌, ◌-◌, ◌≤◌, Bool, true, false, ◌&&◌, ◌||◌, not, List, [], ◌∷◌, take, drop, filter, map, flat_map, min}
 use Rattle.std.specs.Prelude.{max, ◌++◌, if◌then◌else◌, nat_lt, nat_le, nat_eq, ◌==◌, encode_utf8_all, IsTrue}
 use Rattle.std.specs.List.{list_any, list_all, starts_with}
@@ -55,21 +56,21 @@ code_points_of_class contents = if contents.invert then intervals_minus ((0, 0x1
 
 -- ---- The predicate of a node
 
--- What the text must begin with if the node matches: nothing known (`arbitrary`), a sequence of
+-- What the text must begin with where the node matches: anything (`arbitrary`), a sequence of
 -- bytes, or one of some bytes.
 pub data AbstractStartPredicate : Type 0 where
-  -- The node consumes nothing, so that the predicate is that of what follows.
+  -- The node consumes nothing, so the predicate of what follows it applies.
   open_ended : AbstractStartPredicate
   arbitrary : AbstractStartPredicate
   sequence : (bytes : List ℕ) → AbstractStartPredicate
   one_of : (bytes : List ℕ) → AbstractStartPredicate
 
--- A sequence of bytes; nothing is known if it is empty.
+-- A sequence of bytes. If it is empty, nothing is known.
 abbrev pub byte_sequence_predicate : List ℕ → AbstractStartPredicate
 byte_sequence_predicate [] = arbitrary
 byte_sequence_predicate (b ∷ bs) = sequence (b ∷ bs)
 
--- The predicate of the first child that is not open-ended.
+-- The predicate of the first child or, if that is open-ended, the predicate of the rest.
 abbrev pub first_not_open_ended : AbstractStartPredicate → AbstractStartPredicate → AbstractStartPredicate
 first_not_open_ended open_ended rest = rest
 first_not_open_ended first rest = first
@@ -88,7 +89,7 @@ first_byte_as_set bytes = take 1 bytes
 abbrev pub union_of_byte_sets : List ℕ → List ℕ → List ℕ
 union_of_byte_sets xs ys = bytes_that_pass (λ b. contains xs b || contains ys b)
 
--- The common prefix if it is not empty, else the set of first bytes.
+-- The common prefix, or the set of first bytes if the prefix is empty.
 abbrev pub common_prefix_or_first_bytes : (front first_bytes : List ℕ) → AbstractStartPredicate
 common_prefix_or_first_bytes [] first_bytes = one_of first_bytes
 common_prefix_or_first_bytes (b ∷ bs) first_bytes = sequence (b ∷ bs)
@@ -120,8 +121,8 @@ abstract_start_predicate (alt left right) = join (abstract_start_predicate left)
 abstract_start_predicate (lookaround l contents) = open_ended
 abstract_start_predicate _ = arbitrary
 
--- Whether each alternative of the node begins with a `^` that is not multiline, so that the node matches
--- only at the left end of the text.
+-- Whether each alternative of the node begins with a `^` that is not multiline, so that the node
+-- matches only at the left end of the text.
 abbrev pub is_anchored : Node → Bool
 is_anchored (anchor start_of_line multiline) = not multiline
 is_anchored (cat first rest) = is_anchored first
@@ -131,17 +132,18 @@ is_anchored _ = false
 
 -- ---- The predicate of a tree
 
--- What the text must begin with: nothing known, a byte of a set, a sequence of bytes, or the left
--- end only.
+-- Where a match may start: anywhere, where a byte of a set or a sequence of bytes follows, or only
+-- at the left end.
 pub data StartPredicate : Type 0 where
   start_arbitrary : StartPredicate
-  -- One byte, or one of two, of three, or of more.
+  -- At least one byte.
   start_byte_set : (bytes : List ℕ) → StartPredicate
   -- At least two bytes.
   start_byte_sequence : (bytes : List ℕ) → StartPredicate
   start_anchored : StartPredicate
 
--- The predicate of a tree, given that of its root; of an empty set or an open end nothing is known.
+-- The start predicate of a tree, given the predicate of its root. An empty set or an open end tells
+-- nothing about the text.
 abbrev pub resolved_start_predicate : AbstractStartPredicate → StartPredicate
 resolved_start_predicate (sequence (b ∷ [])) = start_byte_set (b ∷ [])
 resolved_start_predicate (sequence (b ∷ c ∷ bs)) = start_byte_sequence (b ∷ c ∷ bs)
@@ -184,8 +186,8 @@ has_nonempty_bytes (start_byte_set []) = false
 has_nonempty_bytes (start_byte_sequence []) = false
 has_nonempty_bytes _ = true
 
--- The predicate allows every place at which the tree has an outcome; besides, its bytes begin
--- characters, and it is not empty.
+-- The predicate allows every place at which the tree has an outcome. Its bytes begin characters,
+-- and its set or sequence is not empty.
 pub record IsSoundStartPredicateOf (p : StartPredicate) (root : Node) : Type 0 where
   pub holds : (text : Text) (place : ℕ) → IsTrue (list_all is_scalar text.characters) → place ≤ last_place text
       → outcomes text root rightwards place (no_groups root) ≢ [] → IsTrue (may_start p text place)

@@ -19,17 +19,17 @@ is_ascii_lowercase c = is_in_range 97 122 c
 abbrev pub is_ascii_uppercase : ℕ → Bool
 is_ascii_uppercase c = is_in_range 65 90 c
 
--- The lowercase letter of `A` to `Z`; any other number is itself.
+-- The lowercase letter of `A` to `Z`. Any other number is unchanged.
 abbrev pub to_ascii_lowercase : ℕ → ℕ
 to_ascii_lowercase c = if is_ascii_uppercase c then c + 32 else c
 
--- The uppercase letter of `a` to `z`; any other number is itself.
+-- The uppercase letter of `a` to `z`. Any other number is unchanged.
 abbrev pub to_ascii_uppercase : ℕ → ℕ
 to_ascii_uppercase c = if is_ascii_lowercase c then c - 32 else c
 
 -- *Canonicalize* (21.2.2.8.2) for these characters: with `unicode`, `A` to `Z` fold to lowercase,
--- U+017F to `s` and U+212A to `k`; without it, `a` to `z` fold to uppercase. That no others fold is
--- a rule of this crate.
+-- U+017F to `s` and U+212A to `k`; without it, `a` to `z` fold to uppercase. It is a rule of this
+-- crate that no other characters fold.
 unfoldable pub fold_code_point : (unicode : Bool) → ℕ → ℕ
 fold_code_point true c = if c == 0x017F then 115 else if c == 0x212A then 107 else to_ascii_lowercase c
 fold_code_point false c = to_ascii_uppercase c
@@ -46,7 +46,7 @@ code_points_with_fold unicode folded =
     let lower = to_ascii_lowercase folded in
     (if upper == lower then folded ∷ [] else upper ∷ lower ∷ []) ++ nonascii_with_fold unicode folded
 
--- The code points that c matches: c alone, or with `icase` all code points that fold as c does.
+-- The code points that c matches: c alone or, with `icase`, all code points that fold as c does.
 unfoldable pub expand_code_point : ℕ → (icase unicode : Bool) → List ℕ
 expand_code_point c false unicode = c ∷ []
 expand_code_point c true unicode = code_points_with_fold unicode (fold_code_point unicode c)
@@ -60,7 +60,7 @@ abbrev pub nonascii_folds_to_ascii_word_char : ℕ → Bool
 nonascii_folds_to_ascii_word_char c = c == 0x017F || c == 0x212A
 
 -- Whether c is a word character (21.2.2.6.1, *WordCharacters*): `a` to `z`, `A` to `Z`, `0` to `9`
--- and `_`, and with both flags `i` and `u` those that fold to one of them.
+-- and `_` and, with both flags `i` and `u`, the characters that fold to one of them.
 abbrev pub is_word_char : (unicode_icase : Bool) → ℕ → Bool
 is_word_char unicode_icase c =
     is_ascii_lowercase c || is_ascii_uppercase c || is_in_range 48 57 c || c ==
@@ -86,7 +86,7 @@ offsets_from at (width ∷ widths) = at ∷ offsets_from (at + width) widths
 abbrev pub one_unit : ℕ → ℕ
 one_unit c = 1
 
--- The fold of a character; the character itself if its fold is no `char`.
+-- The fold of a character, or the character itself if its fold is not a `char`.
 abbrev pub fold_char : (unicode : Bool) → ℕ → ℕ
 fold_char unicode c = let folded = fold_code_point unicode c in if is_scalar folded then folded else c
 
@@ -129,8 +129,8 @@ decode_surrogate_pair high low = 0x1_0000 + ((high % 0x400) * 0x400 + low % 0x40
 abbrev pub utf16_width : ℕ → ℕ
 utf16_width c = if nat_le 0x1_0000 c then 2 else 1
 
--- The characters of 16-bit code units (6.1.4, 10.1.2): a high surrogate before a low one makes one
--- character with it, and any other unit is a character by itself.
+-- The characters of 16-bit code units (6.1.4, 10.1.2). A high surrogate and a low surrogate after
+-- it are one character. Any other unit is a character by itself.
 abbrev pub utf16_characters : List ℕ → List ℕ
 utf16_characters [] = []
 utf16_characters (u ∷ []) = u ∷ []
@@ -148,7 +148,7 @@ utf16_text units unicode = record {
   fold = fold_code_point unicode;
 }
 
--- Whether no surrogate pair is cut at this offset of 16-bit code units, which is within the text.
+-- Whether the offset is within the 16-bit code units and cuts no surrogate pair.
 abbrev pub is_unit_boundary : List ℕ → ℕ → Bool
 is_unit_boundary units i = contains (offsets_from 0 (map utf16_width (utf16_characters units))) i
 

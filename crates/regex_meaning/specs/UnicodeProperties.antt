@@ -24,14 +24,14 @@ use Rattle.ucd_sets.specs.declared.property.BinaryProperty.TheVariants.{Radical,
 use Rattle.ucd_sets.specs.declared.property.BinaryProperty.TheVariants.{UnifiedIdeograph, Uppercase, VariationSelector, WhiteSpace, XidContinue}
 use Rattle.ucd_sets.specs.declared.property.BinaryProperty.TheVariants.{XidStart}
 
--- A property that a code point has or has not: a set of the Unicode Character Database, or
+-- A property that a code point has or does not have: a set of the Unicode Character Database, or
 -- Changes_When_NFKC_Casefolded.
 pub data Property : Type 0 where
   in_database : Set → Property
   changes_when_nfkc_casefolded : Property
 
--- Whether NFKC_Casefold leaves the code point as it is: it is not ignorable by default, and its full case
--- folding, normalized to NFKC, is the code point itself.
+-- Whether NFKC_Casefold leaves the code point unchanged: it is not ignorable by default, and its
+-- full case folding, normalized to NFKC, is the code point itself.
 unfoldable pub is_nfkc_casefolded : ℕ → Bool
 is_nfkc_casefolded c = not (is_default_ignorable_code_point c) && bytes_eq (nfkc (full_fold c)) (c ∷ [])
 
@@ -49,7 +49,7 @@ abbrev pub value_named : {V : Type 0} → List (String × V) → List ℕ → Op
 value_named [] name = None
 value_named (row ∷ rows) name = if is_word row.0 name then Some row.1 else value_named rows name
 
--- Table 55, but for ASCII, Any, Assigned and Changes_When_NFKC_Casefolded
+-- Table 55, except ASCII, Any, Assigned and Changes_When_NFKC_Casefolded
 unfoldable pub binary_property_names : List (String × BinaryProperty)
 binary_property_names =
     ("ASCII_Hex_Digit", AsciiHexDigit) ∷ ("AHex", AsciiHexDigit)
@@ -102,7 +102,7 @@ binary_property_names =
     ∷ ("XID_Start", XidStart) ∷ ("XIDS", XidStart)
     ∷ []
 
--- Table 55
+-- Table 55: the binary property with this name
 abbrev pub binary_property_named : List ℕ → Option Property
 binary_property_named name =
     if is_word "ASCII" name then Some (in_database set.Ascii)
@@ -111,7 +111,8 @@ binary_property_named name =
     else if is_word "Changes_When_NFKC_Casefolded" name || is_word "CWKCF" name then Some changes_when_nfkc_casefolded
     else option_map (λ p. in_database (set.Binary p)) (value_named binary_property_names name)
 
--- Table 56: a value of General_Category. The database's names also have three binary properties.
+-- Table 56: a value of General_Category. Three binary properties among the database's names are
+-- excluded.
 abbrev pub general_category_named : List ℕ → Option Property
 general_category_named name =
     if is_word "Any" name || is_word "ASCII" name || is_word "Assigned" name then None
@@ -121,8 +122,9 @@ general_category_named name =
 abbrev pub property_named : List ℕ → Option Property
 property_named name = option_or (general_category_named name) (binary_property_named name)
 
--- UnicodePropertyName `=` UnicodePropertyValue (early errors): a property of table 54, and a value of
--- it in table 56 or, for scripts, a name that the latest version of Unicode has for one (table 57)
+-- UnicodePropertyName `=` UnicodePropertyValue (early errors): a property of table 54 and one of
+-- its values. The value is in table 56 or, for scripts, is a name that the latest version of
+-- Unicode has for a script (table 57).
 abbrev pub property_with_value : (property value : List ℕ) → Option Property
 property_with_value property value =
     if is_word "General_Category" property || is_word "gc" property then general_category_named value

@@ -1,4 +1,4 @@
--- Well-formed trees, which are those that can be compiled (a rule of this crate).
+-- Well-formed trees: the trees that can be compiled (a rule of this crate).
 use Rattle.std.specs.Prelude.{ℕ, ◌+◌, ◌-◌, Bool, true, false, ◌&&◌, length, chars, count_by, if◌then◌else◌, nat_lt, nat_le, nat_eq, ◌==◌, IsTrue}
 use Rattle.std.specs.List.{list_all}
 use Rattle.std.specs.Option.{option_map_or}
@@ -45,13 +45,13 @@ encloses start_group end_group contents =
     let named = numbers_from start_group (end_group - start_group) in
     nat_le start_group end_group && list_all (contains named) ids && list_all (contains ids) named
 
--- A loop or a lookaround names exactly the groups inside it.
+-- The range of group ids of a loop or a lookaround contains exactly the groups inside it.
 abbrev pub has_exact_group_range : Node → Bool
 has_exact_group_range (lookaround l contents) = encloses l.start_group l.end_group contents
 has_exact_group_range (loop q start_group end_group loopee) = encloses start_group end_group loopee
 has_exact_group_range _ = true
 
--- A backreference is to one of n groups, which count from 1.
+-- A backreference refers to one of n groups, which are numbered from 1.
 abbrev pub refers_to_a_group : (n : ℕ) → Node → Bool
 refers_to_a_group n (back_ref group same) = nat_le 1 group && nat_le group n
 refers_to_a_group n _ = true
@@ -87,8 +87,8 @@ abbrev pub has_text_in_sequence : Node → Bool
 has_text_in_sequence (byte_sequence bytes) = nat_lt 0 (length bytes) && is_utf8 bytes
 has_text_in_sequence _ = true
 
--- Sets have at most four members, sets of bytes only ASCII, and code points of strings are at most
--- U+10FFFF.
+-- Sets have at most four members, byte sets contain only ASCII, and code points of strings are at
+-- most U+10FFFF.
 abbrev pub set_sizes_and_characters_fit_instructions : Node → Bool
 set_sizes_and_characters_fit_instructions (byte_set members) =
     nat_le (length members) 4 && list_all (λ b. nat_lt b 128) members

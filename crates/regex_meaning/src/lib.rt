@@ -1,4 +1,4 @@
-// Meaning of patterns: the definitions that contracts refer to, and proofs of their laws.
+// The meaning of patterns: the definitions that contracts cite, and proofs of their laws.
 #![tactic(auto)]
 
 ghost use Rattle.regex_meaning.specs.Laws.{CountingTicksKeepsOutcomes, LoopRepetitionUnfolds, OutcomesEndAheadOfPlace, OutcomesKeepNumberOfGroups, OutcomesStayInText};
@@ -33,7 +33,7 @@ pub fn outcomes_end_ahead_of_place()
     ensures { OutcomesEndAheadOfPlace }
 {}
 
-/// Proves that a unit boundary is a boundary of the text: it cuts no surrogate pair.
+/// Proves that unit boundaries are the boundaries of a UTF-16 text, which cut no surrogate pair.
 pub fn unit_boundaries_are_boundaries()
     ensures { Utf16BoundariesCutNoPair }
 {}
@@ -48,7 +48,8 @@ pub fn outcomes_stay_in_text()
     ensures { OutcomesStayInText }
 {}
 
-/// Proves that the list of matches is the first match and the list from its resume place.
+/// Proves that the list of matches is the first match, followed by the matches from the place where
+/// the list continues.
 pub fn matches_go_on()
     ensures { MatchListUnfolds }
 {}
@@ -69,7 +70,8 @@ pub fn encoded_texts_have_rising_offsets()
     ensures { EncodedTextsHaveRisingOffsets }
 {}
 
-/// Proves that the list of answers is the first answer and the list from the next start.
+/// Proves that the list of answers is the first answer, followed by the answers from the next start
+/// on.
 pub fn answers_from_offset_unfold()
     ensures { AnswersFromOffsetUnfold }
 {}
@@ -110,7 +112,7 @@ pub fn resuming_after_nonempty_match_yields_rest()
     ensures { ResumingAfterNonemptyMatchYieldsRest }
 {}
 
-/// Proves that needs add up along the list of matches.
+/// Proves that the list of needs continues from match to match.
 pub fn needs_unfold()
     ensures { NeededStepsUnfoldMatchByMatch }
 {}
@@ -155,7 +157,8 @@ pub fn alike_without_unicode_is_alike_with_unicode()
     ensures { AlikeWithoutUnicodeIsAlikeWithUnicode }
 {}
 
-/// Proves that of the characters beyond ASCII, only U+017F and U+212A fold into ASCII, and only with `u`.
+/// Proves that the only characters beyond ASCII that fold into ASCII are U+017F and U+212A, and
+/// only with `u`.
 pub fn only_two_characters_fold_into_ascii()
     ensures { OnlyTwoCharactersFoldIntoAscii }
 {}
@@ -165,8 +168,8 @@ pub fn profile_folds_table_as_unicode_does()
     ensures { ProfileFoldsTableAsUnicodeDoes }
 {}
 
-/// Proves that a character is a word character if and only if its canonical form is one of the 63 word
-/// characters of ASCII.
+/// Proves that a character is a word character if and only if its canonical form is one of the 63
+/// word characters of ASCII.
 pub fn word_character_iff_ascii_word_fold()
     ensures { WordCharacterIffAsciiWordFold }
 {}
@@ -196,8 +199,8 @@ pub fn scan_finds_opened_group_names()
     ensures { ScanFindsOpenedGroupNames }
 {}
 
-/// Proves that a scan of the text counts the groups of a pattern, and that their ids are numbered
-/// from 0.
+/// Proves that a scan of the text counts the groups of a pattern, and that the group ids are the
+/// numbers from 0 on.
 pub fn scan_counts_pattern_groups()
     ensures { ScanCountsPatternGroups }
 {}
@@ -229,8 +232,8 @@ pub fn ecmascript_groups_are_found()
     ensures { EcmaScriptGroupsAreFound }
 {}
 
-/// Proves that the groups of a pattern of the whole language do not depend on the context in which it is
-/// read: neither on its flags nor on the groups assumed.
+/// Proves that the groups of a pattern of the whole language do not depend on the context in which
+/// it is read: neither on its flags nor on the assumed groups.
 pub fn ecmascript_groups_independent_of_context()
     ensures { EcmaScriptGroupsIndependentOfContext }
 {}
@@ -245,13 +248,13 @@ pub fn ecmascript_trees_are_well_formed()
     ensures { EcmaScriptTreesAreWellFormed }
 {}
 
-/// Proves that the groups of a tree of the whole language are numbered from 0, and have the names
+/// Proves that the groups of a tree of the whole language are numbered from 0 and have the names
 /// that a scan of the text finds.
 pub fn ecmascript_groups_agree_with_scan()
     ensures { EcmaScriptGroupsAgreeWithScan }
 {}
 
-/// Proves that a character that matches a digit is a digit, and so for spaces and word characters, also where
+/// Proves that a character that matches a digit, a space or a word character is itself one, even if
 /// case is ignored.
 pub fn ecmascript_classes_are_closed()
     ensures { EcmaScriptClassesAreClosed }

@@ -1,4 +1,4 @@
--- What the readers of classes ensure, in terms of the grammar: `here` is the text before what is
+-- Contracts of the readers of classes, in terms of the grammar. `here` is the text before what is
 -- read, and `there` the text after it.
 use Rattle.std.specs.Prelude.{◌≡◌, ℕ, Bool, true, false, ◌||◌, ◌&&◌, ◌==◌, List, [], ◌∷◌, map, if◌then◌else◌, IsTrue, Option, Some, None, Result, Ok}
 use Rattle.std.specs.Prelude.{Err}
@@ -45,18 +45,18 @@ escape_of (Some c) = class_escape c
 abbrev pub is_in_any_interval : List Interval → ℕ → Bool
 is_in_any_interval intervals c = in_intervals (map interval_of intervals) c
 
--- The set of what passes the test, with `icase` also of what folds as something that passes it, in
--- canonical form.
+-- `set` contains the code points that pass the test and, with `icase`, those that fold as one that
+-- passes it. It is in canonical form.
 pub record IsCaseClosureOfTest (flags : tree.Flags) (test : ℕ → Bool) (set : tree.Intervals) : Type 0 where
   pub apart : AreCanonicalIntervals set
   pub same : (c : ℕ) → in_intervals set c ≡ closed_under_case_folding flags test c
 
--- The new intervals have exactly the numbers of the old ones and those of these members.
+-- The new intervals contain exactly the numbers of the old ones and those of these members.
 abbrev pub AddsMembers : (flags : tree.Flags) (old new : List Interval) → List ClassMember → Type 0
 AddsMembers flags old new members =
     (c : ℕ) → is_in_any_interval new c ≡ (is_in_any_interval old c || list_any (class_member_contains flags c) members)
 
--- The atom that ends a range is read, or there is no range here; after a syntax error no atom
+-- The atom that ends a range is read, or no range continues here. After a syntax error, no atom
 -- follows the `-`.
 abbrev pub IsRangeEndRead : (flags : tree.Flags) (here : RemainingCodePoints)
     → Result (Option ClassAtomValue) ParseStopReason → (there : RemainingCodePoints) → Type 0
@@ -67,8 +67,8 @@ IsRangeEndRead flags here (Err e) there =
     (b : RemainingCodePoints) × (here ≡ 45 ∷ b) × IsRangeDash here
     × ((end : RemainingCodePoints) (m : ClassMember) → ClassAtom flags b end m → ⊥)
 
--- The members of an atom or a range are read, and their numbers are added; after a syntax error
--- there are none. Nothing is claimed on allocation failure.
+-- The members of an atom or a range are read, and their numbers are added. After a syntax error,
+-- there is no such atom or range. Nothing is stated about an allocation failure.
 abbrev pub IsClassMemberRead : (flags : tree.Flags) (here : RemainingCodePoints) (old : List Interval)
     → Result (Unit {0}) ParseStopReason
     → (new : List Interval) (there : RemainingCodePoints) → Type 0
@@ -78,8 +78,8 @@ IsClassMemberRead flags here old (Err e) new there =
     IsTrue (is_syntax_error e) → (end : RemainingCodePoints) (ms : List ClassMember) → ClassMembers flags here end ms
     → ⊥
 
--- The members up to the end of the class are read, and their set is returned; after a syntax error
--- there is no ClassRanges. Nothing is claimed on allocation failure.
+-- The members up to the end of the class are read, and their set is returned. After a syntax error,
+-- there is no ClassRanges. Nothing is stated about an allocation failure.
 abbrev pub AreClassRangesRead : (flags : tree.Flags) (here : RemainingCodePoints)
     → Result tree.Intervals ParseStopReason → (there : RemainingCodePoints) → Type 0
 AreClassRangesRead flags here (Ok set) there = (ms : List ClassMember) × ClassRanges flags here there ms
@@ -87,11 +87,11 @@ AreClassRangesRead flags here (Ok set) there = (ms : List ClassMember) × ClassR
 AreClassRangesRead flags here (Err e) there =
     IsTrue (is_syntax_error e) → (end : RemainingCodePoints) (ms : List ClassMember) → ClassRanges flags here end ms → ⊥
 
--- Whether a code point that folds as c does passes the test.
+-- Whether some code point that folds as c does passes the test.
 abbrev pub some_case_variant_passes : (unicode : Bool) (test : ℕ → Bool) → ℕ → Bool
 some_case_variant_passes unicode test c = list_any test (expand_code_point c true unicode)
 
--- All code points with the fold of this letter, if one of them passes the test.
+-- All code points with the fold of this letter if one of them passes the test, and none otherwise.
 abbrev pub letter_case_variants_if_any_passes : (test : ℕ → Bool) (upper : ℕ) (unicode : Bool) → tree.Intervals
 letter_case_variants_if_any_passes test upper unicode =
     if some_case_variant_passes unicode test upper then map single_code_point_interval
@@ -107,7 +107,7 @@ abbrev pub begins_nested_class_or_operation : ℕ → Option ℕ → Bool
 begins_nested_class_or_operation c None = c ∈ "["
 begins_nested_class_or_operation c (Some d) = c ∈ "[" || (c ∈ "&-" && c == d)
 
--- The ends of a range, if both atoms are characters.
+-- If both atoms are characters, they are the ends of a range.
 abbrev pub AreRangeEndsIfBothCharacters : (first second : ClassAtomValue) → Option (ℕ × ℕ) → Type 0
 AreRangeEndsIfBothCharacters first second (Some ends) = (first ≡ Character ends.0) × (second ≡ Character ends.1)
 AreRangeEndsIfBothCharacters first second None =

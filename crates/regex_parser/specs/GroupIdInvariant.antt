@@ -1,5 +1,5 @@
--- The invariant on group ids while a pattern is parsed: the current disjunction, and the open
--- groups around it.
+-- The invariant on group ids while a pattern is parsed. It relates the current disjunction and the
+-- open groups around it.
 use Rattle.std.specs.Prelude.{◌≡◌, ℕ, ◌+◌, List, [], ◌∷◌, ◌++◌}
 use Rattle.regex_parser.specs.declared.group_openings_and_names.GroupKind.{GroupKind}
 use Rattle.regex_parser.specs.declared.group_openings_and_names.GroupKind.TheVariants.{Capture, Named, Plain, Look}
@@ -16,20 +16,20 @@ captures_opened_by_group_kind Named = 1
 captures_opened_by_group_kind Plain = 0
 captures_opened_by_group_kind (Look negate backwards) = 0
 
--- The nodes of a disjunction that are read.
+-- The nodes of a disjunction that have been read.
 abbrev pub nodes_at : PartialDisjunction → List Node
 nodes_at level = level.arms.items ++ level.terms.items
 
--- The open groups from group id `first` on, the outermost first, up to where the current
--- disjunction begins: each disjunction has the groups that opened between its own parenthesis and
--- the next.
+-- The open groups from group id `first` on, the outermost first, up to the beginning of the current
+-- disjunction. Each disjunction contains the groups that opened between its own parenthesis and the
+-- next one.
 abbrev pub AreOpenGroupsSound : (greatest first : ℕ) → List OpenGroup → (inner : ℕ) → Type 0
 AreOpenGroupsSound greatest first [] inner = first ≡ inner
 AreOpenGroupsSound greatest first (o ∷ os) inner =
     AreSoundSubtrees first o.start greatest (nodes_at o.outer)
     × AreOpenGroupsSound greatest (o.start + captures_opened_by_group_kind o.opening) os inner
 
--- The open disjunctions together have all groups that have opened.
+-- The open disjunctions together contain all groups that have opened.
 pub record OpenDisjunctionsHaveAllGroups (p : Parser) : Type 0 where
   pub inner : ℕ
   pub around : AreOpenGroupsSound p.leaves.references 0 p.around.items inner

@@ -1,5 +1,5 @@
--- What the readers of groups and of their names ensure: `here` is the text before what is read, and
--- `there` the text after it.
+-- Contracts of the readers of groups and of their names. `here` is the text before what is read,
+-- and `there` the text after it.
 use Rattle.std.specs.Prelude.{◌≡◌, not, ◌&&◌, ◌==◌, if◌then◌else◌, ℕ, ◌-◌, ◌^◌, ◌<◌, nat_lt, min, Bool, true, false, List, [], ◌∷◌, ◌++◌, length, codes}
 use Rattle.std.specs.Prelude.{Option, Some, None, is_some, Result, Ok, Err, String, IsTrue}
 use Rattle.std.specs.List.{list_any}
@@ -21,15 +21,15 @@ use Rattle.regex_parser.specs.declared.group_openings_and_names.GroupKind.TheVar
 abbrev pub DoesNotBeginWith : (c : ℕ) → (here : RemainingCodePoints) → Type 0
 DoesNotBeginWith c here = (rest : RemainingCodePoints) → here ≡ c ∷ rest → ⊥
 
--- The sign of a lookaround is read, `!` or `=`, or there is neither.
+-- The sign of a lookaround, `!` or `=`, is read, or the text begins with neither.
 abbrev pub IsLookaroundPolaritySignRead : (here : RemainingCodePoints) → Option Bool → (there : RemainingCodePoints)
     → Type 0
 IsLookaroundPolaritySignRead here (Some true) there = here ≡ 33 ∷ there
 IsLookaroundPolaritySignRead here (Some false) there = here ≡ 61 ∷ there
 IsLookaroundPolaritySignRead here None there = (there ≡ here) × DoesNotBeginWith 33 here × DoesNotBeginWith 61 here
 
--- The rest of what opens a group is read after its parenthesis, or what follows the parenthesis
--- begins no kind of group.
+-- The rest of what opens a group is read after its parenthesis, or the text after the parenthesis
+-- opens no kind of group.
 abbrev pub IsOpeningRead : (here : RemainingCodePoints) → Result GroupKind ParseStopReason
     → (there : RemainingCodePoints) → Type 0
 IsOpeningRead here (Ok Capture) there = (there ≡ here) × DoesNotBeginWith 63 here
@@ -41,14 +41,14 @@ IsOpeningRead here (Err e) there =
     × DoesNotBeginWith 33 rest
     × DoesNotBeginWith 61 rest
 
--- Whether terms inside are in reverse order, given whether those outside are.
+-- Whether terms inside the group are in reverse order, given whether the terms outside it are.
 abbrev pub is_reversed_in : GroupKind → (outside : Bool) → Bool
 is_reversed_in (Look negate backwards) outside = backwards
 is_reversed_in Capture outside = outside
 is_reversed_in Named outside = outside
 is_reversed_in Plain outside = outside
 
--- Whether a quantifier may follow the group in this language.
+-- Whether a quantifier may follow the group in this dialect.
 abbrev pub takes_quantifier : PatternDialect → Flags → GroupKind → Bool
 takes_quantifier s flags (Look negate backwards) = s.may_repeat flags backwards
 takes_quantifier s flags Capture = true
@@ -65,17 +65,18 @@ in_class_after in_class c = if c == 91 then true else if c == 93 then false else
 abbrev pub text_after_open_parenthesis : (in_class : Bool) → ℕ → (rest : RemainingCodePoints) → List RemainingCodePoints
 text_after_open_parenthesis in_class c rest = if c == 40 && not in_class then rest ∷ [] else []
 
--- The map has the number of each name of the profile.
+-- For each name of the profile, the map has the number that the list gives it, or none.
 abbrev pub MapsNamesToGroupNumbers : {R : Type 0} → BTreeMap (String R) ℕ → List RemainingCodePoints → Type 0
 MapsNamesToGroupNumbers numbers names = (name : RemainingCodePoints) → IsTrue (is_name name)
     → get_by_text numbers name ≡ group_number_of name names
 
--- The map has the number of each text but the empty one, which is no name.
+-- For each nonempty text, the map has the number that the list gives it, or none. The empty text is
+-- not a name.
 abbrev pub MapsTextsToGroupNumbers : {R : Type 0} → BTreeMap (String R) ℕ → List RemainingCodePoints → Type 0
 MapsTextsToGroupNumbers numbers names = (name : RemainingCodePoints) → 0 < length name
     → get_by_text numbers name ≡ group_number_of name names
 
--- The numbers with one more name, unless another group has it.
+-- The numbers with one more name, unless an earlier group has that name.
 abbrev pub group_numbers_adding_absent_name : (name : RemainingCodePoints) (group : ℕ)
     (numbers : RemainingCodePoints → Option ℕ) → RemainingCodePoints → Option ℕ
 group_numbers_adding_absent_name name group numbers other =
@@ -83,19 +84,19 @@ group_numbers_adding_absent_name name group numbers other =
     else if bytes_eq name other then Some group
     else numbers other
 
--- How many groups have these names, where 2^32 - 1 stands also for more.
+-- The number of groups with these names, limited to 2^32 - 1.
 abbrev pub count_of_groups : List RemainingCodePoints → ℕ
 count_of_groups names = min (length names) (2 ^ 32 - 1)
 
--- This is the number of the names, and the map has the number of each name, if there are no more
--- groups than allowed.
+-- `count` is the number of groups, limited to 2^32 - 1. If there are no more groups than allowed,
+-- the map has the number of each name.
 abbrev pub AreCountedAndNumbered : {R : Type 0} → (count : ℕ) → BTreeMap (String R) ℕ → List RemainingCodePoints
     → Type 0
 AreCountedAndNumbered count numbers names =
     (count ≡ min (length names) (2 ^ 32 - 1)) × (AreWithinGroupLimit names → MapsNamesToGroupNumbers numbers names)
 
--- The groups of these names are counted, the map has an entry only if one of them has a name, and it has
--- the number of each name, if there are no more groups than allowed.
+-- `count` is the number of groups, limited to 2^32 - 1. The map has an entry if and only if a group
+-- has a name. If there are no more groups than allowed, the map has the number of each name.
 pub record AreGroupsCollected {R : Type 0} (count : ℕ) (numbers : BTreeMap (String R) ℕ)
     (names : List RemainingCodePoints) : Type 0 where
   pub counted : count ≡ count_of_groups names
@@ -109,12 +110,12 @@ IsPatternScanned s pattern count numbers =
     (names : List RemainingCodePoints) × ScansGroups s (texts_after_parentheses false pattern) names
     × AreGroupsCollected count numbers names
 
--- These texts after parentheses open groups with these names, whatever follows.
+-- These texts after parentheses open groups with these names, followed by any others.
 abbrev pub OpensScannedGroups : PatternDialect → (texts names : List RemainingCodePoints) → Type 0
 OpensScannedGroups s texts names =
     (later more : List RemainingCodePoints) → ScansGroups s later more → ScansGroups s (texts ++ later) (names ++ more)
 
--- The scan has found the groups that these texts after parentheses open.
+-- The scan has collected the groups that these texts after parentheses open.
 abbrev pub CollectsGroups : PatternDialect → (old new : GroupAndNameScanState) → (texts : List RemainingCodePoints)
     → Type 0
 CollectsGroups s old new texts =
@@ -122,14 +123,14 @@ CollectsGroups s old new texts =
     × ((names : List RemainingCodePoints) → AreGroupsCollected old.groups old.numbers names
     → AreGroupsCollected new.groups new.numbers (names ++ more))
 
--- The scan has found the groups that these texts after parentheses open, and left the rest of its state
--- unchanged.
+-- The scan has collected the groups that these texts after parentheses open. The rest of its state
+-- is unchanged.
 abbrev pub RecordsFurtherGroupsInScan : PatternDialect → (old new : GroupAndNameScanState)
     → (texts : List RemainingCodePoints) → Type 0
 RecordsFurtherGroupsInScan s old new texts = (new.syntax ≡ old.syntax) × (new.in_class ≡ old.in_class)
     × CollectsGroups s old new texts
 
--- The scan has processed one code point, and the group that it opens, if it does.
+-- The scan has processed one code point and the group that it opens, if any.
 abbrev pub GroupNameScanProcessesCodePoint : PatternDialect
     → (old new : GroupAndNameScanState) (c : ℕ) (rest : RemainingCodePoints) → Type 0
 GroupNameScanProcessesCodePoint s old new c rest =

@@ -1,4 +1,4 @@
--- What the readers of terms without groups ensure: `here` is the text before what is read, and
+-- Contracts of the readers of terms without groups. `here` is the text before what is read, and
 -- `there` the text after it.
 use Rattle.std.specs.Prelude.{◌≡◌, ◌==◌, ◌||◌, ℕ, ◌<◌, ◌≤◌, ◌^◌, ◌⊎◌, Bool, true, false, List, ◌∷◌, ◌++◌, length, codes, Option, Some, None, Result}
 use Rattle.std.specs.Prelude.{Ok, Err, String, IsTrue, if◌then◌else◌}
@@ -20,7 +20,7 @@ use Rattle.regex_parser.specs.GroupReaderContracts.{MapsNamesToGroupNumbers}
 use Rattle.regex_parser.specs.CodePointReaderContracts.{is_syntax_error}
 use Rattle.regex_pattern_front.specs.AstToSpecTree.{node_of, spec_flags_of}
 
--- The reader is of the same pattern.
+-- Both readers are for the same pattern.
 abbrev pub IsReaderOfSame : (new old : GrouplessTermReader) → Type 0
 IsReaderOfSame new old = (new.flags ≡ old.flags) × (new.numbers ≡ old.numbers) × (new.syntax ≡ old.syntax)
     × (new.groups ≡ old.groups)
@@ -29,7 +29,7 @@ IsReaderOfSame new old = (new.flags ≡ old.flags) × (new.numbers ≡ old.numbe
 abbrev pub pattern_context : Flags → List RemainingCodePoints → PatternContext
 pattern_context flags groups = record { flags = spec_flags_of flags; groups = groups }
 
--- What the parser can know of the groups: the map has their numbers, and there are not too many.
+-- What the parser may know about the groups: the map has their numbers, and there are not too many.
 abbrev pub NamesAreNumberedWithinGroupLimit : {R : Type 0} → BTreeMap (String R) ℕ → List RemainingCodePoints → Type 0
 NamesAreNumberedWithinGroupLimit numbers groups = MapsNamesToGroupNumbers numbers groups × (length groups ≤ 65535)
 
@@ -37,55 +37,24 @@ NamesAreNumberedWithinGroupLimit numbers groups = MapsNamesToGroupNumbers number
 abbrev pub parse_state_at : RemainingCodePoints → List RemainingCodePoints → ParseState
 parse_state_at here opened = record { text = here; opened = opened }
 
--- No atom without groups is here.
+-- The text does not begin with an atom without groups.
 abbrev pub NoSimpleAtom : PatternContext → (here : RemainingCodePoints) → Type 0
 NoSimpleAtom w here = (end : RemainingCodePoints) (n : tree.Node) → AtomLeaf w here end n → ⊥
 
--- No term is here.
-abbrev pub NoTerm : PatternContext → (here : RemainingCodePoints) → Type 0
-NoTerm w here =
+-- The text does not begin with a term of the dialect.
+abbrev pub NoTermIn : PatternDialect → PatternContext → (here : RemainingCodePoints) → Type 0
+NoTermIn s w here =
     (in_lookbehind : Bool) (opened : List RemainingCodePoints) (q : ParseState) (n : tree.Node)
-    → Term profile w in_lookbehind (parse_state_at here opened) q n → ⊥
+    → Term s w in_lookbehind (parse_state_at here opened) q n → ⊥
 
--- An assertion without groups, from here to there.
+-- The text does not begin with a term.
+abbrev pub NoTerm : PatternContext → (here : RemainingCodePoints) → Type 0
+NoTerm = NoTermIn profile
+
+-- An assertion without groups, from `here` to `there`.
 abbrev pub IsAssertion : PatternContext → (here there : RemainingCodePoints) → tree.Node → Type 0
 IsAssertion w here there n = (opened : List RemainingCodePoints)
     → Assertion profile w (parse_state_at here opened) (parse_state_at there opened) n
-
--- An atom or an assertion.
-abbrev pub IsAtomOr : (is_atom : Bool) → PatternContext → (here there : RemainingCodePoints) → tree.Node → Type 0
-IsAtomOr true w here there n = AtomLeaf w here there n
-IsAtomOr false w here there n = IsAssertion w here there n
-
--- A term without groups, from here to there.
-abbrev pub TextBetweenIsGrouplessTerm : PatternContext → (here : RemainingCodePoints) → GrouplessTerm
-    → (there : RemainingCodePoints) → Type 0
-TextBetweenIsGrouplessTerm w here l there = IsAtomOr l.is_atom w here there (node_of l.node)
-
--- The term is read. If a reference read so far exceeds the number of groups, then an earlier one
--- did already, or `none` holds. `none` also holds after a syntax error. Nothing is claimed on
--- allocation failure.
-abbrev pub IsTermReadOrNone :
-    (none : Type 0) → PatternContext → (here : RemainingCodePoints) → Result GrouplessTerm ParseStopReason
-    → (old new : ℕ) → (there : RemainingCodePoints) → Type 0
-IsTermReadOrNone none w here (Ok l) old new there =
-    (new ≤ length w.groups → TextBetweenIsGrouplessTerm w here l there)
-    × (length w.groups < new → (length w.groups < old) ⊎ none)
-IsTermReadOrNone none w here (Err e) old new there = IsTrue (is_syntax_error e) → none
-
--- An atom is read, or no atom is here.
-abbrev pub IsAtomReadIfPresent : PatternContext → (here : RemainingCodePoints) → Result GrouplessTerm ParseStopReason
-    → (old new : ℕ) → (there : RemainingCodePoints) → Type 0
-IsAtomReadIfPresent w here r old new there = IsTermReadOrNone (NoSimpleAtom w here) w here r old new there
-
--- A term is read, or no term is here.
-abbrev pub IsGrouplessTermReadIfPresent : PatternContext → (here : RemainingCodePoints)
-    → Result GrouplessTerm ParseStopReason → (old new : ℕ) → (there : RemainingCodePoints) → Type 0
-IsGrouplessTermReadIfPresent w here r old new there = IsTermReadOrNone (NoTerm w here) w here r old new there
-
--- The text between the two opens no group.
-abbrev pub TextBetweenOpensNoGroup : (here there : RemainingCodePoints) → Type 0
-TextBetweenOpensNoGroup here there = texts_after_parentheses false here ≡ texts_after_parentheses false there
 
 -- An atom or an assertion of the dialect.
 abbrev pub IsAtomOrIn : PatternDialect → (is_atom : Bool) → PatternContext → (here there : RemainingCodePoints)
@@ -94,15 +63,43 @@ IsAtomOrIn s true w here there n = s.simple_atom w here there n
 IsAtomOrIn s false w here there n = (opened : List RemainingCodePoints)
     → Assertion s w (parse_state_at here opened) (parse_state_at there opened) n
 
--- No term of the dialect is here.
-abbrev pub NoTermIn : PatternDialect → PatternContext → (here : RemainingCodePoints) → Type 0
-NoTermIn s w here =
-    (in_lookbehind : Bool) (opened : List RemainingCodePoints) (q : ParseState) (n : tree.Node)
-    → Term s w in_lookbehind (parse_state_at here opened) q n → ⊥
+-- An atom or an assertion.
+abbrev pub IsAtomOr : (is_atom : Bool) → PatternContext → (here there : RemainingCodePoints) → tree.Node → Type 0
+IsAtomOr = IsAtomOrIn profile
 
--- A term of the dialect is read, and the text opens no group. If a reference read so far exceeds the
--- number of groups, then an earlier one did already, or no term is here. None is here after a syntax
--- error. Nothing is claimed on allocation failure.
+-- A term without groups, from `here` to `there`.
+abbrev pub TextBetweenIsGrouplessTerm : PatternContext → (here : RemainingCodePoints) → GrouplessTerm
+    → (there : RemainingCodePoints) → Type 0
+TextBetweenIsGrouplessTerm w here l there = IsAtomOr l.is_atom w here there (node_of l.node)
+
+-- The term is read. If a reference that has been read is greater than the number of groups, then an
+-- earlier one was, or `none` holds. `none` also holds after a syntax error. Nothing is stated about
+-- an allocation failure.
+abbrev pub IsTermReadOrNone :
+    (none : Type 0) → PatternContext → (here : RemainingCodePoints) → Result GrouplessTerm ParseStopReason
+    → (old new : ℕ) → (there : RemainingCodePoints) → Type 0
+IsTermReadOrNone none w here (Ok l) old new there =
+    (new ≤ length w.groups → TextBetweenIsGrouplessTerm w here l there)
+    × (length w.groups < new → (length w.groups < old) ⊎ none)
+IsTermReadOrNone none w here (Err e) old new there = IsTrue (is_syntax_error e) → none
+
+-- An atom is read, or the text does not begin with one.
+abbrev pub IsAtomReadIfPresent : PatternContext → (here : RemainingCodePoints) → Result GrouplessTerm ParseStopReason
+    → (old new : ℕ) → (there : RemainingCodePoints) → Type 0
+IsAtomReadIfPresent w here r old new there = IsTermReadOrNone (NoSimpleAtom w here) w here r old new there
+
+-- A term is read, or the text does not begin with one.
+abbrev pub IsGrouplessTermReadIfPresent : PatternContext → (here : RemainingCodePoints)
+    → Result GrouplessTerm ParseStopReason → (old new : ℕ) → (there : RemainingCodePoints) → Type 0
+IsGrouplessTermReadIfPresent w here r old new there = IsTermReadOrNone (NoTerm w here) w here r old new there
+
+-- The text between the two opens no group.
+abbrev pub TextBetweenOpensNoGroup : (here there : RemainingCodePoints) → Type 0
+TextBetweenOpensNoGroup here there = texts_after_parentheses false here ≡ texts_after_parentheses false there
+
+-- A term of the dialect is read, and its text opens no group. If a reference that has been read is
+-- greater than the number of groups, then an earlier one was, or no term begins here. After a
+-- syntax error, no term begins here. Nothing is stated about an allocation failure.
 abbrev pub IsTermReadIn :
     PatternDialect → PatternContext → (here : RemainingCodePoints) → Result GrouplessTerm ParseStopReason
     → (old new : ℕ) → (there : RemainingCodePoints) → Type 0
@@ -111,7 +108,7 @@ IsTermReadIn s w here (Ok l) old new there =
     × (length w.groups < new → (length w.groups < old) ⊎ NoTermIn s w here)
 IsTermReadIn s w here (Err e) old new there = IsTrue (is_syntax_error e) → NoTermIn s w here
 
--- A parenthesis or a `|`, with which no simple term begins.
+-- A parenthesis or a `|`. No simple term begins with one of them.
 abbrev pub is_paren_or_bar : ℕ → Bool
 is_paren_or_bar c = c ∈ "()|"
 
@@ -132,14 +129,14 @@ is_star_plus_or_question c = c ∈ "*+?"
 abbrev pub is_brace_or_closing_bracket : ℕ → Bool
 is_brace_or_closing_bracket c = c ∈ "{}]"
 
--- The term of `^`, `$` or `.`, or the code point is none of them.
+-- The term of `^`, `$` or `.`, or `None` if the code point is another one.
 abbrev pub AnchorOrDotReadIfPresent : PatternContext → (c : ℕ) → (there : RemainingCodePoints) → Option GrouplessTerm
     → Type 0
 AnchorOrDotReadIfPresent w c there (Some l) = TextBetweenIsGrouplessTerm w (c ∷ there) l there
 AnchorOrDotReadIfPresent w c there None = c ∈ "^$." ≡ false
 
--- The code point cannot be a term: it belongs to a quantifier, or it is a brace or bracket that is
--- refused; or it can be a term.
+-- The result is an error if the code point cannot be a term: it belongs to a quantifier, or it is a
+-- brace or bracket that is not allowed alone. Otherwise the code point can be a term.
 abbrev pub RefusesCodePointThatIsNoTerm : (unicode : Bool) (c : ℕ) (there : RemainingCodePoints) → Option Cause → Type 0
 RefusesCodePointThatIsNoTerm unicode c there (Some cause) =
     (is_star_plus_or_question c ≡ true) ⊎ ((is_brace_or_closing_bracket c ≡ true)
@@ -153,26 +150,26 @@ abbrev pub begins_backreference : Option ℕ → Bool
 begins_backreference None = false
 begins_backreference (Some c) = c == 107 || is_in_range 49 57 c
 
--- `<name>`, where the name has this number
+-- `<name>`, for a name that has this number.
 abbrev pub IsNameWithNumber : (numbers : RemainingCodePoints → Option ℕ) → (here there : RemainingCodePoints) → ℕ
     → Type 0
 IsNameWithNumber numbers here there n =
     (a name : RemainingCodePoints) × (here ≡ codes "<" ++ a) × GroupName a there name × (numbers name ≡ Some n)
 
--- The number of `<name>` is read; after a syntax error no name here has the number of a group.
--- Nothing is claimed on allocation failure.
+-- The number of `<name>` is read. After a syntax error, the text does not begin with the name of a
+-- group. Nothing is stated about an allocation failure.
 abbrev pub IsReferencedNameNumberRead : (numbers : RemainingCodePoints → Option ℕ) → (here : RemainingCodePoints)
     → Result ℕ ParseStopReason → (there : RemainingCodePoints) → Type 0
 IsReferencedNameNumberRead numbers here (Ok n) there = IsNameWithNumber numbers here there n
 IsReferencedNameNumberRead numbers here (Err e) there =
     IsTrue (is_syntax_error e) → (end : RemainingCodePoints) (n : ℕ) → IsNameWithNumber numbers here end n → 0 < n → ⊥
 
--- The number, if there is one and it is not 0.
+-- The number, if there is one and it is not 0. Otherwise an error.
 abbrev pub IsNumberUnlessMissingOrZero : Option ℕ → Result ℕ ParseStopReason → Type 0
 IsNumberUnlessMissingOrZero number (Ok n) = (number ≡ Some n) × (0 < n)
 IsNumberUnlessMissingOrZero number (Err e) = (n : ℕ) → number ≡ Some n → 0 < n → ⊥
 
--- A decimal number is read, or none below 2 ^ 32 is here.
+-- A decimal number is read, or the text does not begin with a number below 2^32.
 abbrev pub IsDecimalReadIfItFitsU32 : (here : RemainingCodePoints) → Option ℕ → (there : RemainingCodePoints) → Type 0
 IsDecimalReadIfItFitsU32 here (Some n) there = Digits 10 here there n
 IsDecimalReadIfItFitsU32 here None there = (end : RemainingCodePoints) (n : ℕ) → Digits 10 here end n → n < 2 ^ 32 → ⊥
@@ -183,8 +180,8 @@ IsReference numbers here there n =
     Digits 10 here there n
     ⊎ ((a name : RemainingCodePoints) × (here ≡ codes "k<" ++ a) × GroupName a there name × (numbers name ≡ Some n))
 
--- The number of a reference is read; after a syntax error no reference here is to a group.
--- Nothing is claimed on allocation failure.
+-- The number of a reference is read. After a syntax error, the text does not begin with a reference
+-- to a group. Nothing is stated about an allocation failure.
 abbrev pub IsReferencedGroupNumberRead : (numbers : RemainingCodePoints → Option ℕ) → (here : RemainingCodePoints)
     → Result ℕ ParseStopReason → (there : RemainingCodePoints) → Type 0
 IsReferencedGroupNumberRead numbers here (Ok n) there = IsReference numbers here there n

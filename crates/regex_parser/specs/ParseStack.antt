@@ -1,19 +1,19 @@
--- What a parser with a stack of open groups has read of a pattern, and how the rest can complete
--- it; no part of the grammar.
+-- What a parser with a stack of open groups has read of a pattern, and how the rest of the pattern
+-- can complete it. These definitions are not part of the grammar.
 use Rattle.std.specs.Prelude.{◌≡◌, ℕ, Bool, List, [], ◌∷◌, ◌++◌, IsTrue}
 use Rattle.regex_meaning.specs.Tree.{Node, Lookaround, Quantifier, alt, loop, lookaround, capture_group}
 use Rattle.regex_meaning.specs.ReadingStatesAndDigits.{RemainingCodePoints, ParseState, PatternContext, groups_at, ◌▸◌, state_with_text_left, arm}
 use Rattle.regex_meaning.specs.EscapesNamesQuantifiers.{BeginsQuantifier, ValidQuantifier}
 use Rattle.regex_meaning.specs.Grammar.{PatternDialect, Disjunction, Alternative}
 
--- A disjunction as far as it is read: the alternatives that have ended, and the terms of the
+-- A disjunction, as far as it has been read: the alternatives that have ended, and the terms of the
 -- current one.
 pub record PartialDisjunction : Type 0 where
   pub arms : List Node
   pub terms : List Node
   pub in_lookbehind : Bool
 
--- A disjunction of which nothing is read.
+-- A disjunction of which nothing has been read.
 abbrev pub empty_disjunction : (in_lookbehind : Bool) → PartialDisjunction
 empty_disjunction in_lookbehind = record { arms = []; terms = []; in_lookbehind = in_lookbehind }
 
@@ -25,12 +25,12 @@ push_term n l = record l { terms = l.terms ++ n ∷ [] }
 abbrev pub end_alternative : PartialDisjunction → PartialDisjunction
 end_alternative l = record l { arms = l.arms ++ arm l.in_lookbehind l.terms ∷ []; terms = [] }
 
--- Nests alternatives to the right, before the last one, which is given.
+-- Nests alternatives to the right. The last one is given separately.
 abbrev pub nest_alternatives : List Node → Node → Node
 nest_alternatives [] last = last
 nest_alternatives (n ∷ ns) last = alt n (nest_alternatives ns last)
 
--- Reading from p to q completes the partial disjunction to this node.
+-- Reading from p to q completes the partial disjunction, and the result is this node.
 pub data Completes (s : PatternDialect) (w : PatternContext) (l : PartialDisjunction)
     (p : ParseState) : (q : ParseState) → Node → Type 0 where
   last_arm : {q : ParseState} {ns : List Node}
@@ -40,7 +40,7 @@ pub data Completes (s : PatternDialect) (w : PatternContext) (l : PartialDisjunc
       → Alternative s w l.in_lookbehind p q ns → q ≡ "|" ▸ r → Disjunction s w l.in_lookbehind r t right
       → Completes s w l p t (nest_alternatives l.arms (alt (arm l.in_lookbehind (l.terms ++ ns)) right))
 
--- The kind of an open group, which decides the node that is made of its contents.
+-- The kind of an open group. It decides which node is made of the contents.
 pub data OpenGroupKind : Type 0 where
   captures : (id : ℕ) (name : RemainingCodePoints) → OpenGroupKind
   plain : OpenGroupKind
@@ -60,7 +60,7 @@ pub data IsTerm (start : ℕ) (n : Node) (p : ParseState) : (q : ParseState) →
       → ValidQuantifier p.text there quantifier
       → IsTerm start n p (state_with_text_left there p) (loop quantifier start (groups_at p) n)
 
--- The lookaround of an open group that ends here.
+-- The lookaround of an open group that ends at this state.
 abbrev pub lookaround_up_to : (negate backwards : Bool) (start_group : ℕ) → ParseState → Lookaround
 lookaround_up_to negate backwards start p =
     record { negate = negate; backwards = backwards; start_group = start; end_group = groups_at p }
@@ -83,7 +83,7 @@ pub data ClosesGroup (s : PatternDialect) (w : PatternContext) (o : OpenGroup) (
       → o.opened ≡ plain → IsTerm o.start contents p q n
       → ClosesGroup s w o contents p q n
 
--- Reading the rest of the pattern completes all disjunctions, the innermost first; at the end
+-- Reading the rest of the pattern completes all disjunctions, the innermost first. At the end,
 -- exactly these groups have opened.
 abbrev pub CompletesAll : PatternDialect → PatternContext → (groups : List RemainingCodePoints) → List OpenGroup
     → PartialDisjunction → ParseState → Node → Type 0

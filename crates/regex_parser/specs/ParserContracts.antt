@@ -1,4 +1,4 @@
--- What the functions of the parser ensure, in terms of the grammar.
+-- Contracts of the functions of the parser, in terms of the grammar.
 use Rattle.std.specs.Prelude.{◌≡◌, ◌⊎◌, ℕ, ◌+◌, ◌≤◌, Bool, true, false, List, [], ◌∷◌, length, Option, Some, Result, Ok, Err, String, IsTrue}
 use Rattle.regex_meaning.specs.Tree as tree
 use Rattle.regex_meaning.specs.ReadingStatesAndDigits.{RemainingCodePoints}
@@ -22,14 +22,14 @@ use Rattle.regex_pattern_front.specs.AstToSpecTree.{node_of, group_name_bytes, s
 
 -- ---- Open groups
 
--- The kind of an open group, as in the grammar.
+-- The kind of an open group, as the definitions have it.
 abbrev pub group_kind_of : GroupKind → (name : RemainingCodePoints) → (start : ℕ) → grammar.OpenGroupKind
 group_kind_of Capture name start = grammar.captures start name
 group_kind_of Named name start = grammar.captures start name
 group_kind_of Plain name start = grammar.plain
 group_kind_of (Look negate backwards) name start = grammar.looks negate backwards start
 
--- An open group, as in the grammar.
+-- An open group, as the definitions have it.
 abbrev pub open_group_of : OpenGroup → grammar.OpenGroup
 open_group_of o = record {
   outer = disjunction_of o.outer;
@@ -38,7 +38,7 @@ open_group_of o = record {
   start = o.start;
 }
 
--- The open groups, the innermost first as in the grammar.
+-- The open groups in the order of the definitions, which have the innermost first.
 abbrev pub around_from : List grammar.OpenGroup → List OpenGroup → List grammar.OpenGroup
 around_from inner [] = inner
 around_from inner (o ∷ os) = around_from (open_group_of o ∷ inner) os
@@ -53,8 +53,9 @@ group_node_around (Look negate backwards) name start end contents =
 
 -- ---- Results of functions
 
--- The result is the term or, if it is an atom with a quantifier, a loop over it. A quantifier is
--- refused if it is out of order or does not follow an atom; so none follows another term.
+-- The result is the term or, if the term is an atom with a quantifier, a loop over it. A quantifier
+-- is an error if its minimum is greater than its maximum or if it does not follow an atom. So none
+-- follows any other term.
 abbrev pub IsTermWithOptionalQuantifierRead :
     (is_atom : Bool) → (here : RemainingCodePoints) → (start end : ℕ) → tree.Node → Result Node ParseStopReason
     → (there : RemainingCodePoints) → Type 0
@@ -75,8 +76,8 @@ is_named_group Capture = false
 is_named_group Plain = false
 is_named_group (Look negate backwards) = false
 
--- The name of a named group is read and has the number of this group; after a syntax error there is
--- no such name.
+-- The name of a named group is read, and has the number of this group. After a syntax error, there
+-- is no such name.
 abbrev pub IsOptionalGroupNameRead :
     {R : Type 0} → PatternDialect → (numbers : RemainingCodePoints → Option ℕ) → (groups : ℕ) → (named : Bool)
     → (here : RemainingCodePoints)
@@ -91,11 +92,11 @@ IsOptionalGroupNameRead s numbers groups false here (Err e) there = IsTrue (is_s
 
 -- ---- The parser
 
--- The reader knows the groups of a pattern, which have these names.
+-- The reader knows the groups of a pattern, whose names are these.
 abbrev pub KnowsGroups : GrouplessTermReader → (names : List RemainingCodePoints) → Type 0
 KnowsGroups l names = AreGroupsKnownIn (spec_syntax_of l.syntax) l.flags l.groups.count l.groups.named l.numbers names
 
--- The parser has read the pattern, whose groups have these names, up to `here`.
+-- The parser has read the pattern up to `here`. The groups of the pattern have these names.
 pub record HasReadPatternUpTo (pattern : RemainingCodePoints) (names : List RemainingCodePoints)
     (here : RemainingCodePoints) (p : Parser) : Type 0 where
   pub known : KnowsGroups p.leaves names
@@ -106,12 +107,12 @@ pub record HasReadPatternUpTo (pattern : RemainingCodePoints) (names : List Rema
       IsParserInvariant s (spec_flags_of p.leaves.flags) pattern names p.leaves.references p.groups around
       (disjunction_of p.level) here
 
--- The pattern has no tree in the language that the reader reads.
+-- The pattern has no tree in the dialect of the reader.
 abbrev pub HasNoTreeFor : GrouplessTermReader → (pattern : RemainingCodePoints) → Type 0
 HasNoTreeFor l pattern = HasNoTreeIn (spec_syntax_of l.syntax) (spec_flags_of l.flags) pattern
 
--- The parser has advanced from `here`; after a syntax error the pattern has no tree. Nothing is claimed
--- on allocation failure.
+-- The parser has advanced from `here`. After a syntax error, the pattern has no tree. Nothing is
+-- stated about an allocation failure.
 abbrev pub AdvancesOrHasNoTree : (here : RemainingCodePoints) → (old : Parser) → {A : Type 0} → Result A ParseStopReason
     → (new : Parser) → Type 0
 AdvancesOrHasNoTree here old (Ok u) new =
@@ -122,20 +123,20 @@ AdvancesOrHasNoTree here old (Err e) new =
     → HasReadPatternUpTo pattern names here old
     → HasNoTreeFor old.leaves pattern
 
--- The result is the tree of the pattern; after a syntax error it has none. Allocation failure says
--- nothing.
+-- The result is the tree of the pattern. After a syntax error, the pattern has no tree. An
+-- allocation failure says nothing about the pattern.
 abbrev pub IsParseResult : PatternDialect → {A : Type 0} → (of : A → tree.Tree) → tree.Flags
     → (pattern : RemainingCodePoints) → Result A ParseStopReason → Type 0
 IsParseResult s of flags pattern (Ok a) = ParsesBy s flags pattern (of a)
 IsParseResult s of flags pattern (Err e) = IsTrue (is_syntax_error e) → HasNoTreeIn s flags pattern
 
--- What a refusal says of the pattern; allocation failure says nothing.
+-- What a refusal says about the pattern. An allocation failure says nothing.
 abbrev pub IsJustifiedRefusal : PatternDialect → tree.Flags → (pattern : RemainingCodePoints) → Refusal → Type 0
 IsJustifiedRefusal s flags pattern (Syntax d) = HasNoTreeIn s flags pattern
 IsJustifiedRefusal s flags pattern (TooManyGroups d) = OpensTooManyGroups pattern
 IsJustifiedRefusal s flags pattern (Memory e) = Unit {0}
 
--- The place that a refusal reports is one of the pattern.
+-- The error that a refusal reports is at a code point of the pattern or at its end.
 abbrev pub RefusalPlaceLiesInPattern : (pattern : RemainingCodePoints) → Refusal → Type 0
 RefusalPlaceLiesInPattern pattern (Syntax d) = d.at ≤ length pattern
 RefusalPlaceLiesInPattern pattern (TooManyGroups d) = d.at ≤ length pattern
@@ -145,7 +146,7 @@ RefusalPlaceLiesInPattern pattern (Memory e) = Unit {0}
 abbrev pub IsTextRefusedIn : PatternDialect → tree.Flags → (pattern : RemainingCodePoints) → Type 0
 IsTextRefusedIn s flags pattern = HasNoTreeIn s flags pattern ⊎ OpensTooManyGroups pattern
 
--- The same in the profile.
+-- `IsTextRefusedIn` for the profile.
 abbrev pub IsTextRefused : tree.Flags → (pattern : RemainingCodePoints) → Type 0
 IsTextRefused = IsTextRefusedIn profile
 

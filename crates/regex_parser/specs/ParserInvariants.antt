@@ -1,4 +1,4 @@
--- The invariant of a parser with a stack: what it knows of a pattern at its current position.
+-- The invariant of a parser with a stack: what it knows about a pattern at its current position.
 use Rattle.std.specs.Prelude.{◌≡◌, ◌⊎◌, ◌↔◌, ℕ, ◌+◌, ◌<◌, ◌≤◌, false, List, [], ◌++◌, length, Some, slice_index_or}
 use Rattle.regex_meaning.specs.Tree.{Node, Tree, Flags}
 use Rattle.regex_meaning.specs.ReadingStatesAndDigits.{RemainingCodePoints, ParseState, PatternContext, group_number_of}
@@ -24,7 +24,8 @@ group_names_found_by_scan pattern = scanned_names_per_capturing_group false patt
 abbrev pub AreWithinGroupLimit : List RemainingCodePoints → Type 0
 AreWithinGroupLimit names = length names ≤ 65535
 
--- The pattern opens more groups, as the scan counts them; so each tree that it has has more.
+-- The pattern opens more groups than that, as the scan counts them. So each of its trees has more
+-- groups.
 abbrev pub OpensTooManyGroups : (pattern : RemainingCodePoints) → Type 0
 OpensTooManyGroups pattern = 65535 < length (group_names_found_by_scan pattern)
 
@@ -40,25 +41,26 @@ parse_state here opened = record { text = here; opened = opened }
 abbrev pub FindsGroups : PatternDialect → (here : RemainingCodePoints) → (names : List RemainingCodePoints) → Type 0
 FindsGroups s here names = ScansGroups s (texts_after_parentheses false here) names
 
--- Reading the rest from here completes what was read to this node.
+-- Reading the rest of the pattern completes what has been read, and the result is this node.
 abbrev pub CompletesTo : PatternDialect → Flags → (names : List RemainingCodePoints) → List OpenGroup
     → PartialDisjunction → ParseState → Node → Type 0
 CompletesTo s flags names around level here n =
     CompletesAll s (spec_pattern_context flags names) names around level here n
 
--- The whole pattern is this node.
+-- The whole pattern has this node.
 abbrev pub ParsesTo : PatternDialect → Flags → (pattern : RemainingCodePoints) → (names : List RemainingCodePoints)
     → Node → Type 0
 ParsesTo s flags pattern names n = CompletesTo s flags names [] (empty_disjunction false) (parse_state pattern []) n
 
--- Each group that has opened has no name, or its name is numbered as that group.
+-- Each group that has opened either has no name, or its name is mapped to the number of that group.
 abbrev pub AreOpenedNamesNumbered : (opened names : List RemainingCodePoints) → Type 0
 AreOpenedNamesNumbered opened names =
     (i : ℕ) (d : RemainingCodePoints) → i < length opened
     → (slice_index_or opened i d ≡ []) ⊎ (group_number_of (slice_index_or opened i d) names ≡ Some (i + 1))
 
--- The whole pattern, whose groups have these names, is exactly the nodes to which the rest completes
--- what was read. But if a reference exceeds the number of groups, the pattern has no node.
+-- The nodes of the whole pattern, whose groups have these names, are exactly those to which the
+-- rest can complete what has been read. If a reference is greater than the number of groups, the
+-- pattern has no node.
 pub record IsParserInvariant
     (s : PatternDialect) (flags : Flags) (pattern : RemainingCodePoints) (names : List RemainingCodePoints)
     (references groups : ℕ) (around : List OpenGroup) (level : PartialDisjunction) (here : RemainingCodePoints)

@@ -1,5 +1,5 @@
--- The groups that a scan of any text finds, by any syntax, whether the text is a pattern or not. It is no
--- part of the grammar.
+-- The groups that a scan finds in any text, for each dialect, even if the text is not a pattern.
+-- These definitions are not part of the grammar.
 use Rattle.std.specs.Prelude.{◌≡◌, ◌⊎◌, true, false, List, [], ◌∷◌, ◌++◌, codes}
 use Rattle.regex_meaning.specs.Tree.{Node}
 use Rattle.regex_meaning.specs.ReadingStatesAndDigits.{RemainingCodePoints, PatternContext, begins_with_characters}
@@ -8,12 +8,12 @@ use Rattle.regex_meaning.specs.EcmaGrammarLaws.{IsPatternDisjunction}
 use Rattle.regex_meaning.specs.GroupOpeningScanWithoutParsing.{texts_after_parentheses}
 use Rattle.regex_meaning.specs.Grammar.{PatternDialect}
 
--- No name is here.
+-- The text does not begin with a name.
 abbrev pub NoGroupName : PatternDialect → (here : RemainingCodePoints) → Type 0
 NoGroupName s here = (there name : RemainingCodePoints) → s.group_name here there name → ⊥
 
--- The parentheses before these texts open groups with these names, empty where a group has none or its
--- name cannot be read. A parenthesis that opens no capturing group is passed over.
+-- The parentheses before these texts open groups with these names. A name is empty if the group has
+-- none or if its name cannot be read. A parenthesis that opens no capturing group is skipped.
 pub data ScansGroups (s : PatternDialect) : (texts names : List RemainingCodePoints) → Type 0 where
   scans_nothing : ScansGroups s [] []
   -- A group without a name.
@@ -30,7 +30,7 @@ pub data ScansGroups (s : PatternDialect) : (texts names : List RemainingCodePoi
       → text ≡ codes "?<" ++ here → NoGroupName s here
       → begins_with_characters "=" here ≡ false → begins_with_characters "!" here ≡ false → ScansGroups s texts names
       → ScansGroups s (text ∷ texts) ([] ∷ names)
-  -- `(?` and no `<`, or a lookbehind
+  -- `(?` that is not followed by `<`, or a lookbehind
   scans_other : {text : RemainingCodePoints} {texts names : List RemainingCodePoints} (here : RemainingCodePoints)
       → text ≡ codes "?" ++ here
       → (begins_with_characters "<" here ≡ false) ⊎ ((begins_with_characters "<=" here ≡ true)

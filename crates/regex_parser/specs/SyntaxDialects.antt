@@ -1,4 +1,5 @@
--- The languages of patterns as dialects of the grammar, and what a reader knows of the groups of a pattern.
+-- The pattern languages as dialects of the grammar, and what a reader knows about the groups of a
+-- pattern.
 use Rattle.std.specs.Prelude.{◌≡◌, ℕ, ◌≤◌, Bool, List, length, String}
 use Rattle.std.specs.BTreeMap.{BTreeMap, get_by_text}
 use Rattle.regex_meaning.specs.ReadingStatesAndDigits.{RemainingCodePoints, group_number_of}
@@ -14,8 +15,8 @@ abbrev pub spec_syntax_of : Syntax → PatternDialect
 spec_syntax_of Profile = profile
 spec_syntax_of EcmaScript2018 = ecmascript
 
--- What the reader knows of the groups of the pattern, which are within the limit: how many there are,
--- whether one has a name, and the number of each name that can be read.
+-- What the reader knows about the groups of the pattern, which are within the limit: how many there
+-- are, whether one has a name, and the number of each name that can be read.
 pub record AreGroupsKnownIn {R : Type 0} (s : PatternDialect) (flags : Flags) (count : ℕ) (named : Bool)
     (numbers : BTreeMap (String R) ℕ) (groups : List RemainingCodePoints) : Type 0 where
   pub few : length groups ≤ 65535

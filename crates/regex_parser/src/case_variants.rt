@@ -14,8 +14,8 @@ use regex_pattern_front::codepointset::{CodePointSet, Interval};
 use std::alloc::{AllocError, Global};
 use ucd_case::fold_pairs;
 
-/// Returns the characters that match `c`, `c` included, in increasing order. With `icase` they are those
-/// with the same `canonicalize`, at most four. Without `icase` it is `c` alone.
+/// Returns the characters that match `c`, including `c`, in increasing order. With `icase` these
+/// are the characters with the same `canonicalize`, at most four. Without `icase` it is `c` alone.
 ///
 /// # Errors
 ///
@@ -80,8 +80,8 @@ fn matching_seconds(
     Ok(seconds)
 }
 
-// Returns the pairs of characters with one simple case folding whose first character is between
-// these two.
+// Returns the pairs of characters with the same simple case folding whose first character is
+// between these two, inclusive.
 fn fold_pairs_between(first: u32, last: u32) -> &'static [(u32, u32)]
     ensures { result.now ≡ filter (λ p. is_between first last p.0) fold_pairs }
 {
@@ -91,7 +91,7 @@ fn fold_pairs_between(first: u32, last: u32) -> &'static [(u32, u32)]
     &pairs[start..end.max(start)]
 }
 
-// Binary search: returns how many pairs have a first character below this bound.
+// Returns how many pairs have a first character below this bound, by binary search.
 fn count_below(pairs: &[(u32, u32)], bound: u64) -> usize
     requires { IsNonDecreasingBy (λ (p : _). p.0) pairs.now }
     ensures most { result ≤ length pairs.now }
@@ -130,8 +130,8 @@ pub(crate) fn add_canonical_variants(
     }
 }
 
-// Checks whether more than half of the fold pairs begin with a member of the set. Then there are fewer
-// pairs to look at outside of the set.
+// Checks whether more than half of the fold pairs begin with a member of the set. Then there are
+// fewer pairs that begin outside the set.
 fn begins_most_pairs(set: &CodePointSet) -> bool {
     let mut pairs = 0usize;
     for interval in set.intervals() {
@@ -155,7 +155,7 @@ fn add_nonmembers_that_match(
     Ok(())
 }
 
-// Adds the characters of the gap that match another one in the set.
+// Adds the characters of the gap that match a character of the set.
 fn add_matching_of_gap(
     intervals: &mut Vec<Interval>,
     gap: Interval,
@@ -170,7 +170,8 @@ fn add_matching_of_gap(
     add_each(intervals, &matching)
 }
 
-// Returns the first characters of the pairs whose second one is in the set and matches the first.
+// Returns the first characters of the pairs whose second character is in the set and matches the
+// first.
 fn firsts_that_match(
     alloc: Global,
     pairs: &[(u32, u32)],
@@ -188,7 +189,7 @@ fn firsts_that_match(
     Ok(firsts)
 }
 
-// Adds the characters that match another one in the set.
+// Adds the characters that match another character, which is in the set.
 fn add_variants_of_members(
     intervals: &mut Vec<Interval>,
     set: &CodePointSet,
@@ -202,7 +203,7 @@ fn add_variants_of_members(
     Ok(())
 }
 
-// Adds the characters that match another one in the interval.
+// Adds the characters that match another character, which is in the interval.
 fn add_variants_of_interval(
     intervals: &mut Vec<Interval>,
     interval: Interval,

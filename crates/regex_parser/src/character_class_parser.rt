@@ -6,7 +6,7 @@ ghost use Rattle.regex_meaning.specs.CharacterClasses.{class as class_of, single
 ghost use Rattle.std.specs.List.{list_any};
 ghost use Rattle.regex_pattern_front.specs.Intervals.{interval_of};
 ghost use Rattle.regex_pattern_front.specs.AstToSpecTree.{class_as_spec, spec_flags_of};
-ghost use Rattle.regex_parser.specs.CodePointReaderContracts.{IsReadAndErrorMeansUnreadable, IsReadOrSyntaxError};
+ghost use Rattle.regex_parser.specs.CodePointReaderContracts.{IsReadAndErrorMeansUnreadable, IsReadOrSyntaxError, class_end};
 ghost use Rattle.regex_parser.specs.ClassReaderContracts.{uninverted_digit_word_or_space_set, class_member_of_character_class_escape, class_member_of_atom};
 ghost use Rattle.regex_parser.specs.ClassReaderContracts.{escape_of};
 ghost use Rattle.regex_parser.specs.ClassReaderContracts.{is_in_any_interval, IsCaseClosureOfTest, AddsMembers, IsRangeEndRead};
@@ -91,7 +91,7 @@ const SPACES: [Interval; 10] = [
     },
 ];
 
-/// A class escape: `\d`, `\w` or `\s`, or with `invert` `\D`, `\W` or `\S`.
+/// A class escape: `\d`, `\w` or `\s` or, with `invert`, `\D`, `\W` or `\S`.
 #[derive(Clone, Copy)]
 pub(crate) struct DigitWordOrSpaceEscape {
     pub(crate) base: CharacterClassType,
@@ -107,7 +107,7 @@ pub(crate) enum CharacterClassType {
 }
 
 impl DigitWordOrSpaceEscape {
-    /// Returns the class escape of this letter, or `None` if it has none.
+    /// Returns the class escape of this letter, or `None` if the letter has none.
     pub(crate) fn of(letter: Option<char>) -> Option<DigitWordOrSpaceEscape>
         ensures { option_map class_member_of_character_class_escape result ≡ escape_of letter }
     {
@@ -245,7 +245,7 @@ fn no_set_operation(reader: PatternReader) -> Result<(), ParseStopReason>
     Ok(())
 }
 
-// Checks whether a nested class or a set operation begins with this code point, given the next one.
+// Checks whether this code point begins a nested class or a set operation, given the next one.
 fn begins_nested_class_or_operation(c: u32, next: Option<char>) -> bool
     ensures { result ≡ begins_nested_class_or_operation c next }
 {
@@ -272,7 +272,7 @@ fn read_member(
     c: u32,
     flags: Flags,
 ) -> Result<(), ParseStopReason>
-    requires { c ≢ 93 }
+    requires { c ≢ class_end }
     ensures moves { length reader.new.rest.now ≤ length reader.old.rest.now }
     ensures text { let here = c ∷ reader.old.rest.now in let there = reader.new.rest.now in
         IsClassMemberRead (spec_flags_of flags) here intervals.old.items result intervals.new.items there }
@@ -335,7 +335,7 @@ fn read_atom(
     c: u32,
     flags: Flags,
 ) -> Result<ClassAtomValue, ParseStopReason>
-    requires { c ≢ 93 }
+    requires { c ≢ class_end }
     ensures moves { length reader.new.rest.now ≤ length reader.old.rest.now }
     ensures text { let here = c ∷ reader.old.rest.now in
         IsReadAndErrorMeansUnreadable class_member_of_atom (ClassAtom (spec_flags_of flags) here) result
@@ -369,7 +369,7 @@ fn add_class_atom(
     Ok(())
 }
 
-// Returns the set of these intervals, with `icase` together with all code points that fold as a
+// Returns the set of these intervals. With `icase` it also contains all code points that fold as a
 // member does.
 fn case_closed(mut intervals: Vec<Interval>, flags: Flags) -> Result<CodePointSet, AllocError>
     ensures { IfOk result (λ s. IsCaseClosureOfTest (spec_flags_of flags) (is_in_any_interval intervals.items) s) }

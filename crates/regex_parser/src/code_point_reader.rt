@@ -4,7 +4,7 @@ ghost use Rattle.std.specs.Prelude.{◌≡◌, ◌<◌, ◌≤◌, ◌∷◌, �
 ghost use Rattle.std.specs.Option.{ForSome};
 ghost use Rattle.regex_meaning.specs.WellFormedTrees.{is_min_at_most_max};
 ghost use Rattle.regex_meaning.specs.EscapesNamesQuantifiers.{BeginsQuantifier};
-ghost use Rattle.regex_parser.specs.CodePointReaderContracts.{IsUnescapedRead, IsCodePointReadIfAny, peeked, IsEaten, IsDigitRead, IsNumberRead, IsHexRead};
+ghost use Rattle.regex_parser.specs.CodePointReaderContracts.{IsUnescapedRead, IsCodePointReadIfAny, peeked, IsEaten, IsDigitRead, IsNumberRead, IsHexRead, open_brace};
 ghost use Rattle.regex_parser.specs.CodePointReaderContracts.{AreQuantifierCountsRead};
 ghost use Rattle.regex_parser.specs.CodePointReaderContracts.{IsQuantifierMaximumRead, IsOptionalBracesQuantifierRead};
 ghost use Rattle.regex_parser.specs.CodePointReaderContracts.{IsOptionalQuantifierPrefixRead};
@@ -47,8 +47,8 @@ impl PatternReader<'_> {
         }
     }
 
-    /// Returns the next code point without reading it, or `None` if it is no `char` or nothing is
-    /// left.
+    /// Returns the next code point without reading it. Returns `None` if it is not a `char` or if
+    /// nothing is left.
     pub(crate) fn peek(&self) -> Option<char>
         ensures more { IsSome result → 0 < length self.now.rest.now }
         ensures text { result ≡ peeked self.now.rest.now }
@@ -68,7 +68,7 @@ impl PatternReader<'_> {
         Some(*first)
     }
 
-    /// Reads the next code point or escape; of an escape it returns the backslash.
+    /// Reads the next code point or escape. For an escape, it returns the backslash.
     pub(crate) fn read_next_and_skip_escaped(&mut self) -> Option<u32>
         ensures moves { length self.new.rest.now ≤ length self.old.rest.now }
         ensures read { IsSome result → length self.new.rest.now < length self.old.rest.now }
@@ -81,7 +81,7 @@ impl PatternReader<'_> {
         Some(c)
     }
 
-    /// Reads the next code point if it is this one, and returns whether it was.
+    /// Reads the next code point if it is `c`, and returns whether it was.
     pub(crate) fn eat(&mut self, c: char) -> bool
         ensures moves { length self.new.rest.now ≤ length self.old.rest.now }
         ensures read { IsTrue result → length self.new.rest.now < length self.old.rest.now }
@@ -143,8 +143,8 @@ impl PatternReader<'_> {
         Some(value)
     }
 
-    /// Reads `{n}`, `{n,}` or `{n,m}` and returns the two counts, or `None` if there are no such
-    /// braces.
+    /// Reads `{n}`, `{n,}` or `{n,m}` and returns the two counts, or `None` if no such braces begin
+    /// here.
     fn braces(&mut self) -> Option<(usize, Option<usize>)>
         ensures moves { length self.new.rest.now ≤ length self.old.rest.now }
         ensures text { IsOptionalBracesQuantifierRead self.old.rest.now result self.new.rest.now }
@@ -160,7 +160,7 @@ impl PatternReader<'_> {
 
     /// Checks whether the last code point that was read, a `{`, begins a quantifier.
     pub(crate) fn last_read_brace_begins_quantifier(&self) -> bool
-        ensures { IsTrue result ↔ BeginsQuantifier (123 ∷ self.now.rest.now) }
+        ensures { IsTrue result ↔ BeginsQuantifier (open_brace ∷ self.now.rest.now) }
     {
         let mut ahead = *self;
         ahead.counts().is_some()
@@ -180,8 +180,8 @@ impl PatternReader<'_> {
         }
     }
 
-    // Reads the maximum after the minimum: without a comma it is the minimum, and it is `None` if
-    // no number follows the comma.
+    // Reads the maximum after the minimum. Without a comma it is the minimum. It is `None` if no
+    // number follows the comma.
     fn most(&mut self, min: usize) -> Option<usize>
         ensures moves { length self.new.rest.now ≤ length self.old.rest.now }
         ensures text { IsQuantifierMaximumRead min self.old.rest.now result self.new.rest.now }
@@ -236,7 +236,7 @@ impl PatternReader<'_> {
     }
 }
 
-// Checks whether the minimum is at most the maximum, if there is one.
+// Checks whether the minimum is at most the maximum, if there is a maximum.
 fn are_in_order(min: usize, max: Option<usize>) -> bool
     ensures { result ≡ is_min_at_most_max (record { min = min; max = max; greedy = false }) }
 {

@@ -1,4 +1,4 @@
-//! Diagnoses: what is wrong with a text that is refused, and where.
+//! Diagnoses: what is wrong with a text that the parser refuses, and where.
 
 ghost use Rattle.std.specs.Prelude.{◌≡◌, IsCharBoundary, chars, drop};
 
@@ -14,10 +14,10 @@ pub enum Cause {
     /// A closing parenthesis without an opening one.
     #[error("unopened group")]
     UnopenedGroup,
-    /// `(?` followed by what begins no kind of group and no feature that has a cause of its own.
+    /// `(?`, followed by something that opens no kind of group and has no cause of its own.
     #[error("unknown kind of group")]
     InvalidGroup,
-    /// `(?i)`, `(?i:`, `(?-i:` and the like: `(?` before one of `i m s u x -`.
+    /// `(?i)`, `(?i:`, `(?-i:` and similar: `(?` before one of `i m s u x -`.
     #[error("modifiers are not supported")]
     Modifiers,
     /// `(?>`.
@@ -29,19 +29,19 @@ pub enum Cause {
     /// `(?P`, as in `(?P<n>a)` and `(?P=n)`.
     #[error("(?P is not supported, write (?<name>..) or \\k<name>")]
     PythonGroup,
-    /// More capturing groups than the limit of 65,535; `groups` is their number, and `u32::MAX` also
-    /// stands for more. It is reported whatever else is wrong with the text.
+    /// More capturing groups than the limit of 65,535. `groups` is their number, limited to
+    /// `u32::MAX`. This is reported even if something else is wrong with the text.
     #[error("too many groups ({groups} of at most 65535)")]
     TooManyGroups { groups: u32 },
     /// A quantifier with no term before it, or after another quantifier.
     #[error("nothing to repeat")]
     NothingToRepeat,
-    /// A quantifier after an anchor, a word boundary or a lookaround. In the whole language without `unicode`
-    /// a lookahead may be repeated.
+    /// A quantifier after an anchor, a word boundary or a lookaround. In the whole language without
+    /// `unicode`, a lookahead may be repeated.
     #[error("an assertion cannot be repeated")]
     RepeatedAssertion,
     /// `{n,m}` with `m` below `n`.
-    #[error("quantifier out of order")]
+    #[error("the maximum of a quantifier is below its minimum")]
     QuantifierOutOfOrder,
     /// A class that is not closed.
     #[error("unclosed class")]
@@ -52,8 +52,8 @@ pub enum Cause {
     /// With `unicode_sets`, a nested class, `&&` or `--`.
     #[error("set operations are not supported")]
     SetOperation,
-    /// A backslash before an ASCII letter or digit with which no escape begins. Escapes begin with
-    /// `b B d D f k n r s S t u v w W x` and with digits; in a class `B` and `k` begin none.
+    /// A backslash before an ASCII letter or digit that begins no escape. Escapes begin with `b B d
+    /// D f k n r s S t u v w W x` and with digits. In a class, `B` and `k` begin none.
     #[error("unknown escape")]
     UnknownEscape,
     /// `\A`, `\z` or `\Z`.
@@ -77,17 +77,18 @@ pub enum Cause {
     /// In the whole language with `unicode`, `\p` or `\P` without a `{` after it.
     #[error("property escape without a name")]
     PropertyWithoutName,
-    /// In the whole language with `unicode`, `\p{..}` or `\P{..}` with a name or a value that names no
-    /// property of Unicode.
+    /// In the whole language with `unicode`, `\p{..}` or `\P{..}` with a name or a value that is
+    /// not that of a Unicode property.
     #[error("unknown property")]
     UnknownProperty,
-    /// In the whole language with `unicode`, a range in a class that begins or ends with a class escape.
+    /// In the whole language with `unicode`, a range in a class that begins or ends with a class
+    /// escape.
     #[error("a class escape cannot be the end of a range")]
     RangeOfClasses,
     /// `\x` without two hexadecimal digits.
     #[error("incomplete hexadecimal escape")]
     HexEscape,
-    /// `\u` without four hexadecimal digits; with `unicode`, also `\u{` without hexadecimal digits
+    /// `\u` without four hexadecimal digits. With `unicode`, also `\u{` without hexadecimal digits
     /// and a `}` after it.
     #[error("incomplete Unicode escape")]
     UnicodeEscape,
@@ -95,7 +96,7 @@ pub enum Cause {
     #[error("code point past U+10FFFF")]
     CodePointTooGreat,
     /// A backslash at the end of the text.
-    #[error("nothing to escape")]
+    #[error("backslash at the end of the pattern")]
     NothingToEscape,
     /// A reference to a group number that the pattern does not have.
     #[error("no such group")]
@@ -107,7 +108,7 @@ pub enum Cause {
     #[error("reference without a name")]
     MissingName,
     /// An ASCII character that is not allowed in a name, or not at this position of it.
-    #[error("invalid name")]
+    #[error("character not allowed in a name")]
     InvalidName,
     /// In the profile, a code point past U+007F in a name.
     #[error("names beyond ASCII are supported only in EcmaScript2018")]
@@ -118,11 +119,11 @@ pub enum Cause {
     /// The name of an earlier group.
     #[error("duplicate name")]
     DuplicateName,
-    /// With `unicode`, a `{` with which no quantifier begins.
+    /// With `unicode`, a `{` that does not begin a quantifier.
     #[error("incomplete quantifier")]
     IncompleteQuantifier,
     /// With `unicode`, a `]` or `}` without its partner.
-    #[error("unmatched bracket")]
+    #[error("unmatched ] or }}")]
     LoneBracket,
 }
 
@@ -155,7 +156,7 @@ impl Diagnosis {
 
     /// Returns the diagnosis to display below a pattern on a terminal: the line of the pattern that
     /// contains the error, a line with `^` below the error, and the cause. Each code point takes
-    /// one column. A control character is shown as a blank, and a number that is no `char` as
+    /// one column. A control character is shown as a blank, and a number that is not a `char` as
     /// U+FFFD.
     pub fn below(self, pattern: &[u32]) -> CaretDiagnosis<'_> {
         let (before, behind) = pattern.split_at(self.at.min(pattern.len()));
@@ -184,7 +185,7 @@ impl Diagnosis {
 /// A line of a pattern, and what is wrong in it.
 #[derive(Clone, Copy, Debug)]
 pub struct CaretDiagnosis<'p> {
-    // The line before the error, and from the error on.
+    // The part of the line before the error, and the part from the error on.
     before: PatternLinePartForDiagnosis<'p>,
     behind: PatternLinePartForDiagnosis<'p>,
     cause: Cause,
@@ -202,7 +203,7 @@ impl fmt::Display for CaretDiagnosis<'_> {
     }
 }
 
-// A piece of a line of a pattern.
+// A part of a line of a pattern.
 #[derive(Clone, Copy, Debug)]
 enum PatternLinePartForDiagnosis<'p> {
     CodePoints(&'p [u32]),

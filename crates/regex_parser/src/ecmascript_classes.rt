@@ -4,7 +4,7 @@ ghost use Rattle.std.specs.Prelude.{◌≡◌, ◌≢◌, ◌≤◌, ◌∷◌, 
 ghost use Rattle.regex_meaning.specs.Outcomes.{in_intervals};
 ghost use Rattle.regex_meaning.specs.EcmaClasses.{CharacterClass, ClassAtom, ClassEscape as SpecClassEscape, character, class as class_of, IsSetOf, is_in_invertible_set};
 ghost use Rattle.regex_pattern_front.specs.AstToSpecTree.{class_as_spec, spec_flags_of};
-ghost use Rattle.regex_parser.specs.CodePointReaderContracts.{IsReadOrSyntaxError};
+ghost use Rattle.regex_parser.specs.CodePointReaderContracts.{IsReadOrSyntaxError, class_end};
 ghost use Rattle.regex_parser.specs.ClassReaderContracts.{is_in_any_interval};
 ghost use Rattle.regex_parser.specs.EcmaClassContracts.{member_of_atom, set_of_letter, AreEcmaRangesRead, IsEcmaMemberRead, IsEcmaRangeEndRead};
 ghost use Rattle.regex_parser.specs.EcmaClassContracts.{IsClassControlRead, AddsEcmaMembers, IsCanonicalClosure, IsPropertyLetterRead, IsRangeOrCause};
@@ -84,7 +84,7 @@ impl ClassReader {
         reader: &mut PatternReader,
         c: u32,
     ) -> Result<(), ParseStopReason>
-        requires { c ≢ 93 }
+        requires { c ≢ class_end }
         ensures moves { length reader.new.rest.now ≤ length reader.old.rest.now }
         ensures text { IsEcmaMemberRead (spec_flags_of self.flags) self.named_groups (c ∷ reader.old.rest.now)
             intervals.old.items result intervals.new.items reader.new.rest.now }
@@ -125,7 +125,7 @@ impl ClassReader {
 
     // Reads the atom that begins with this code point.
     fn read_atom(self, reader: &mut PatternReader, c: u32) -> Result<AtomValue, ParseStopReason>
-        requires { c ≢ 93 }
+        requires { c ≢ class_end }
         ensures moves { length reader.new.rest.now ≤ length reader.old.rest.now }
         ensures text { IsReadOrSyntaxError (member_of_atom (spec_flags_of self.flags))
             (ClassAtom (spec_flags_of self.flags)
@@ -148,7 +148,7 @@ impl ClassReader {
         }
     }
 
-    // Reads an escape in a class, after its backslash (`DigitWordOrSpaceEscape`).
+    // Reads an escape in a class, after its backslash (`ClassEscape`).
     fn read_escape(self, reader: &mut PatternReader) -> Result<AtomValue, ParseStopReason>
         ensures moves { length reader.new.rest.now ≤ length reader.old.rest.now }
         ensures text { IsReadOrSyntaxError (member_of_atom (spec_flags_of self.flags))
@@ -175,16 +175,16 @@ impl ClassReader {
     }
 }
 
-/// Checks whether a `c` is next, without `unicode`: if it begins no escape, the backslash before it
-/// denotes itself (B.1.4).
+/// Checks whether a `c` is next, without `unicode`. If this `c` begins no escape, the backslash
+/// before it denotes itself (B.1.4).
 pub(crate) fn is_control_without_unicode(reader: &PatternReader, unicode: bool) -> bool
     ensures { result ≡ (not unicode && begins_with_characters "c" reader.now.rest.now) }
 {
     !unicode && reader.peek() == Some('c')
 }
 
-// Reads `b`, with `unicode` `-`, or without it `c` and a `ClassControlLetter`, and returns its
-// character.
+// Reads `b`, `-` (with `unicode`), or `c` and a `ClassControlLetter` (without `unicode`), and
+// returns the character that it denotes.
 fn read_simple_escape(reader: &mut PatternReader, flags: Flags) -> Option<u32>
     ensures moves { length reader.new.rest.now ≤ length reader.old.rest.now }
     ensures text { IsSimpleClassEscapeRead (spec_flags_of flags) reader.old.rest.now result reader.new.rest.now }
@@ -202,8 +202,8 @@ fn read_simple_escape(reader: &mut PatternReader, flags: Flags) -> Option<u32>
     }
 }
 
-/// Reads the `p` or `P` of an escape of a property, and returns whether it is inverted. Without
-/// `unicode` there is none.
+/// Reads the `p` or `P` of a property escape, and returns whether it is inverted. Returns `None`
+/// without `unicode`, or if neither letter is next.
 pub(crate) fn read_property_letter(reader: &mut PatternReader, unicode: bool) -> Option<bool>
     ensures moves { length reader.new.rest.now ≤ length reader.old.rest.now }
     ensures text { IsPropertyLetterRead unicode reader.old.rest.now result reader.new.rest.now }
@@ -234,8 +234,8 @@ fn read_class_control(reader: &mut PatternReader) -> Option<u32>
     Some(c % 32)
 }
 
-// Returns the range between two atoms, or `None` if one is no character and the `-` between them
-// denotes itself, as it does without `unicode`.
+// Returns the range between two atoms. Returns `None` if one of them is not a character and the `-`
+// between them denotes itself, as it does without `unicode`.
 fn range_or_cause(
     first: AtomValue,
     second: AtomValue,
@@ -299,8 +299,8 @@ fn add_atom(intervals: &mut Vec<Interval>, atom: AtomValue, flags: Flags) -> Res
     Ok(())
 }
 
-/// Returns the class of an escape of one letter. Its set is closed: what matches a digit, a space or a
-/// word character is one.
+/// Returns the class of an escape of one letter. Its set is closed: each character that matches a
+/// digit, a space or a word character is one itself.
 pub(crate) fn letter_contents(
     alloc: Global,
     escape: DigitWordOrSpaceEscape,
@@ -336,8 +336,9 @@ fn letter_set(
     }
 }
 
-// Returns the digits, the spaces, or the word characters: with `icase` and `unicode` also U+017F and
-// U+212A, which fold to word characters (*WordCharacters*, 21.2.2.6.1).
+// Returns the digits, the spaces or the word characters. With `icase` and `unicode`, the word
+// characters include U+017F and U+212A, which fold to word characters (*WordCharacters*,
+// 21.2.2.6.1).
 fn letter_intervals(
     alloc: Global,
     base: CharacterClassType,
@@ -359,7 +360,7 @@ fn letter_intervals(
     Ok(intervals)
 }
 
-/// Returns the set of the characters that match one in these intervals.
+/// Returns the set of the characters that match a character in these intervals.
 pub(crate) fn canonical_closure(
     mut intervals: Vec<Interval>,
     flags: Flags,

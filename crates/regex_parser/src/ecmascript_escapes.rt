@@ -23,8 +23,8 @@ pub(crate) struct GrammarParameters {
 }
 
 /// Reads an escape of one character after its backslash (ECMA-262, 9th edition, `CharacterEscape`
-/// of B.1.4). An escape that no other alternative reads denotes the escaped character itself, if
-/// that is allowed.
+/// of B.1.4). If no other alternative applies, it denotes the escaped character itself, if that is
+/// allowed.
 pub(crate) fn read_character_escape(
     reader: &mut PatternReader,
     parameters: GrammarParameters,
@@ -83,7 +83,7 @@ fn is_syntax_character_or_slash(c: u32) -> bool
     }
 }
 
-// Reads an escape that is no `IdentityEscape`.
+// Reads an escape that is not an `IdentityEscape`.
 fn read_non_identity_escape(reader: &mut PatternReader, unicode: bool) -> Result<u32, Cause>
     ensures moves { length reader.new.rest.now ≤ length reader.old.rest.now }
     ensures text { (named_groups : Bool) → IsReadOrNothingCanBeRead
@@ -118,8 +118,8 @@ fn read_control_letter(reader: &mut PatternReader) -> Option<u32>
     Some(u32::from(letter) % 32)
 }
 
-// Reads the rest of an escape that begins with this octal digit: with `unicode` only `\0` where no
-// digit follows, else a `LegacyOctalEscapeSequence`.
+// Reads the rest of an escape that begins with this octal digit. With `unicode`, it is `\0` that is
+// not followed by a digit. Otherwise it is a `LegacyOctalEscapeSequence`.
 fn read_octal_escape(reader: &mut PatternReader, first: u32, unicode: bool) -> Result<u32, Cause>
     requires { first ≤ 7 }
     ensures moves { length reader.new.rest.now ≤ length reader.old.rest.now }

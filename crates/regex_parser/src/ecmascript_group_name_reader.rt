@@ -3,7 +3,7 @@
 ghost use Rattle.std.specs.Prelude.{◌≡◌, ◌<◌, ◌≤◌, ◌∷◌, length, string_bytes, IfErr, IsTrue, OnOk, IsSome, Bool};
 ghost use Rattle.regex_meaning.specs.EcmaEscapesAndNames.{GroupName};
 ghost use Rattle.regex_meaning.specs.EscapesNamesQuantifiers.{is_high_surrogate};
-ghost use Rattle.regex_parser.specs.CodePointReaderContracts.{IsReadOrSyntaxError, is_syntax_error};
+ghost use Rattle.regex_parser.specs.CodePointReaderContracts.{IsReadOrSyntaxError, is_syntax_error, backslash};
 ghost use Rattle.regex_parser.specs.EcmaReaderContracts.{passes_in_name, IsNameCharacterRead, IsNameCodePointRead};
 
 use crate::code_point_reader::PatternReader;
@@ -13,8 +13,9 @@ use crate::parser_error::ParseStopReason;
 use std::alloc::Global;
 use ucd_derived::{is_id_continue, is_id_start};
 
-/// Reads a name after its `<`, and the `>` (ECMA-262, `GroupName`). As in the 11th edition and later, a
-/// name may have escapes `\u{..}` and `\uHHHH`, and characters past U+FFFF, with every flag.
+/// Reads a name after its `<`, and the `>` (ECMA-262, `GroupName`). With every flag, a name may
+/// contain the escapes `\u{..}` and `\uHHHH` and characters above U+FFFF, as in the 11th edition
+/// and later.
 pub(crate) fn read_group_name(
     alloc: Global,
     reader: &mut PatternReader,
@@ -34,7 +35,7 @@ pub(crate) fn read_group_name(
     Ok(name)
 }
 
-// Reads a character of a name, the first one or a later one. The name begins at `start`.
+// Reads a character of a name: the first one or a later one. The name begins at `start`.
 fn read_name_character(
     reader: &mut PatternReader,
     start: PatternReader,
@@ -78,7 +79,7 @@ fn read_name_code_point(reader: &mut PatternReader) -> Option<u32>
 // Reads the rest of an escape in a name, after its backslash.
 fn read_escaped_code_point(reader: &mut PatternReader) -> Option<u32>
     ensures moves { length reader.new.rest.now ≤ length reader.old.rest.now }
-    ensures text { (is_first : Bool) → IsNameCodePointRead is_first (92 ∷ reader.old.rest.now) result
+    ensures text { (is_first : Bool) → IsNameCodePointRead is_first (backslash ∷ reader.old.rest.now) result
         reader.new.rest.now }
 {
     if !reader.eat('u') {

@@ -7,7 +7,7 @@ ghost use Rattle.regex_meaning.specs.{ReadingStatesAndDigits.{RemainingCodePoint
 ghost use Rattle.regex_meaning.specs.UnicodeProperties.{has_property};
 ghost use Rattle.regex_pattern_front.specs.AstToSpecTree.{node_of, spec_flags_of};
 ghost use Rattle.regex_pattern_front.specs.SubtreeListInvariants.{IsWellFormedGrouplessSubtree};
-ghost use Rattle.regex_parser.specs.CodePointReaderContracts.{is_syntax_error};
+ghost use Rattle.regex_parser.specs.CodePointReaderContracts.{is_syntax_error, backslash};
 ghost use Rattle.regex_parser.specs.PropertyReaderContracts.{spec_property_of};
 ghost use Rattle.regex_parser.specs.GrouplessTermContracts.{pattern_context, is_paren_or_bar, IsReaderOfSame};
 ghost use Rattle.regex_parser.specs.EcmaTermContracts.{AreGroupsKnown, IsEcmaTermRead, IsAtomEscapeRead, IsEcmaCharacterNode, IsClassEscapeRead};
@@ -35,7 +35,7 @@ use regex_pattern_front::ir::Node;
 use regex_pattern_front::types::BracketContents;
 use std::alloc::{AllocError, Global};
 
-/// What is known of the groups of a whole pattern before it is parsed.
+/// What is known about the groups of a whole pattern before it is parsed.
 #[derive(Clone, Copy)]
 pub(crate) struct PatternGroups {
     /// Number of groups.
@@ -45,8 +45,8 @@ pub(crate) struct PatternGroups {
 }
 
 impl GrouplessTermReader<'_> {
-    /// Reads the term that begins with this code point, which is no parenthesis, in the whole
-    /// language.
+    /// Reads the term of the whole language that begins with this code point, which is not a
+    /// parenthesis.
     pub(crate) fn read_ecmascript_term(
         &mut self,
         c: u32,
@@ -87,8 +87,8 @@ impl GrouplessTermReader<'_> {
         ecmascript_character(self.alloc, self.flags, c)
     }
 
-    // Reads a term after its backslash. A backslash before a `c` that begins no escape denotes
-    // itself without `unicode` (B.1.4).
+    // Reads a term after its backslash. Without `unicode`, a backslash before a `c` that begins no
+    // escape denotes itself (B.1.4).
     fn read_ecmascript_escape(
         &mut self,
         groups: PatternGroups,
@@ -102,7 +102,7 @@ impl GrouplessTermReader<'_> {
             → self.new.references ≤ max self.old.references (length names) }
         ensures text { (names : List RemainingCodePoints)
             → AreGroupsKnown self.old.flags groups.count groups.named self.old.numbers names
-            → IsEcmaTermRead (pattern_context self.old.flags names) (92 ∷ self.old.reader.rest.now) result
+            → IsEcmaTermRead (pattern_context self.old.flags names) (backslash ∷ self.old.reader.rest.now) result
             self.new.reader.rest.now }
     {
         if self.reader.eat('b') {
@@ -161,8 +161,8 @@ impl GrouplessTermReader<'_> {
         ecmascript_character(self.alloc, self.flags, c)
     }
 
-    // Returns a reference to a group; `left` code points are left from the reference on. Only where
-    // case is ignored does it differ from that of the profile.
+    // Returns a reference to a group. `left` code points are left from the reference on. The
+    // reference differs from one of the profile only if case is ignored.
     fn ecmascript_reference(&mut self, group: u32, left: usize) -> GrouplessTerm
         requires { 0 < group }
         ensures leaf { IsWellFormedGrouplessSubtree self.new.references (node_of result.node) }
@@ -193,8 +193,9 @@ fn grammar_parameters(flags: Flags, groups: PatternGroups) -> GrammarParameters
     }
 }
 
-// Reads a reference after its backslash, and returns the number of its group. Returns `None` if there
-// is none: without `unicode`, if the number is past all groups.
+// Reads a reference after its backslash, and returns the number of its group. Returns `None` if no
+// reference begins here. Without `unicode`, a number that is greater than the number of groups is
+// not a reference.
 fn read_reference(
     alloc: Global,
     flags: Flags,
@@ -220,7 +221,7 @@ fn read_reference(
     Ok(Some(read_named_group(alloc, start, reader, numbers)?))
 }
 
-// Checks whether the letter is a digit but no zero.
+// Checks whether the letter is a digit other than 0.
 fn is_nonzero_digit(letter: Option<char>) -> bool
     ensures { result ≡ is_nonzero_digit letter }
 {
@@ -230,7 +231,7 @@ fn is_nonzero_digit(letter: Option<char>) -> bool
     }
 }
 
-// Reads the number of a group, which is past no group.
+// Reads the number of a group, which must not be greater than the number of groups.
 fn read_group_number(
     reader: &mut PatternReader,
     groups: u32,
@@ -302,8 +303,8 @@ fn read_class_escape(
     Ok(Some(property_contents(alloc, property, invert, flags)?))
 }
 
-// Returns the class of the code points that have the property, or with `invert` of those that have
-// it not, and of what matches one of them.
+// Returns the class of the code points that match a code point with the property or, with `invert`,
+// one without it.
 fn property_contents(
     alloc: Global,
     property: Property,
@@ -322,7 +323,7 @@ fn property_contents(
     })
 }
 
-// Returns the term of a character: the set of its case variants if it has several.
+// Returns the term of a character. If the character has several case variants, it is their set.
 fn ecmascript_character(
     alloc: Global,
     flags: Flags,

@@ -77,7 +77,7 @@ fn invalid_escape_cause(letter: char) -> Cause {
     }
 }
 
-// Reads the rest of `\0`; no digit may follow.
+// Reads the rest of `\0`. No digit may follow.
 fn null(reader: &PatternReader) -> Result<u32, Cause>
     ensures { (unicode : Bool) → IsReadOrNothingCanBeRead (CharacterEscape unicode (48 ∷ reader.now.rest.now)) result
         reader.now.rest.now }

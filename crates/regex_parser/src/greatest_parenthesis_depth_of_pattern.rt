@@ -76,10 +76,10 @@ impl ParenthesisDepthScan {
 /// of every kind and of lookarounds. Escaped parentheses and those in a class do not count. For
 /// `(a(b)|[(]\()` it is 2 (an entry of `test_patterns`).
 ///
-/// Any text is allowed, whether it is a pattern or not. It takes one pass over the code points, and
-/// allocates no memory and uses no stack that depends on the pattern. A program that compiles
-/// patterns of others can thus refuse a pattern that nests too deep for its stack before it parses
-/// it (`docs/LIMITS.md`).
+/// Any text is allowed, even if it is not a pattern. It takes one pass over the code points. It
+/// allocates no memory, and its stack does not depend on the pattern. So a program that compiles
+/// patterns of others can refuse a pattern that nests too deep for its stack before it parses the
+/// pattern (`docs/LIMITS.md`).
 pub fn nesting(pattern: &[u32]) -> usize
     ensures { result ≡ greatest_parenthesis_depth_in pattern.now }
 {

@@ -22,7 +22,7 @@ use regex_pattern_front::types::{CaptureGroupID, MAX_CAPTURE_GROUPS};
 use std::alloc::{AllocError, Global};
 use std::collections::BTreeMap;
 
-/// The kind of a group, by how its parenthesis opens.
+/// The kind of a group, which the beginning of the group determines.
 #[derive(Clone, Copy)]
 pub(crate) enum GroupKind {
     /// `(`
@@ -49,8 +49,8 @@ impl GroupKind {
         }
     }
 
-    /// Returns whether terms inside it are stored in reverse order, given whether those outside
-    /// are.
+    /// Returns whether terms inside the group are stored in reverse order, given whether the terms
+    /// outside it are.
     pub(crate) fn are_inner_terms_reversed(self, outside: bool) -> bool
         ensures { result ≡ is_reversed_in self outside }
     {
@@ -60,8 +60,8 @@ impl GroupKind {
         }
     }
 
-    /// Checks whether a quantifier may follow it: in the whole language without `unicode` also if
-    /// it is a lookahead (`QuantifiableAssertion`).
+    /// Checks whether a quantifier may follow the group. In the whole language without `unicode`,
+    /// one may follow a lookahead too (`QuantifiableAssertion`).
     pub(crate) fn is_atom(self, syntax: Syntax, unicode: bool) -> bool
         ensures { (flags : Flags) → flags.unicode ≡ unicode
             → result ≡ takes_quantifier (spec_syntax_of syntax) flags self }
@@ -75,7 +75,7 @@ impl GroupKind {
     }
 }
 
-/// Reads the rest of what opens a group, after its parenthesis.
+/// Reads the rest of the opening of a group, after its parenthesis.
 pub(crate) fn read_group_kind(reader: &mut PatternReader) -> Result<GroupKind, ParseStopReason>
     ensures moves { length reader.new.rest.now ≤ length reader.old.rest.now }
     ensures text { IsOpeningRead reader.old.rest.now result reader.new.rest.now }
@@ -99,7 +99,7 @@ pub(crate) fn read_group_kind(reader: &mut PatternReader) -> Result<GroupKind, P
     }
 }
 
-// Returns the cause for a `(?` that opens no group; `next` follows it.
+// Returns the cause for a `(?` that opens no group. `next` is the code point after it.
 fn invalid_group_cause(next: Option<char>) -> Cause {
     match next {
         Some('i' | 'm' | 's' | 'u' | 'x' | '-') => Cause::Modifiers,
@@ -110,7 +110,8 @@ fn invalid_group_cause(next: Option<char>) -> Cause {
     }
 }
 
-// Reads the sign of a lookaround and returns whether it negates; `None` if there is no sign.
+// Reads the sign of a lookaround and returns whether it is negative. Returns `None` if there is no
+// sign.
 fn read_lookaround_sign(reader: &mut PatternReader) -> Option<bool>
     ensures moves { length reader.new.rest.now ≤ length reader.old.rest.now }
     ensures text { IsLookaroundPolaritySignRead reader.old.rest.now result reader.new.rest.now }
@@ -140,20 +141,21 @@ pub(crate) fn read_name(
 /// The numbers of named groups, by name. Groups count from 1.
 pub(crate) type GroupNumbers = BTreeMap<String, u32>;
 
-/// What a scan finds of the groups of a whole pattern, before it is parsed.
+/// What a scan finds out about the groups of a whole pattern, before the pattern is parsed.
 #[derive(Drop)]
 pub(crate) struct ScannedGroups {
     pub(crate) numbers: GroupNumbers,
-    /// Number of capturing groups; `u32::MAX` also stands for more.
+    /// Number of capturing groups, limited to `u32::MAX`.
     pub(crate) count: u32,
-    /// Number of code points that are left where the first group opens that has no id; 0 if each
-    /// has one.
+    /// Number of code points that are left where the first group without an id opens. 0 if each
+    /// group has an id.
     pub(crate) left_at_excess: usize,
 }
 
-/// Scans a whole pattern for its groups and their names, since a reference may precede its group,
-/// and too many groups are refused before the pattern is parsed. A name that occurs twice is that
-/// of the first group. Syntax errors are skipped here: the parser reports them.
+/// Scans a whole pattern for its groups and their names. This is done first, because a reference
+/// may precede its group, and because too many groups are refused before the pattern is parsed. If
+/// a name occurs twice, it belongs to the first group. Syntax errors are skipped here, and the
+/// parser reports them.
 pub(crate) fn scan_groups(
     alloc: Global,
     pattern: &[u32],
@@ -195,7 +197,7 @@ struct GroupAndNameScanState {
 }
 
 impl GroupAndNameScanState {
-    // Processes a code point; the reader is after it.
+    // Processes a code point. The reader is after it.
     fn scan_code_point(
         &mut self,
         alloc: Global,
@@ -219,8 +221,8 @@ impl GroupAndNameScanState {
         self.note_group(alloc, reader)
     }
 
-    // Returns how many code points are left where the first group opens that has no id: as many as
-    // are left now, unless the scan is past it.
+    // Returns how many code points are left where the first group without an id opens. That is as
+    // many as are left now, unless the scan is past that group.
     fn left_at_excess(&self, left: usize, before: usize) -> usize {
         if self.groups <= MAX_CAPTURE_GROUPS as u32 {
             left
@@ -253,7 +255,7 @@ impl GroupAndNameScanState {
         }
     }
 
-    // Records a group and its name, which is read here, unless an earlier group has the name.
+    // Reads the name of a group and records both, unless an earlier group has the name.
     fn note_name(&mut self, alloc: Global, mut reader: PatternReader) -> Result<(), AllocError>
         requires { DoesNotBeginWith 33 reader.rest.now × DoesNotBeginWith 61 reader.rest.now }
         ensures { OnOk result (RecordsFurtherGroupsInScan (spec_syntax_of self.old.syntax) self.old self.new

@@ -6,7 +6,7 @@ ghost use Rattle.regex_meaning.specs.Tree.{bracket as bracket_of, back_ref, by_c
 ghost use Rattle.regex_meaning.specs.{ReadingStatesAndDigits.{RemainingCodePoints}, Grammar.{character_node}};
 ghost use Rattle.regex_pattern_front.specs.AstToSpecTree.{node_of, spec_flags_of, class_as_spec};
 ghost use Rattle.regex_pattern_front.specs.SubtreeListInvariants.{IsWellFormedGrouplessSubtree};
-ghost use Rattle.regex_parser.specs.CodePointReaderContracts.{is_syntax_error};
+ghost use Rattle.regex_parser.specs.CodePointReaderContracts.{is_syntax_error, backslash};
 ghost use Rattle.regex_parser.specs.GrouplessTermContracts.{pattern_context, NamesAreNumberedWithinGroupLimit, TextBetweenIsGrouplessTerm};
 ghost use Rattle.regex_parser.specs.GrouplessTermContracts.{IsGrouplessTermReadIfPresent, IsAtomReadIfPresent};
 ghost use Rattle.regex_parser.specs.GrouplessTermContracts.{TextBetweenOpensNoGroup, AnchorOrDotReadIfPresent, RefusesCodePointThatIsNoTerm, is_paren_or_bar};
@@ -40,7 +40,7 @@ pub(crate) struct GrouplessTermReader<'p> {
     pub(crate) numbers: GroupNumbers,
     pub(crate) groups: PatternGroups,
     pub(crate) reader: PatternReader<'p>,
-    /// The greatest group number that a reference names.
+    /// The greatest group number among the references that were read.
     pub(crate) references: u32,
     /// Number of code points that are left from that reference on.
     pub(crate) reference_left: usize,
@@ -54,7 +54,7 @@ pub(crate) struct GrouplessTerm {
 }
 
 impl GrouplessTermReader<'_> {
-    /// Reads the term that begins with this code point, which is no parenthesis.
+    /// Reads the term that begins with this code point, which is not a parenthesis.
     pub(crate) fn read_term_without_group(
         &mut self,
         c: u32,
@@ -123,7 +123,7 @@ impl GrouplessTermReader<'_> {
         }
     }
 
-    // Returns the error if this code point, the last one read, is no term by itself.
+    // Returns the error if this code point, the last one that was read, is not a term by itself.
     pub(crate) fn wrong_alone(&self, c: u32) -> Option<Cause>
         ensures { RefusesCodePointThatIsNoTerm self.now.flags.unicode c self.now.reader.rest.now result }
     {
@@ -176,8 +176,8 @@ impl GrouplessTermReader<'_> {
         }
     }
 
-    // Returns the term of a character: with `icase`, if several code points have its fold, the set
-    // of them.
+    // Returns the term of a character. With `icase`, if several code points have its fold, it is
+    // their set.
     fn character(&self, c: u32) -> Result<GrouplessTerm, ParseStopReason>
         ensures leaf { IfOk result (λ l. (greatest : ℕ) → IsWellFormedGrouplessSubtree greatest (node_of l.node)) }
         ensures atom { IfOk result (λ l. l.is_atom ≡ true) }
@@ -198,10 +198,10 @@ impl GrouplessTermReader<'_> {
         ensures leaf { IfOk result (λ l. IsWellFormedGrouplessSubtree self.new.references (node_of l.node)) }
         ensures references { self.old.references ≤ self.new.references }
         ensures same { IsReaderOfSame self.new self.old }
-        ensures passed { IfOk result (λ l. TextBetweenOpensNoGroup (92 ∷ self.old.reader.rest.now)
+        ensures passed { IfOk result (λ l. TextBetweenOpensNoGroup (backslash ∷ self.old.reader.rest.now)
             self.new.reader.rest.now) }
         ensures text { (groups : List RemainingCodePoints) → NamesAreNumberedWithinGroupLimit self.old.numbers groups
-            → IsGrouplessTermReadIfPresent (pattern_context self.old.flags groups) (92 ∷ self.old.reader.rest.now)
+            → IsGrouplessTermReadIfPresent (pattern_context self.old.flags groups) (backslash ∷ self.old.reader.rest.now)
             result self.old.references self.new.references self.new.reader.rest.now }
     {
         if self.reader.eat('b') {
@@ -219,10 +219,10 @@ impl GrouplessTermReader<'_> {
         ensures leaf { IfOk result (λ l. IsWellFormedGrouplessSubtree self.new.references (node_of l.node)) }
         ensures references { self.old.references ≤ self.new.references }
         ensures same { IsReaderOfSame self.new self.old }
-        ensures passed { IfOk result (λ l. TextBetweenOpensNoGroup (92 ∷ self.old.reader.rest.now)
+        ensures passed { IfOk result (λ l. TextBetweenOpensNoGroup (backslash ∷ self.old.reader.rest.now)
             self.new.reader.rest.now) }
         ensures text { (groups : List RemainingCodePoints) → NamesAreNumberedWithinGroupLimit self.old.numbers groups
-            → IsAtomReadIfPresent (pattern_context self.old.flags groups) (92 ∷ self.old.reader.rest.now) result
+            → IsAtomReadIfPresent (pattern_context self.old.flags groups) (backslash ∷ self.old.reader.rest.now) result
             self.old.references self.new.references self.new.reader.rest.now }
     {
         let letter = self.reader.peek();
@@ -243,10 +243,10 @@ impl GrouplessTermReader<'_> {
     pub(crate) fn boundary(&self, invert: bool) -> GrouplessTerm
         ensures leaf { (greatest : ℕ) → IsWellFormedGrouplessSubtree greatest (node_of result.node) }
         ensures text { (groups : List RemainingCodePoints) (there : RemainingCodePoints)
-            → TextBetweenIsGrouplessTerm (pattern_context self.now.flags groups) (92 ∷ boundary_letter invert ∷ there)
+            → TextBetweenIsGrouplessTerm (pattern_context self.now.flags groups) (backslash ∷ boundary_letter invert ∷ there)
             result there }
         ensures ecma { (groups : List RemainingCodePoints) (there : RemainingCodePoints)
-            → IsEcmaAtomOr result.is_atom (pattern_context self.now.flags groups) (92 ∷ boundary_letter invert ∷ there)
+            → IsEcmaAtomOr result.is_atom (pattern_context self.now.flags groups) (backslash ∷ boundary_letter invert ∷ there)
             there (node_of result.node) }
     {
         GrouplessTerm {
@@ -258,7 +258,7 @@ impl GrouplessTermReader<'_> {
         }
     }
 
-    // Returns a reference to a group; `left` code points are left from the reference on.
+    // Returns a reference to a group. `left` code points are left from the reference on.
     pub(crate) fn reference(&mut self, group: u32, left: usize) -> GrouplessTerm
         requires { 0 < group }
         ensures leaf { IsWellFormedGrouplessSubtree self.new.references (node_of result.node) }
@@ -352,7 +352,7 @@ fn group_number(
     }
 }
 
-// Reads `<name>` and returns its group number; the reference begins just before `start`.
+// Reads `<name>` and returns its group number. The reference begins just before `start`.
 fn read_name_reference(
     alloc: Global,
     start: PatternReader,
@@ -388,7 +388,7 @@ pub(crate) fn nonzero_group_number(
     }
 }
 
-// Reads a decimal number; `None` if there is none or it is past `u32::MAX`.
+// Reads a decimal number. Returns `None` if there is none, or if it is greater than `u32::MAX`.
 pub(crate) fn decimal(reader: &mut PatternReader) -> Option<u32>
     ensures moves { length reader.new.rest.now ≤ length reader.old.rest.now }
     ensures text { IsDecimalReadIfItFitsU32 reader.old.rest.now result reader.new.rest.now }

@@ -41,8 +41,8 @@ fn is_changed_code_point(alloc: Global, c: u32) -> Result<bool, AllocError>
     }
 }
 
-// Checks whether removing what is ignorable by default, folding the case and normalizing to NFKC
-// changes the character.
+// Checks whether the character changes if default-ignorable characters are removed, the case is
+// folded, and the result is normalized to NFKC.
 fn is_changed(alloc: Global, c: char) -> Result<bool, AllocError>
     ensures { IfOk result (λ changed. changed ≡ not (is_nfkc_casefolded c)) }
 {
@@ -59,8 +59,8 @@ fn is_changed(alloc: Global, c: char) -> Result<bool, AllocError>
     Ok(normalized.as_str() != itself.as_str())
 }
 
-// Checks whether the character has neither a case folding nor a decomposition. Most have none, and need
-// no text to be made.
+// Checks whether the character has neither a case folding nor a decomposition. This holds for most
+// characters, and no text is allocated for them.
 fn is_mapped_to_itself(c: char) -> bool
     ensures { IsTrue result → nfkc (full_fold c) ≡ c ∷ [] }
 {

@@ -1,5 +1,5 @@
-//! The part of a pattern that is read and not closed yet: the current disjunction, and the open
-//! groups around it.
+//! The part of a pattern that has been read and is not closed yet: the current disjunction, and the
+//! open groups around it.
 
 ghost use Rattle.std.specs.Prelude.{◌≡◌, IfOk, OnOk, [], ◌∷◌, ◌++◌, map};
 ghost use Rattle.regex_pattern_front.specs.AstToSpecTree.{node_of};
@@ -15,7 +15,7 @@ use regex_pattern_front::types::CaptureGroupID;
 use std::alloc::{AllocError, Global};
 use std::mem;
 
-/// A disjunction, as far as it is read.
+/// A disjunction, as far as it has been read.
 #[derive(Drop)]
 pub(crate) struct PartialDisjunction {
     // The alternatives that have ended.
@@ -39,7 +39,7 @@ pub(crate) struct OpenGroup {
 }
 
 impl PartialDisjunction {
-    /// Returns a disjunction of which nothing is read.
+    /// Returns a disjunction of which nothing has been read.
     pub(crate) fn new(alloc: Global, in_lookbehind: bool) -> PartialDisjunction
         ensures parts { nodes_at result ≡ [] }
         ensures level { disjunction_of result ≡ empty_disjunction in_lookbehind }
@@ -101,7 +101,7 @@ fn cat(mut terms: Vec<Node>, in_lookbehind: bool) -> Node
     Node::Cat(terms)
 }
 
-// Nests the alternatives to the right; an empty list is the empty pattern.
+// Nests the alternatives to the right. An empty list is the empty pattern.
 fn nest_alternatives(mut alternatives: Vec<Node>) -> Result<Node, AllocError>
     ensures parts { IfOk result (λ n. SoundSubtreesMakeSoundNode alternatives.items (node_of n)) }
     ensures node { IfOk result (λ n. node_of n ≡ nest_all_alternatives (map node_of alternatives.items)) }

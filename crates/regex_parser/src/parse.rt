@@ -1,5 +1,6 @@
 //! The parser: from the text of a pattern to its tree.
 
+ghost use Rattle.regex_parser.specs.CodePointReaderContracts.{open_parenthesis, close_parenthesis};
 ghost use Rattle.std.specs.Prelude.{◌≡◌, ℕ, ◌+◌, ◌≤◌, ◌∷◌, ◌||◌, nat_lt, List, [], false, length, IfOk, IfErr, IfSome, OnOk, IsTrue, None};
 ghost use Rattle.regex_meaning.specs.{CompilationRelation.{tree_contains_byte_nodes}, Tree.{Tree}, WellFormedTrees.{is_well_formed}};
 ghost use Rattle.regex_pattern_front.specs.AstToSpecTree.{node_of, tree_of, spec_flags_of, group_name_bytes};
@@ -39,13 +40,13 @@ use thiserror::Error;
 /// Why a pattern is refused.
 #[derive(Clone, Copy, Debug, PartialEq, Eq, Error)]
 pub enum ParseError {
-    /// The text is no pattern; the diagnosis says what is wrong with it, and where.
+    /// The text is not a pattern. The diagnosis says what is wrong with it, and where.
     #[error("{0}")]
     Syntax(Diagnosis),
     /// The text opens more than 65,535 capturing groups.
     #[error("too many groups")]
     TooManyGroups,
-    /// Allocation failure.
+    /// An allocation failed.
     #[error("out of memory")]
     Memory,
 }
@@ -87,11 +88,11 @@ pub fn try_parse(alloc: Global, pattern: &[u32], flags: Flags) -> Result<Regex, 
     try_parse_in(alloc, pattern, flags, Syntax::Profile)
 }
 
-/// Parses a pattern of this language as `try_parse` does one of the profile.
+/// Parses a pattern of this language, as `try_parse` parses one of the profile.
 ///
 /// # Errors
 ///
-/// As of `try_parse`, where `Syntax` means that the language has no tree for the text.
+/// Returns the errors of `try_parse`. `Syntax` means that the language has no tree for the text.
 pub fn try_parse_in(
     alloc: Global,
     pattern: &[u32],
@@ -114,8 +115,8 @@ pub fn try_parse_in(
     }
 }
 
-/// Returns what is wrong with a text that is refused, and where, as `parse_or_diagnose` reports it;
-/// `None` if `try_parse` returns its tree.
+/// Returns what is wrong with a text that is refused, and where, as `parse_or_diagnose` reports it.
+/// Returns `None` if `try_parse` returns a tree for the text.
 ///
 /// # Errors
 ///
@@ -154,9 +155,9 @@ pub fn diagnose_in(
 
 /// Parses a pattern and returns its tree as `try_parse` does, or a diagnosis of what is wrong with
 /// the text. The text is not read again for the diagnosis. It reports too many groups, and
-/// otherwise the first error. But an unclosed group, and a reference to a missing group, are
-/// detected only at the end: then it reports the innermost group, or the reference with the
-/// greatest number.
+/// otherwise the first error. There are two exceptions, which are detected only at the end. For
+/// unclosed groups it reports the innermost one, and for references to missing groups the one with
+/// the greatest number.
 ///
 /// # Errors
 ///
@@ -288,7 +289,7 @@ fn has_named_groups(flags: Flags, numbers: &GroupNumbers) -> bool
     flags.unicode || !numbers.is_empty()
 }
 
-/// What is read of a pattern so far.
+/// What has been read of a pattern so far.
 #[derive(Drop)]
 struct Parser<'p> {
     leaves: GrouplessTermReader<'p>,
@@ -329,7 +330,7 @@ impl Parser<'_> {
         }
     }
 
-    // Reads a term that is no group.
+    // Reads a term that is not a group.
     fn term(&mut self, c: u32) -> Result<(), ParseStopReason>
         requires { OpenDisjunctionsHaveAllGroups self.old }
         ensures reading { OnOk result (OpenDisjunctionsHaveAllGroups self.new) }
@@ -351,7 +352,7 @@ impl Parser<'_> {
         ensures reading { OnOk result (OpenDisjunctionsHaveAllGroups self.new) }
         ensures moves { length self.new.leaves.reader.rest.now ≤ length self.old.leaves.reader.rest.now }
         ensures same { IsReaderOfSame self.new.leaves self.old.leaves }
-        ensures text { AdvancesOrHasNoTree (40 ∷ self.old.leaves.reader.rest.now) self.old result self.new }
+        ensures text { AdvancesOrHasNoTree (open_parenthesis ∷ self.old.leaves.reader.rest.now) self.old result self.new }
     {
         let alloc = self.leaves.alloc;
         let start = self.groups;
@@ -384,7 +385,7 @@ impl Parser<'_> {
         ensures reading { OnOk result (OpenDisjunctionsHaveAllGroups self.new) }
         ensures moves { length self.new.leaves.reader.rest.now ≤ length self.old.leaves.reader.rest.now }
         ensures same { IsReaderOfSame self.new.leaves self.old.leaves }
-        ensures text { AdvancesOrHasNoTree (41 ∷ self.old.leaves.reader.rest.now) self.old result self.new }
+        ensures text { AdvancesOrHasNoTree (close_parenthesis ∷ self.old.leaves.reader.rest.now) self.old result self.new }
     {
         let Some(
             OpenGroup {
@@ -508,8 +509,8 @@ fn quantified(
     }
 }
 
-// Reads the name of a named group, after its `(?<`; `groups` groups have opened before. A name that
-// another group has is an error.
+// Reads the name of a named group, after its `(?<`. `groups` groups have opened before. If another
+// group has the name, this is an error.
 fn read_unused_group_name(
     leaves: &mut GrouplessTermReader,
     opening: GroupKind,

@@ -9,9 +9,9 @@ use std::alloc::{AllocError, AllocFailed};
 /// Why parsing stops.
 #[derive(Clone, Copy)]
 pub(crate) enum ParseStopReason {
-    /// The text is no pattern; `left` code points are left from the error on.
+    /// The text is not a pattern. `left` code points are left from the error on.
     Refused { cause: Cause, left: usize },
-    /// Allocation failure.
+    /// An allocation failed.
     Memory(AllocError),
 }
 

@@ -1,5 +1,5 @@
-//! Properties of Unicode by the names that ECMAScript has for them (ECMA-262, 9th edition, 21.2.1.1,
-//! tables 54 to 57). Names match exactly.
+//! Properties of Unicode by the names that ECMAScript has for them (ECMA-262, 9th edition,
+//! 21.2.1.1, tables 54 to 57). Names match exactly.
 
 ghost use Rattle.std.specs.Prelude.{◌≡◌, ◌≤◌, ◌||◌, ℕ, length, nat_eq, option_map, IfOk, IsTrue};
 ghost use Rattle.std.specs.List.{list_any, list_all};
@@ -21,7 +21,7 @@ use regex_pattern_front::codepointset::{CODE_POINT_MAX, CodePointSet, Interval};
 use std::alloc::{AllocError, Global};
 use ucd_sets::{Set, by_name, by_value, normalize};
 
-/// A property that a code point has or has not.
+/// A property that a code point has or does not have.
 #[derive(Clone, Copy)]
 pub(crate) enum Property {
     /// A set of the Unicode Character Database.
@@ -31,7 +31,7 @@ pub(crate) enum Property {
 }
 
 impl Property {
-    /// Returns the code points that have the property, or with `invert` those that have it not.
+    /// Returns the code points that have the property or, with `invert`, those that do not have it.
     pub(crate) fn set(self, alloc: Global, invert: bool) -> Result<CodePointSet, AllocError>
         ensures { IfOk result (λ s. (c : ℕ) → in_intervals s c ≡ is_in_invertible_set
             (has_property (spec_property_of self), invert) c) }
@@ -83,7 +83,8 @@ pub(crate) fn read_property_expression(
     }
 }
 
-// Reads the names after the `{`, up to what is no character of a name, and returns the property.
+// Reads the names after the `{`, up to the first code point that is not a name character, and
+// returns the property.
 fn read_named_property(
     alloc: Global,
     reader: &mut PatternReader,
@@ -187,7 +188,8 @@ fn binary_property_named(alloc: Global, name: &[u32]) -> Result<Option<Property>
     }
 }
 
-// Returns the set where the property has this value, if the value is one of these names.
+// Returns the set of the code points for which the property has this value, if the value is one of
+// these names.
 fn listed_value(
     alloc: Global,
     names: &[u8],
@@ -240,7 +242,7 @@ fn is_word(word: &[u8], name: &[u32]) -> bool
     true
 }
 
-// Checks whether the name is one of these words, each of which has a blank after it.
+// Checks whether the name is one of these words, each of which is followed by a blank.
 fn is_listed(words: &[u8], name: &[u32]) -> bool
     ensures { result ≡ list_any (λ word. pointwise nat_eq word name.now) (words_of words.now) }
 {
@@ -269,7 +271,7 @@ const CATEGORY_NAMES: &[u8] = b"\
     Modifier_Symbol Sm Math_Symbol So Other_Symbol Z Separator Zl Line_Separator Zp \
     Paragraph_Separator Zs Space_Separator ";
 
-// Table 55, but for `ASCII`, `Any`, `Assigned` and `Changes_When_NFKC_Casefolded`.
+// Table 55, except `ASCII`, `Any`, `Assigned` and `Changes_When_NFKC_Casefolded`.
 const BINARY_NAMES: &[u8] = b"\
     ASCII_Hex_Digit AHex Alphabetic Alpha Bidi_Control Bidi_C Bidi_Mirrored Bidi_M \
     Case_Ignorable CI Cased Changes_When_Casefolded CWCF Changes_When_Casemapped CWCM \

@@ -1,4 +1,4 @@
--- The pattern tree of the code as a tree of the definitions, without its pointers.
+-- The pattern tree in memory, converted to a tree of the definitions, which has no pointers.
 use Rattle.std.specs.Prelude.{◌∷◌, ℕ, List, [], map, string_bytes, Option, Some, None, String}
 use Rattle.regex_meaning.specs.Tree as tree
 use Rattle.regex_pattern_front.specs.declared.ir.AnchorType.{AnchorType}
@@ -14,31 +14,31 @@ use Rattle.regex_pattern_front.specs.declared.ir.Node.TheVariants.{MatchAnyExcep
 use Rattle.regex_pattern_front.specs.declared.canonical.Sameness.{Sameness}
 use Rattle.regex_pattern_front.specs.declared.canonical.Sameness.TheVariants.{Exact, Folded, Alike}
 
--- An anchor type as that of the definitions.
+-- The anchor type, as the definitions have it.
 abbrev pub spec_anchor_of : AnchorType → tree.AnchorType
 spec_anchor_of StartOfLine = tree.start_of_line
 spec_anchor_of EndOfLine = tree.end_of_line
 
--- A quantifier as that of the definitions.
+-- The quantifier, as the definitions have it.
 abbrev pub spec_quantifier_of : Quantifier → tree.Quantifier
 spec_quantifier_of q = record { min = q.min; max = q.max; greedy = q.greedy }
 
--- A class as that of the definitions.
+-- The class, as the definitions have it.
 abbrev pub class_as_spec : BracketContents → tree.BracketContents
 class_as_spec b = record { invert = b.invert; intervals = b.cps }
 
--- The bytes of a group name; empty if there is none.
+-- The bytes of a group name. Empty if the group has no name.
 abbrev pub group_name_bytes : {R : Type 0} → Option (String R) → List ℕ
 group_name_bytes None = []
 group_name_bytes (Some s) = string_bytes s
 
--- A sameness as that of the definitions.
+-- The sameness, as the definitions have it.
 abbrev pub spec_sameness_of : Sameness → tree.Sameness
 spec_sameness_of Exact = tree.exact
 spec_sameness_of Folded = tree.folded
 spec_sameness_of (Alike unicode) = tree.alike unicode
 
--- A node, and a list of children, as a tree of the definitions.
+-- A node, and a list of child nodes, as trees of the definitions.
 unfoldable mutual
   pub node_of : Node → tree.Node
   node_of Empty = tree.empty
@@ -80,7 +80,7 @@ abbrev pub cat_of : List Node → tree.Node
 cat_of [] = tree.end_of_cat
 cat_of (node ∷ nodes) = tree.cat (node_of node) (cat_of nodes)
 
--- Flags as those of the definitions.
+-- The flags, as the definitions have them.
 abbrev pub spec_flags_of : Flags → tree.Flags
 spec_flags_of f = record {
   icase = f.icase;

@@ -1,4 +1,4 @@
--- The result of a search for the first index.
+-- The result of a search for the first index that passes a test.
 use Rattle.std.specs.Prelude.{◌≡◌, ℕ, ◌<◌, Bool, true, false, List, Option, MatchOption, slice_index}
 use Rattle.regex_meaning.specs.NumberListHelpers.{contains}
 
@@ -8,7 +8,7 @@ pub record IsFirstPassingIndex (test : ℕ → Bool) (count index : ℕ) : Type 
   pub passes : test index ≡ true
   pub none_before : (k : ℕ) → k < index → test k ≡ false
 
--- The result is the first index at which the test passes, or none if there is none.
+-- The result is the first index at which the test passes, or `None` if there is none.
 abbrev pub FindsFirstPassingIndex : (ℕ → Bool) → (count : ℕ) → Option ℕ → Type 0
 FindsFirstPassingIndex test count found =
     MatchOption found ((k : ℕ) → k < count → test k ≡ false) (IsFirstPassingIndex test count)

@@ -12,7 +12,7 @@ IntervalsAreInOrder [] = Unit {0}
 IntervalsAreInOrder (i ∷ []) = i.0 ≤ i.1
 IntervalsAreInOrder (i ∷ j ∷ more) = (i.0 ≤ i.1) × (i.1 < j.0) × IntervalsAreInOrder (j ∷ more)
 
--- No interval, or one.
+-- The interval as a list of one, or the empty list.
 abbrev pub optional_interval_as_list : Option Interval → List (ℕ × ℕ)
 optional_interval_as_list None = []
 optional_interval_as_list (Some i) = interval_of i ∷ []
@@ -21,7 +21,8 @@ optional_interval_as_list (Some i) = interval_of i ∷ []
 abbrev pub is_interval_nonempty : Interval → Bool
 is_interval_nonempty i = nat_le i.first i.last
 
--- The intervals with those that overlap or touch merged; each must begin at or after the one before.
+-- The intervals, with those that overlap or touch merged. Each must begin at or after the beginning
+-- of the one before it.
 abbrev pub merged_intervals : Interval → List Interval → List Interval
 merged_intervals current [] = current ∷ []
 merged_intervals current (next ∷ others) =
@@ -31,7 +32,7 @@ merged_intervals current (next ∷ others) =
     }) others
     else current ∷ merged_intervals next others
 
--- The intervals between these intervals from a number on, up to U+10FFFF.
+-- The gaps between these intervals, from the number `next` on and up to U+10FFFF.
 abbrev pub gaps_between_intervals : (next : ℕ) → List Interval → List Interval
 gaps_between_intervals next [] = record { first = next; last = 0x10_FFFF } ∷ []
 gaps_between_intervals next (i ∷ others) =

@@ -8,7 +8,7 @@ use Rattle.regex_meaning.specs.WellFormedTrees.{is_well_formed}
 use Rattle.regex_meaning.specs.MatchGroupsByNumberAndName.{answers_from, capturing_group_ids_and_names}
 pub use Rattle.regex_meaning.specs.TreesWithoutCharLoops.{has_no_char_loops}
 
--- Whether the node reads one character and accepts it or not.
+-- Whether the node reads one character, which it accepts or rejects.
 abbrev pub reads_one_character : Node → Bool
 reads_one_character (char c) = true
 reads_one_character (char_set members) = true
@@ -18,7 +18,7 @@ reads_one_character match_any = true
 reads_one_character match_any_except_line_terminator = true
 reads_one_character _ = false
 
--- The tree with each loop over such a node turned into a loop over one character.
+-- The tree in which each loop over such a node is a loop over one character.
 unfoldable pub optimized : Node → Node
 optimized (cat first rest) = cat (optimized first) (optimized rest)
 optimized (alt left right) = alt (optimized left) (optimized right)
@@ -29,7 +29,7 @@ optimized (loop q start_group end_group loopee) =
 optimized (loop_1_char_body q loopee) = loop_1_char_body q (optimized loopee)
 optimized node = node
 
--- A loop as a loop over one character; other nodes are unchanged.
+-- A loop as a loop over one character. Other nodes are unchanged.
 abbrev pub loop_turned_into_char_loop : Node → Node
 loop_turned_into_char_loop (loop q start_group end_group loopee) = loop_1_char_body q loopee
 loop_turned_into_char_loop node = node
@@ -39,13 +39,13 @@ abbrev pub rest_of_alternatives : Node → Node
 rest_of_alternatives (alt left right) = right
 rest_of_alternatives node = node
 
--- The first alternative of one chain before another chain.
+-- The first alternative of one chain, followed by another chain.
 abbrev pub first_alternative_prepended_to_chain : (row rest : Node) → Node
 first_alternative_prepended_to_chain (alt left right) rest = alt left rest
 first_alternative_prepended_to_chain _ rest = rest
 
--- `count` alternatives whose links were reversed, the last of them first, in their original order
--- before the rest
+-- `count` alternatives whose links were reversed, so that the last of them is first. They are put
+-- back in their original order, before the rest.
 abbrev pub alternatives_with_links_unreversed : (count : ℕ) (done rest : Node) → Node
 alternatives_with_links_unreversed zero done rest = alt done rest
 alternatives_with_links_unreversed (suc count) done rest = alternatives_with_links_unreversed count

@@ -1,4 +1,4 @@
--- What is known of several parts of a parsed pattern together.
+-- What holds for several parts of a parsed pattern together.
 use Rattle.std.specs.Prelude.{◌≡◌, ℕ, ◌+◌, List, length, sum_by, IsTrue}
 use Rattle.std.specs.List.{All}
 use Rattle.regex_meaning.specs.Tree as tree
@@ -8,25 +8,25 @@ pub use Rattle.regex_meaning.specs.SubtreeInvariants.{is_well_formed_in_pattern,
 use Rattle.regex_pattern_front.specs.declared.ir.Node.{Node}
 use Rattle.regex_pattern_front.specs.AstToSpecTree.{node_of}
 
--- The group ids of these nodes together are those from `first` up to `end`, exclusive, each once
--- and in any order; every node is sound, and there is no `Goal`.
+-- The group ids of all these nodes together are those from `first` up to `end`, exclusive, each
+-- once and in any order. Every node is well formed, and there is no `Goal`.
 pub record AreSoundSubtrees (first end greatest : ℕ) (nodes : List Node) : Type 0 where
   pub goals : sum_by (λ n. number_of_goal_nodes (node_of n)) nodes ≡ 0
   pub count : first + sum_by (λ n. length (group_ids (node_of n))) nodes ≡ end
   pub ids : (id : ℕ) → sum_by (λ n. occurrences_of_id id (node_of n)) nodes ≡ one_if_id_within first end id
   pub sound : All (λ n. IsTrue (every_node_passes (is_well_formed_in_pattern greatest) (node_of n))) nodes
 
--- What is known of the old nodes together is known of the new ones.
+-- If the old nodes together are sound subtrees, so are the new ones.
 abbrev pub KeepsSubtreeInvariant : List Node → List Node → Type 0
 KeepsSubtreeInvariant old new = (first end greatest : ℕ) → AreSoundSubtrees first end greatest old
     → AreSoundSubtrees first end greatest new
 
--- What is known of the nodes together is known of the one node.
+-- If the nodes together are sound subtrees, the single node is a sound subtree.
 abbrev pub SoundSubtreesMakeSoundNode : List Node → tree.Node → Type 0
 SoundSubtreesMakeSoundNode nodes n = (first end greatest : ℕ) → AreSoundSubtrees first end greatest nodes
     → IsSoundSubtreeWithGroupIds first end greatest n
 
--- One node that has the groups and the `Goal`s of these nodes together.
+-- The single node has the groups and the `Goal`s of all these nodes together.
 pub record CombinesGroupsAndGoalsOfNodes (nodes : List Node) (n : tree.Node) : Type 0 where
   pub goals : number_of_goal_nodes n ≡ sum_by (λ m. number_of_goal_nodes (node_of m)) nodes
   pub count : length (group_ids n) ≡ sum_by (λ m. length (group_ids (node_of m))) nodes

@@ -12,16 +12,16 @@ pub trait ByteSet: Copy {
     fn contains(&self, byte: u8) -> bool
         ensures { result ≡ contains (members self.now) byte };
 
-    /// Checks whether a character is in the set. A character that is no byte is not in it.
+    /// Checks whether a character is in the set. A character that is not a byte is not in the set.
     fn byte_set_has_char(&self, c: u32) -> bool
         ensures { result ≡ contains (members self.now) c };
 }
 
-/// A set of bytes that is an array of at most four.
+/// A set of bytes that is an array of at most four bytes.
 pub trait SmallArraySet: ByteSet {}
 
-/// A set or a sequence of bytes to search for. Contracts refer to the indices at which it occurs,
-/// by `stands_at`.
+/// A set or a sequence of bytes to search for. Contracts refer to the indices at which it occurs
+/// (`stands_at`).
 pub trait ByteSearcher {
     ghost stands_at: { Self → (bytes : List ℕ) → (index : ℕ) → Bool };
 
@@ -50,7 +50,7 @@ impl Default for AsciiBitmap {
 impl AsciiBitmap {
     ghost use Rattle.regex_pattern_front.specs.ByteSetMembers.{member_bytes_of_ascii_bitmap};
 
-    /// Adds a byte. A byte from 128 on is not ASCII and leaves the set as it is.
+    /// Adds a byte. A byte of 128 or more is not ASCII, and leaves the set unchanged.
     pub fn set(&mut self, byte: u8)
         ensures added { byte < 128 → member_bytes_of_ascii_bitmap self.new
             ≡ bytes_that_pass (λ b. b == byte || contains (member_bytes_of_ascii_bitmap self.old) b) }

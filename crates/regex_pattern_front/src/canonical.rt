@@ -1,4 +1,4 @@
-//! `Canonicalize` over all of Unicode, and which characters a backreference takes for the same.
+//! `Canonicalize` over all of Unicode, and the characters that a backreference treats as the same.
 
 ghost use Rattle.std.specs.Prelude.{◌≡◌, ◌==◌, ◌≤◌, false, [], ◌∷◌};
 ghost use Rattle.regex_meaning.specs.{Canonical.{canonicalize, uppercase_or_itself}, Tree.{by_case}};
@@ -7,12 +7,12 @@ ghost use Rattle.regex_pattern_front.specs.AstToSpecTree.{spec_sameness_of};
 use crate::folding_and_first_bytes::fold_code_point;
 use ucd_case::simple_fold;
 
-/// Which characters a backreference takes for the same.
+/// Which characters a backreference treats as the same.
 #[derive(Clone, Copy)]
 pub enum Sameness {
     /// Equal characters.
     Exact,
-    /// Equal characters, and those that the text folds to the same.
+    /// Equal characters, and those with the same fold in the text.
     Folded,
     /// Characters with the same `canonicalize`.
     Alike { unicode: bool },
@@ -31,10 +31,11 @@ impl Sameness {
     }
 }
 
-/// Returns the code point that is compared in place of `c` when case is ignored (ECMA-262, 21.2.2.8.2
-/// `Canonicalize`, over all of Unicode). With `unicode` it is the simple case folding. Without it, it is the
-/// uppercase form, or `c` if that form is not one code unit, or is in ASCII while `c` is not. For a surrogate
-/// or a number past U+10FFFF it is `c`.
+/// Returns the canonical form of `c`, by which characters are compared when case is ignored
+/// (ECMA-262, 21.2.2.8.2 `Canonicalize`, over all of Unicode). With `unicode` it is the simple case
+/// folding. Without it, it is the uppercase form. If that form is not one code unit, or if it is in
+/// ASCII and `c` is not, the canonical form is `c`. It is also `c` for a surrogate or a number
+/// above U+10FFFF.
 #[inline]
 pub fn canonicalize(c: u32, unicode: bool) -> u32
     ensures { result ≡ canonicalize unicode c }
@@ -77,7 +78,7 @@ fn uppercase(character: char) -> u32
     }
 }
 
-// Returns the uppercase form if it is one code unit beyond ASCII, else the code point itself.
+// Returns the uppercase form if it is one code unit beyond ASCII. Otherwise returns the code point.
 fn unit_beyond_ascii_or(c: u32, form: u32) -> u32
     requires { 0x80 ≤ c }
     ensures { result ≡ uppercase_or_itself c (form ∷ []) }

@@ -21,8 +21,8 @@ pub struct Interval {
     pub last: u32,
 }
 
-/// A set of code points: intervals in increasing order, none of which is empty and no two of which
-/// overlap. Contracts refer to the list of their ends.
+/// A set of code points: intervals in increasing order. No interval is empty, and no two overlap.
+/// Contracts refer to the list of their ends.
 #[derive(Drop)]
 pub struct CodePointSet {
     intervals: Vec<Interval>,
@@ -183,8 +183,8 @@ fn gaps_between_intervals(
     Ok(gaps)
 }
 
-// Binary search: intervals below `low` end before the number, and those from `high` on begin after
-// it.
+// Searches by bisection. The intervals below `low` end before the number, and those from `high` on
+// begin after it.
 #[inline]
 fn contains(intervals: &[Interval], c: u32) -> bool
     requires { IntervalsAreInOrder (map interval_of intervals.now) }

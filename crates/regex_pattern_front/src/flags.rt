@@ -14,6 +14,6 @@ pub struct Flags {
     /// Patterns are read by code points, and with `i`, U+017F matches as `s` does and U+212A as `k`
     /// (`u`).
     pub unicode: bool,
-    /// Classes with set operations or nested classes are refused (`v`).
+    /// Classes with set operations or nested classes are errors (`v`).
     pub unicode_sets: bool,
 }

@@ -13,9 +13,9 @@ use crate::codepointset::{CODE_POINT_MAX, Interval};
 use std::alloc::{AllocError, Global};
 
 /// Returns the code point that represents `c` when case is ignored. With `unicode` it is the
-/// lowercase ASCII letter, also for U+017F and U+212A; without it, the uppercase one. Any other
-/// code point is itself (ECMA-262, 21.2.2.8.2 `Canonicalize`, restricted to the letters that fold
-/// to ASCII).
+/// lowercase ASCII letter, also for U+017F and U+212A. Without it, it is the uppercase letter. Any
+/// other code point represents itself (ECMA-262, 21.2.2.8.2 `Canonicalize`, restricted to the
+/// letters that fold to ASCII).
 #[inline]
 #[tactic(auto, unfolding(regex_meaning::specs::Text::fold_code_point))]
 pub fn fold_code_point(c: u32, unicode: bool) -> u32
@@ -45,8 +45,9 @@ fn to_ascii_uppercase(c: u32) -> u32
     if 0x61 <= c && c <= 0x7A { c - 0x20 } else { c }
 }
 
-/// Returns the code points that a code point of a pattern matches, in increasing order: with
-/// `icase` all that have its fold (`fold_code_point`), else itself alone.
+/// Returns the code points that a code point of a pattern matches, in increasing order. With
+/// `icase` these are all code points with its fold (`fold_code_point`). Otherwise it is the code
+/// point alone.
 ///
 /// # Errors
 ///
@@ -85,7 +86,8 @@ fn code_points_with_fold(alloc: Global, folded: u32, unicode: bool) -> Result<Ve
     Ok(members)
 }
 
-/// Checks whether a code point beyond ASCII folds to an ASCII word character: U+017F and U+212A do.
+/// Checks whether a code point beyond ASCII folds to an ASCII word character. Only U+017F and
+/// U+212A do.
 #[inline]
 pub fn nonascii_folds_to_ascii_word_char(c: u32) -> bool
     ensures { result ≡ nonascii_folds_to_ascii_word_char c }
@@ -94,8 +96,8 @@ pub fn nonascii_folds_to_ascii_word_char(c: u32) -> bool
 }
 
 /// Returns the first byte of a code point in UTF-8. For a surrogate it is 0xED, as for the code
-/// points around it. A number past U+10FFFF has no UTF-8; for it this returns 0xFF, which begins no
-/// character.
+/// points around it. A number above U+10FFFF has no UTF-8. For it the result is 0xFF, which begins
+/// no character.
 pub fn utf8_first_byte(c: u32) -> u8
     ensures begins { c ≤ 0x10_FFFF → slice_get (encode_utf8 c) 0 ≡ Some result }
     ensures beyond { 0x10_FFFF < c → result ≡ 0xFF }
@@ -119,7 +121,7 @@ pub fn add_utf8_first_bytes_to_bitmap(interval: Interval, bitmap: &mut ByteBitma
         contains (member_bytes_of_byte_bitmap bitmap.old) b || intersects (chars_with_first_byte b)
         (interval_of interval ∷ [])) }
 {
-    // No other byte can be a first byte, since first bytes increase with the code points.
+    // Only these bytes can be first bytes, because first bytes increase with the code points.
     let least = utf8_first_byte(interval.first.min(CODE_POINT_MAX));
     let greatest = utf8_first_byte(interval.last.min(CODE_POINT_MAX));
     for byte in least..=greatest {

@@ -25,7 +25,7 @@ pub enum AnchorType {
 pub struct Quantifier {
     /// Minimum number of iterations.
     pub min: usize,
-    /// Maximum number of iterations; `None` stands for `usize::MAX`.
+    /// Maximum number of iterations. `None` means `usize::MAX`.
     pub max: Option<usize>,
     /// Whether another iteration is preferred to leaving the loop.
     pub greedy: bool,
@@ -49,11 +49,11 @@ pub enum Node {
     ByteSequence(Vec<u8>),
     /// A sequence of nodes, in stored order.
     Cat(Vec<Node>),
-    /// One node or the other; the left one is preferred.
+    /// One node or the other. The left one is preferred.
     Alt(Box<Node>, Box<Node>),
     /// One character of a class.
     Bracket(BracketContents),
-    /// One of these strings; earlier ones are preferred.
+    /// One of these strings. Earlier ones are preferred.
     StringSet {
         alternatives: Vec<Vec<u32>>,
         icase: bool,
@@ -67,25 +67,25 @@ pub enum Node {
         anchor_type: AnchorType,
         multiline: bool,
     },
-    /// `\b`, or with `invert` `\B`.
+    /// `\b` or, with `invert`, `\B`.
     WordBoundary {
         invert: bool,
         unicode_icase: bool,
     },
-    /// A capturing group. Ids count from 0. An empty name means that it has none.
+    /// A capturing group. Ids count from 0. An empty name means that the group has none.
     CaptureGroup {
         id: CaptureGroupID,
         contents: Box<Node>,
         name: Option<String>,
     },
-    /// The text of a group again; with `icase`, characters that the text folds to the same are the
-    /// same. Groups count from 1 here.
+    /// The text of a group again. With `icase`, characters with the same fold in the text are
+    /// treated as the same. Group numbers begin with 1.
     BackRef {
         group: u32,
         icase: bool,
     },
-    /// The text of a group again, where characters with the same `canonicalize` are the same. Groups
-    /// count from 1 here.
+    /// The text of a group again, where characters with the same `canonicalize` are treated as the
+    /// same. Group numbers begin with 1.
     CanonicalBackRef {
         group: u32,
         unicode: bool,
@@ -115,8 +115,8 @@ impl Node {
     ghost use Rattle.regex_pattern_front.specs.OptimizedTrees.{loop_turned_into_char_loop};
     ghost use Rattle.regex_pattern_front.specs.AstToSpecTree.{node_of};
 
-    // Turns a loop into a loop over one character, which names no groups. Other nodes stay as they
-    // are.
+    // Turns a loop into a loop over one character, which has no group ids. Other nodes are
+    // unchanged.
     pub(crate) fn loop_turned_into_char_loop(self) -> Node
         ensures { node_of result ≡ loop_turned_into_char_loop (node_of self) }
     {
@@ -199,8 +199,8 @@ enum NextNodeAndRestToDrop {
 }
 
 // Drops a tree in a loop that allocates no memory, and whose stack does not grow with the depth of
-// the tree. What is not dropped yet is one node and the rest; the rest links back to its parent
-// from the position of a separated child.
+// the tree. What is left to drop is one node and the rest. In place of each separated child, the
+// rest links back to the parent of that child.
 impl Drop for Node {
     fn drop(mut self) {
         let mut rest = None;

@@ -1,5 +1,5 @@
-//! What the front end and the engine share: pattern trees, their flags and optimizer, case folding, and
-//! sets of code points and bytes.
+//! What the front end and the engine share: pattern trees, their flags and optimizer, case folding,
+//! and sets of code points and bytes.
 #![tactic(auto)]
 
 pub mod bytesearch;

@@ -51,11 +51,11 @@ fn optimize_all(nodes: &mut Vec<Node>)
     }
 }
 
-// Optimizes alternatives that are nested to the right in a loop. On the way to the last one, each
-// link is reversed to point to the alternative before it; on the way back each is restored. The
-// frame holds only the number of reversed links, and the functions that move nodes return before
-// the recursion, so nested alternations take little stack. A chain longer than that number can
-// count is continued by recursion.
+// Optimizes alternatives that are nested to the right, in a loop. On the way to the last one, each
+// link is reversed to point to the alternative before it. On the way back, each link is restored.
+// The frame holds only the number of reversed links, and the functions that move nodes return
+// before the recursion, so nested alternations take little stack. A chain that is longer than this
+// number can count is continued by recursion.
 #[cycle(optimize)]
 #[inline(never)]
 fn optimize_row(first: &mut Node, rest: &mut Node)
@@ -75,7 +75,7 @@ fn optimize_row(first: &mut Node, rest: &mut Node)
     restore_alternatives(first, rest, turned);
 }
 
-// Restores `turned` reversed alternatives, before those after them.
+// Restores `turned` reversed alternatives, and puts them before those that follow them.
 fn restore_alternatives(done: &mut Node, rest: &mut Node, mut turned: usize)
     ensures { alt (node_of done.new) (node_of rest.new) ≡ alternatives_with_links_unreversed turned (node_of done.old)
         (node_of rest.old) }
@@ -108,8 +108,8 @@ fn to_char_loop(node: &mut Node)
     *node = taken.loop_turned_into_char_loop();
 }
 
-/// Checks whether a node reads one character and accepts it or not. `optimize` changes exactly the
-/// loops over such nodes.
+/// Checks whether a node reads one character, which it accepts or rejects. `optimize` changes
+/// exactly the loops over such nodes.
 #[tactic(auto, unfolding(crate::specs::AstToSpecTree::node_of))]
 pub fn reads_one_character(node: &Node) -> bool
     ensures { result ≡ reads_one_character (node_of node.now) }

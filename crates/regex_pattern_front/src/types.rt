@@ -20,7 +20,7 @@ pub const MAX_CAPTURE_GROUPS: usize = 65535;
 /// Maximum number of characters in a set that fits one instruction.
 pub const MAX_CHAR_SET_LENGTH: usize = 4;
 
-/// A class: the code points of a set, or with `invert` all others.
+/// A class: the code points of a set or, with `invert`, all others.
 #[derive(Drop)]
 pub struct BracketContents {
     pub invert: bool,

@@ -29,7 +29,7 @@ use Rattle.regress_backtrack.specs.SearchProgress.{fuel_to, fuel_for, found_from
 use Rattle.regress_backtrack.specs.StepsTakenFromBudget.{Budget, AreStepsTakenFromBudget, AreStepsRefused, HasStopped, step_limit}
 use Rattle.regress_backtrack.proofs.StepBudgetLemmas.{taken-none}
 
--- ---- The first state
+-- ---- The initial state
 
 begun : (program : Program) (groups loops at : ℕ) → groups ≡ program.groups → loops ≡ program.loops → state_in groups (initial_slots groups loops at) 0 at ≡ state_before_first_insn program at
 begun program groups loops at g l =
@@ -63,7 +63,7 @@ turns-below tree text place most le = turns-on tree text place (most - place) mo
 
 -- ---- The search
 
--- the search from the first state answers, with the first outcome
+-- The search from the initial state finds the tree's match in the ticks of its attempt.
 pub record Begins (w : SearchInput) (at : ℕ) : Type 0 where
   pub found : Found
   pub searches : found_from_state w true (state_before_first_insn (program_of w) at) ≡ Some found
@@ -87,7 +87,7 @@ begins w at can on = by (place_at w.text at) refl on
           steps = first.steps ∙ sym (ap (λ o. option_map_or (λ place. ticks_to_first (items_at w.tree w.text place)) o 0) e);
         }
 
--- what the run left is the end of the attempt
+-- The end and groups that a search leaves are those of the tree's match at the offset.
 pub attempt-ends : (w : SearchInput) (at from : ℕ) (h h' : StateModel) (left left' : Budget) (counts : Bool) (end : Option ℕ) → Begins w at → current_thread_state_of h 0 from ≡ state_before_first_insn (program_of w) at
     → HasSearched w true counts (current_thread_state_of h 0 from) h h' left left' end → option_map (λ e. (e, (current_thread_state_of h' 0 0).groups)) end ≡ match_end_and_groups_at w.tree w.text at
 attempt-ends w at from h h' left left' counts end b first ran =
@@ -98,7 +98,7 @@ attempt-ends w at from h h' left left' counts end b first ran =
     by None ip = refl
     by (Some e) ip = refl
 
--- an end, with these groups
+-- The end of a search is paired with the groups that it left.
 pub found-with : {P : Type 0} (offset : P → ℕ) (end : Option P) (groups : Groups) → end_with_groups offset end groups ≡ option_map (λ e. (e, groups)) (option_map offset end)
 found-with offset None groups = refl
 found-with offset (Some e) groups = refl
@@ -114,7 +114,7 @@ spends-found true need spent left left' x all taken =
     let rest : left'.left ≡ left.left - need = omega (arith, same, counted) in
     (le-leb need left.left (omega (arith, same, counted)), ap Some rest)
 
--- steps that were taken, of those that are needed
+-- If memory runs out, the steps spent are at most the needed ones.
 spends-taken : (X : Type 0) (counts : Bool) (need steps : ℕ) (left left' : Budget) → AreStepsTakenFromBudget counts steps left left' → steps ≤ need
     → SpendsNeedOrReachesLimit {X = X} need (step_limit counts left) (Err Memory) (step_limit counts left')
 spends-taken X false need steps left left' taken few = (tt, tt)
@@ -122,7 +122,7 @@ spends-taken X true need steps left left' taken few =
     let counted = taken.counted refl in
     (omega (arith, counted), omega (arith, counted, few))
 
--- want of memory before the first step
+-- If memory runs out before the first step, no step is spent.
 pub spends-none : (X : Type 0) (counts : Bool) (need : ℕ) (left left' : Budget) → left' ≡ left
     → SpendsNeedOrReachesLimit {X = X} need (step_limit counts left) (Err Memory) (step_limit counts left')
 spends-none X counts need left left' same =
@@ -148,7 +148,7 @@ spends-stopped X counts Needs need left left' least fresh s = by s.stopped_so
         subst (λ out. SpendsNeedOrReachesLimit {X = X} need (step_limit counts left) (Err (cause_of_error out)) (step_limit counts left')) (sym r.steps_were_refused)
         (spends-limit X counts need s.steps left left' r (least s.steps s.needs))
 
--- it took a step, unless steps were refused
+-- An attempt that runs out of memory takes at least one step.
 pub stopped-takes : (X : Type 0) (counts : Bool) (Begun : Type 0) (Needs : ℕ → Type 0) (left left' : Budget) → left.out ≡ false → HasStopped counts 1 Needs left left'
     → AllocFailureCostsAStep {X = X} Begun (step_limit counts left) (Err (cause_of_error left'.out)) (step_limit counts left')
 stopped-takes X false Begun Needs left left' fresh s = tt
@@ -161,14 +161,14 @@ stopped-takes X true Begun Needs left left' fresh s = by s.stopped_so
         subst (λ out. AllocFailureCostsAStep {X = X} Begun (Some left.left) (Err (cause_of_error out)) (Some left'.left)) (sym (t.same ∙ fresh)) (λ begun. omega (arith, counted, some))
     by (inr r) = subst (λ out. AllocFailureCostsAStep {X = X} Begun (Some left.left) (Err (cause_of_error out)) (Some left'.left)) (sym r.steps_were_refused) tt
 
--- it has not begun
+-- If the attempt has not begun, nothing is claimed about its steps.
 pub takes-none : (X Begun : Type 0) (before after : Option ℕ) (r : Result X SearchError) → (Begun → ⊥) → AllocFailureCostsAStep Begun before r after
 takes-none X Begun None after r never = tt
 takes-none X Begun (Some b) after (Ok x) never = tt
 takes-none X Begun (Some b) after (Err Memory) never = λ begun. absurd (never begun)
 takes-none X Begun (Some b) after (Err StepLimit) never = tt
 
--- there was no memory, and no steps were refused
+-- If memory runs out, the step limit has not been reached.
 pub tells-memory : {X : Type 0} (r : Result X SearchError) {out : Bool} → IsErrAnd r (λ e. e ≡ Memory) → out ≡ false → TellsIfStepLimitReached r out
 tells-memory (Ok x) h e = absurd h
 tells-memory (Err f) h e = h ∙ ap cause_of_error (sym e)
@@ -177,7 +177,7 @@ module _ (w : SearchInput) (at from : ℕ) (h : StateModel) (left left' : Budget
   searched : found_from_state w true (current_thread_state_of h 0 from) ≡ Some b.found
   searched = ap (found_from_state w true) first ∙ b.searches
 
-  -- an attempt that answered took the ticks of its place
+  -- An attempt that has an answer took the ticks of its offset.
   pub attempt-spends : {X : Type 0} (h' : StateModel) (end : Option ℕ) (x : X) → HasSearched w true counts (current_thread_state_of h 0 from) h h' left left' end
       → SpendsNeedOrReachesLimit (ticks_of_attempt_at w.tree w.text at) (step_limit counts left) (Ok x) (step_limit counts left')
   attempt-spends h' end x ran =
@@ -188,7 +188,7 @@ module _ (w : SearchInput) (at from : ℕ) (h : StateModel) (left left' : Budget
       let steps = b.steps in
       omega (arith, few, all, steps)) ran.taken
 
-  -- one that stopped for want of steps had fewer than those
+  -- An attempt that stops spent at most its ticks, or had too few steps for them.
   pub attempt-stops : (X : Type 0) → left.out ≡ false → HasStopped counts 1 (NeedStepsAtLeast w true (running (current_thread_state_of h 0 from) ∷ [])) left left'
       → SpendsNeedOrReachesLimit {X = X} (ticks_of_attempt_at w.tree w.text at) (step_limit counts left) (Err (cause_of_error left'.out)) (step_limit counts left')
   attempt-stops X fresh stopped =

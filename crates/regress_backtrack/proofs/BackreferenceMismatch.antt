@@ -17,7 +17,7 @@ use Rattle.regress_machine.proofs.FirstUnitsOfCharacters.{unit-there}
 use Rattle.regress_search.proofs.NextCharByUnit.{placed}
 use Rattle.regress_backtrack.specs.OffsetPastBackreference.{offset_past_repeated_capture}
 
--- what a test of two units has told
+-- A test of two code units that finds them unequal tells that they differ.
 pub other-units : (u v : ℕ) → not (nat_eq u v) ≡ true → (u ≡ v → ⊥)
 other-units u v other same = let never : false ≡ true = sym (ap not (eq-eqb u v same)) ∙ other in cc
 
@@ -26,7 +26,7 @@ never true x = refl
 never false x = refl
 
 module _ (e : Encoding) (text : Text) (has : HasUnitsForTables e text) where
-  -- the character at a boundary, of which this is the first unit
+  -- The character at a boundary begins with the code unit there.
   begun : (at unit : ℕ) → IsBoundary text at → slice_get (text_units_in_encoding e text) at ≡ Some unit
       → (c : ℕ) × (slice_get text.characters (place text at) ≡ Some c) × (slice_get (spelled_in e c) 0 ≡ Some unit)
   begun at unit on there = by (slice_get text.characters (place text at)) refl
@@ -42,7 +42,7 @@ module _ (e : Encoding) (text : Text) (has : HasUnitsForTables e text) where
       by None is = let none : None ≡ Some unit = sym (ap first is) ∙ sym is_first ∙ there in cc
       by (Some c) is = (c, is, sym (ap first is) ∙ sym is_first ∙ there)
 
-  -- places stand as their boundaries do
+  -- Places are ordered as their boundaries are.
   places-less : (from to : ℕ) → IsBoundary text from → IsBoundary text to → from < to → place text from < place text to
   places-less from to on_from on_to less =
       let p = IsBoundary-place text from has.is_text on_from in

@@ -65,7 +65,7 @@ module _ (R : Relation) (f : ℕ → State) where
   in-turn-alike [] h = tt
   in-turn-alike (n ∷ ns) h = (h.0, waiting-alike ns h.1)
 
--- ---- Sound states further on
+-- ---- Sound states behind a character loop
 
 module _ (t : MemoAnalysis) (text : Text) (is : HasRisingPlaceOffsets text) (d : Direction) (test : ℕ → Bool) (place : ℕ) (within : place ≤ last_place text) (s : State) where
   abbrev at-place : ℕ → State
@@ -125,7 +125,7 @@ module _ (program : Program) (text : Text) (t : MemoAnalysis) (of : IsAnalysisOf
         inside = λ l there. ((only.only (r.state.ip + 2)).empty l there).0;
       }
 
-  -- what a run leaves is of its key
+  -- A key of the rest of a char loop stands for its threads.
   pub of-run : (d : Direction) (k : Key) (ts : List Thread) → IsLoopRestKey program text (scheme_of t) d k ts → KeyStandsFor program text (analysis_as_liveness t) (analysis_keys program text t) d k ts
   of-run d k ts r =
       let s = r.state in
@@ -148,10 +148,10 @@ module _ (program : Program) (text : Text) (t : MemoAnalysis) (of : IsAnalysisOf
       by false sound rec =
           (runs-have-keys program text (analysis_as_liveness t) (key_code_questions_of t) (insn_direction t) (recorded t) (plan_steps_below_record program) d r.test r.place r.state is r.within r.of).lazy rec sound
 
--- ---- What is told of what a run leaves
+-- ---- The key of the rest of a char loop
 
 module _ (w : SearchInput) (is : HasRisingPlaceOffsets w.text) (t : MemoAnalysis) (failed : Key → Bool) (right : AreFailuresSound w (scheme_of t) failed) (forward : Bool) (from : ThreadPos) (h : StateModel) where
-  -- the key of a state at its body tells of it
+  -- The key of the state at a loop's body decides what the rest of the loop finds.
   pub rest-tells : (k : Key) → memo_key_at t (current_thread_state_of h (from.ip + 1) from.at) ≡ Some k → (insn_analysis_of t (from.ip + 1)).records ≡ true → (insn_analysis_of t (from.ip + 1)).forward ≡ forward
       → (insn_analysis_of t (from.ip + 2)).forward ≡ forward → HasSlotsOfProgram (program_of w) (current_thread_state_of h from.ip from.at)
       → IsSoundState (analysis_as_liveness t) (units w.text) (insn_direction t (from.ip + 2)) (current_thread_state_of h (from.ip + 2) from.at) → DecidesLoopRest w (scheme_of t) forward from k h
@@ -188,7 +188,7 @@ module _ (w : SearchInput) (is : HasRisingPlaceOffsets w.text) (t : MemoAnalysis
           let made : Some (key_of (plan_code (key_code_questions_of t)) (current_thread_state_of h (from.ip + 1) from.at)) ≡ Some k =
           ap (λ b. if b then Some (key_of (plan_code (key_code_questions_of t)) (current_thread_state_of h (from.ip + 1) from.at)) else None) (sym records) ∙ is_key in cc
 
--- a mark's key is the memory's
+-- A key stored in the memo decides what the rest of the loop finds.
 pub stored-rest : (w : SearchInput) (t : MemoScheme) (forward : Bool) (from : ThreadPos) (h : StateModel) (key : Key) (o : Option Stored)
     → IfSome o (λ k. memo_key_as_spec k ≡ key) → DecidesLoopRest w t forward from key h → IfSome o (λ k. DecidesLoopRest w t forward from (memo_key_as_spec k) h)
 stored-rest w t forward from h key None same of = tt

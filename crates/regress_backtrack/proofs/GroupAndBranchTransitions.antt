@@ -21,7 +21,7 @@ module _ (r : SearchModel) (ip at : ℕ) (h : StateModel) where
   abbrev on_at : ℕ → Option ResumePoint
   on_at to = Some (record { ip = to; at = at })
 
-  -- an instruction goes on at once in a state that is what the slots hold now
+  -- An instruction continues from the state that the slots hold.
   went : (insn : Insn) → slice_get r.program.insns ip ≡ Some insn → (ts : List Thread) → act_on r.program r.text r.direction (Some insn) here ≡ goes ts
       → act r.program r.text r.direction here ≡ goes ts
   went insn is ts e = ap (λ o. act_on r.program r.text r.direction o here) is ∙ e
@@ -34,7 +34,7 @@ module _ (r : SearchModel) (ip at : ℕ) (h : StateModel) where
       unchanged r 1 ip at h (on_at target) (omega arith)
       (simulates-goes r.program r.text r.exact r.direction here _ (went (Jump target) is _ refl))
 
-  -- a state that became another one goes on at the next instruction
+  -- A state that was changed continues at the next instruction.
   becomes-next : (change : State → State) (h' : StateModel) → ChangesStateUndoably change h h' → act r.program r.text r.direction here ≡ go (record (change here) { ip = ip + 1 })
       → ((s : State) → change (record s { ip = ip + 1 }) ≡ record (change s) { ip = ip + 1 }) → Transitions r 1 ip at h h' (on_at (ip + 1))
   becomes-next change h' b e apart =
@@ -63,7 +63,7 @@ module _ (r : SearchModel) (ip at : ℕ) (h : StateModel) where
       ∙ ap (λ q. go (record here { ip = ip + 1; groups = slice_set here.groups g (Some q) })) (sym range))
       (λ s. refl)
 
-  -- both ways of a branch
+  -- A branch continues at the next instruction and leaves its other arm pending.
   pub forks : (secondary : ℕ) (mark : ChoicePoint) → slice_get r.program.insns ip ≡ Some (Alt secondary) → mark.log ≡ length h.log → r.Fits mark
       → r.branches mark ≡ record { ip = secondary; at = at } ∷ [] → Transitions r 1 ip at h (with_choice_point_list (h.choice_points ++ mark ∷ []) h) (on_at (ip + 1))
   forks secondary mark is now fits branches =

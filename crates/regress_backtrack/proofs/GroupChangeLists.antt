@@ -7,12 +7,12 @@ use Rattle.regex_meaning.specs.Text.{Direction}
 use Rattle.regex_meaning.specs.Outcomes.{Groups}
 use Rattle.regress_machine.specs.Machine.{range_swapped_if_leftwards}
 
--- the groups of a state, and where they begin
+-- These are the groups of a state and their starts.
 pub record Slots : Type 0 where
   pub groups : Groups
   pub starts : List ℕ
 
--- a change of a group at an offset
+-- A note is a change of a group at an offset.
 pub data Note : Type 0 where
   wiped : (id : ℕ) → Note
   begun : (id pos : ℕ) → Note
@@ -26,7 +26,7 @@ noted (wiped id) J = record J { groups = slice_set J.groups id None }
 noted (begun id pos) J = record { groups = slice_set J.groups id None; starts = slice_set J.starts id pos }
 noted (closed d id pos) J = record J { groups = slice_set J.groups id (option_map (range_to d pos) (slice_get J.starts id)) }
 
--- the changes of a list of notes, the last one first
+-- The notes of a list are applied, the last one first.
 abbrev pub applied : List Note → Slots → Slots
 applied [] J = J
 applied (n ∷ ns) J = noted n (applied ns J)
@@ -49,7 +49,7 @@ as-many (n ∷ ns) J K h = as-many-noted n (applied ns J) K (as-many ns J K h)
 
 -- ---- One slot
 
--- a value in place of another one, if there is one
+-- A value replaces the value of an option if there is one.
 abbrev put : {X : Type 0} → X → Option X → Option X
 put x o = option_map (λ y. x) o
 
@@ -92,7 +92,7 @@ by-slots (x ∷ xs) (y ∷ ys) l h =
     let heads : x ≡ y = cc in
     ap (λ x. x ∷ xs) heads ∙ ap (λ xs. y ∷ xs) (by-slots xs ys (omega (arith, l)) (λ i. h (suc i)))
 
--- ---- What notes do to one group
+-- ---- The effect of notes on one group
 
 module _ (id : ℕ) where
   abbrev start_in : Slots → Option ℕ
@@ -101,12 +101,12 @@ module _ (id : ℕ) where
   abbrev group_in : Slots → Option (Option (ℕ × ℕ))
   group_in J = slice_get J.groups id
 
-  -- the start is kept, or becomes a value that does not depend on the slots before
+  -- The start is kept, or set to a value that does not depend on the earlier slots.
   data OnStart (ns : List Note) : Type 0 where
     start_kept : ((J : Slots) → start_in (applied ns J) ≡ start_in J) → OnStart ns
     start_put : (at : ℕ) → ((J : Slots) → start_in (applied ns J) ≡ put at (start_in J)) → OnStart ns
 
-  -- the group is kept, or becomes what the start decides
+  -- The group is kept, or set to a value that the start determines.
   data OnGroup (ns : List Note) : Type 0 where
     group_kept : ((J : Slots) → group_in (applied ns J) ≡ group_in J) → OnGroup ns
     group_put : (by : Option ℕ → Option (ℕ × ℕ)) → ((J : Slots) → group_in (applied ns J) ≡ put (by (start_in (applied ns J))) (group_in J)) → OnGroup ns
@@ -123,7 +123,7 @@ module _ (id : ℕ) where
   put-group ns v (group_kept h) J = ap (put v) (h J)
   put-group ns v (group_put by h) J = ap (put v) (h J) ∙ put-twice v (by (start_in (applied ns J))) (group_in J)
 
-  -- another group's note
+  -- A note of another group keeps this group's start.
   start-elsewhere : (n : Note) (ns : List Note) → ((J : Slots) → start_in (noted n J) ≡ start_in J) → OnStart ns → OnStart (n ∷ ns)
   start-elsewhere n ns e (start_kept h) = start_kept (λ J. e (applied ns J) ∙ h J)
   start-elsewhere n ns e (start_put at h) = start_put at (λ J. e (applied ns J) ∙ h J)
@@ -182,7 +182,7 @@ module _ (id : ℕ) where
       h (applied ns J) ∙ ap (λ o. put (by o) (group_in (applied ns J))) s ∙ ap (put (by (start_in (applied ns J)))) (h J)
       ∙ put-twice (by (start_in (applied ns J))) (by (start_in (applied ns J))) (group_in J) ∙ sym (h J)
 
--- ---- All of them
+-- ---- The effect of a list of notes on all groups
 
 pub applied-twice : (ns : List Note) (J : Slots) → applied ns (applied ns J) ≡ applied ns J
 applied-twice ns J = ap (λ gs. record { groups = gs; starts = (applied ns (applied ns J)).starts }) groups ∙ ap (λ ss. record { groups = (applied ns J).groups; starts = ss }) starts

@@ -17,7 +17,7 @@ use Rattle.regress_memo.proofs.LivenessLemmas.{BothThere, both-there}
 use Rattle.regress_memo.proofs.ThreadBisimulationLemmas.{threads-end-alike}
 use Rattle.regress_backtrack.specs.RepeatableLoopBodies.{IsNoBackreference, HasNoBackreference}
 
--- the same state, but for as many other groups and starts of groups
+-- The states are equal except for their groups and starts, of which there are as many.
 pub record Differ (s t : State) : Type 0 where
   pub groups : Groups
   pub starts : List ℕ
@@ -25,7 +25,7 @@ pub record Differ (s t : State) : Type 0 where
   pub as_many_groups : length s.groups ≡ length groups
   pub as_many_starts : length s.starts ≡ length starts
 
--- one relation in all lookarounds and both directions
+-- The relation is the same in all lookarounds and both directions.
 abbrev R : Unit {0} → Direction → State → State → Type 0
 R w d s t = Differ s t
 
@@ -36,7 +36,7 @@ module _ (s : State) (gs : Groups) (ss : List ℕ) (g : length s.groups ≡ leng
   abbrev t : State
   t = record s { groups = gs; starts = ss }
 
-  -- the same change of what both have in common
+  -- The same change of the common parts keeps the relation.
   moved-differ : (ip pos : ℕ) (ls : List LoopData) → Differ (record s { ip = ip; pos = pos; loops = ls }) (record t { ip = ip; pos = pos; loops = ls })
   moved-differ ip pos ls = record { groups = gs; starts = ss; is = refl; as_many_groups = g; as_many_starts = b }
 

@@ -22,7 +22,7 @@ use Rattle.regress_search.specs.Leaping.{LeapLeads}
 use Rattle.regress_search.specs.declared.leaping.LeapTarget.{LeapTarget}
 use Rattle.regress_backtrack.specs.LeapMemory.{NoMatchBeforeLeapTarget}
 
--- no match begins before the offset to which a leap leads
+-- No match begins before the target of a leap.
 pub leap-excludes : (w : SearchInput) → HasUnitsForTables w.encoding w.text → TreeProgramCanSearchText (program_of w) w.tree w.text → (leap : Leap)
     → IsLeap (is_16_bit_encoding w.encoding) (program_of w) leap → (from : ℕ) (target : Option LeapTarget) → LeapLeads w leap from target
     → NextStartSkipsNoMatch w.tree w.text from (option_map (λ t. t.to) target)
@@ -41,7 +41,7 @@ leap-excludes w has can leap is from (Some target) leads = (
       (subst (λ n. from ≤ n) (sym p.2) le) (subst Barred (sym p.2) (leads.behind.barred at le less))),
 )
 
--- where a leap led is kept
+-- If no match begins before the next start, the memory of leaps may hold that start.
 pub leap-right : (tree : Tree) (text : Text) → HasRisingPlaceOffsets text → (from : ℕ) (next : Option ℕ) → NextStartSkipsNoMatch tree text from next
     → NoMatchBeforeLeapTarget tree text from next
 leap-right tree text is from None leads = record {
@@ -55,7 +55,7 @@ leap-right tree text is from (Some to) leads = record {
   none = λ at on le before. leads.2 at on le (before to refl);
 }
 
--- the first offset from one on that is not known to begin no match
+-- The next start is the remembered target or the offset, whichever is further.
 pub past-to : (tree : Tree) (text : Text) (from at to : ℕ) (next : Option ℕ) → IsBoundary text at → NoMatchBeforeLeapTarget tree text from next → next ≡ Some to → from ≤ at
     → NextStartSkipsNoMatch tree text at (Some (max at to))
 past-to tree text from at to next on right e le = elim (cases_lt at to) [
@@ -75,11 +75,11 @@ pub past-none : (tree : Tree) (text : Text) (from at : ℕ) (next : Option ℕ) 
 past-none tree text from at next right e le = λ x there after less.
     right.none x there (omega (arith, le, after)) (λ t f. let no : None ≡ Some t = sym e ∙ f in cc)
 
--- the offset itself
+-- An offset is its own next start.
 pub at-once : (tree : Tree) (text : Text) (at : ℕ) → IsBoundary text at → NextStartSkipsNoMatch tree text at (Some at)
 at-once tree text at on = (on, omega arith, λ x there after less. absurd (omega (arith, after, less)))
 
--- before the first leap, nothing is known
+-- The memory of leaps is right at first, when it holds offset 0.
 pub no-leap-yet : (tree : Tree) (text : Text) → HasRisingPlaceOffsets text → (from : ℕ) (next : Option ℕ) → from ≡ 0 → next ≡ Some 0 → NoMatchBeforeLeapTarget tree text from next
 no-leap-yet tree text is from next none first =
     let zero-on : IsBoundary text 0 = subst (IsBoundary text) is.from_zero (offset-IsBoundary text 0 is (omega arith)) in

@@ -29,14 +29,14 @@ use Rattle.regress_search.proofs.TextReadLemmas.{literal-read}
 use Rattle.regress_machine.specs.Machine.{State, go_if, has_bytes}
 use Rattle.regress_backtrack.specs.LimitedStarts.{lets_through, IsFirstTried, IsNextTried}
 
--- ---- What stands at a place
+-- ---- The text at a place
 
 get-first : (n : ℕ) (xs : List ℕ) → slice_get xs n ≡ slice_get (drop n xs) 0
 get-first zero xs = refl
 get-first (suc n) [] = refl
 get-first (suc n) (x ∷ xs) = get-first n xs
 
--- the byte at the prefix, if there is one, is in a set
+-- The byte at the prefix, if there is one, is in the set.
 abbrev pub is_member : (members : List ℕ) → Option ℕ → Bool
 is_member members None = false
 is_member members (Some b) = contains members b
@@ -45,7 +45,7 @@ begins-first : (members bytes : List ℕ) → first_byte_is_one_of members bytes
 begins-first members [] = refl
 begins-first members (b ∷ bytes) = refl
 
--- threads that go on alike go on where the same holds
+-- Threads that continue alike continue under the same condition.
 same-go : (a b : Bool) (x y : State) → go_if a x ≡ go_if b y → a ≡ b
 same-go true true x y e = refl
 same-go false false x y e = refl
@@ -53,14 +53,14 @@ same-go true false x y e = cc
 same-go false true x y e = cc
 
 module _ (text : Text) (is : HasRisingPlaceOffsets text) (reads : HasUtf8CharactersAndOffsets text) where
-  -- a boundary's place
+  -- The place of a boundary has the boundary's offset and lies in the text.
   place-of : (at : ℕ) → IsBoundary text at → (offset text (place text at) ≡ at) × (place text at ≤ last_place text)
   place-of at on =
       let p = IsBoundary-place text at is on in
       let same : p.0 ≡ place text at = sym (ap (λ o. unwrap_or o 0) p.1) in
       (ap (offset text) (sym same) ∙ p.2, subst (λ q. q ≤ last_place text) same p.3)
 
-  -- the bytes from a boundary on
+  -- The bytes from a boundary on are the bytes of the text from its place.
   pub bytes-there : (at : ℕ) → IsBoundary text at → drop at (encode_utf8_all text.characters) ≡ utf8_bytes_of_text_from_place text (place text at)
   bytes-there at on =
       let p = place-of at on in
@@ -80,7 +80,7 @@ module _ (text : Text) (is : HasRisingPlaceOffsets text) (reads : HasUtf8Charact
       same-go found (has_bytes (encode_utf8_all text.characters) rightwards bytes at) _ _ (literal-read text bytes rightwards s found to (let e = p.0 in omega (arith, inside, e)) led)
       ∙ ap (λ (l : List ℕ). starts_with nat_eq l bytes) (bytes-there at on)
 
-  -- the same of what is read where units are bytes
+  -- The same holds for a byte that is read where code units are bytes.
   pub begins-read : (are_bytes : Bool) → IsTrue are_bytes → (members : List ℕ) (at : ℕ) → IsBoundary text at → (byte : Option ℕ)
       → byte ≡ read_if_units_are_bytes are_bytes (slice_get (encode_utf8_all text.characters) at) → is_member members byte ≡ first_byte_is_one_of members (utf8_bytes_of_text_from_place text (place text at))
   begins-read true sure members at on byte e = ap (is_member members) e ∙ begins-there members at on
@@ -91,21 +91,21 @@ module _ (text : Text) (is : HasRisingPlaceOffsets text) (reads : HasUtf8Charact
   sequence-read true sure bytes at found to on led = sequence-there bytes at found to on led
   sequence-read false sure bytes at found to on led = cc
 
--- a text whose units are bytes is one of bytes
+-- A text whose code units are bytes has UTF-8 offsets.
 pub reads-bytes : (e : Encoding) (are_bytes : Bool) (text : Text) → are_bytes ≡ is_byte_encoding e → IsTrue are_bytes → IsTrue (list_all (is_character_in_encoding e) text.characters)
     → (IsTrue are_bytes → IsEncodedInUtf8 text) → HasUtf8CharactersAndOffsets text
 reads-bytes utf8 are_bytes text by sure characters spelled = record { scalars = characters; offsets = (spelled sure).offsets }
 reads-bytes utf16 are_bytes text by sure characters spelled = cc
 reads-bytes ucs2 are_bytes text by sure characters spelled = cc
 
--- the byte that is read at a boundary of one
+-- The test of the byte read at a boundary is the test of the text's first byte there.
 pub begins-here : (e : Encoding) {are_bytes : Bool} {text : Text} → are_bytes ≡ is_byte_encoding e → IsTrue are_bytes → IsTrue (list_all (is_character_in_encoding e) text.characters)
     → (IsTrue are_bytes → IsEncodedInUtf8 text) → HasRisingPlaceOffsets text → (members : List ℕ) (at : ℕ) → IsBoundary text at → (byte : Option ℕ)
     → byte ≡ read_if_units_are_bytes are_bytes (slice_get (encode_utf8_all text.characters) at) → is_member members byte ≡ first_byte_is_one_of members (utf8_bytes_of_text_from_place text (place text at))
 begins-here e {are_bytes = are} {text = text} by sure characters spelled is =
     begins-read text is (reads-bytes e are text by sure characters spelled) are sure
 
--- ---- The walk
+-- ---- The loop over starts
 
 pub and-then-mapped : {X Y : Type 0} (f : X → ℕ) (h : Y → ℕ) (k : ℕ → Option ℕ) (x : Option X) (y : Option Y) → option_map f x ≡ option_map h y
     → option_and_then (λ x. k (f x)) x ≡ option_and_then (λ y. k (h y)) y
@@ -114,7 +114,7 @@ and-then-mapped f h k (Some x) (Some y) e = let same : f x ≡ h y = cc in ap k 
 and-then-mapped f h k None (Some y) e = cc
 and-then-mapped f h k (Some x) None e = cc
 
--- fewer places are left to try one character on
+-- Fewer places are left after one is tried.
 pub fewer : {P : Type 0} (offset : P → ℕ) (text : Text) (at : ℕ) (next : Option P) → at ≤ units text → IfSome next (λ p. at < offset p) → IfSome next (λ p. offset p ≤ units text)
     → untried text (option_map offset next) < untried text (Some at)
 fewer offset text at None inside ahead within = omega (arith, inside)
@@ -133,13 +133,13 @@ behind-open (start_byte_set members) tree text at e = refl
 behind-open (start_byte_sequence bytes) tree text at e = refl
 behind-open start_anchored tree text at e = cc
 
--- ---- The first place that is tried
+-- ---- The first start to try
 
 module _ (tree : Tree) (text : Text) (is : HasRisingPlaceOffsets text) where
   abbrev among : StartPredicate → (n p : ℕ) → List ℕ
   among s n p = filter (may_start s text) (numbers_from p n)
 
-  -- places are tried by what stands at them
+  -- The tried places are those that the predicate accepts.
   record GoesBy (s : StartPredicate) : Type 0 where
     is_the : start_predicate tree ≡ s
     places : (q : ℕ) → tried_places tree text s q ≡ filter (may_start s text) (numbers_from q (last_place text + 1 - q))
@@ -181,14 +181,14 @@ module _ (tree : Tree) (text : Text) (is : HasRisingPlaceOffsets text) where
       ∙ ap (λ (s : StartPredicate). first_of_places text (tried_places tree text s p)) e
       ∙ ap (λ b. first_of_places text (if b then p ∷ [] else [])) (le-leb p (last_place text) inside)
 
-  -- a place that the predicate lets through is tried
+  -- A place that the predicate accepts is tried.
   here : (s : StartPredicate) → start_predicate tree ≡ s → (p : ℕ) → p ≤ last_place text → lets_through s text p ≡ true → first_filtered_start tree text (offset text p) ≡ Some (offset text p)
   here start_arbitrary e p inside h = here-open start_arbitrary (record { is_the = e; places = λ q. refl }) p inside h
   here (start_byte_set members) e p inside h = here-open (start_byte_set members) (record { is_the = e; places = λ q. refl }) p inside h
   here (start_byte_sequence bytes) e p inside h = here-open (start_byte_sequence bytes) (record { is_the = e; places = λ q. refl }) p inside h
   here start_anchored e p inside h = first-anchored e p inside
 
-  -- else the first one that is tried stands one character on, or behind it
+  -- A place that it rejects is skipped, and the search goes on at the next character.
   on : (s : StartPredicate) → start_predicate tree ≡ s → (p : ℕ) → p ≤ last_place text → lets_through s text p ≡ false
       → first_filtered_start tree text (offset text p) ≡ option_and_then (λ (r : ℕ × ℕ). first_filtered_start tree text r.1) (read text rightwards (offset text p))
   on start_arbitrary e p inside h = on-open start_arbitrary (record { is_the = e; places = λ q. refl }) p inside h
@@ -196,7 +196,7 @@ module _ (tree : Tree) (text : Text) (is : HasRisingPlaceOffsets text) where
   on (start_byte_sequence bytes) e p inside h = on-open (start_byte_sequence bytes) (record { is_the = e; places = λ q. refl }) p inside h
   on start_anchored e p inside h = cc
 
-  -- the same at offsets
+  -- The same holds at offsets.
   pub tried-here : (s : StartPredicate) → start_predicate tree ≡ s → (at : ℕ) → IsBoundary text at → lets_through s text (place text at) ≡ true → first_filtered_start tree text at ≡ Some at
   tried-here s e at b h =
       let p = IsBoundary-place text at is b in
@@ -210,7 +210,7 @@ module _ (tree : Tree) (text : Text) (is : HasRisingPlaceOffsets text) where
       let same : place text at ≡ p.0 = ap (λ o. unwrap_or o 0) p.1 in
       subst (λ a. first_filtered_start tree text a ≡ option_and_then (λ (r : ℕ × ℕ). first_filtered_start tree text r.1) (read text rightwards a)) p.2 (on s e p.0 p.3 (ap (lets_through s text) (sym same) ∙ h))
 
-  -- ---- No match begins at a place that is left out
+  -- ---- No match begins at a place that is skipped
 
   composed : (from to : ℕ) (next : Option ℕ) → NextStartSkipsNoMatch tree text from (Some to) → NextStartSkipsNoMatch tree text to next → NextStartSkipsNoMatch tree text from next
   composed from to None a b = λ x boundary le less. elim (cases_lt x to) [
@@ -311,7 +311,7 @@ module _ (tree : Tree) (text : Text) (is : HasRisingPlaceOffsets text) where
         by start_anchored e = subst (NextStartSkipsNoMatch tree text (at + 1)) (sym (ap (λ s. filtered_start_after s tree text at) e)) (anchored-behind tree text is (sym (anchored-predicate tree) ∙ ap is_anchored_predicate e) at)
 
 module _ (s : StartPredicate) (text : Text) (is : HasRisingPlaceOffsets text) (scalars : IsTrue (list_all is_scalar text.characters)) where
-  -- by its predicate
+  -- The first start that the predicate lets through is the first one tried.
   pub is-first : (from : ℕ) (next : Option ℕ) → IsBoundary text from → ((tree : Tree) → start_predicate tree ≡ s → next ≡ first_filtered_start tree text from) → IsFirstTried s text from next
   is-first from next b e = λ tree p. record {
     counted = e tree p;
@@ -324,16 +324,16 @@ module _ (s : StartPredicate) (text : Text) (is : HasRisingPlaceOffsets text) (s
     skips = λ w. subst (NextStartSkipsNoMatch tree text (at + 1)) (sym (e tree p)) (behind-is_next tree text is w scalars at b);
   }
 
-  -- none where one place alone is tried
+  -- With an anchored predicate no place is tried after the first.
   pub next-anchored : (at : ℕ) → IsBoundary text at → is_anchored_predicate s ≡ true → IsNextTried s text at None
   next-anchored at b e = is-next at None b (λ tree p. sym (ap (λ s. filtered_start_after s tree text at) p ∙ behind-anchored s tree text at e))
 
-  -- none at the right end
+  -- No place is tried after the right end of the text.
   pub next-none : (at : ℕ) → IsBoundary text at → is_anchored_predicate s ≡ false → option_map (λ (r : ℕ × ℕ). r.1) (read text rightwards at) ≡ None → IsNextTried s text at None
   next-none at b e end = is-next at None b (λ tree p.
       sym (ap (λ s. filtered_start_after s tree text at) p ∙ behind-open s tree text at e ∙ sym (and-then-mapped (λ (n : ℕ). n) (λ (r : ℕ × ℕ). r.1) (first_filtered_start tree text) None (read text rightwards at) (sym end))))
 
-  -- else the first one from one character on
+  -- Otherwise the next start is the first one from the next character onwards.
   pub next-open : (at to : ℕ) (next : Option ℕ) → IsBoundary text at → is_anchored_predicate s ≡ false → option_map (λ (r : ℕ × ℕ). r.1) (read text rightwards at) ≡ Some to → IsFirstTried s text to next
       → IsNextTried s text at next
   next-open at to next b e on first = is-next at next b (λ tree p.

@@ -34,9 +34,9 @@ drop-replicate (suc n) m x =
     let e : suc n + m ≡ suc (n + m) = omega arith in
     ap (λ k. drop (suc n) (replicate k x)) e ∙ drop-replicate n m x
 
--- ---- The last mark
+-- ---- The last choice point
 
--- how many changes were noted when it was made stands in it
+-- The choice point stores how many changes were logged when it was pushed.
 pub since-read : (choice_points : List ChoicePoint) (d : ChoicePoint) → 0 < length choice_points → (slice_index_or choice_points (length choice_points - 1) d).log ≡ log_len_at_choice_point choice_points
 since-read choice_points d some =
     let one_more : length choice_points - 1 + 1 ≡ length choice_points = omega (arith, some) in
@@ -44,20 +44,20 @@ since-read choice_points d some =
     sym (take_more choice_points (length choice_points - 1) d (omega (arith, some))) ∙ ap (λ n. take n choice_points) one_more ∙ take-length choice_points in
     sym (since-last 0 (take (length choice_points - 1) choice_points) (slice_index_or choice_points (length choice_points - 1) d)) ∙ ap log_len_at_choice_point all
 
--- ---- What is seen of slots
+-- ---- The slots that a search sees
 
--- a slot that was set is seen as it stands
+-- A slot that was set is seen with its own value.
 pub seen-set : (begun n : ℕ) (s : GroupOrLoopState) → s.is_set ≡ true → s.noted ≡ 0 → logical_slot_value begun (record s { noted = n }) ≡ s
 seen-set begun n s set none = ap (λ b. if b then record s { noted = 0 } else initial_slot begun) set ∙ ap (λ n. record s { noted = n }) (sym none)
 
--- those that were not are as before a search
+-- Slots that were neither set nor logged are seen with their initial values.
 pub seen-fresh : (begun : ℕ) (slots : List GroupOrLoopState) → SlotsAreUnsetAndUnlogged slots → map (logical_slot_value begun) slots ≡ replicate (length slots) (initial_slot begun)
 seen-fresh begun [] fresh = refl
 seen-fresh begun (s ∷ slots) fresh =
     ap₂ (λ s l. s ∷ l) (ap (λ b. if b then record s { noted = 0 } else initial_slot begun) (fresh 0 no_slot (omega arith)).0)
     (seen-fresh begun slots (λ k d less. fresh (suc k) d (omega (arith, less))))
 
--- changes are taken back of what is seen too
+-- Undone changes are also undone in the slots that the search sees.
 pub seen-undone : (begun : ℕ) (slots : List GroupOrLoopState) (changes : List UndoEntry)
     → map (logical_slot_value begun) (undone slots changes) ≡ undone (map (logical_slot_value begun) slots) (map (logical_undo_entry begun) changes)
 seen-undone begun slots [] = refl
@@ -88,7 +88,7 @@ length-undone slots (c ∷ changes) = length-set (undone slots changes) c.slot c
 pub length-seen : (begun : ℕ) (slots : List GroupOrLoopState) → length (map (logical_slot_value begun) slots) ≡ length slots
 length-seen begun slots = length-map slots (logical_slot_value begun)
 
--- ---- A change that is noted
+-- ---- A change that is logged
 
 abbrev change : (slot : ℕ) → GroupOrLoopState → UndoEntry
 change slot old = record { old = old; slot = slot }
@@ -104,7 +104,7 @@ within-fewer n changes c within = by (are_within n changes) refl
     by true e = e
     by false e = absurd (true≢false (sym within ∙ list_all-append (λ c. nat_lt c.slot n) changes (c ∷ []) ∙ ap (λ b. b && (nat_lt c.slot n && true)) e))
 
--- ---- When slots were noted
+-- ---- The order of the log
 
 abbrev notes : List GroupOrLoopState → List ℕ
 notes slots = map (λ s. s.noted) slots
@@ -128,13 +128,13 @@ same-notes n slots slots' e all k d less =
     let most = all k d (omega (arith, less, long)) in
     omega (arith, most, same)
 
--- a slot that keeps when it was noted
+-- Setting a slot keeps the order of the log if the slot's log number is kept.
 noted-kept : (slots : List GroupOrLoopState) (changes : List UndoEntry) (i : ℕ) (v d : GroupOrLoopState) → v.noted ≡ (slice_index_or slots i d).noted → AreLoggedInOrder slots changes → AreLoggedInOrder (slice_set slots i v) changes
 noted-kept slots changes i v d e noted n most =
     same-notes n (undone slots (drop n changes)) (undone (slice_set slots i v) (drop n changes))
     (notes-undone slots (slice_set slots i v) (drop n changes) (map-set_same (λ (s : GroupOrLoopState). s.noted) slots i v d e)) (noted n most)
 
--- one that is noted last
+-- Setting a slot after its old value was logged keeps the order of the log.
 noted-more : (slots : List GroupOrLoopState) (changes : List UndoEntry) (i : ℕ) (v old : GroupOrLoopState) → old ≡ slice_index_or slots i old → v.noted ≤ length changes + 1
     → AreLoggedInOrder slots changes → AreLoggedInOrder (slice_set slots i v) (changes ++ record { old = old; slot = i } ∷ [])
 noted-more slots changes i v old old_is last noted n most = by (cases_lt (length changes) n)
@@ -163,14 +163,14 @@ noted-fewer slots changes c noted n most =
     subst (All (λ s. s.noted ≤ n)) (ap (undone slots) (drop-append-le n changes (c ∷ []) most) ∙ undone-last slots (drop n changes) c)
     (noted n (let long = length-append changes (c ∷ []) in omega (arith, most, long)))
 
--- ---- A slot that was noted already
+-- ---- A slot that was logged already
 
 set-again : {X : Type 0} (xs : List X) (i : ℕ) (v w : X) → slice_set (slice_set xs i v) i w ≡ slice_set xs i w
 set-again [] i v w = refl
 set-again (x ∷ xs) zero v w = refl
 set-again (x ∷ xs) (suc i) v w = ap (λ l. x ∷ l) (set-again xs i v w)
 
--- whether one of the changes is of this slot
+-- The changes set the slot again, or none of them does.
 abbrev Covers : List GroupOrLoopState → List UndoEntry → (i : ℕ) → GroupOrLoopState → Type 0
 Covers slots changes i v =
     (undone (slice_set slots i v) changes ≡ undone slots changes)
@@ -196,7 +196,7 @@ covers slots (c ∷ changes) i v = by (covers slots changes i v)
     by (inl e) = inl (ap (λ l. slice_set l c.slot c.old) e)
     by (inr e) = other e.0 e.1 (c.slot == i) refl
 
--- what a slot holds that was noted behind so many changes is of no concern to what it held before
+-- The value of a slot that was logged after `n` changes does not affect the slots before.
 covered : (slots : List GroupOrLoopState) (changes : List UndoEntry) (n i : ℕ) (v d : GroupOrLoopState) → AreLoggedInOrder slots changes → n ≤ length changes → i < length slots
     → n < (slice_index_or slots i d).noted → undone (slice_set slots i v) (drop n changes) ≡ undone slots (drop n changes)
 covered slots changes n i v d noted most inside late = by (covers slots (drop n changes) i v)
@@ -209,7 +209,7 @@ covered slots changes n i v d noted most inside late = by (covers slots (drop n 
         absurd (omega (arith, few, same, late))
 
 module _ (groups : ℕ) (slots : List GroupOrLoopState) (log_len free : ℕ) (log : List UndoEntry) (choice_point_len : ℕ) (choice_points : List ChoicePoint) (there : IsStateInvariant groups slots log_len free log choice_point_len choice_points) where
-  -- a slot is set, which is noted as this number
+  -- A slot is set, and its log entry has this number.
   module _ (i : ℕ) (value : GroupOrLoopState) (less : i < length slots) (n log_len' free' : ℕ) (log' : List UndoEntry) (fits : log_len' ≤ length log') (free_fits : free' ≤ length log') where
     abbrev old : GroupOrLoopState
     old = slice_index_or slots i no_slot
@@ -226,7 +226,7 @@ module _ (groups : ℕ) (slots : List GroupOrLoopState) (log_len free : ℕ) (lo
     abbrev so_far : List UndoEntry
     so_far = take log_len log
 
-    -- what is seen of it, before and then
+    -- A search sees these states before and after the change.
     abbrev view : List GroupOrLoopState → List UndoEntry → List ChoicePoint → (begun : ℕ) → StateModel
     view slots changes others begun = record { groups = groups; slots = map (logical_slot_value begun) slots; log = map (logical_undo_entry begun) changes; choice_points = others }
 
@@ -249,7 +249,7 @@ module _ (groups : ℕ) (slots : List GroupOrLoopState) (log_len free : ℕ) (lo
     slots-seen : (begun : ℕ) → value.is_set ≡ true → value.noted ≡ 0 → map (logical_slot_value begun) now ≡ slice_set (map (logical_slot_value begun) slots) i value
     slots-seen begun set none = sym (map-set (logical_slot_value begun) slots i put) ∙ ap (slice_set (map (logical_slot_value begun) slots) i) (seen-set begun n value set none)
 
-    -- what it held is noted behind the others
+    -- The old value of the slot is logged after the earlier changes.
     back : undone now (so_far ++ change i old ∷ []) ≡ undone slots so_far
     back = undone-last now so_far (change i old) ∙ ap (λ s. undone s so_far) (ap (slice_set now i) old_is ∙ set-twice slots i put old)
 
@@ -270,7 +270,7 @@ module _ (groups : ℕ) (slots : List GroupOrLoopState) (log_len free : ℕ) (lo
       choice_points = refl;
     }
 
-    -- it was noted since the last mark
+    -- The slot was logged since the last choice point.
     already-there : 0 < old.noted → n ≡ old.noted → take log_len' log' ≡ so_far → IsStateInvariant groups now log_len' free' log' choice_point_len choice_points
     already-there late same are =
         let held = ap (λ (s : GroupOrLoopState). s.noted) old_is in
@@ -308,7 +308,7 @@ module _ (groups : ℕ) (slots : List GroupOrLoopState) (log_len free : ℕ) (lo
     set-seen begun others set none (once last more are) = subst (SeenSet begun others) (sym (ap (λ k. take k log') more ∙ are)) (once-seen begun others set none)
     set-seen begun others set none (already late same kept are) = subst (SeenSet begun others) (sym (ap (λ k. take k log') kept ∙ are)) (already-seen begun others set none late)
 
-  -- the last change is taken back
+  -- The last change is undone.
   module _ (some : 0 < log_len) (c : UndoEntry) (c_is : c ≡ slice_index_or log (log_len - 1) c) where
     abbrev before : List UndoEntry
     before = take (log_len - 1) log
@@ -348,13 +348,13 @@ module _ (groups : ℕ) (slots : List GroupOrLoopState) (log_len free : ℕ) (lo
           choice_points = refl;
         }
 
--- ---- Before a search
+-- ---- The state before a search
 
 no-changes : (begun : ℕ) (changes : List UndoEntry) → map (logical_undo_entry begun) changes ≡ [] → changes ≡ []
 no-changes begun [] e = refl
 no-changes begun (c ∷ changes) e = cc
 
--- where no change is left to take back, no slot was set or noted
+-- If no change is left to undo, no slot was set or logged.
 pub fresh-now : (begun : ℕ) (slots : List GroupOrLoopState) (changes : List UndoEntry) → AreUnset (undone slots changes) → AreLoggedInOrder slots changes → map (logical_undo_entry begun) changes ≡ []
     → SlotsAreUnsetAndUnlogged slots
 fresh-now begun slots changes unset noted none =
@@ -363,7 +363,7 @@ fresh-now begun slots changes unset noted none =
     let are_few = subst (λ l. All (λ s. s.noted ≤ 0) (undone slots l)) no_more (noted 0 (omega arith)) in
     λ k d less. (are_unset k d less, are_few k d less)
 
--- and then no change is noted
+-- If no slot was set or logged, all slots are unset.
 pub fresh-unset : (slots : List GroupOrLoopState) → SlotsAreUnsetAndUnlogged slots → AreUnset slots
 fresh-unset slots fresh k d less = (fresh k d less).0
 
@@ -376,7 +376,7 @@ pub begun-laid_out : (groups loops at : ℕ) (slots : List GroupOrLoopState) →
 begun-laid_out groups loops at slots fresh long =
     ap (λ s. record { groups = groups; slots = s; log = []; choice_points = [] }) (seen-fresh at slots fresh ∙ ap (λ n. replicate n (initial_slot at)) long)
 
--- one slot more was not set or noted
+-- If the slots before `n` and the new value are fresh, so are the slots up to `n`.
 pub fresh-more : (slots : List GroupOrLoopState) (n : ℕ) (v : GroupOrLoopState) → IsFresh v → ((k : ℕ) (d : GroupOrLoopState) → k < n → IsFresh (slice_index_or slots k d))
     → n < length slots → (k : ℕ) (d : GroupOrLoopState) → k < n + 1 → IsFresh (slice_index_or (slice_set slots n v) k d)
 fresh-more [] n v e before inside k d less = absurd (omega (arith, inside))
@@ -386,7 +386,7 @@ fresh-more (x ∷ slots) (suc n) v e before inside zero d less = before 0 d (ome
 fresh-more (x ∷ slots) (suc n) v e before inside (suc k) d less =
     fresh-more slots n v e (λ k d less. before (suc k) d (omega (arith, less))) (omega (arith, inside)) k d (omega (arith, less))
 
--- where a change is noted there are some
+-- If a change is seen in the log, the log is not empty.
 pub some-logged : (begun log_len : ℕ) (log : List UndoEntry) → 0 < length (map (logical_undo_entry begun) (take log_len log)) → 0 < log_len
 some-logged begun zero log some = absurd (omega (arith, some))
 some-logged begun (suc n) log some = omega arith

@@ -25,7 +25,7 @@ pub Each-on : (P Q : Spot → Type 0) → ((t : Spot) → P t → Q t) → (S : 
 Each-on P Q f [] h = tt
 Each-on P Q f (s ∷ S) h = (f s h.0, Each-on P Q f S h.1)
 
--- the result of a search, without what depends on the groups before and on the iteration
+-- An answer is a search's result without what depends on groups and the iteration.
 pub record Answer : Type 0 where
   pub steps : ℕ
   pub end : Option Spot
@@ -34,7 +34,7 @@ abbrev pub more : ℕ → Option Answer → Option Answer
 more n None = None
 more n (Some a) = Some (record { steps = n + a.steps; end = a.end })
 
--- what continues after a lookaround
+-- The search continues at these spots after a lookaround.
 abbrev pub spots_after : (negate : Bool) (to pos : ℕ) → List Note → Option Spot → List Spot
 spots_after false to pos notes None = []
 spots_after false to pos notes (Some t) = runs to pos (spot_notes t) ∷ []

@@ -144,7 +144,7 @@ module _ (program : Program) (plan : Plan) where
   pub op-is-no-backreference : (ip : ℕ) (op : Op) (insn : Insn) → is_backreference_op op ≡ false → IsOpOf program plan op ip insn → IsNoBackreference insn
   op-is-no-backreference ip op insn h is = none-refers insn (op-refers program plan ip op insn is ∙ h)
 
--- each instruction has an operation
+-- Each instruction has an operation.
 module _ (wide : Bool) (program : Program) (plan : Plan) (is_plan : IsPlanOf wide program plan) where
   none-past : {X : Type 0} (xs : List X) (i : ℕ) → slice_get xs i ≡ None → length xs ≤ i
   none-past [] i e = omega arith

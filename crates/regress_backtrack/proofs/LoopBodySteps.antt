@@ -34,7 +34,7 @@ use Rattle.regress_backtrack.proofs.GroupChangeLists.{Slots, Note, wiped, begun,
 
 -- ---- Places in a body
 
--- a thread in the body: an instruction, an offset, and what was done to groups since the body began
+-- A spot is a thread in the body: an instruction, an offset and the changes of groups.
 pub data Spot : Type 0 where
   runs : (ip pos : ℕ) (notes : List Note) → Spot
   waits : (ip pos : ℕ) (notes : List Note) → Spot
@@ -51,11 +51,11 @@ abbrev pub spot_notes : Spot → List Note
 spot_notes (runs ip pos notes) = notes
 spot_notes (waits ip pos notes) = notes
 
--- the groups of a state
+-- The slots of a state are its groups and their starts.
 abbrev pub slots_of : State → Slots
 slots_of s = record { groups = s.groups; starts = s.starts }
 
--- the state there, in iteration `k` of the loop, which began with these groups in place of the state's
+-- A thread in iteration `k`, which began with the groups `J`, has this state.
 abbrev pub state_at : State → (id k : ℕ) → Slots → (ip pos : ℕ) → List Note → State
 state_at x id k J ip pos notes = record x {
   ip = ip;
@@ -71,7 +71,7 @@ thread_at x id k J (waits ip pos notes) = waiting (state_at x id k J ip pos note
 
 -- ---- Offsets
 
--- the same offset, or one that is nearer to the end
+-- The offset is equal or nearer to the end.
 abbrev pub Onward : (text : Text) (d : Direction) (from to : ℕ) → Type 0
 Onward text d from to = (from ≡ to) ⊎ (left_from (units text) d to + 1 ≤ left_from (units text) d from)
 
@@ -118,19 +118,19 @@ module _ (changes : Bool) (program : Program) (text : Text) (is : HasRisingPlace
   abbrev at : (k : ℕ) (J : Slots) → Spot → Thread
   at k J = thread_at x id k J
 
-  -- where groups may not change, none has
+  -- If groups cannot change, no group has changed.
   abbrev pub Quiet : List Note → Type 0
   Quiet notes = changes ≡ false → notes ≡ []
 
-  -- at any iteration, with as many groups
+  -- The claim holds in any iteration, with as many groups.
   abbrev pub Always : ((k : ℕ) (J : Slots) → Type 0) → Type 0
   Always P = (k : ℕ) (J : Slots) → AsMany J (slots_of x) → P k J
 
-  -- a place in the body to which a thread may go from an instruction and an offset
+  -- A thread at an instruction and an offset may continue at this spot of the body.
   abbrev pub Reached : (d : Direction) (stop ip pos : ℕ) → Spot → Type 0
   Reached d stop ip pos t = MayContinue program stop ip (spot_ip t) × Onward text d pos (spot_pos t) × Quiet (spot_notes t)
 
-  -- what the instruction does
+  -- A turn at an instruction of the body has one of these results.
   pub data Turned (d : Direction) (from stop ip pos : ℕ) (notes : List Note) : Type 0 where
     sticks : Always (λ k J. act program text d (st k J ip pos notes) ≡ stuck) → Turned d from stop ip pos notes
     ended : (LookaroundsEndBy program from ip → ⊥) → Always (λ k J. act program text d (st k J ip pos notes) ≡ ends (st k J ip pos notes)) → Turned d from stop ip pos notes

@@ -24,7 +24,7 @@ use Rattle.regress_backtrack.proofs.StatePreservationLemmas.{keeps-state}
 use Rattle.regress_backtrack.proofs.CharLoopKeyLemmas.{of-run}
 use Rattle.regress_backtrack.specs.FailuresInMemoTable.{scheme_of}
 
--- where threads find an end, those that agree with them do
+-- If threads find an end, threads that agree with them find one.
 module _ (program : Program) (text : Text) (a : Liveness) (acc : IsLivenessFor program text a) (d : Direction) where
   some-ends : (x y : Option State) → AlikeEnds (Agree a (units text) outermost d) x y → IsSome x → IsSome y
   some-ends None y h i = cc
@@ -41,10 +41,10 @@ module _ (program : Program) (text : Text) (a : Liveness) (acc : IsLivenessFor p
           (subst (λ o. AlikeAnswers (Agree a (units text) outermost d) None o) q
           (subst (λ o. AlikeAnswers (Agree a (units text) outermost d) o (search program text turns d us)) e (rows-alike program text a acc turns outermost d ts us h)))
 
--- the account of a ledger is right, and its keys decide
+-- The analysis gives sound terms of the memo, and its keys decide what threads find.
 module _ (program : Program) (text : Text) (t : MemoAnalysis) (of : IsAnalysisOf program t) (is : HasRisingPlaceOffsets text) (bytes : ReadsAsBytes program text)
     (fits : units text < 2 ^ 63) where
-  -- where one that a key stands for finds no end, none does
+  -- If threads of a key find no end, the key fails.
   all-fail : (d : Direction) (k : Key) (ts : List Thread) → StandsFor program text (scheme_of t) d k ts → FindNoEnd program text d ts
       → KeyFails program text (scheme_of t) k
   all-fail d k ts stands found e us other turns f h =
@@ -57,7 +57,7 @@ module _ (program : Program) (text : Text) (t : MemoAnalysis) (of : IsAnalysisOf
       let nothing = subst (λ x. AllFindNothing program text x ts) same (row-alone program text d ts found) in
       row-ends program text e turns us f (row-shared program text a serves.plan.liveness e ts us alike nothing) h
 
-  -- where one that a key stands for finds an end, all do
+  -- If threads of a key find an end, the key finds an end.
   all-find : (d : Direction) (k : Key) (ts : List Thread) → StandsFor program text (scheme_of t) d k ts → FindEnd program text d ts
       → KeyFindsEnd program text (scheme_of t) k
   all-find d k ts stands found e us other =
@@ -83,7 +83,7 @@ module _ (program : Program) (text : Text) (t : MemoAnalysis) (of : IsAnalysisOf
     fails = λ k h. absurd (both_ways (failed k) (none k) h);
   }
 
-  -- a memory of it in which nothing is known
+  -- An empty memo is sound.
   pub memory-right : (m : MemoView) (places : ℕ) (wanted : Bool) → IsEmptyMemo t places wanted m
       → AreFailuresSoundIn program text (scheme_of m.memo_analysis) (has_failure m) × AreEndsSoundIn program text (scheme_of m.memo_analysis) (has_success m)
   memory-right m places wanted b = (

@@ -27,9 +27,9 @@ use Rattle.regress_search.specs.declared.exec.SearchError.TheVariants.{Memory, S
 use Rattle.regress_backtrack.specs.TextsReadAsTreeRequires.{TreeCanSearchText}
 use Rattle.regress_backtrack.proofs.CandidateStartLemmas.{next-further}
 
--- ---- What can be searched by the one can be by the other
+-- ---- Each tree can search the texts that the other can
 
--- what is known of a program that a text is searched with
+-- A well-formed tree can search each text that its flags and byte nodes allow.
 pub can-be : {re run : Regex} {text : Text} {are_bytes : Bool} → re ≡ run → IsTrue (is_well_formed (tree_of run).root) → text.unicode ≡ (tree_of run).flags.unicode
     → (IsTrue (tree_contains_byte_nodes (tree_of run).root) → IsByteText text are_bytes) → TreeCanSearchText (tree_of re) text
 can-be {text = text} same well unicode bytes =
@@ -48,7 +48,7 @@ search-context wide t text can is =
     let run = can-context wide t text can in
     can-search (planned_tree wide t) text run.well_formed is run.unicode run.bytes
 
--- the same of what is known of the program
+-- The same holds for the planned tree.
 pub can-run : {re run : Regex} {text : Text} {are_bytes : Bool} (wide : Bool) → re ≡ run → IsTrue (is_well_formed (tree_of run).root) → text.unicode ≡ (tree_of run).flags.unicode
     → (IsTrue (tree_contains_byte_nodes (tree_of run).root) → IsByteText text are_bytes) → TreeCanSearchText (planned_tree wide (tree_of re)) text
 can-run {re = re} {text = text} wide same well unicode bytes = can-context wide (tree_of re) text (can-be same well unicode bytes)
@@ -57,7 +57,7 @@ pub search-run : {re run : Regex} {text : Text} {are_bytes : Bool} (wide : Bool)
     → (IsTrue (tree_contains_byte_nodes (tree_of run).root) → IsByteText text are_bytes) → HasRisingPlaceOffsets text → TreeProgramCanSearchText (compiled (planned_tree wide (tree_of re))) (planned_tree wide (tree_of re)) text
 search-run {re = re} {text = text} wide same well unicode bytes is = search-context wide (tree_of re) text (can-be same well unicode bytes) is
 
--- ---- Both find the same
+-- ---- Both trees find the same matches
 
 first_of_pairs : List Outcome → Option Outcome
 first_of_pairs [] = None
@@ -69,7 +69,7 @@ first-of-pairs [] = refl
 first-of-pairs (tick ∷ items) = first-of-pairs items
 first-of-pairs (pair o ∷ items) = refl
 
--- the first outcome of a root at a place
+-- This is the first outcome of a root at a place.
 first_at : Text → (place : ℕ) → Node → Option Outcome
 first_at text place root = first_of_pairs (outcomes text root rightwards place (no_groups root))
 
@@ -88,7 +88,7 @@ first-context wide t text h place =
     (outcomes-optimized t.root h text rightwards place _ ∙ ap (λ ids. outcomes text t.root rightwards place (replicate (length ids) None)) (group_ids-optimized t.root)))
     ∙ sym (first-is t text place)
 
--- the end and the groups of the first outcome from an offset
+-- Both trees have the same end and groups of the first outcome at an offset.
 pub end-context : (wide : Bool) (t : Tree) (text : Text) → IsTrue (is_well_formed t.root) → (at : ℕ) → match_end_and_groups_at (planned_tree wide t) text at ≡ match_end_and_groups_at t text at
 end-context wide t text h at = by (place_at text at)
   where
@@ -103,7 +103,7 @@ pub ends-context : {P : Type 0} (offset : P → ℕ) (wide : Bool) (t : Tree) (t
     → IfOk r (λ end. end_with_groups offset end groups ≡ match_end_and_groups_at t text at)
 ends-context offset wide t text h at groups r = IfOk-weaker r _ _ (λ end found. found ∙ end-context wide t text h at)
 
--- ---- And so they try the same
+-- ---- Both trees try the same starts
 
 none-same : (a b : Tree) (text : Text) → ((at : ℕ) → match_end_and_groups_at a text at ≡ match_end_and_groups_at b text at) → (from to : ℕ) → NoMatchStartsBetween a text from to → NoMatchStartsBetween b text from to
 none-same a b text same from to none = λ at on le less. sym (same at) ∙ none at on le less
@@ -112,26 +112,26 @@ next-same : (a b : Tree) (text : Text) → ((at : ℕ) → match_end_and_groups_
 next-same a b text same from None none = none-same a b text same from (units text + 1) none
 next-same a b text same from (Some to) try = (try.0, try.1, none-same a b text same from to try.2)
 
--- the next offset to try for what is run is that for the tree
+-- The next start of the planned tree is a next start of the tree.
 pub next-tree : (wide : Bool) (t : Tree) (text : Text) → IsTrue (is_well_formed t.root) → (from : ℕ) (next : Option ℕ)
     → NextStartSkipsNoMatch (planned_tree wide t) text from next → NextStartSkipsNoMatch t text from next
 next-tree wide t text h from next = next-same (planned_tree wide t) t text (end-context wide t text h) from next
 
--- and so is the one from the next one on for what is said of the tree
+-- The next start after a next start of the planned tree is a next start of the tree.
 pub next-context : {re run : Regex} (wide : Bool) (text : Text) → re ≡ run → IsTrue (is_well_formed (tree_of re).root) → (from next : ℕ) (to : Option ℕ)
     → NextStartSkipsNoMatch (tree_of run) text from (Some next) → NextStartSkipsNoMatch (planned_tree wide (tree_of re)) text next to → NextStartSkipsNoMatch (tree_of re) text from to
 next-context {re = re} wide text same well from next to first second =
     next-further (tree_of re) text from next to (subst (λ re. NextStartSkipsNoMatch (tree_of re) text from (Some next)) (sym same) first)
     (next-tree wide (tree_of re) text well next to second)
 
--- without a limit nothing is said of how many steps are needed
+-- Without a step limit nothing is claimed about the steps needed.
 pub spends-unlimited : {X : Type 0} (need other : ℕ) (r : Result X SearchError) → SpendsNeedOrReachesLimit need None r None → SpendsNeedOrReachesLimit other None r None
 spends-unlimited need other (Ok x) h = h
 spends-unlimited need other (Err Memory) h = h
 spends-unlimited need other (Err StepLimit) h = h
 
--- ---- In bytes
+-- ---- Bytes
 
--- what is run there is the tree
+-- If `wide` is false, the planned tree is the tree itself.
 pub context-single_unit : (wide : Bool) (t : Tree) → wide ≡ false → planned_tree wide t ≡ t
 context-single_unit wide t single_unit = ap (λ w. planned_tree w t) single_unit

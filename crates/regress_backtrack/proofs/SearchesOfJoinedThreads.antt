@@ -14,7 +14,7 @@ module _ (program : Program) (text : Text) (d : Direction) where
   abbrev Rest : Type 0
   Rest = List Thread → Option Found
 
-  -- by the searches of what stands behind: it ends before, or leaves these with so many turns
+  -- The first threads end the search, or they leave the other threads with these turns.
   pub data Parts (n : ℕ) (whole : Rest) (xs : List Thread) (f : Found) : Type 0 where
     ended : IsSome f.end → ((ys : List Thread) → whole ys ≡ Some f) → Parts n whole xs f
     passed : (m c : ℕ) (g : Found) → m ≤ n → search program text m d xs ≡ Some g → later c g ≡ f

@@ -18,7 +18,7 @@ pub ok-more : {X E A B : Type 0} (r : Result X E) → (A → B) → OnOk r A →
 ok-more (Ok x) f a = f a
 ok-more (Err e) f a = tt
 
--- a slot that was set
+-- Setting a slot undoably changes the state as the new slot shows.
 pub becomes : (change : State → State) (slot : ℕ) (value : GroupOrLoopState) (h h' : StateModel)
     → ((ip pos : ℕ) → state_in h.groups (slice_set h.slots slot value) ip pos ≡ change (current_thread_state_of h ip pos)) → SetsSlotUndoably slot value h h' → ChangesStateUndoably change h h'
 becomes change slot value h h' state set = record {
@@ -51,20 +51,20 @@ module _ (groups : ℕ) (slots : List GroupOrLoopState) (ip pos : ℕ) where
     loops : map loop_data_in_slot (drop groups (slice_set slots i v)) ≡ map loop_data_in_slot (drop groups slots)
     loops = ap (map loop_data_in_slot) (drop-set-lt groups slots i v less)
 
-    -- a group with a new start
+    -- Setting a group's slot sets the group's range and start.
     pub opens : state_in groups (slice_set slots i v) ip pos ≡ record (state_in groups slots ip pos) { groups = slice_set (map range_in prefix) i (range_in v); starts = slice_set (map (λ (s : GroupOrLoopState). s.at) prefix) i v.at }
     opens =
         same-state ip pos _ _ _ _ _ _ ranges
         (ap (map (λ s. s.at)) (take-set-lt groups slots i v less) ∙ sym (map-set (λ (s : GroupOrLoopState). s.at) prefix i v)) loops
 
-    -- one that keeps its start
+    -- Setting a group's slot with an equal start sets only the group's range.
     pub keeps : (x : GroupOrLoopState) → x ≡ get_or slots i x → v.at ≡ x.at
         → state_in groups (slice_set slots i v) ip pos ≡ record (state_in groups slots ip pos) { groups = slice_set (map range_in prefix) i (range_in v) }
     keeps x e f =
         same-state ip pos _ _ _ _ _ _ ranges
         (ap (map (λ s. s.at)) (take-set-lt groups slots i v less) ∙ numbers-kept prefix i v x (e ∙ sym (get_or-take groups slots i x less)) f) loops
 
-  -- a loop
+  -- Setting a loop's slot sets the loop's data.
   pub enters : (id : ℕ) (v : GroupOrLoopState) → state_in groups (slice_set slots (groups + id) v) ip pos ≡ record (state_in groups slots ip pos) { loops = slice_set (map loop_data_in_slot (drop groups slots)) id (loop_data_in_slot v) }
   enters id v =
       let before = take-set-le groups slots (groups + id) v (omega arith) in
@@ -72,9 +72,9 @@ module _ (groups : ℕ) (slots : List GroupOrLoopState) (ip pos : ℕ) where
       (ap (map range_in) before) (ap (map (λ s. s.at)) before)
       (ap (map loop_data_in_slot) (drop-set-add groups slots id v) ∙ sym (map-set loop_data_in_slot (drop groups slots) id v))
 
--- ---- What is read
+-- ---- Fields of slots
 
--- something of one of the groups
+-- A field of a group's slot is read from the list of the groups' fields.
 pub of-group : {X : Type 0} (f : GroupOrLoopState → X) (groups : ℕ) (slots : List GroupOrLoopState) (i : ℕ) (s : GroupOrLoopState) → i < groups → slice_get slots i ≡ Some s
     → slice_get (map f (take groups slots)) i ≡ Some (f s)
 of-group f groups [] i s less e = cc

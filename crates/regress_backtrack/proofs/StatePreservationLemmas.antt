@@ -23,7 +23,7 @@ use Rattle.regress_backtrack.specs.FailureMemo.{SearchKeepsState}
 use Rattle.regress_backtrack.specs.FailuresInMemoTable.{keeps_state_from}
 use Rattle.regress_backtrack.proofs.GroupChangeLists.{by-slots}
 
--- an empty range has no entries
+-- An empty range has no rows.
 none-in : (rows : List EnclosingLoop) (line : InsnAnalysis) → line.first ≡ line.end → rows_in rows line ≡ []
 none-in rows line e = by (nat_le line.first line.end && nat_le line.end (length rows))
   where
@@ -34,7 +34,7 @@ none-in rows line e = by (nat_le line.first line.end && nat_le line.end (length 
     by true = empty
     by false = refl
 
--- states that differ at most in the instruction and the offset
+-- States with equal groups, starts and loops differ only in the address and the offset.
 same-data : (s e : State) → e.groups ≡ s.groups → e.starts ≡ s.starts → e.loops ≡ s.loops → e ≡ record s { ip = e.ip; pos = e.pos }
 same-data s e groups starts loops =
     ap (λ g. record e { groups = g }) groups
@@ -46,7 +46,7 @@ module _ (program : Program) (text : Text) (t : MemoAnalysis) (of : IsAnalysisOf
   abbrev a : Liveness
   a = analysis_as_liveness t
 
-  -- a world in which none of the loops is written
+  -- No loop is written in this world.
   abbrev unwritten : World
   unwritten = record { starts = λ id. false; kept = λ l. nat_lt l (length s.loops); left = s.loops; right = s.loops }
 
@@ -65,7 +65,7 @@ module _ (program : Program) (text : Text) (t : MemoAnalysis) (of : IsAnalysisOf
   most : length s.loops ≤ line.from
   most = leb-true (length s.loops) line.from loop-checks.1
 
-  -- the state is sound in it
+  -- The state is sound in that world.
   sound : (d : Direction) → Agree a (units text) unwritten d s s
   sound d = record {
     ip = refl;
@@ -83,7 +83,7 @@ module _ (program : Program) (text : Text) (t : MemoAnalysis) (of : IsAnalysisOf
         record { left = refl; right = refl; writes = lt-leb line.from l (omega (arith, less, many)) };
   }
 
-  -- and so is the state with which the search ends
+  -- The end state of a search is sound in that world.
   sound-end : (d : Direction) (turns : ℕ) (f : Found) (e : State) → search program text turns d (running s ∷ []) ≡ Some f → f.end ≡ Some e → Agree a (units text) unwritten d e e
   sound-end d turns f e searches ended =
       let both = rows-alike program text a liveness turns unwritten d (running s ∷ []) (running s ∷ []) (sound d, tt) in

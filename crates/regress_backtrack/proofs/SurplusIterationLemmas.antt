@@ -33,7 +33,7 @@ use Rattle.regress_backtrack.proofs.LookaroundsInLoopBodies.{map-joined, Each-jo
 -- ---- One step
 
 module _ (program : Program) (text : Text) (d : Direction) where
-  -- a search that goes on, with one turn less
+  -- A search of these threads gives the result with one turn less and `c` steps more.
   record Fore (c n : ℕ) (ws : List Thread) (f : Found) : Type 0 where
     turns : ℕ
     less : n ≡ turns + 1
@@ -41,7 +41,7 @@ module _ (program : Program) (text : Text) (d : Direction) where
     searches : search program text turns d ws ≡ Some found
     is : later c found ≡ f
 
-  -- in so many steps threads leave others, with `w` turns at least
+  -- Threads leave others in `c` steps, with at least `w` turns.
   record Steps (w c : ℕ) (us ws : List Thread) : Type 0 where
     fore : (n : ℕ) (f : Found) → search program text n d us ≡ Some f → Fore c n ws f
     back : (n : ℕ) (g : Found) → w ≤ n + 1 → search program text n d ws ≡ Some g → search program text (suc n) d us ≡ Some (later c g)
@@ -91,7 +91,7 @@ module _ (program : Program) (text : Text) (d : Direction) where
   steps-scans : (s : State) (tries : ℕ) (ss ts : List Thread) → act program text d s ≡ scans tries ss → Steps 0 (1 + tries) (running s ∷ ts) (ss ++ ts)
   steps-scans s tries ss ts is = record { fore = scans-fore s tries ss ts is; back = λ n g le e. scans-back s tries ss ts is n g e }
 
-  -- a lookaround, the search of whose contents returns
+  -- The current instruction is a lookaround, and the search of its contents returns.
   module _ (inner : Direction) (negate : Bool) (s u y : State) (asked_is : act program text d s ≡ asks inner negate u y) (ts : List Thread) where
     asks-turn : (n : ℕ) (r : Option Found) → search program text n inner (running u ∷ []) ≡ r
         → search program text (suc n) d (running s ∷ ts) ≡ after_lookaround_search (search program text n d) negate y ts r
@@ -147,7 +147,7 @@ module _ (program : Program) (text : Text) (d : Direction) where
   unfolding search
   no-threads n = refl
 
-  -- a search that answers with this end, in no more steps
+  -- A search has this end in at most as many steps.
   record Ends (n : ℕ) (ts : List Thread) (f : Found) : Type 0 where
     found : Found
     searches : search program text n d ts ≡ Some found
@@ -167,7 +167,7 @@ module _ (program : Program) (text : Text) (d : Direction) where
       by (ended some all) = absurd (is-none h.found.end h.none some)
       by (passed m c g le at sum on) = record { turns = m; found = g; searches = at; none = ap (λ (h : Found). h.end) sum ∙ h.none }
 
-  -- what passes finds nothing by itself
+  -- Threads whose search passes on to an empty list find nothing.
   nothing-itself : (n c : ℕ) (ts : List Thread) → search program text n d (ts ++ []) ≡ Some (later c result_without_threads) → Nothing ts
   nothing-itself n c ts e = record {
     turns = n;
@@ -183,7 +183,7 @@ module _ (program : Program) (text : Text) (d : Direction) where
       by (ended some all) = absurd (is-none h.found.end h.none some)
       by (passed m c g le at sum on) = nothing-itself h.turns c (t ∷ []) (on [] result_without_threads (no-threads m))
 
-  -- a search that ends, and one of the same threads that finds nothing
+  -- A search that ends contradicts a search of the same threads that finds nothing.
   never-both : (n : ℕ) (ts : List Thread) (f : Found) → search program text n d ts ≡ Some f → IsSome f.end → Nothing ts → ⊥
   never-both n ts f e some h = is-none f.end (ap (λ (g : Found). g.end) (search_same program text n h.turns d ts f h.found e h.searches) ∙ h.none) some
 
@@ -223,7 +223,7 @@ module _ (program : Program) (text : Text) (d : Direction) where
         few = omega (arith, fewer, sum);
       }
 
--- ---- Threads that differ in groups that nothing reads
+-- ---- Threads that differ in groups that no instruction reads
 
 differ-itself : (s : State) → Differ s s
 differ-itself s = record { groups = s.groups; starts = s.starts; is = refl; as_many_groups = refl; as_many_starts = refl }
@@ -241,7 +241,7 @@ module _ (changes : Bool) (program : Program) (text : Text) (d : Direction) (unr
     same : changes ≡ false → ts ≡ us
     alike : AlikeThreads Differ ts us
 
-  -- so many steps too, and an end if the other one has one
+  -- The other search takes as many steps and has an end if this one has.
   record Also (n : ℕ) (us : List Thread) (f : Found) : Type 0 where
     found : Found
     searches : search program text n d us ≡ Some found
@@ -280,7 +280,7 @@ module _ (changes : Bool) (program : Program) (text : Text) (d : Direction) (unr
       let a = also h.turns ts us likes h.found h.searches in
       record { turns = h.turns; found = a.found; searches = a.searches; none = a.none h.none }
 
--- ---- Where a thread in the body may be
+-- ---- Where a thread may be in the body
 
 set-none : {X : Type 0} (xs : List X) (i : ℕ) (x : X) → length xs ≤ i → slice_get (slice_set xs i x) i ≡ None
 set-none [] i x le = refl
@@ -317,7 +317,7 @@ module _ (program : Program) (text : Text) (is : HasRisingPlaceOffsets text) (re
     abbrev Still : List Note → Type 0
     Still notes = Quiet changes program text is reads x f.loop_id notes
 
-    -- iteration `k` begins with these groups
+    -- An iteration begins in this state, with the groups `J` at the offset `pos`.
     abbrev put_slots : Slots → (pos : ℕ) → State
     put_slots J pos = record x { pos = pos; groups = J.groups; starts = J.starts }
 
@@ -337,7 +337,7 @@ module _ (program : Program) (text : Text) (is : HasRisingPlaceOffsets text) (re
     fit-applied : (notes : List Note) → Still notes → (J : Slots) → Fit J → Fit (applied notes J)
     fit-applied notes still J fit = record { many = as-many notes J J0 fit.many; same = λ q. ap (λ notes. applied notes J) (still q) ∙ fit.same q }
 
-    -- ---- Groups do not matter
+    -- ---- Groups do not affect the search
 
     state-differs : (k : ℕ) (J K : Slots) → Fit J → Fit K → (ip pos : ℕ) (notes : List Note) → Differ (st k J ip pos notes) (st k K ip pos notes)
     state-differs k J K j h ip pos notes = record {
@@ -394,7 +394,7 @@ module _ (program : Program) (text : Text) (is : HasRisingPlaceOffsets text) (re
         ap (λ i. act_on program text d i s) goes_back ∙ ap (λ i. loop_again_effect i begin s) enters
         ∙ ap (λ o. with_some o (λ e. effect_at_iteration_end f begin e s)) (set-none x.loops f.loop_id (record { iters = k; entry = x.pos }) outside)
 
-    -- ---- What stands first
+    -- ---- The first thread
 
     abbrev Fits : Spot → Type 0
     Fits t = (begin + 1 ≤ spot_ip t) × (spot_ip t ≤ stop) × Onward text d x.pos (spot_pos t) × Still (spot_notes t) × LookaroundsEndBy program (begin + 1) (spot_ip t)
@@ -407,7 +407,7 @@ module _ (program : Program) (text : Text) (is : HasRisingPlaceOffsets text) (re
     abbrev Goes : (w c : ℕ) (t : Spot) (T S : List Spot) → Type 0
     Goes w c t T S = (k : ℕ) (J : Slots) → Fit J → (vs : List Thread) → Steps program text d w c (Ts k J (t ∷ T) ++ vs) (Ts k J S ++ vs)
 
-    -- the body ends here: the next iteration begins
+    -- The body ends here, and the next iteration begins.
     record Ended (t : Spot) (T : List Spot) : Type 0 where
       q : ℕ
       notes : List Note
@@ -495,7 +495,7 @@ module _ (program : Program) (text : Text) (is : HasRisingPlaceOffsets text) (re
     first-fits : Each Fits (runs (begin + 1) x.pos [] ∷ [])
     first-fits = ((omega arith, omega (arith, behind), inl refl, (λ q. refl), (λ i after before insn e. absurd (omega (arith, after, before)))), tt)
 
-  -- ---- Where the later iteration finds nothing, the earlier one does
+  -- ---- An iteration finds nothing if a later one finds nothing
 
   abbrev Dead : (k : ℕ) → State → Type 0
   Dead k y = Nothing program text d (running (again f begin (k + 1) y) ∷ []) → (n : ℕ) (vs : List Thread) (a : Found)
@@ -512,7 +512,7 @@ module _ (program : Program) (text : Text) (is : HasRisingPlaceOffsets text) (re
       tail : Nothing program text d (Ts x (k + 1) (J0 x) T)
       tail = tail-nothing program text d (thread_at x f.loop_id (k + 1) (J0 x) t) (Ts x (k + 1) (J0 x) T) nothing
 
-      -- what remains is searched with fewer turns
+      -- If the rest finds nothing, the search ends as that of the other threads.
       rest : (m c : ℕ) (g : Found) → m + 1 ≤ n → (T : List Spot) → Each (Fits x) T → Nothing program text d (Ts x (k + 1) (J0 x) T)
           → search program text m d (Ts x k (J0 x) T ++ vs) ≡ Some g → later c g ≡ a → Ends program text d n vs a
       rest m c g less T h nothing s is =
@@ -576,7 +576,7 @@ module _ (program : Program) (text : Text) (is : HasRisingPlaceOffsets text) (re
   dead-all : (k : ℕ) (x : State) → k + 1 + Left x.pos + 1 ≤ f.min_iters → Dead k x
   dead-all k x few = dead-left (Left x.pos) k x (omega arith) few
 
-  -- it returns too, so it finds nothing by itself
+  -- If the later iteration finds nothing and the search returns, the earlier one finds nothing.
   nothing-before : (k : ℕ) (y : State) → Dead k y → Nothing program text d (running (again f begin (k + 1) y) ∷ []) → (n : ℕ) (vs : List Thread) (a : Found)
       → search program text n d (running (again f begin k y) ∷ vs) ≡ Some a → Nothing program text d (running (again f begin k y) ∷ [])
   nothing-before k y is_dead none n vs a e = by (parts program text d vs n (running (again f begin k y) ∷ []) a e)
@@ -588,11 +588,11 @@ module _ (program : Program) (text : Text) (is : HasRisingPlaceOffsets text) (re
           absurd (is-none program text d a.end (sym z.end ∙ ap (λ (f : Found). f.end) empty) some)
       by (passed m c g le at sum on) = nothing-itself program text d n c (running (again f begin k y) ∷ []) (on [] result_without_threads (no-threads program text d m))
 
-  -- ---- The two iterations side by side
+  -- ---- Two iterations compared
 
   module _ (k : ℕ) (x : State) (few : k + 1 + Left x.pos + 2 ≤ f.min_iters)
       (inner : (y : State) → Left y.pos + 1 ≤ Left x.pos → Simulates program text false d 0 (running (again f begin (k + 1 + 1) y) ∷ []) (running (again f begin (k + 1) y) ∷ [])) where
-    -- what is left of the later iteration, where all before it found nothing
+    -- The remaining threads of the later iteration find what a whole later iteration finds.
     abbrev Remains : List Spot → Type 0
     Remains T = (J : Slots) → Fit x J → (m : ℕ) (ws : List Thread) (r : Found) → search program text m d (R x (k + 1) J x.pos ∷ ws) ≡ Some r → Ends program text d m (Ts x (k + 1) J T ++ ws) r
 
@@ -643,7 +643,7 @@ module _ (program : Program) (text : Text) (is : HasRisingPlaceOffsets text) (re
               let sum = found-steps program text d 1 a1 a was in
               ends-more program text d n m (Ts x (k + 1) (J0 x) (t ∷ T) ++ vs) b a (omega (arith, less)) ends (same ∙ found-end program text d 1 a1 a was) (omega (arith, fewer, sum))
 
-          -- what the later iteration begins with does not depend on the one before
+          -- If the later iteration finds nothing, its remaining threads find nothing.
           remains-nothing : Nothing program text d (R x (k + 1) J1 x.pos ∷ []) → Nothing program text d (Ts x (k + 1) J1 (t ∷ T))
           remains-nothing none =
               let z = remains J1 fit none.turns [] none.found none.searches in
@@ -672,7 +672,7 @@ module _ (program : Program) (text : Text) (is : HasRisingPlaceOffsets text) (re
               let none = none-first (nothing-itself program text d m c (first ∷ []) (on [] result_without_threads (no-threads program text d i))) in
               absurd (never-both program text d m (Ts x (k + 1) J1 (t ∷ T) ++ []) whole.found alone found (nothing-row program text d (Ts x (k + 1) J1 (t ∷ T)) (remains-nothing none)))
 
-          -- nothing at all is found from here
+          -- No thread from here on finds an end.
           module _ (i c : ℕ) (g : Found) (fewer : i ≤ m) (at : search program text i d (Ts x k (J0 x) T ++ vs) ≡ Some g) (sum : later c g ≡ whole.found)
               (on : (ys : List Thread) (h : Found) → search program text i d ys ≡ Some h → search program text m d (Ts x (k + 1) J1 (t ∷ T) ++ ys) ≡ Some (later c h)) where
             nothing1 : Nothing program text d (Ts x (k + 1) J1 (t ∷ T))
@@ -799,7 +799,7 @@ module _ (program : Program) (text : Text) (is : HasRisingPlaceOffsets text) (re
           record { found = r.found; searches = r.searches; end = r.end; few = let few = r.few in omega (arith, few); counted = λ x. cc };
     }
 
-  -- ---- All of them
+  -- ---- All surplus iterations
 
   by-left : (n k : ℕ) (x : State) → Left x.pos ≤ n → k + 1 + Left x.pos + 2 ≤ f.min_iters
       → Simulates program text false d 0 (running (again f begin (k + 1) x) ∷ []) (running (again f begin k x) ∷ [])

@@ -34,7 +34,7 @@ use Rattle.regress_backtrack.specs.declared.failure_memo.RecordKey.{RecordKey as
 use Rattle.regress_backtrack.specs.FailureMemo.{IsKeyOf, memo_key_as_spec}
 use Rattle.regress_backtrack.specs.FailuresInMemoTable.{scheme_of}
 
--- a sound state agrees with itself, where groups are not asked
+-- A sound state agrees with itself if no group is compared.
 module _ (t : MemoAnalysis) (top : ℕ) (d : Direction) (s : State) (sound : IsSoundState (analysis_as_liveness t) top d s) where
   similar : (l : ℕ) → (analysis_as_liveness t).inside s.ip l ≡ true → (o : Option LoopData) → slice_get s.loops l ≡ o
       → SimilarAt (analysis_as_liveness t) top d s.pos s.ip l o o
@@ -61,7 +61,7 @@ pub heads : (b : Bool) → (if b then rightwards else leftwards) ≡ direction_o
 heads true = refl
 heads false = refl
 
--- a sound thread that stands before no run's body has its key
+-- A sound thread that stands at no loop's body has its key.
 pub key-of-thread : (w : SearchInput) (t : MemoAnalysis) (forward : Bool) (s : State) (k : Key) → memo_key_at t s ≡ Some k
     → char_loop_greediness_at (insn_before (program_of w) s.ip) ≡ None → (insn_analysis_of t s.ip).forward ≡ forward → HasSlotsOfProgram (program_of w) s
     → IsSoundState (analysis_as_liveness t) (units w.text) (insn_direction t s.ip) s → IsKeyOf w (scheme_of t) forward k (running s ∷ [])
@@ -70,9 +70,9 @@ key-of-thread w t forward s k is no_body line of sound =
     thread-key (program_of w) w.text t (direction_of_forward_flag forward) s k is no_body way of
     (agrees-itself t (units w.text) (direction_of_forward_flag forward) s (subst (λ d. IsSoundState (analysis_as_liveness t) (units w.text) d s) way sound))
 
--- ---- Bodies of runs
+-- ---- Bodies of loops
 
--- an instruction that reads one character is no run
+-- An instruction that reads one character is no char loop.
 reads-no-run : (insn : Insn) → reads_class_char insn ≡ true → char_loop_greediness_at (Some insn) ≡ None
 reads-no-run (layout.Loop1CharBody a b g) e = cc
 reads-no-run _ e = refl
@@ -88,7 +88,7 @@ look-no-run true negate from to past insn e = ap (λ i. char_loop_greediness_at 
 look-no-run false negate from to past insn e = ap (λ i. char_loop_greediness_at (Some i)) e
 
 module _ (program : Program) (plan : Plan) (ip : ℕ) (insn : Insn) where
-  -- an operation that is no run is one of an instruction that is none
+  -- An operation that is no char loop is one of an instruction that is none.
   pub no-run : (op : Op) → IsOpOf program plan op ip insn → is_some (op_as_char_loop op) ≡ false → char_loop_greediness_at (Some insn) ≡ None
   no-run Goal e h = ap (λ i. char_loop_greediness_at (Some i)) e
   no-run Fail e h = ap (λ i. char_loop_greediness_at (Some i)) e
@@ -119,10 +119,10 @@ no-run-before program (suc ip) h = by (slice_get program.insns ip) refl
     by None e = refl
     by (Some insn) e = let less : suc ip - 1 ≡ ip = omega arith in h insn (ap (λ n. slice_get program.insns n) less ∙ e)
 
--- ---- What is known
+-- ---- Known failures and ends
 
 module _ (m : MemoView) (k : Key) where
-  -- what has no bit is not known to fail
+  -- A key without a bit is not known to fail.
   pub unknown : (b : Bool) → b ≡ false → (IsRecordableMemoKey m.memo_analysis m.places k → IsTrue b) → b ≡ has_failure m k
   unknown b none has = by (has_bit m.memo_analysis m.places k) refl
     where
@@ -130,7 +130,7 @@ module _ (m : MemoView) (k : Key) where
       by false e = none ∙ sym (ap (λ h. h && is_set m.failures (memo_bit_index_of_key m.memo_analysis m.places k.ip k.at k.code)) e)
       by true e = absurd (both_ways b none (has (bit-there m.memo_analysis m.places k e)))
 
-  -- nor to find an end
+  -- A key without a bit is not known to find an end.
   pub unknown-end : (b : Bool) → b ≡ false → (IsRecordableMemoKey m.memo_analysis m.places k → IsTrue b) → b ≡ has_success m k
   unknown-end b none has = by (has_bit m.memo_analysis m.places k) refl
     where
@@ -156,14 +156,14 @@ module _ (m : MemoView) (k : Key) where
     | inr e ↦ inr (same-is j k e)
   ]
 
-  -- what failed is known, and so is what was known before
+  -- A failure that was recorded is known, and earlier failures stay known.
   pub noted-itself : (n : MemoView) → RecordsFailure k m n → has_failure n k ≡ true
   noted-itself n notes = notes.failures k ∙ or_right (has_failure m k) (same_key k k) (same-itself k)
 
   pub noted-kept : (n : MemoView) → RecordsFailure k m n → (j : Key) → has_failure m j ≡ true → has_failure n j ≡ true
   noted-kept n notes j known = notes.failures j ∙ or_left (has_failure m j) (same_key j k) known
 
--- a mark's key is the memory's
+-- A key stored in the memo stands for the threads of the equal key.
 pub stored-key : (w : SearchInput) (t : MemoAnalysis) (forward : Bool) (ts : List Thread) (key : Key) (o : Option Stored)
     → IfSome o (λ k. memo_key_as_spec k ≡ key) → IsKeyOf w (scheme_of t) forward key ts → IfSome o (λ k. IsKeyOf w (scheme_of t) forward (memo_key_as_spec k) ts)
 stored-key w t forward ts key None same of = tt

@@ -1,5 +1,5 @@
 -- Threads that are known to find an end.
-use Rattle.std.specs.Prelude.{ℕ, Bool, [], ◌∷◌}
+use Rattle.std.specs.Prelude.{◌≡◌, ◌≤◌, ◌<◌, ℕ, ◌+◌, ◌-◌, Bool, true, [], ◌∷◌, length, Some, slice_get}
 use Rattle.regress_input.specs.CharAndByteReadsFromOffset.{direction_of_forward_flag, place}
 use Rattle.regress_machine.specs.Machine.{running}
 use Rattle.regress_memo.specs.MemoSearch.{FindEnd}
@@ -11,6 +11,11 @@ use Rattle.regress_backtrack.specs.declared.position_and_result.ThreadPos.{Threa
 use Rattle.regress_backtrack.specs.declared.failure_memo.RecordKey.{RecordKey as Stored}
 use Rattle.regress_backtrack.specs.FailureMemo.{MemoScheme, KeyFindsEnd, memo_key_as_spec}
 use Rattle.regress_backtrack.specs.State.{StateModel, current_thread_state_of}
+use Rattle.regress_backtrack.specs.ChoicePoints.{resume_points_in}
+use Rattle.regress_backtrack.specs.PendingThreads.{pending_above}
+use Rattle.regress_backtrack.specs.declared.choice_point_resumption.StackAndLogBase.{StackAndLogBase}
+use Rattle.regress_backtrack.specs.declared.state.ChoicePointKind.TheVariants.{Lazy, Record}
+use Rattle.regress_backtrack.specs.declared.state.ChoicePoint.{ChoicePoint}
 
 module _ (w : SearchInput) (forward : Bool) where
   -- The thread at this position finds an end.
@@ -18,15 +23,41 @@ module _ (w : SearchInput) (forward : Bool) where
   FindsEndHere here h = FindEnd (program_of w) w.text (direction_of_forward_flag forward)
       (running (current_thread_state_of h here.ip here.at) ∷ [])
 
-  -- The rest of a greedy loop over a class finds an end, from an offset on.
+  -- The rest of a greedy loop over a class, from an offset on, finds an end.
   abbrev pub RestFindsEnd : Class → (from : ThreadPos) → StateModel → Type 0
   RestFindsEnd class from h = (test : ℕ → Bool) → IsClassTest w class test
       → FindEnd (program_of w) w.text (direction_of_forward_flag forward)
       (greedy_loop_threads w.text test (direction_of_forward_flag forward) 0 (place w.text from.at)
       (current_thread_state_of h from.ip from.at))
 
--- The thread at this position finds an end, and so does the key.
-abbrev pub IsKnownEnd : (w : SearchInput) → MemoScheme → (forward : Bool) → (here : ThreadPos) → StateModel → Stored
-    → Type 0
-IsKnownEnd w t forward here h key = FindsEndHere w forward here h
-    × KeyFindsEnd (program_of w) w.text t (memo_key_as_spec key)
+  -- The thread and those that are pending above this many choice points find an end.
+  abbrev pub FindsEndAbove : (base : ℕ) → (here : ThreadPos) → StateModel → Type 0
+  FindsEndAbove base here h = FindEnd (program_of w) w.text (direction_of_forward_flag forward)
+      (running (current_thread_state_of h here.ip here.at) ∷ pending_above (resume_points_in w) base h)
+
+  -- The same holds above each record that is above the base.
+  abbrev pub FindsEndAboveRecords : (base : ℕ) → (here : ThreadPos) → StateModel → Type 0
+  FindsEndAboveRecords base here h = (i : ℕ) (m : ChoicePoint) → base ≤ i → slice_get h.choice_points i ≡ Some m
+      → m.kind ≡ Record → FindsEndAbove (i + 1) here h
+
+module _ (w : SearchInput) (t : MemoScheme) (forward : Bool) where
+  -- The thread at this position finds an end, and so does each thread of the key.
+  abbrev pub ThreadHasKnownEnd : (here : ThreadPos) → StateModel → Stored → Type 0
+  ThreadHasKnownEnd here h key = FindsEndHere w forward here h
+      × KeyFindsEnd (program_of w) w.text t (memo_key_as_spec key)
+
+  -- The thread at this position and those that are pending above the base find an end, and so do
+  -- those above each record. Each thread of the key finds an end.
+  pub record IsKnownEnd (base : StackAndLogBase) (here : ThreadPos) (h : StateModel) (key : Stored) : Type 0 where
+    pub found : FindsEndAbove w forward base.choice_points here h
+    pub above_records : FindsEndAboveRecords w forward base.choice_points here h
+    pub key_finds : KeyFindsEnd (program_of w) w.text t (memo_key_as_spec key)
+
+-- The last choice point, which is above the base, holds exits of a lazy char loop in a search to the
+-- right, and nothing has changed since it was pushed.
+pub record AreLastLazyExits (forward : Bool) (base : StackAndLogBase) (h : StateModel) (m : ChoicePoint) : Type 0 where
+  pub rightwards : forward ≡ true
+  pub some : base.choice_points < length h.choice_points
+  pub last : slice_get h.choice_points (length h.choice_points - 1) ≡ Some m
+  pub lazy : m.kind ≡ Lazy
+  pub unchanged : m.log ≡ length h.log

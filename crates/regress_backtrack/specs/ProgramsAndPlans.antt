@@ -10,8 +10,7 @@ use Rattle.regress_program.specs.declared.instructions.Insn.{Insn}
 use Rattle.regress_program.specs.declared.plan.Plan.{Plan}
 use Rattle.regress_program.specs.Plans.{IsPlanOf}
 
--- A regex, a plan of its program or of the program that is executed in its place, and whether that
--- is for 16-bit units.
+-- A regex, the plan of the program that is executed for it, and whether this is for 16-bit units.
 pub record PlannedView : Type 0 where
   pub regex : Regex
   pub plan : Plan
@@ -21,11 +20,12 @@ pub record PlannedView : Type 0 where
 abbrev pub executed_tree_of : PlannedView → Tree
 executed_tree_of p = planned_tree p.wide (tree_of p.regex)
 
--- The plan is one of the program that is executed.
+-- The plan is a plan of the program that is executed.
 abbrev pub IsPlanOfExecutedProgram : PlannedView → Type 0
 IsPlanOfExecutedProgram p = IsPlanOf p.wide (compiled (executed_tree_of p)) p.plan
 
--- The plan, and the number of loops and the instructions of the code that is executed.
+-- `p` has a plan of the program that is executed. `loops` and `code` are the number of loops and
+-- the instructions of this program.
 pub record IsPlannedProgram (loops : ℕ) (code : List Insn) (p : PlannedView) : Type 0 where
   pub context : IsPlanOfExecutedProgram p
   pub counted : loops ≡ (compiled (executed_tree_of p)).loops

@@ -1,4 +1,5 @@
--- Bodies of loops that need not make more required iterations than there are units left, and one.
+-- Loop bodies for which it suffices to make one more required iteration than there are code units
+-- left.
 use Rattle.std.specs.Prelude.{◌≡◌, ◌<◌, ◌≤◌, ℕ, ◌+◌, ◌-◌, [], ◌∷◌, Some, Bool, true, false, slice_get}
 use Rattle.regex_meaning.specs.Text.{Text, Direction}
 use Rattle.regex_meaning.specs.CodeUnitOffsets.{HasRisingPlaceOffsets, units}
@@ -9,27 +10,27 @@ use Rattle.regress_machine.specs.InsnEffects.{body_entered_with_iteration_count}
 use Rattle.regress_machine.specs.ThreadSimulation.{Simulates}
 use Rattle.regress_memo.specs.Liveness.{left_from, ReadsAsBytes}
 
--- The instruction, if it is a lookaround, continues at most at instruction `to`.
+-- If the instruction is a lookaround, it continues at instruction `to` or earlier.
 abbrev pub EndsBy : (to : ℕ) → Insn → Type 0
 EndsBy to (Lookahead negate start_group end_group continuation) = continuation ≤ to
 EndsBy to (Lookbehind negate start_group end_group continuation) = continuation ≤ to
 EndsBy to _ = Unit {0}
 
--- From instruction `from` on, each lookaround before instruction `to` continues at most there.
+-- Each lookaround between the instructions `from` and `to` continues at `to` or earlier.
 abbrev pub LookaroundsEndBy : Program → (from to : ℕ) → Type 0
 LookaroundsEndBy program from to =
     (ip : ℕ) → from ≤ ip → ip < to → (insn : Insn) → slice_get program.insns ip ≡ Some insn → EndsBy to insn
 
--- A thread may continue from instruction `ip` at `to`: it is later, at most `stop`, and not in the
--- contents of a lookaround in between.
+-- A thread may continue from instruction `ip` at `to`. `to` is later, at most `stop`, and not
+-- inside a lookaround that begins between them.
 pub record MayContinue (program : Program) (stop ip to : ℕ) : Type 0 where
   pub later : ip < to
   pub within : to ≤ stop
   pub whole : LookaroundsEndBy program ip to
 
 module _ (changes : Bool) (program : Program) where
-  -- The instruction continues at later instructions, at most at `stop`. It changes no loop data, and
-  -- groups only if they may be changed.
+  -- The instruction continues at later instructions, up to `stop`. It changes no data of loops, and
+  -- it changes groups only if that is allowed.
   abbrev pub StaysInBody : (stop ip : ℕ) → Insn → Type 0
   StaysInBody stop ip Goal = Unit {0}
   StaysInBody stop ip JustFail = Unit {0}
@@ -46,14 +47,14 @@ module _ (changes : Bool) (program : Program) where
   StaysInBody stop ip (BackRef group same) = ⊥
   StaysInBody stop ip _ = MayContinue program stop ip (ip + 1)
 
-  -- From instruction `from` on, each instruction before `past` continues before `past`.
+  -- Each instruction in `from..past` continues before `past`.
   abbrev pub AllStayInContents : (from past : ℕ) → Type 0
   AllStayInContents from past =
       (ip : ℕ) → from ≤ ip → ip < past → (insn : Insn) → slice_get program.insns ip ≡ Some insn
       → StaysInBody (past - 1) ip insn
 
-  -- The contents of a lookaround are not empty, and do not continue after it. `Goal` is in the contents of a lookaround
-  -- that begins at instruction `from` or later.
+  -- The contents of a lookaround are not empty and do not continue after it. `Goal` occurs only in
+  -- the contents of a lookaround at instruction `from` or later.
   abbrev pub HasClosedContents : (from ip : ℕ) → Insn → Type 0
   HasClosedContents from ip Goal = LookaroundsEndBy program from ip → ⊥
   HasClosedContents from ip (Lookahead negate start_group end_group continuation) = (ip + 1 < continuation)
@@ -62,13 +63,13 @@ module _ (changes : Bool) (program : Program) where
       × AllStayInContents (ip + 1) continuation
   HasClosedContents from ip _ = Unit {0}
 
-  -- Both are true of each instruction from `from` on and before `stop`.
+  -- Each instruction in `from..stop` satisfies `StaysInBody` and `HasClosedContents`.
   abbrev pub IsPlainBody : (from stop : ℕ) → Type 0
   IsPlainBody from stop =
       (ip : ℕ) → from ≤ ip → ip < stop → (insn : Insn) → slice_get program.insns ip ≡ Some insn
       → StaysInBody stop ip insn × HasClosedContents from ip insn
 
--- The instruction is no backreference.
+-- The instruction is not a backreference.
 abbrev pub IsNoBackreference : Insn → Type 0
 IsNoBackreference (BackRef group same) = ⊥
 IsNoBackreference _ = Unit {0}
@@ -77,14 +78,14 @@ IsNoBackreference _ = Unit {0}
 abbrev pub HasNoBackreference : Program → Type 0
 HasNoBackreference program = (ip : ℕ) (insn : Insn) → slice_get program.insns ip ≡ Some insn → IsNoBackreference insn
 
--- The body from instruction `from` on and before `stop` has neither backreferences nor loops that
--- count, and changes groups only if the program has no backreference.
+-- The body `from..stop` has no backreferences and no counted loops. It changes groups only if the
+-- program has no backreference.
 pub record IsRepeatableBody (program : Program) (from stop : ℕ) : Type 0 where
   pub changes : Bool
   pub plain : IsPlainBody changes program from stop
   pub unread : changes ≡ true → HasNoBackreference program
 
--- The loop that begins at `begin` has such a body.
+-- The loop at `begin` has a repeatable body.
 pub record HasRepeatableBody (program : Program) (begin : ℕ) (f : LoopFields) : Type 0 where
   pub stop : ℕ
   pub behind : begin < stop
@@ -92,9 +93,9 @@ pub record HasRepeatableBody (program : Program) (begin : ℕ) (f : LoopFields) 
   pub goes_back : slice_get program.insns stop ≡ Some (LoopAgain begin)
   pub body : IsRepeatableBody program (begin + 1) stop
 
--- Such a loop may begin iteration `to` in place of an earlier one if, from iteration `to` on, it
--- requires more iterations than there are units left. Of that many iterations one is empty, and what
--- may follow an empty one does not depend on it.
+-- The loop may begin iteration `to` instead of an earlier one, if it requires more iterations from
+-- `to` on than there are code units left. One of that many iterations is empty, and what follows an
+-- empty iteration does not depend on its number.
 abbrev pub LaterIterationReplacesSurplus : Type 0
 LaterIterationReplacesSurplus = (program : Program) (text : Text) → HasRisingPlaceOffsets text
     → ReadsAsBytes program text → (d : Direction) (begin : ℕ) (f : LoopFields) → HasRepeatableBody program begin f

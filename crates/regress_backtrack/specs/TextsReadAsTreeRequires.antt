@@ -5,8 +5,8 @@ use Rattle.regex_meaning.specs.Text.{Text}
 use Rattle.regex_meaning.specs.WellFormedTrees.{is_well_formed}
 use Rattle.regress_machine.specs.TextsForBytePrograms.{HasUtf8CharactersAndOffsets, tree_contains_byte_nodes}
 
--- The tree is well formed. The text is read as its flags say, and in bytes where the program reads
--- bytes.
+-- The tree is well formed, and the text is read as the tree's flags say. If the program reads
+-- bytes, it is a byte text.
 pub record TreeCanSearchText (tree : Tree) (text : Text) : Type 0 where
   pub well_formed : IsTrue (is_well_formed tree.root)
   pub unicode : text.unicode ≡ tree.flags.unicode

@@ -1,5 +1,4 @@
-//! The start positions that are tried where steps are counted: those that the start predicate
-//! accepts.
+//! The start positions that are tried if steps are counted: those that the start predicate admits.
 #![tactic(auto, unfolding(regex_meaning::specs::StartPredicate::may_start))]
 
 ghost use Rattle.std.specs.Prelude.{◌≡◌, IsTrue, nat_eq, option_map};
@@ -67,7 +66,7 @@ fn lets_through<Input: InputIndexer>(
     }
 }
 
-/// Returns the first position at or after `from` that is tried, if there is one.
+/// Returns the first position at `from` or later that is tried. Returns `None` if there is none.
 pub(crate) fn first_start_to_try<Input: InputIndexer>(
     input: &Input,
     start: &StartPredicate,
@@ -88,7 +87,8 @@ pub(crate) fn first_start_to_try<Input: InputIndexer>(
     None
 }
 
-/// Returns the first position after the failed start `tried` that is tried, if there is one.
+/// Returns the position that is tried after the failed start `tried`. Returns `None` if there is
+/// none.
 pub(crate) fn next_start_to_try<Input: InputIndexer>(
     input: &Input,
     start: &StartPredicate,

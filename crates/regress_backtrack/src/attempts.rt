@@ -21,7 +21,7 @@ use regress_program::instructions::Insn;
 use regress_search::exec::SearchError;
 use regress_search::search_context::{PositionOf, SearchContext, position_in_searched_text};
 
-// Returns why a search stopped: steps were refused, or else allocation failed.
+// Returns why a search stopped: steps were refused, or otherwise an allocation failed.
 fn cause<S: StepCounter>(steps: &S) -> SearchError
     ensures { result ≡ cause_of_error (S.budget steps.now).out }
 {
@@ -32,7 +32,7 @@ fn cause<S: StepCounter>(steps: &S) -> SearchError
     }
 }
 
-// Returns the position of an end offset, if there is one.
+// Returns the position of an end offset. Returns `None` if there is no end.
 #[inline(always)]
 fn end_position<W: SearchContext>(context: &W, end: Option<usize>) -> Option<PositionOf<W>>
     ensures { option_map (λ p. W.Input.Position.offset p) result ≡ end }
@@ -43,9 +43,9 @@ fn end_position<W: SearchContext>(context: &W, end: Option<usize>) -> Option<Pos
     }
 }
 
-/// Returns the end of the match of highest priority that begins at a position, if there is one, and
-/// leaves its groups in `memory`. Takes the steps that this needs from the budget. Returns `Err` if
-/// too few steps are left or allocation fails.
+/// Returns the end of the match of highest priority that begins at a position, and leaves its
+/// groups in `memory`. Returns `None` if there is no match. The steps are taken from the budget.
+/// Returns `Err` if too few steps are left or an allocation fails.
 pub(crate) fn attempt<W: SearchContext, S: StepCounter, M: FailureMemo>(
     context: &W,
     pos: PositionOf<W>,
@@ -77,9 +77,9 @@ pub(crate) fn attempt<W: SearchContext, S: StepCounter, M: FailureMemo>(
     }
 }
 
-// Makes an attempt from its start, whatever an earlier attempt left, without a limit on work.
-// Failures are recorded, where that is possible. The end is left in `came`: to return it, each
-// attempt that is made only once would have to reserve space for it.
+// Makes an attempt from its start, whatever an earlier attempt has left, and does not limit the
+// work. It records failures if possible. It stores the end in `came`: if it returned the end,
+// attempts that never come here would have to reserve space for it.
 #[inline(never)]
 fn attempt_with_memo<W: SearchContext>(
     context: &W,

@@ -37,28 +37,28 @@ use regress_search::search_context::{
 use regress_search::search_loop::SingleAttemptExecutor;
 use std::alloc::AllocError;
 
-/// Executes a program's plan over a text. It keeps one state, and undoes a thread's changes to it
-/// when the thread has failed.
+/// Executes a program's plan on a text. It keeps one state. When a thread fails, its changes to the
+/// state are undone.
 #[derive(Drop)]
 pub struct BacktrackExecutor<'r, Input: InputIndexer> {
     pub(crate) search: ProgramPlanAndText<'r, Input>,
-    // Holds the groups of the last attempt that found an end.
+    // The state. It holds the groups of the last attempt that found an end.
     pub(crate) memory: BacktrackState,
-    // The work budget of all attempts without a memo. When it is spent, an attempt is made again
-    // with a memo.
+    // The work budget of all attempts without a memo. When it is spent, the current attempt is
+    // repeated with a memo.
     without_memo: StepsAndMemo<WorkBounded, NoMemo>,
-    // The state of attempts after that, which record what failed.
+    // The state of the attempts after that, which record failures.
     with_memo: CounterAndMemoForRetries,
-    // The end found by the last attempt that was made again. Its position type also exposes the
-    // text's lifetime in this struct, which calls that are generic in the executor require.
+    // The end that the last repeated attempt found. Its type also exposes the text's lifetime in
+    // this struct, which generic calls require.
     retry_end: Option<Input::Position>,
-    // The leading char loop (the one with which each match begins), which is scanned again after a
-    // failed start, so that none of its positions is tried.
+    // The leading char loop, with which each match begins. It is scanned again after a failed
+    // start, so that none of its positions is tried.
     leading_loop: LeadingCharLoop,
-    // How far the last leap has led.
+    // What is remembered of the last leap.
     leap: LeapMemory,
-    // The memo is right: each key that it holds as failed does fail, and each one that it holds as
-    // finding an end does.
+    // The memo is right: each key that it holds as failed fails, and each key that it holds as
+    // finding an end finds one.
     ghost right: { AreFailuresSoundIn (compiled (executed_tree_of search.program)) (Input.text search.searched.input)
         (scheme_in (λ memo. scheme_of memo.value.memo_analysis) with_memo.progress.memo)
         (failed_in (λ memo. has_failure memo.value) with_memo.progress.memo)
@@ -72,9 +72,8 @@ pub struct BacktrackExecutor<'r, Input: InputIndexer> {
     ghost opened: { OnlyOpensGroups search.program.plan leading_loop.opens } by { Prim.hlevel props },
 }
 
-// The work allowed for each offset of a text, which is more than most searches do, and for each
-// instruction, since an analysis finds out for each of them what decides a thread before failures
-// are recorded.
+// The work that is allowed for each offset of a text and for each instruction. It is more than most
+// searches do. Instructions count too, because the memo analysis examines each of them.
 const WORK_FOR_EACH: u64 = 16;
 
 const MOST_WORK: u64 = 0x7FFF_FFFF_FFFF_FFFF;
@@ -91,7 +90,7 @@ fn work_at_first(units: usize, insns: usize) -> u64 {
 }
 
 impl<'r, Input: InputIndexer> BacktrackExecutor<'r, Input> {
-    // Creates an executor that has tried no position yet. It allocates no memory.
+    // Creates an executor that has made no attempt. This allocates no memory.
     fn from_parts(program: ProgramAndPlan<'r>, searched: ProgramAndInput<'r, Input>) -> Self
         requires same { program.regex ≡ searched.program.now }
         requires wide { program.wide ≡ is_16_bit_encoding Input.Units.encoding }
@@ -126,7 +125,7 @@ impl<'r, Input: InputIndexer> BacktrackExecutor<'r, Input> {
         }
     }
 
-    // Checks whether the leading char loop is scanned again from the failed start `tried`: it is if
+    // Checks whether the leading char loop is scanned again from the failed start `tried`. It is if
     // `next`, the next start to try, may be the loop's next character. The next attempt is past the
     // loop's end, so each character is scanned again only once.
     #[inline(always)]
@@ -135,7 +134,7 @@ impl<'r, Input: InputIndexer> BacktrackExecutor<'r, Input> {
         most != 0 && next.to_offset().wrapping_sub(tried.to_offset()) <= most
     }
 
-    /// Makes all further attempts record failures, as they do once the work budget is spent. The
+    /// Makes all further attempts record failures, as they do when the work budget is spent. The
     /// results are the same.
     pub fn always_memoize(&mut self)
         ensures tree { tree_of self.new.search.program.regex ≡ tree_of self.old.search.program.regex }
@@ -145,8 +144,8 @@ impl<'r, Input: InputIndexer> BacktrackExecutor<'r, Input> {
     }
 }
 
-// Returns the first candidate start at or after `from`, by the plan; `None` if no match begins from
-// there on.
+// Returns the first candidate start of the plan at `from` or later. Returns `None` if no match
+// begins there.
 #[inline(always)]
 fn next_candidate_start<W: SearchContext>(context: &W, from: PositionOf<W>) -> Option<PositionOf<W>>
     requires at { IsBoundary (W.searching context.now).text (W.Input.Position.offset from) }
@@ -160,7 +159,8 @@ fn next_candidate_start<W: SearchContext>(context: &W, from: PositionOf<W>) -> O
     }
 }
 
-// Returns the first candidate start at or after `from` that is not before the end of the last leap.
+// Returns the first candidate start at `from` or later that is not before the target of the last
+// leap.
 #[inline(always)]
 fn next_candidate_past_leap<W: SearchContext>(
     context: &W,
@@ -179,7 +179,8 @@ fn next_candidate_past_leap<W: SearchContext>(
     next_candidate_behind_leap(context, leap, from)
 }
 
-// Returns that start where the last leap may tell of `from`. Not inlined, since this is rare.
+// Does the work of `next_candidate_past_leap` if the last leap may say something about `from`. It
+// is not inlined, because this is rare.
 #[inline(never)]
 fn next_candidate_behind_leap<W: SearchContext>(
     context: &W,
@@ -196,8 +197,8 @@ fn next_candidate_behind_leap<W: SearchContext>(
     next_candidate_start(context, position_in_searched_text(context, past))
 }
 
-// Returns the first candidate start at or after `from`, where each match opens `opens` groups and
-// then begins with a char loop, and no match begins at `tried`: none of the loop's positions is
+// Returns the first candidate start at `from` or later. Each match opens `opens` groups and then
+// begins with a char loop, and no match begins at `tried`, so none of the loop's positions is
 // tried.
 #[inline(never)]
 fn next_start_past_loop<W: SearchContext>(
@@ -316,7 +317,7 @@ impl<'r, 't> BacktrackExecutor<'r, Utf16Input<'t>> {
     ///
     /// # Errors
     ///
-    /// None so far: it allocates no memory.
+    /// Never returns `Err` at present, because it allocates no memory.
     pub fn new_utf16(
         re: &'r CompiledRegexFor16BitUnits,
         text: &'t [u16],
@@ -335,7 +336,7 @@ impl<'r, 't> BacktrackExecutor<'r, Ucs2Input<'t>> {
     ///
     /// # Errors
     ///
-    /// None so far: it allocates no memory.
+    /// Never returns `Err` at present, because it allocates no memory.
     pub fn new_ucs2(re: &'r CompiledRegexFor16BitUnits, text: &'t [u16]) -> Result<Self, AllocError>
         ensures { let producer = ⟦<BacktrackExecutor<'r, Ucs2Input<'t>> as MatchProducer>⟧ in
             IfOk result (IsNewExecutor producer (tree_of re.now) (ucs2_text text.now)) }
@@ -361,7 +362,7 @@ impl<'r, 't> ProducerFromProgramAndText<'r> for BacktrackExecutor<'r, Utf8Input<
 impl<'r, 't> ProducerFromProgramAndText<'r> for BacktrackExecutor<'r, AsciiInput<'t>> {
     type Text = &'t str;
 
-    // `is_ascii` tests this.
+    // `is_ascii` checks this.
     ghost can_search = { λ text. IsAscii text.now };
 
     ghost text_of = { λ text. ascii_text text.now };
@@ -380,7 +381,7 @@ impl<'r, 't> Executor<'r, 't> for BacktrackExecutor<'r, AsciiInput<'t>> {
     type AsAscii = Self;
 }
 
-// The executors over UTF-8 and over ASCII, and their `AsAscii` types.
+// The executors for UTF-8 and for ASCII texts, and their `AsAscii` types.
 type OverUtf8 = BacktrackExecutor<'static, Utf8Input<'static>>;
 
 type OverAscii = BacktrackExecutor<'static, AsciiInput<'static>>;
@@ -389,14 +390,15 @@ type OfUtf8 = <OverUtf8 as Executor<'static, 'static>>::AsAscii;
 
 type OfAscii = <OverAscii as Executor<'static, 'static>>::AsAscii;
 
-/// States that the `AsAscii` type of the executor over UTF-8 accepts every ASCII text and reads
-/// each of its bytes as a character.
+/// A law: the `AsAscii` type of the executor for UTF-8 accepts each ASCII text, and reads each byte
+/// as a character.
 pub fn ascii_is_read_in_bytes()
     ensures takes { CanSearchAllAsciiTexts ⟦<OfUtf8 as ProducerFromProgramAndText<'static>>⟧.can_search }
     ensures reads { ReadsBytesAsAscii ⟦<OfUtf8 as ProducerFromProgramAndText<'static>>⟧.text_of }
 {}
 
-/// States the same of the `AsAscii` type of the executor over ASCII.
+/// A law: the `AsAscii` type of the executor for ASCII accepts each ASCII text, and reads each byte
+/// as a character.
 pub fn ascii_stays_in_bytes()
     ensures takes { CanSearchAllAsciiTexts ⟦<OfAscii as ProducerFromProgramAndText<'static>>⟧.can_search }
     ensures reads { ReadsBytesAsAscii ⟦<OfAscii as ProducerFromProgramAndText<'static>>⟧.text_of }

@@ -1,4 +1,5 @@
-//! What is recorded of searches that failed, and of searches of lookarounds' contents that found an end.
+//! What is recorded about searches that failed, and about searches of lookarounds' contents that
+//! found an end.
 
 ghost use Rattle.std.specs.Prelude.{◌≡◌, ◌≤◌, ◌⊎◌, ◌∷◌, [], Bool, true, false, IfSome};
 ghost use Rattle.regex_meaning.specs.CodeUnitOffsets.{units};
@@ -13,8 +14,8 @@ use crate::state::BacktrackState;
 use crate::step_and_work_budgets::StepCounter;
 use regress_search::search_context::SearchContext;
 
-/// A memo key as choice points hold it: an instruction and an offset, with a code for the state of
-/// the loops.
+/// A memo key in the form that choice points hold: an instruction, an offset, and a code for the
+/// state of the loops. It is the `ThreadMemoKey` of `regress_memo` with an instruction of 32 bits.
 #[derive(Clone, Copy)]
 pub struct RecordKey {
     pub ip: u32,
@@ -22,8 +23,8 @@ pub struct RecordKey {
     pub code: usize,
 }
 
-/// Records what has failed, and what in a lookaround's contents has found an end, by keys; or
-/// nothing.
+/// A memo of the keys that have failed and, in lookarounds' contents, of the keys that have found
+/// an end. It may also record nothing.
 pub trait FailureMemo {
     ghost ON: { Bool };
 
@@ -51,8 +52,8 @@ pub trait FailureMemo {
         ensures { IfSome result (λ k. IsKeyOf (W.searching context.now) (terms self.now) thread.forward
             (memo_key_as_spec k) (running (current_thread_state_of memory.now thread.here.ip thread.here.at) ∷ [])) };
 
-    /// Returns the key of the rest of a char loop without a maximum from an offset on, if it has
-    /// one.
+    /// Returns the key of the rest of a char loop without a maximum, from an offset on. Returns
+    /// `None` if it has no key.
     fn unbounded_char_loop_rest_key<W: SearchContext>(
         &self,
         context: &W,
@@ -63,27 +64,27 @@ pub trait FailureMemo {
         ensures { IfSome result (λ k. DecidesLoopRest (W.searching context.now) (terms self.now) run.forward run.here
             (memo_key_as_spec k) memory.now) };
 
-    /// Returns whether a search from an instruction is known to change neither groups nor loop data.
+    /// Checks whether a search from an instruction is known to change neither groups nor loop data.
     fn keeps_state<W: SearchContext>(&self, context: &W, ip: usize, memory: &BacktrackState) -> bool
         requires sound { AreFailuresSound (W.searching context.now) (terms self.now) (failed self.now) }
         ensures { result ≡ true → ContentsKeepState (W.searching context.now) ip memory.now };
 
-    /// Returns whether a key is known to fail.
+    /// Checks whether a key is known to fail.
     fn is_known_to_fail(&self, key: RecordKey) -> bool
         ensures { result ≡ failed self.now (memo_key_as_spec key) };
 
-    /// Returns whether a key is known to find an end.
+    /// Checks whether a key is known to find an end.
     fn is_known_to_find_end(&self, key: RecordKey) -> bool
         ensures { result ≡ succeeded self.now (memo_key_as_spec key) };
 
-    /// Records that a key finds an end, if the memo has it and records this.
+    /// Records that a key finds an end, if the memo has the key and records ends.
     fn record_key_found_end(&mut self, key: RecordKey)
         ensures terms { terms self.new ≡ terms self.old }
         ensures failed { (k : KeyOf) → failed self.new k ≡ failed self.old k }
         ensures succeeded { (k : KeyOf) → succeeded self.new k ≡ true → (succeeded self.old k ≡ true) ⊎
             (k ≡ memo_key_as_spec key) };
 
-    /// Records that a key has failed, if the memo has it.
+    /// Records that a key has failed, if the memo has the key.
     fn record_key_failed(&mut self, key: RecordKey)
         ensures terms { terms self.new ≡ terms self.old }
         ensures succeeded { (k : KeyOf) → succeeded self.new k ≡ succeeded self.old k }
@@ -98,13 +99,12 @@ pub trait FailureMemo {
 pub struct StepsAndMemo<S: StepCounter, M: FailureMemo> {
     pub steps: S,
     pub memo: M,
-    /// Where a rare call leaves an end: to return it, each search would have to reserve space for
-    /// it.
+    /// The place where a call that is rarely made stores an end. If it returned the end, each
+    /// search would have to reserve space for it.
     pub end: Option<usize>,
 }
 
-/// Whether a call had a result, which it then left outside of its return value (as in `end` of
-/// `StepsAndMemo`).
+/// Whether a call has stored a result outside of its return value, such as in `StepsAndMemo::end`.
 #[derive(Clone, Copy)]
 pub enum StoredOrStopped {
     Done,

@@ -1,4 +1,4 @@
-//! Failures that a memo table records, by the memo analysis of a program.
+//! Failures that a memo table records, given the memo analysis of a program.
 
 ghost use Rattle.std.specs.Prelude.{◌≡◌, ℕ, true, false, None, is_some, IfOk, IfSome, map};
 ghost use Rattle.regress_memo.specs.{LoopDataKeyCodes.{HasSlotsOfProgram}, UnboundedCharLoopMemoKeys.{char_loop_greediness_at, insn_before}};
@@ -40,8 +40,8 @@ impl IterationStatesOfAllLoops for BacktrackState {
     }
 }
 
-// Checks whether an operation comes after a char loop. It is the loop's body then, which no thread
-// reaches.
+// Checks whether the operation before this one is a char loop. Then this one is the loop's body,
+// which no thread reaches.
 #[inline(always)]
 fn is_loop_body<W: SearchContext>(context: &W, ip: usize) -> bool
     ensures { let program = program_of (W.searching context.now) in
@@ -57,7 +57,7 @@ fn is_loop_body<W: SearchContext>(context: &W, ip: usize) -> bool
     }
 }
 
-// Checks whether there are as many groups and loops as the program has.
+// Checks whether the state has as many groups and loops as the program.
 #[inline(always)]
 fn has_all_slots<W: SearchContext>(context: &W, memory: &BacktrackState) -> bool
     ensures { result ≡ true → (ip at : ℕ)
@@ -186,7 +186,7 @@ impl FailureMemo for MemoTable {
     }
 }
 
-// Converts a key of the memo table to the one that a choice point holds.
+// Converts a key of the memo table to the form that choice points hold.
 #[inline(always)]
 fn record_key_of(key: Known) -> Option<RecordKey>
     ensures { IfSome result (λ k. memo_key_as_spec k ≡ key_known key) }
@@ -201,7 +201,7 @@ fn record_key_of(key: Known) -> Option<RecordKey>
     }
 }
 
-// Converts a key of a choice point to the one of the memo table.
+// Converts a key of a choice point to a key of the memo table.
 #[inline(always)]
 fn memo_key_of(key: RecordKey) -> Known
     ensures { key_known result ≡ memo_key_as_spec key }
@@ -213,7 +213,7 @@ fn memo_key_of(key: RecordKey) -> Known
     }
 }
 
-/// Records nothing where there is no memo.
+/// An optional memo. Without one, nothing is recorded.
 impl<M: FailureMemo> FailureMemo for Option<Box<M>> {
     ghost ON = { M.ON };
 
@@ -299,17 +299,17 @@ impl<M: FailureMemo> FailureMemo for Option<Box<M>> {
     }
 }
 
-/// The state of attempts that are made again.
+/// The state of attempts that are repeated with a memo.
 #[derive(Drop)]
 pub(crate) struct CounterAndMemoForRetries {
-    /// The counter and the memo. Failures are recorded where there is a memo analysis and memory
-    /// for it.
+    /// The counter and the memo. Failures are recorded if the program has a memo analysis and there
+    /// is memory for the memo.
     pub progress: StepsAndMemo<Unlimited, Option<Box<MemoTable>>>,
-    /// Whether creation of the memo was tried.
+    /// Whether the memo was already created, or its creation failed.
     pub began: bool,
 }
 
-/// Creates the memo, unless that was tried before. If it is refused, nothing is recorded.
+/// Creates the memo, unless this was tried before. If it cannot be created, nothing is recorded.
 pub(crate) fn enable_memo<W: SearchContext>(
     context: &W,
     insns: &[Insn],
@@ -329,8 +329,8 @@ pub(crate) fn enable_memo<W: SearchContext>(
     }
 }
 
-// Checks whether a program has a lookaround for which it suffices that its contents find an end.
-// Only such contents read the ends that are recorded.
+// Checks whether a program has a lookaround for which only the existence of an end of its contents
+// matters. Only searches of such contents read recorded ends.
 fn reads_ends(memo_analysis: &MemoAnalysis, insns: &[Insn], loops: usize) -> bool {
     for ip in 0..insns.len() {
         if let Insn::Lookahead { negate, .. } | Insn::Lookbehind { negate, .. } = insns[ip] {
@@ -342,8 +342,8 @@ fn reads_ends(memo_analysis: &MemoAnalysis, insns: &[Insn], loops: usize) -> boo
     false
 }
 
-// Creates a memo table for a search whose instructions these are. No failure is recorded in it yet.
-// Returns `None` if the program has no memo analysis, or if its keys cannot be counted.
+// Creates an empty memo table for a search with these instructions. Returns `None` if the program
+// has no memo analysis, or if the number of its keys is too large.
 fn new_memo<W: SearchContext>(
     alloc: Global,
     context: &W,

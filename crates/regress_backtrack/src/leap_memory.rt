@@ -1,4 +1,4 @@
-//! Leaps: attempts that are not made, by what each match comes to.
+//! Leaps: attempts that are skipped, because each match has to reach a goal.
 
 ghost use Rattle.std.specs.Prelude.{◌≡◌, Some, true};
 ghost use Rattle.regex_meaning.specs.{Tree.{Tree}, Text.{Text}, CodeUnitOffsets.{IsBoundary}};
@@ -12,29 +12,32 @@ use regress_program::leap::Leap;
 use regress_search::leaping::{LeapTarget, leap_from};
 use regress_search::search_context::SearchContext;
 
-/// What a search knows by its last leap.
+/// What a search remembers of its last leap.
 #[derive(Clone, Copy)]
 pub(crate) struct LeapMemory {
-    // No match begins from `from` on and before `to` or, without `to`, up to the end.
+    // No match begins between `from` and `to`. If `to` is `None`, no match begins at `from` or
+    // later.
     from: usize,
     to: Option<usize>,
-    // `to`, or the greatest number without it, so that one comparison finds most offsets past it.
+    // `to`, or the greatest number if that is `None`. So a single comparison detects most offsets
+    // past it.
     until: usize,
-    // From this offset on, an attempt is preceded by a leap.
+    // An attempt at this offset or later is preceded by a leap.
     due: usize,
-    // How many leaps led no further, at most `MOST_VAIN`; half as many after one that did.
+    // The number of leaps that did not advance the search, up to `MOST_VAIN`. It is halved by each
+    // leap that does.
     vain: u32,
-    // Whether an attempt was made. Only one is made by a search at a given offset.
+    // Whether an attempt was made. A search at a given offset makes only one.
     began: bool,
 }
 
-/// After so many leaps that led no further, none is made for `REST` offsets.
+/// After this many leaps that did not advance the search, no leap is made for `REST` offsets.
 const MOST_VAIN: u32 = 16;
 
 const REST: usize = 1024;
 
 impl LeapMemory {
-    /// Returns the memory of a search that has made no leap yet.
+    /// Returns the memory of a search that has made no leap.
     pub(crate) fn new(leap: &Option<Leap>) -> Self
         ensures from { result.from ≡ 0 }
         ensures to { result.to ≡ Some 0 }
@@ -56,14 +59,14 @@ impl LeapMemory {
         at >= self.due
     }
 
-    /// Checks whether the last leap tells nothing of an offset.
+    /// Checks whether the last leap says nothing about an offset.
     #[inline(always)]
     pub(crate) fn is_past(&self, at: usize) -> bool {
         at >= self.until
     }
 
-    /// Returns the first offset from `at` on where a match may begin, as far as the last leap
-    /// tells; `None` if there is none.
+    /// Returns the first offset at `at` or later where a match may begin, as far as the last leap
+    /// tells. Returns `None` if there is none.
     pub(crate) fn past(&self, at: usize) -> Option<usize>
         ensures { (tree : Tree) (text : Text) → IsBoundary text at → NoMatchBeforeRememberedLeap tree text self.now
             → NextStartSkipsNoMatch tree text at result }
@@ -77,7 +80,7 @@ impl LeapMemory {
         }
     }
 
-    // Sets when the next leap is due, after one from `from` on that led to `target`.
+    // Determines when the next leap is due, after a leap from `from` that led to `target`.
     fn schedule(&mut self, from: usize, target: LeapTarget)
         ensures from { self.new.from ≡ self.old.from }
         ensures to { self.new.to ≡ self.old.to }
@@ -93,7 +96,7 @@ impl LeapMemory {
     }
 }
 
-/// Makes a leap from an offset, if one is due. Returns whether no match begins there.
+/// Makes a leap from an offset if one is due. Returns `true` if no match begins at this offset.
 #[inline(always)]
 pub(crate) fn leaps_over_if_due<W: SearchContext>(
     context: &W,
@@ -112,8 +115,8 @@ pub(crate) fn leaps_over_if_due<W: SearchContext>(
     leaps_over(context, memory, at)
 }
 
-// Makes a leap from an offset. Returns whether no match begins there. None is made before the first
-// attempt.
+// Makes a leap from an offset, unless no attempt was made yet. Returns `true` if no match begins at
+// this offset.
 #[inline(never)]
 fn leaps_over<W: SearchContext>(context: &W, memory: &mut LeapMemory, at: usize) -> bool
     requires at { IsBoundary (W.searching context.now).text at }
@@ -133,7 +136,8 @@ fn leaps_over<W: SearchContext>(context: &W, memory: &mut LeapMemory, at: usize)
     leap_over(context, leap, memory, at)
 }
 
-// Makes a leap from an offset, and keeps where it led. Returns whether no match begins there.
+// Makes a leap from an offset, and stores where it led. Returns `true` if no match begins at this
+// offset.
 #[inline(always)]
 fn leap_over<W: SearchContext>(context: &W, leap: &Leap, memory: &mut LeapMemory, at: usize) -> bool
     requires at { IsBoundary (W.searching context.now).text at }

@@ -9,8 +9,8 @@ ghost use Rattle.regress_search.specs.{TreePlanAndText.{program_of}, StartSearch
 use regress_search::search_context::SearchContext;
 use regress_search::start_search::{first_candidate, is_candidate};
 
-/// Returns the first candidate start at or after an offset, by the plan; `None` if no match begins
-/// from there on.
+/// Returns the first candidate start of the plan at an offset or later. Returns `None` if no match
+/// begins there.
 #[inline(always)]
 pub(crate) fn first_candidate_start_from<W: SearchContext>(
     context: &W,
@@ -25,7 +25,7 @@ pub(crate) fn first_candidate_start_from<W: SearchContext>(
     first_candidate(context, from)
 }
 
-/// Checks whether an offset is a candidate start, by the plan. If it is not, no match begins there.
+/// Checks whether an offset is a candidate start of the plan. If it is not, no match begins there.
 #[inline(always)]
 pub(crate) fn is_candidate_start<W: SearchContext>(context: &W, at: usize) -> bool
     requires at { IsBoundary (W.searching context.now).text at }

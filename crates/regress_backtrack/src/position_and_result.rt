@@ -40,9 +40,9 @@ pub enum Control {
     Continue(ThreadPos),
     /// The thread has failed.
     Backtrack,
-    /// The thread has reached an end.
+    /// The thread has reached the goal.
     Accept,
-    /// A lookaround must be evaluated. The position is that of the lookaround itself, so that the
-    /// position at which threads continue has storage of its own.
+    /// A lookaround must be evaluated. The position is that of the lookaround. The position at
+    /// which threads continue has storage of its own.
     Lookaround(ThreadPos, LookaroundAndNextOp),
 }

@@ -1,4 +1,4 @@
-//! The state of a search: slots, an undo log of the values they had, and the choice points.
+//! The state of a search: slots, an undo log of their former values, and choice points.
 
 ghost use Rattle.std.specs.Prelude.{◌≡◌, ◌≢◌, ◌<◌, ◌≤◌, ◌+◌, ◌-◌, ◌^◌, ◌++◌, ℕ, [], ◌∷◌, length, take, map, slice_get, slice_set, Some, true, false, OnOk, OnErr, IfOk};
 ghost use Rattle.regress_backtrack.specs.State.{StateModel, undone, IsStateInvariant, initial_slot as first_slot_at, logical_slot_value, logical_undo_entry};
@@ -13,49 +13,49 @@ use std::alloc::{AllocError, Global};
 use std::marker::Model;
 use std::mem;
 
-/// The state of a group or a loop. For a group: the offset at which it was last opened, and its
-/// range in offsets, if it has one. For a loop: the offset at which the current iteration began,
-/// and in `from` the number of finished iterations.
+/// The state of a group or a loop. For a group, it is the offset at which it was last opened, and
+/// its range if it has one. For a loop, it is the offset at which the current iteration began, and
+/// `from` is the number of finished iterations.
 #[derive(Clone, Copy)]
 pub struct GroupOrLoopState {
     pub at: usize,
     pub from: usize,
     pub to: usize,
-    /// In storage: the number of the slot's last entry in the undo log, from 1 and modulo 2^32; 0 if
-    /// there is none.
+    /// The number of the slot's last entry in the undo log, counted from 1, modulo 2^32. It is 0 if
+    /// there is no entry.
     pub noted: u32,
     pub has_range: bool,
     /// Whether the search has set the slot.
     pub is_set: bool,
 }
 
-/// An entry of the undo log: what a slot held before a change. The slot's value is moved to the log
-/// as it is if it comes before the slot's number.
+/// An entry of the undo log: the value of a slot before a change. `old` comes before `slot`, so
+/// that the slot's value is copied to the log as it is.
 #[derive(Clone, Copy)]
 pub struct UndoEntry {
     pub old: GroupOrLoopState,
     pub slot: usize,
 }
 
-/// The kind of a choice point: the offsets that it stands for.
+/// The kind of a choice point: which offsets it represents.
 #[derive(Clone, Copy, PartialEq, Eq)]
 pub enum ChoicePointKind {
-    /// The offset `next` alone.
+    /// Only the offset `next`.
     One,
-    /// The offset `next` alone, for the alternation arms from number `last` on.
+    /// Only the offset `next`, for the alternation arms from number `last` on.
     Arms,
-    /// The offsets of the characters from `next` to `last`, in this order.
+    /// The boundaries from `next` to `last`, in this order.
     Greedy,
-    /// The offset `next` and at most `last` more after it, each one more character of the lazy loop
-    /// before the instruction.
+    /// The offset `next` and up to `last` offsets after it. Each is one character further in the
+    /// lazy loop before the instruction.
     Lazy,
-    /// None: a record. The entry for offset `next` and key code `last` has failed once nothing is
-    /// left above the record.
+    /// A record, which represents no offset. Once nothing is left above it, the entry for offset
+    /// `next` and key code `last` has failed.
     Record,
 }
 
-/// A choice point: an instruction and the offsets at which to continue, and the length of the undo
-/// log when it was pushed.
+/// A choice point: an instruction, the offsets at which to continue, and the length of the undo log
+/// when it was pushed.
 #[derive(Clone, Copy)]
 pub struct ChoicePoint {
     pub ip: u32,
@@ -65,10 +65,10 @@ pub struct ChoicePoint {
     pub log: usize,
 }
 
-/// The slots, the undo log and the choice points. Contracts see their lists. The undo log and the
-/// choice points are the first `log_len` and `choice_point_len` elements of their vectors, which only grow. A
-/// slot that the search has not set holds its initial value, so that slots need not be written
-/// before each search.
+/// The slots, the undo log and the choice points. Contracts see them as lists. The undo log and the
+/// choice points are the first `log_len` and `choice_point_len` elements of their vectors, which
+/// only grow. A slot that is not set has its initial value, so slots need not be written before
+/// each search.
 #[derive(Drop)]
 pub struct BacktrackState {
     groups: usize,
@@ -77,11 +77,11 @@ pub struct BacktrackState {
     slots: Vec<GroupOrLoopState>,
     log: Vec<UndoEntry>,
     log_len: usize,
-    // The number of changes that are logged whatever slots they are of.
+    // This many changes are logged even if their slots were logged before.
     free: usize,
     choice_points: Vec<ChoicePoint>,
     choice_point_len: usize,
-    // The storage for the frames of lookarounds, cached from one attempt to the next.
+    // The storage for the frames of lookarounds. It is kept from one attempt to the next.
     frames: Vec<LookaroundFrame>,
 }
 
@@ -99,8 +99,8 @@ impl Model for BacktrackState {
         m.choice_point_len m.choice_points.items };
 }
 
-// Fills the elements of a vector that are not used yet. If a vector were extended with the value to
-// be stored, that value would have to be in memory first, whether there is room or not.
+// Fills elements of a vector that are not yet used. Extending the vector with the value to be
+// stored would require that value in memory, even if there is room.
 const NO_SLOT: GroupOrLoopState = GroupOrLoopState {
     at: 0,
     from: 0,
@@ -115,8 +115,8 @@ const ROOM_FOR_CHANGE: UndoEntry = UndoEntry {
     old: NO_SLOT,
 };
 
-// The number of changes that are logged without a check whether their slots were logged before.
-// Most searches make fewer, and duplicate entries take no more memory than this.
+// This many changes are logged without a check whether their slots were logged before. Most
+// searches make fewer changes. The duplicate entries never take more memory than this.
 const UNCHECKED_ENTRIES: usize = 4096;
 
 const EMPTY_CHOICE_POINT: ChoicePoint = ChoicePoint {
@@ -127,9 +127,8 @@ const EMPTY_CHOICE_POINT: ChoicePoint = ChoicePoint {
     log: 0,
 };
 
-// The most elements by which a vector becomes longer at a time, approximately. Its allocation
-// doubles all the same, but where a system provides memory by pages, what is not written takes
-// none.
+// The approximate maximum number of elements by which a vector becomes longer at a time. Its
+// allocation still doubles, but memory pages that are not written are not used.
 const MOST_MORE: usize = 4096;
 
 // Makes a vector longer.
@@ -149,7 +148,8 @@ fn grow<T: Copy + Drop>(row: &mut Vec<T>, value: T) -> Result<(), AllocError>
     }
 }
 
-// Returns the length of the undo log when the last choice point was pushed, or 0 if there is none.
+// Returns the length of the undo log when the last choice point was pushed. Returns 0 if there is
+// none.
 #[inline(always)]
 fn log_len_at_choice_point(choice_points: &[ChoicePoint]) -> usize
     ensures { result ≡ noted_since choice_points.now }
@@ -161,9 +161,9 @@ fn log_len_at_choice_point(choice_points: &[ChoicePoint]) -> usize
     }
 }
 
-// Makes room for one more entry in a log of which `used` entries are used, and returns whether the
-// change has to be logged. It need not be logged if the slot's last entry, `noted`, was made after
-// the last choice point, except that the first `free` changes are always logged.
+// Makes room for one more entry in a log with `used` entries. Returns whether the change has to be
+// logged. It need not be if the slot's last entry, `noted`, was made after the last choice point.
+// The first `free` changes are always logged.
 #[inline(always)]
 fn reserve(
     log: &mut Vec<UndoEntry>,
@@ -204,7 +204,7 @@ fn grow_log(log: &mut Vec<UndoEntry>, free: &mut usize, used: usize) -> Result<(
     Ok(())
 }
 
-// Makes a log longer if all of its elements are used.
+// Makes a log longer if all of its elements are in use.
 #[inline(always)]
 fn lengthen(log: &mut Vec<UndoEntry>, used: usize) -> Result<(), AllocError>
     requires { used ≤ length log.old.items }
@@ -226,8 +226,8 @@ fn smaller_of(number: usize, most: usize) -> usize
     if number < most { number } else { most }
 }
 
-// Returns the number under which a slot is logged that is about to be set. Appends a new entry,
-// unless the slot was logged after the last choice point and no free entry is left.
+// Returns the number under which a slot is logged that is about to be set. Appends an entry to the
+// log, unless the slot was logged after the last choice point and no free entry is left.
 #[inline(always)]
 fn log_change(
     log: &mut Vec<UndoEntry>,
@@ -274,7 +274,7 @@ fn fit_slots(slots: &mut Vec<GroupOrLoopState>, count: usize) -> Result<(), Allo
     make(slots, count)
 }
 
-// Makes the number of slots equal to `count`, which is less or more than it was.
+// Changes the number of slots to `count`, which is another number than before.
 #[cold]
 #[inline(never)]
 fn make(slots: &mut Vec<GroupOrLoopState>, count: usize) -> Result<(), AllocError>
@@ -290,7 +290,7 @@ fn make(slots: &mut Vec<GroupOrLoopState>, count: usize) -> Result<(), AllocErro
     slots.resize(count, NO_SLOT)
 }
 
-// Returns the value of a slot before a search from an offset.
+// Returns the initial value of a slot, in a search from an offset.
 #[inline(always)]
 fn initial_slot(at: usize) -> GroupOrLoopState
     ensures { result ≡ first_slot_at at }
@@ -298,7 +298,7 @@ fn initial_slot(at: usize) -> GroupOrLoopState
     GroupOrLoopState { at, ..NO_SLOT }
 }
 
-// Resets all slots, so that none is set.
+// Resets all slots to their initial values.
 #[cold]
 #[inline(never)]
 fn wipe(slots: &mut Vec<GroupOrLoopState>)
@@ -328,9 +328,9 @@ impl BacktrackState {
         }
     }
 
-    /// Begins a search from an offset: the slots of all groups and loops have their initial values,
-    /// the undo log is empty, and there is no choice point. Allocates memory only if there were
-    /// fewer slots before, and returns `Err` if that fails.
+    /// Begins a search from an offset. The slots of all groups and loops get their initial values,
+    /// the undo log becomes empty, and there are no choice points. It allocates memory only if
+    /// there were fewer slots before. Returns `Err` if the allocation fails.
     pub fn begin(&mut self, groups: usize, loops: usize, at: usize) -> Result<(), AllocError>
         requires { groups + loops < 2 ^ 64 }
         ensures begun { OnOk result (self.new ≡ initial_state groups loops at) }
@@ -347,8 +347,7 @@ impl BacktrackState {
         Ok(())
     }
 
-    // Undoes all changes: one by one or, if there are more changes than slots, by resetting the
-    // slots.
+    // Undoes all changes. If there are more changes than slots, it resets the slots instead.
     #[inline(always)]
     fn undo_all(&mut self)
         ensures groups { self.new.groups ≡ self.old.groups }
@@ -363,8 +362,8 @@ impl BacktrackState {
         }
     }
 
-    // Sets a slot and logs what it held. After the first `free` changes it is logged only if it was
-    // not logged since the last choice point. On allocation failure nothing is changed.
+    // Sets a slot, and logs its former value. After the first `free` changes, a slot is logged only
+    // once since the last choice point. If an allocation fails, nothing is changed.
     #[inline(always)]
     fn set(&mut self, slot: usize, value: GroupOrLoopState) -> Result<(), AllocError>
         requires slot { slot < length self.old.slots }
@@ -440,7 +439,7 @@ impl BacktrackState {
         self.choice_point_len
     }
 
-    /// Pushes a choice point. On allocation failure nothing is changed.
+    /// Pushes a choice point. If an allocation fails, nothing is changed.
     #[inline(always)]
     pub fn append_choice_point(&mut self, mark: ChoicePoint) -> Result<(), AllocError>
         ensures pushed { OnOk result
@@ -484,7 +483,7 @@ impl BacktrackState {
 
     // ---- Frames of lookarounds
 
-    /// Takes out the storage for frames, which is empty then.
+    /// Takes the storage for frames, which is empty.
     #[inline(always)]
     pub(crate) fn take_frame_stack(&mut self) -> Vec<LookaroundFrame>
         ensures none { result.items ≡ [] }
@@ -506,7 +505,7 @@ impl BacktrackState {
 
     // ---- Groups
 
-    /// Opens a group at an offset and removes its range.
+    /// Opens a group at an offset, and removes its range.
     #[inline(always)]
     pub fn open_group(&mut self, id: usize, at: usize) -> Result<(), AllocError>
         requires { id < self.old.groups }
@@ -538,7 +537,7 @@ impl BacktrackState {
         self.set(id, reset)
     }
 
-    /// Sets a group's range.
+    /// Sets the range of a group.
     #[inline(always)]
     pub fn close_group(&mut self, id: usize, from: usize, to: usize) -> Result<(), AllocError>
         requires { id < self.old.groups }
@@ -584,7 +583,7 @@ impl BacktrackState {
         self.slots.len() - self.groups
     }
 
-    /// Returns a group's range, if it has one.
+    /// Returns the range of a group. Returns `None` if it has none.
     #[inline(always)]
     pub fn captured_range_of(&self, id: usize) -> Option<(usize, usize)>
         requires { id < self.now.groups }

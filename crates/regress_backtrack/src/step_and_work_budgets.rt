@@ -1,13 +1,13 @@
-//! Budgets of a search: the number of steps it may take, and the amount of work it may do.
+//! Budgets of a search: how many steps it may take, and how much work it may do.
 
 ghost use Rattle.std.specs.Prelude.{◌≡◌, ◌<◌, ◌+◌, ◌⊎◌, ℕ, Bool, true, false, OnOk, OnErr, IsTrue};
 ghost use Rattle.regress_backtrack.specs.StepsTakenFromBudget.{Budget, AreStepsTakenFromBudget, AreStepsRefused};
 
 use std::alloc::AllocError;
 
-/// A search stopped without a result: allocation failed, or too much work was done; or, where steps
-/// are counted, too few steps were left. It has no fields, so that a result with a position is
-/// returned in registers. The step counter knows the cause.
+/// A search stopped without a result: an allocation failed, too much work was done, or, if steps
+/// are counted, too few steps were left. The type has no fields, so that a result with a position
+/// is returned in registers. The step counter knows the cause.
 #[derive(Clone, Copy)]
 pub struct SearchStoppedWithoutResult;
 
@@ -18,78 +18,79 @@ impl From<AllocError> for SearchStoppedWithoutResult {
     }
 }
 
-/// A step counter, which counts steps or does not.
+/// A step counter. It may count steps or not.
 pub trait StepCounter: Copy {
     ghost COUNTS: { Bool };
 
     /// Whether steps are counted.
     const COUNTS: bool;
 
-    /// Whether a loop may iterate in bulk over units before which it cannot be exited. It may not
-    /// where each iteration may be recorded in a memo.
+    /// Whether a loop may iterate in bulk over units before which it cannot be left. It may not do
+    /// so where each iteration may be recorded in a memo.
     const AT_ONCE: bool;
 
     ghost budget: { Self → Budget };
 
-    /// Takes a number of steps if as many are left. If not, returns `Err`, and none are left then.
+    /// Takes a number of steps. If fewer are left, returns `Err`, and no steps are left.
     fn take(&mut self, steps: usize) -> Result<(), SearchStoppedWithoutResult>
         ensures taken { OnOk result (AreStepsTakenFromBudget COUNTS steps (budget self.old) (budget self.new)) }
         ensures refused { OnErr result (AreStepsRefused COUNTS steps (budget self.old) (budget self.new)) };
 
     /// Charges one backtrack: takes one step and does some work. Returns `Err` if too much work was
-    /// done or no step was left.
+    /// done or no step is left.
     fn backtrack(&mut self) -> Result<(), SearchStoppedWithoutResult>
         ensures taken { OnOk result (AreStepsTakenFromBudget COUNTS 1 (budget self.old) (budget self.new)) }
         ensures stopped { OnErr result (AreStepsTakenFromBudget COUNTS 1 (budget self.old) (budget self.new)
             ⊎ AreStepsRefused COUNTS 1 (budget self.old) (budget self.new)) };
 
-    /// Charges a number of units read by one operation, or of choice points dropped at once. This
-    /// is work if they are many.
+    /// Charges units that one operation read, or choice points that were dropped at once. Only a
+    /// large number counts as work.
     fn charge_bulk_work(&mut self, units: usize)
         ensures { budget self.new ≡ budget self.old };
 
-    /// Returns `Err` if too much work was done. A search that does not backtrack asks this itself.
+    /// Returns `Err` if too much work was done. A search that does not backtrack has to call this
+    /// itself.
     fn stop_if_too_much_work(&self) -> Result<(), SearchStoppedWithoutResult>;
 
-    /// Returns whether steps were refused.
+    /// Checks whether any steps were refused.
     fn steps_were_refused(&self) -> bool
         ensures { result ≡ (budget self.now).out };
 }
 
-// The fewest units that count as work. An operation that reads fewer does little more than one that
-// reads none.
+// The smallest number of units that counts as work. Reading fewer takes little more time than
+// reading none.
 const LONG: usize = 16;
 
-// From this value on, work is negative.
+// From this value on, `work` represents a negative number.
 const BELOW_ZERO: u64 = 0x8000_0000_0000_0000;
 
-/// A counter for any number of steps, with limited work if `BOUND`.
+/// A counter without a step limit. If `BOUND` is set, it limits the work.
 #[derive(Clone, Copy)]
 pub struct WorkCounterWithoutStepLimit<const BOUND: bool> {
-    // The work that is left. Below 0 it wraps around to 2^64, so that no work is too much to count.
+    // The work that is left. It wraps around below 0, so that any amount of work can be subtracted.
     work: u64,
 }
 
-/// A counter for any number of steps and limited work.
+/// A counter without a step limit that limits the work.
 pub type WorkBounded = WorkCounterWithoutStepLimit<true>;
 
-/// A counter for any number of steps and any work.
+/// A counter that limits neither steps nor work.
 pub type Unlimited = WorkCounterWithoutStepLimit<false>;
 
 impl<const BOUND: bool> WorkCounterWithoutStepLimit<BOUND> {
-    /// Creates a counter that allows this much work.
+    /// Creates a counter that allows this amount of work.
     #[inline(always)]
     pub fn work_counter_with_limit(work: u64) -> Self {
         WorkCounterWithoutStepLimit { work }
     }
 
-    /// Creates a counter whose work is already spent.
+    /// Creates a counter that allows no more work.
     #[inline(always)]
     pub fn exhausted_work_counter() -> Self {
         WorkCounterWithoutStepLimit { work: BELOW_ZERO }
     }
 
-    /// Returns whether more work was done than was allowed.
+    /// Checks whether more work was done than was allowed.
     #[inline(always)]
     pub fn is_work_limit_exceeded(&self) -> bool {
         self.work >= BELOW_ZERO
@@ -144,7 +145,7 @@ impl<const BOUND: bool> StepCounter for WorkCounterWithoutStepLimit<BOUND> {
     }
 }
 
-/// A limited number of steps: those that are left, and whether some were refused.
+/// A counter that limits steps: how many are left, and whether any were refused.
 #[derive(Clone, Copy)]
 pub struct LimitedStepCounter {
     pub left: u64,

@@ -1,4 +1,4 @@
-//! The executor with a limited number of steps.
+//! The executor with a step limit.
 
 ghost use Rattle.std.specs.Prelude.{◌≡◌, IfOk, Some};
 ghost use Rattle.regex_meaning.specs.{StartPredicate.{start_predicate}, Text.{utf8_text}};
@@ -18,14 +18,14 @@ use regress_search::exec::{MatchProducer, ProducerFromProgramAndText, SearchErro
 use regress_search::search_loop::SingleAttemptExecutor;
 use std::alloc::AllocError;
 
-/// Searches a text in UTF-8 as `BacktrackExecutor` does, and takes no more than a given number of
-/// steps for all its matches together. It tries the positions that the program's start predicate
-/// accepts, since each position that is tried takes steps.
+/// Searches a text in UTF-8 like `BacktrackExecutor`, but takes at most a given number of steps for
+/// all matches together. It tries only the positions that the program's start predicate admits,
+/// because each position that is tried takes steps.
 #[derive(Drop)]
 pub struct LimitedExecutor<'r, 't> {
     executor: BacktrackExecutor<'r, Utf8Input<'t>>,
     start: &'r StartPredicate,
-    // The steps that are left, and whether the last attempt was refused some.
+    // The steps that are left, and whether the last attempt was refused any.
     steps: LimitedStepCounter,
     ghost predicted: { start_predicate (tree_of executor.search.program.regex) ≡ start_predicate_as_spec start.now },
 }
@@ -35,7 +35,7 @@ impl<'r, 't> LimitedExecutor<'r, 't> {
     ///
     /// # Errors
     ///
-    /// If allocation fails.
+    /// Returns `Err` if an allocation fails.
     pub fn new(re: &'r CompiledRegex, text: &'t str, steps: u64) -> Result<Self, AllocError>
         ensures tree { IfOk result (λ e. ⟦<LimitedExecutor<'r, 't> as MatchProducer>⟧.tree e
             ≡ tree_of re.now) }
@@ -55,7 +55,7 @@ impl<'r, 't> LimitedExecutor<'r, 't> {
         })
     }
 
-    /// Returns the number of steps that it may still take.
+    /// Returns the number of steps that are left.
     pub fn steps_left(&self) -> u64
         ensures { ⟦<LimitedExecutor<'r, 't> as MatchProducer>⟧.budget self.now ≡ Some result }
     {

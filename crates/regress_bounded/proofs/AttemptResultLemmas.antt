@@ -49,7 +49,7 @@ use Rattle.regress_bounded.proofs.SuccessiveAttemptLemmas.{memory-of, then-start
 use Rattle.regress_bounded.proofs.BoundedStateLemmas.{row-none}
 use Rattle.regress_bounded.proofs.BoundedStateLemmas as standing
 
--- ---- It begins
+-- ---- The initial state
 
 module _ {P : Type 0} {offset : P → ℕ} {program : Program} {text : Text} where
   pub begins-stands : {at : ℕ} {c : MemoAndWorkBudget} {b : BoundedAttempt} (start : State P) → HasRisingPlaceOffsets text → IsBoundary text at → state_of offset start ≡ state_before_first_insn program at → BoundedAttemptBegins program text at c b
@@ -75,7 +75,7 @@ module _ {P : Type 0} {offset : P → ℕ} {program : Program} {text : Text} whe
       }
 
 module _ {P : Type 0} (offset : P → ℕ) (program : Program) (text : Text) where
-  -- one that has what is known as its memory
+  -- The attempt has the known failures as its memory, and it finds what the search finds.
   record Attempt (at : ℕ) (c : MemoAndWorkBudget) (searched : Option Found) : Type 0 where
     begin : BoundedAttempt
     begins : BoundedAttemptBegins program text at c begin
@@ -92,7 +92,7 @@ module _ {P : Type 0} (offset : P → ℕ) (program : Program) (text : Text) whe
         found = f.1;
       }
 
-  -- ---- What it finds
+  -- ---- The match that an attempt finds
 
   module _ (b : BoundedAttempt) (c : MemoAndWorkBudget) where
     nothing-found : AttemptHasState offset program text b [] [] c → b.found.end ≡ None
@@ -106,7 +106,7 @@ module _ {P : Type 0} (offset : P → ℕ) (program : Program) (text : Text) whe
         let s = h.stands in
         standing.then-ends program text c.memo.memo_analysis s.right.paid b s.is_memory s.answers s.work s.now h.from (state_of offset end) s.row (standing.come offset program text b s) h.ends
 
-  -- its end is inside the text
+  -- The end of a match lies inside the text.
   end-inside : (b : BoundedAttempt) (c : MemoAndWorkBudget) (end : State P) → AttemptEndsAt offset program text b end c → offset end.pos ≤ units text
   end-inside b c end h =
       let own : offset end.pos ≡ h.from.pos = ap (λ (u : machine.State). u.pos) (ends-itself program text rightwards h.from (state_of offset end) h.ends) in
@@ -117,14 +117,14 @@ module _ {P : Type 0} (offset : P → ℕ) (program : Program) (text : Text) whe
   runs-found b c None h = nothing-found b c h
   runs-found b c (Some e) h = end-found b c e h
 
-  -- ---- What the next ones may do
+  -- ---- The work that is left for later attempts
 
   module _ (at ahead : ℕ) (old new : MemoAndWorkBudget) (same : new.memo.memo_analysis ≡ old.memo.memo_analysis) (walked : Walked program text old ahead) (le : ahead ≤ at) (inside : at ≤ units text)
       (answered : Answers program text rightwards (initial_threads program at)) where
     abbrev t : MemoAnalysis
     t = new.memo.memo_analysis
 
-    -- the attempt from what was known
+    -- The attempt starts from the failures known so far.
     abbrev its : BoundedAttempt
     its = record { at = at; memory = walked.walked.memory; total = old.left; turns = answered.turns; found = answered.found }
 
@@ -151,7 +151,7 @@ module _ {P : Type 0} (offset : P → ℕ) (program : Program) (text : Text) whe
           let u = ap (λ t. work_per_unit t * (units text + 1)) same in
           omega (arith, e, u, spent)
 
-      -- none begins there
+      -- An attempt that finds no match leaves enough work for an attempt at the next offset.
       walked-none : AttemptHasState offset program text its [] [] new → Walked program text new (at + 1)
       walked-none h =
           let none : h.row ≡ [] = row-none offset program text h.row h.is in
@@ -162,7 +162,7 @@ module _ {P : Type 0} (offset : P → ℕ) (program : Program) (text : Text) whe
             enough = still-enough h.work h.spent;
           }
 
-      -- a match ends it
+      -- An attempt that finds a match leaves enough work for an attempt behind it.
       walked-found : (end : State P) → AttemptEndsAt offset program text its end new → Walked program text new (least_offset_after_match at (offset end.pos))
       walked-found end h =
           let s = h.stands in
@@ -177,7 +177,7 @@ module _ {P : Type 0} (offset : P → ℕ) (program : Program) (text : Text) whe
             enough = still-enough s.work s.spent;
           }
 
-      -- work is never wanting
+      -- An attempt with enough work at its start does not stop for lack of work.
       never-over : StoppedForWork offset program text its new → ⊥
       never-over h =
           let x = h.short in
@@ -197,7 +197,7 @@ module _ {P : Type 0} (offset : P → ℕ) (program : Program) (text : Text) whe
           let over = x.over in
           absurd (omega (arith, all, same_all, u, e, total, over))
 
--- ---- Before the first one
+-- ---- Before the first attempt
 
 module _ (program : Program) (text : Text) (is_text : HasRisingPlaceOffsets text) (bytes : ReadsAsBytes program text) (short : units text < 2 ^ 63) (t : MemoAnalysis) (has : AnalysisBoundsProgram program t)
     (m : MemoView) (begun : IsEmptyMemo t (units text + 1) false m) where
@@ -215,19 +215,19 @@ module _ (program : Program) (text : Text) (is_text : HasRisingPlaceOffsets text
     enough = (let same = ap (λ t. work_per_unit t * (units text + 1)) begun.memo_analysis in omega (arith, same, enough));
   }
 
--- the search of an attempt answers
+-- The search at a boundary of the text has an answer.
 answered-at : (tree : Tree) (text : Text) → TreeProgramCanSearchText (compiled tree) tree text → (at : ℕ) → IsBoundary text at → Answers (compiled tree) text rightwards (initial_threads (compiled tree) at)
 answered-at tree text can at on =
     let s = some-of (search_from tree text at rightwards (state_before_first_insn (compiled tree) at)) (begins tree text at can on).answers in
     record { turns = steps_for_attempt tree text at; found = s.0; searches = s.1 }
 
--- ---- What an attempt comes to, by all that begin so
+-- ---- The result of an attempt, from each way in which it may begin
 
 module _ {P : Type 0} (offset : P → ℕ) {tree : Tree} {text : Text} (can : TreeProgramCanSearchText (compiled tree) tree text) (at : ℕ) (on : IsBoundary text at) (old : MemoAndWorkBudget) where
   first : IsSoundMemo (compiled tree) text old.memo → Attempt offset (compiled tree) text at old (search (compiled tree) text (steps_for_attempt tree text at) rightwards (initial_threads (compiled tree) at))
   first right = attempt-begins offset (compiled tree) text at (steps_for_attempt tree text at) old right (begins tree text at can on).answers
 
-  -- it stands so at its start
+  -- The initial state of the executor is a state of an attempt.
   pub attempt-stands : HasRisingPlaceOffsets text → IsMemoRight (compiled tree) text old.memo → (start : State P) → state_of offset start ≡ state_before_first_insn (compiled tree) at
       → HasAttemptState offset (compiled tree) text (entry_of_current_thread offset (Some start)) [] old
   attempt-stands is knows start begun = ∥∥₁_map knows (λ right. let x = first right in record { begin = x.begin; stands = begins-stands start is on begun x.begins })
@@ -236,13 +236,13 @@ module _ {P : Type 0} (offset : P → ℕ) {tree : Tree} {text : Text} (can : Tr
     abbrev ByRuns : Result (Option (State P)) AttemptAbortReason → Type 0
     ByRuns r = (b : BoundedAttempt) → BoundedAttemptBegins (compiled tree) text at old b → AttemptResultIs offset (compiled tree) text b r new
 
-    -- an end that is found is inside the text
+    -- The end of a match that is found lies inside the text.
     pub found-inside : {found : Option (State P)} {end : State P} → found ≡ Some end → IsMemoRight (compiled tree) text old.memo → ByRuns (Ok found) → offset end.pos ≤ units text
     found-inside {end = end} is knows runs =
         let by = subst (λ o. ByRuns (Ok o)) is runs in
         ∥∥₁_elim knows (Prim.hlevel props) (λ right. let x = first right in end-inside offset (compiled tree) text x.begin new end (by x.begin x.begins))
 
-    -- what is found is what the tree finds
+    -- The end and the groups that are found are those of the tree's match at the offset.
     pub found-all : (end : Option (State P)) → IsMemoRight (compiled tree) text old.memo → ByRuns (Ok end) → end_and_groups offset end ≡ match_end_and_groups_at tree text at
     found-all end knows runs =
         ∥∥₁_elim knows (Prim.hlevel props) (λ right.
@@ -250,13 +250,13 @@ module _ {P : Type 0} (offset : P → ℕ) {tree : Tree} {text : Text} (can : Tr
         let e = runs-found offset (compiled tree) text x.begin new end (runs x.begin x.begins) in
         map-end offset end ∙ ap (option_map end_of) (sym e ∙ sym (ap end_of_search x.found)) ∙ (begins tree text at can on).end)
 
-    -- where work was wanted, none is left
+    -- An attempt that stops for lack of work leaves no work.
     pub none-left : (e : AttemptAbortReason) → IsMemoRight (compiled tree) text old.memo → ByRuns (Err e) → e ≡ Work → new.left ≡ 0
     none-left e knows runs is =
         ∥∥₁_elim knows (Prim.hlevel props) (λ right.
         let x = first right in (subst (λ e. AttemptResultIs offset (compiled tree) text x.begin (Err e) new) is (runs x.begin x.begins)).short.none)
 
-    -- ---- In turn
+    -- ---- Successive attempts
 
     module _ {ahead : ℕ} (is : HasRisingPlaceOffsets text) (knows : IsMemoRight (compiled tree) text old.memo) (same : new.memo.memo_analysis ≡ old.memo.memo_analysis)
         (walked : AreWalked (compiled tree) text old ahead) (le : ahead ≤ at) where
@@ -269,7 +269,7 @@ module _ {P : Type 0} (offset : P → ℕ) {tree : Tree} {text : Text} (can : Tr
       from-begins : (w : Walked (compiled tree) text old ahead) → IsSoundMemo (compiled tree) text old.memo → BoundedAttemptBegins (compiled tree) text at old (from w)
       from-begins w right = its-begins offset (compiled tree) text at ahead old new same w le inside (answered-at tree text can at on) right
 
-      -- none is found
+      -- If no match is found, enough work is left for an attempt at the next offset.
       pub on-by-none : {found : Option (State P)} → found ≡ None → ByRuns (Ok found) → AreWalked (compiled tree) text new (at + 1)
       on-by-none found_is runs =
           let by = subst (λ o. ByRuns (Ok o)) found_is runs in
@@ -277,7 +277,7 @@ module _ {P : Type 0} (offset : P → ℕ) {tree : Tree} {text : Text} (can : Tr
           let ends = by (from w) (from-begins w right) in
           walked-none offset (compiled tree) text at ahead old new same w le inside (answered-at tree text can at on) ends.right.paid ends))
 
-      -- one is
+      -- If a match is found, enough work is left for an attempt behind it.
       pub on-by-found : {found : Option (State P)} {end : State P} → found ≡ Some end → ByRuns (Ok found) → AreWalked (compiled tree) text new (least_offset_after_match at (offset end.pos))
       on-by-found {end = end} found_is runs =
           let by = subst (λ o. ByRuns (Ok o)) found_is runs in
@@ -285,23 +285,23 @@ module _ {P : Type 0} (offset : P → ℕ) {tree : Tree} {text : Text} (can : Tr
           let ends = by (from w) (from-begins w right) in
           walked-found offset (compiled tree) text at ahead old new same w le inside (answered-at tree text can at on) ends.stands.right.paid end ends))
 
-      -- work is not wanted
+      -- An attempt does not stop for lack of work.
       pub never-wanted : (e : AttemptAbortReason) → ByRuns (Err e) → e ≡ Work → ⊥
       never-wanted e runs is =
           ∥∥₁_elim knows (Prim.hlevel props) (λ right. ∥∥₁_elim walked (Prim.hlevel props) (λ w.
           let over = subst (λ e. AttemptResultIs offset (compiled tree) text (from w) (Err e) new) is (runs (from w) (from-begins w right)) in
           never-over offset (compiled tree) text at ahead old new same w le inside (answered-at tree text can at on) (subst (AnalysisBoundsSearch (compiled tree) text) (sym same) right.paid) over))
 
--- ---- Its exact cost
+-- ---- The exact cost of an attempt
 
--- What an attempt costs, by all that begin so.
+-- These lemmas give the cost of an attempt from each way in which it may begin.
 module _ {P : Type 0} (offset : P → ℕ) {tree : Tree} {text : Text} (can : TreeProgramCanSearchText (compiled tree) tree text) (at : ℕ) (on : IsBoundary text at) (old new : MemoAndWorkBudget)
     (knows : IsMemoRight (compiled tree) text old.memo) where
   abbrev Spends : (cost : ℕ) → (after : Option Failures) → Type 0
   Spends = AttemptCosts tree text (failures_of old.memo) at
 
   module _ (b : BoundedAttempt) (begun : BoundedAttemptBegins (compiled tree) text at old b) where
-    -- events that led to a state
+    -- The events that lead to a state give its cost and its known failures.
     events-of : {front : List Entry} {stack : List (StackEntry P)} {c : MemoAndWorkBudget} → AttemptHasState offset (compiled tree) text b front stack c → (cost : ℕ) (now : List Key) (row : List Entry)
         → Costs (compiled tree) text c.memo.memo_analysis rightwards b.memory (thread_entries (initial_threads (compiled tree) b.at)) cost now row
         → (after : Option Failures) → IfSome after (λ failures. HasFinished (compiled tree) text row × ListsFailures failures now)
@@ -317,7 +317,7 @@ module _ {P : Type 0} (offset : P → ℕ) {tree : Tree} {text : Text} (can : Tr
       over = over;
     }
 
-    -- one that is over took exactly its cost
+    -- An attempt that has finished took exactly its cost.
     finished : {front : List Entry} {stack : List (StackEntry P)} → (h : AttemptHasState offset (compiled tree) text b front stack new) → HasFinished (compiled tree) text (front ++ h.row)
         → TakesExactCost Spends old.left new.left (failures_of new.memo)
     finished {front} h over = (
@@ -326,12 +326,12 @@ module _ {P : Type 0} (offset : P → ℕ) {tree : Tree} {text : Text} (can : Tr
       (let total = begun.total in let spent = h.spent in omega (arith, total, spent)),
     )
 
-    -- no entry is left, or the current one ends the search
+    -- An attempt that has a result took exactly its cost.
     its-cost : (found : Option (State P)) → AttemptResultIs offset (compiled tree) text b (Ok found) new → TakesExactCost Spends old.left new.left (failures_of new.memo)
     its-cost None h = finished h (subst (HasFinished (compiled tree) text) (sym (row-none offset (compiled tree) text h.row h.is)) no_entry)
     its-cost (Some end) h = finished h.stands (is_end h.from (state_of offset end) h.stands.row h.ends)
 
-    -- it was given up before an event that costs more than was left
+    -- An attempt that stops for lack of work costs more than was left.
     its-cost-more : StoppedForWork offset (compiled tree) text b new → CostsMoreThanLeft Spends old.left
     its-cost-more h =
         let s = h.stands in
@@ -341,7 +341,7 @@ module _ {P : Type 0} (offset : P → ℕ) {tree : Tree} {text : Text} (can : Tr
           (let total = begun.total in let spent = s.spent in let over = x.over in omega (arith, total, spent, over)),
         ) ∣₁
 
-  -- It found an end, or none.
+  -- An attempt that finds a match or finds none takes exactly its cost.
   pub exact-cost : new.left ≤ old.left → (found : Option (State P)) → ByRuns offset can at on old new (Ok found) → TakesExactCost Spends old.left new.left (failures_of new.memo)
   exact-cost less found runs = (
     old.left - new.left,
@@ -353,7 +353,7 @@ module _ {P : Type 0} (offset : P → ℕ) {tree : Tree} {text : Text} (can : Tr
     omega (arith, less),
   )
 
-  -- It was given up for lack of work.
+  -- An attempt that fails for lack of work costs more than was left.
   pub more-than-left : (e : AttemptAbortReason) → ByRuns offset can at on old new (Err e) → e ≡ Work → CostsMoreThanLeft Spends old.left
   more-than-left e runs is = ∥∥₁_elim knows ∥∥₁_prop (λ right.
       let x = first offset can at on old right in

@@ -38,10 +38,10 @@ use Rattle.regress_bounded.proofs.SearchEventCostLemmas.{costs-come}
 use Rattle.regress_bounded.specs.BudgetSpending.{IsTakenFromBudget, WorkExceedsBudget}
 use Rattle.regress_pikevm.specs.States.{state_of}
 
--- ---- Rows
+-- ---- Stacks and the entries that they stand for
 
 module _ {P : Type 0} (offset : P → ℕ) (program : Program) (text : Text) where
-  -- one more waits
+  -- Pushing a stack entry puts the entry that it stands for in front of the others.
   pub row-push : (stack : List (StackEntry P)) (w : StackEntry P) (e : Entry) (row : List Entry) → StandsFor offset program text w e → IsStackOf offset program text stack row
       → IsStackOf offset program text (stack ++ w ∷ []) (e ∷ row)
   row-push stack w e row s r = subst (λ l. StackStandsFor offset program text l (e ∷ row)) (sym (reverse-append stack (w ∷ []))) (s, r)
@@ -53,7 +53,7 @@ module _ {P : Type 0} (offset : P → ℕ) (program : Program) (text : Text) whe
     pub stands : StandsFor offset program text w entry
     pub below : IsStackOf offset program text stack rest
 
-  -- the last one comes first
+  -- Popping the last stack entry takes the first of the entries.
   pub row-pop : (stack : List (StackEntry P)) (w : StackEntry P) (row : List Entry) → IsStackOf offset program text (stack ++ w ∷ []) row → Popped stack w row
   row-pop stack w row r = by row (subst (λ l. StackStandsFor offset program text l row) (reverse-append stack (w ∷ [])) r)
     where
@@ -65,7 +65,7 @@ module _ {P : Type 0} (offset : P → ℕ) (program : Program) (text : Text) whe
   row-none [] h = refl
   row-none (e ∷ row) h = absurd h
 
--- ---- What a search finds
+-- ---- The result of a search
 
 module _ (program : Program) (text : Text) (t : MemoAnalysis) (paid : AnalysisBoundsSearch program text t) where
   abbrev pub served : Serves program t text
@@ -76,14 +76,14 @@ module _ (program : Program) (text : Text) (t : MemoAnalysis) (paid : AnalysisBo
     abbrev pub Come : (work : ℕ) → List Key → List Entry → Type 0
     Come work now row = ReachesEntries program text t rightwards b.memory (thread_entries (initial_threads program b.at)) work now row
 
-    -- what is in hand finds what the attempt is to find
+    -- The current entries find what the whole attempt finds.
     pub finds : (work : ℕ) (now : List Key) (row : List Entry) → Come work now row
         → Finds program text (analysis_as_liveness t) (analysis_keys program text t) rightwards now row b.found
     finds work now row h =
         (work-is-bounded program text (analysis_as_liveness t) (analysis_keys program text t) served.plan.liveness served.serves.keys rightwards (λ k. key_cost_of t k.ip)
         (potential_by program (potentials_of t) (key_cost_of t) (recorded t)) b.memory (initial_threads program b.at) b.turns b.found memory answers work now row h.comes).stands
 
-    -- the thread in hand is not stuck
+    -- The current thread is not stuck.
     pub then-can : (work : ℕ) (now : List Key) (s : machine.State) (rest : List Entry) → Come work now (one_thread (running s) ∷ rest) → IsNotStuck (act program text rightwards s)
     then-can work now s rest h = by (act program text rightwards s) refl
       where
@@ -97,14 +97,14 @@ module _ (program : Program) (text : Text) (t : MemoAnalysis) (paid : AnalysisBo
         by (asks inner negate u t) e = tt
         by stuck e = never_stuck program text found.turns rightwards s (threads_in rest) found.within.found e found.within.searches
 
-    -- where it ends the search, that is what is found
+    -- If the current thread ends the search, its end is the one that the attempt finds.
     pub then-ends : (work : ℕ) (now : List Key) (s u : machine.State) (rest : List Entry) → Come work now (one_thread (running s) ∷ rest)
         → act program text rightwards s ≡ ends u → b.found.end ≡ Some u
     then-ends work now s u rest h e =
         let f = finds work now (one_thread (running s) ∷ rest) h in
         sym f.within.end ∙ ap (λ (f : Found). f.end) (ends-found program text f.turns rightwards s u (threads_in rest) f.within.found e f.within.searches)
 
-    -- where nothing is in hand, nothing is found
+    -- If no entry is left, the attempt finds no match.
     pub then-none : (work : ℕ) (now : List Key) → Come work now [] → b.found.end ≡ None
     unfolding search
     then-none work now h = by f.turns refl
@@ -117,11 +117,11 @@ module _ (program : Program) (text : Text) (t : MemoAnalysis) (paid : AnalysisBo
             let e : Some result_without_threads ≡ Some f.within.found = f.within.searches in
             let is : result_without_threads ≡ f.within.found = cc in sym f.within.end ∙ sym (ap (λ (f : Found). f.end) is)
 
--- ---- The thread in hand, and an event on
+-- ---- Events of the current thread
 
 module _ {P : Type 0} (offset : P → ℕ) (program : Program) (text : Text) (b : BoundedAttempt) {front : List Entry} {stack : List (StackEntry P)} {c : MemoAndWorkBudget}
     (h : AttemptHasState offset program text b front stack c) where
-  -- what was done so far is covered
+  -- The laws on work cover the events so far.
   pub come : ReachesEntries program text c.memo.memo_analysis rightwards b.memory (thread_entries (initial_threads program b.at)) h.work h.now (front ++ h.row)
   come = costs-come program text c.memo.memo_analysis h.right.paid b.at h.inside b.memory h.work h.now (front ++ h.row) h.costs
 
@@ -131,7 +131,7 @@ module _ {P : Type 0} (offset : P → ℕ) (program : Program) (text : Text) (b 
   pub known : (k : Key) → has_failure c.memo k ≡ true → IsKnownToFail program text c.memo.memo_analysis rightwards k h.now
   known k fails = record { known = h.holds.all k fails; fails = h.right.is_true.fails k fails }
 
-  -- an event costs so much, and it is taken from what was left
+  -- An event takes its cost from the work that was left.
   pub comes-on : (next : Option (State P)) (row' : List Entry) (stack' : List (StackEntry P)) (cost : ℕ) (c' : MemoAndWorkBudget) → MayBeNextEvent offset program text b h cost h.now (entry_of_current_thread offset next ++ row')
       → IsStackOf offset program text stack' row' → c'.memo ≡ c.memo → IsTakenFromBudget cost c.left c'.left → TakesOneEvent offset program text b h next stack' c'
   comes-on next row' stack' cost c' happens is same spent =
@@ -155,7 +155,7 @@ module _ {P : Type 0} (offset : P → ℕ) (program : Program) (text : Text) (b 
         spent = spent;
       })
 
-  -- what may happen costs so much, or more
+  -- The next event costs at least this much work.
   pub record CostsAtLeast (work : ℕ) : Type 0 where
     pub cost : ℕ
     pub now : List Key
@@ -163,7 +163,7 @@ module _ {P : Type 0} (offset : P → ℕ) (program : Program) (text : Text) (b 
     pub happens : MayBeNextEvent offset program text b h cost now row
     pub more : work ≤ cost
 
-  -- there was not so much
+  -- If the work left is less than the least cost of the next event, the work is too little.
   pub falls-short : (work : ℕ) (c' : MemoAndWorkBudget) → CostsAtLeast work → WorkExceedsBudget work c.left c'.left → WorkIsTooLittle offset program text b h c'
   falls-short work c' x spent =
       record { cost = x.cost; now = x.now; row = x.row; happens = x.happens; over = (let s : c.left < work = spent.0 in let m = x.more in omega (arith, s, m)); none = spent.1 }
@@ -172,7 +172,7 @@ module _ {P : Type 0} (offset : P → ℕ) (program : Program) (text : Text) (b 
       → WorkIsTooLittle offset program text b h c'
   is-short {now'} {row'} cost c' happens spent = falls-short cost c' (record { cost = cost; now = now'; row = row'; happens = happens; more = omega arith }) spent
 
--- the thread in hand
+-- The current thread is keyed, lies inside the text and is not stuck.
 module _ {P : Type 0} (offset : P → ℕ) (program : Program) (text : Text) (b : BoundedAttempt) (s : machine.State) {stack : List (StackEntry P)} {c : MemoAndWorkBudget}
     (h : AttemptHasState offset program text b (one_thread (running s) ∷ []) stack c) where
   pub keyed : IsKeyed program text c.memo.memo_analysis rightwards s
@@ -184,14 +184,14 @@ module _ {P : Type 0} (offset : P → ℕ) (program : Program) (text : Text) (b 
   pub can-turn : IsNotStuck (act program text rightwards s)
   can-turn = then-can program text c.memo.memo_analysis h.right.paid b h.is_memory h.answers h.work h.now s h.row (come offset program text b h)
 
--- ---- What is come back to
+-- ---- Entries that are popped
 
 module _ {P : Type 0} (offset : P → ℕ) (program : Program) (text : Text) (b : BoundedAttempt) (stack : List (StackEntry P)) (w : StackEntry P) {c : MemoAndWorkBudget}
     (h : AttemptHasState offset program text b [] (stack ++ w ∷ []) c) where
   abbrev pub popped : Popped offset program text stack w h.row
   popped = row-pop offset program text stack w h.row h.is
 
-  -- what may happen with the entry
+  -- An event of the popped entry may be the next event.
   pub happens-back : (e : Entry) → popped.entry ≡ e → {cost : ℕ} {now' : List Key} {row' : List Entry}
       → IsSearchEvent program text c.memo.memo_analysis rightwards h.now cost (e ∷ popped.rest) now' row' → MayBeNextEvent offset program text b h cost now' row'
   happens-back e is {cost} {now'} {row'} happens =
@@ -202,7 +202,7 @@ module _ {P : Type 0} (offset : P → ℕ) (program : Program) (text : Text) (b 
       subst (ReachesEntries program text c.memo.memo_analysis rightwards b.memory (thread_entries (initial_threads program b.at)) h.work h.now) (popped.is ∙ ap (λ e. e ∷ popped.rest) is)
       (come offset program text b h)
 
--- to a thread
+-- The popped entry is a thread, which becomes the current one.
 module _ {P : Type 0} {offset : P → ℕ} {program : Program} {text : Text} {b : BoundedAttempt} (stack : List (StackEntry P)) (w : StackEntry P) {c : MemoAndWorkBudget}
     (h : AttemptHasState offset program text b [] (stack ++ w ∷ []) c) (s : State P) (is : w ≡ AsThread s) where
   taken-up : MayBeNextEvent offset program text b h 1 h.now (one_thread (running (state_of offset s)) ∷ (popped offset program text b stack w h).rest)
@@ -219,7 +219,7 @@ module _ {P : Type 0} {offset : P → ℕ} {program : Program} {text : Text} {b 
   pub thread-over : (c' : MemoAndWorkBudget) → WorkExceedsBudget 1 c.left c'.left → WorkIsTooLittle offset program text b h c'
   thread-over c' spent = is-short offset program text b h 1 c' taken-up spent
 
--- to a record
+-- The popped entry is a record, whose key is noted as failed.
 module _ {P : Type 0} {offset : P → ℕ} {program : Program} {text : Text} {b : BoundedAttempt} (stack : List (StackEntry P)) (w : StackEntry P) {c : MemoAndWorkBudget}
     (h : AttemptHasState offset program text b [] (stack ++ w ∷ []) c) (k : Stored) (is : w ≡ AsRecord k) where
   abbrev pub below : Popped offset program text stack w h.row
@@ -237,7 +237,7 @@ module _ {P : Type 0} {offset : P → ℕ} {program : Program} {text : Text} {b 
   record-finds : Finds program text (analysis_as_liveness c.memo.memo_analysis) keys rightwards h.now (key_record (memo_key_as_spec k) stood.threads ∷ below.rest) b.found
   record-finds = finds program text c.memo.memo_analysis h.right.paid b h.is_memory h.answers h.work h.now _ at-record
 
-  -- it has a bit
+  -- The key of a record has a bit in the memo table.
   pub record-bit : IsRecordableMemoKey c.memo.memo_analysis c.memo.places (memo_key_as_spec k)
   record-bit =
       subst (λ n. IsRecordableMemoKey c.memo.memo_analysis n (memo_key_as_spec k)) (sym h.right.is_true.places)
@@ -254,7 +254,7 @@ module _ {P : Type 0} {offset : P → ℕ} {program : Program} {text : Text} {b 
   pub record-over : (c' : MemoAndWorkBudget) → WorkExceedsBudget 1 c.left c'.left → WorkIsTooLittle offset program text b h c'
   record-over c' spent = is-short offset program text b h 1 c' reached spent
 
-  -- what is by an analysis
+  -- These facts hold with an analysis equal to that of the memo.
   record ByAnalysis (t : MemoAnalysis) : Type 0 where
     paid : AnalysisBoundsSearch program text t
     memory : IsMemory program text (analysis_as_liveness t) (analysis_keys program text t) b.memory
@@ -296,18 +296,18 @@ module _ {P : Type 0} {offset : P → ℕ} {program : Program} {text : Text} {b 
       → TakesOneEvent offset program text b h None stack c'
   record-goes m c' is notes spent = (noted-by m c'.memo is notes c'.left spent).1
 
--- ---- What there is
+-- ---- Facts that a state of an attempt holds
 
 module _ {P : Type 0} {offset : P → ℕ} {program : Program} {text : Text} {front : List Entry} {stack : List (StackEntry P)} {c : MemoAndWorkBudget}
     (there : HasAttemptState offset program text front stack c) where
   pub knows : IsMemoRight program text c.memo
   knows = ∥∥₁_map there (λ s. s.stands.right)
 
-  -- what is the same is known, too
+  -- A memo that equals a sound one is sound.
   pub still-knows : {n : MemoView} → n ≡ c.memo → IsMemoRight program text n
   still-knows same = subst (IsMemoRight program text) (sym same) knows
 
-  -- on from what there is
+  -- A step from one state of an attempt to another keeps that there is such an attempt.
   pub standing-on : {front' : List Entry} {stack' : List (StackEntry P)} {c' : MemoAndWorkBudget}
       → ((b : BoundedAttempt) → AttemptHasState offset program text b front stack c → AttemptHasState offset program text b front' stack' c') → HasAttemptState offset program text front' stack' c'
   standing-on f = ∥∥₁_map there (λ s. record { begin = s.begin; stands = f s.begin s.stands })
@@ -315,7 +315,7 @@ module _ {P : Type 0} {offset : P → ℕ} {program : Program} {text : Text} {fr
   pub less-on : {n m : ℕ} → ((b : BoundedAttempt) → AttemptHasState offset program text b front stack c → n < m) → n < m
   less-on f = ∥∥₁_elim there (Prim.hlevel props) (λ s. f s.begin s.stands)
 
--- with what is the same
+-- Equal threads, stacks and memos give the same state of an attempt.
 module _ {P : Type 0} {offset : P → ℕ} {program : Program} {text : Text} {next next' : Option (State P)} (next_is : next ≡ next') {stack stack' : List (StackEntry P)} (stack_is : stack ≡ stack')
     {c : MemoAndWorkBudget} where
   pub stands-as : {b : BoundedAttempt} → AttemptHasState offset program text b (entry_of_current_thread offset next) stack c → AttemptHasState offset program text b (entry_of_current_thread offset next') stack' c

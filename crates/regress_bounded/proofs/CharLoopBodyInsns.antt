@@ -37,7 +37,7 @@ module _ (re : Regex) (insns : List Insn) (code : map insn_as_spec_insn insns �
   pub body-fits : length insns < 2 ^ 64 → ip + 2 < 2 ^ 64
   body-fits short = let below = body-below in omega (arith, below, short)
 
--- it is spelled as the text is, where the program reads bytes in a text of them
+-- The text of a body that matches byte sequences consists of bytes.
 pub body-spelled : (re : Regex) {text : Text} {are_bytes : Bool} → (IsTrue (tree_contains_byte_nodes (tree_of re).root) → IsByteText text are_bytes) → (ip : ℕ) (body : Insn)
     → slice_get (compiled (tree_of re)).insns (ip + 1) ≡ Some (insn_as_spec_insn body) → ByteInsnHasByteText body text are_bytes
 body-spelled re bytes ip body is = λ literal. bytes (literal-reads (tree_of re) (ip + 1) (insn_as_spec_insn body) is literal)

@@ -27,9 +27,9 @@ use Rattle.regress_pikevm.specs.States.{state_of}
 use Rattle.regress_bounded.proofs.CharLoopWorkLemmas.{lazy-later, lazy-last}
 use Rattle.regress_bounded.proofs.BoundedStateLemmas.{row-push, new, known, CostsAtLeast}
 
--- ---- A greedy one without a maximum
+-- ---- Greedy loops without a maximum
 
--- the first of some numbers that is known, or that none is
+-- Either a first number of a range is known, or none of the range is known.
 record FirstKnown (known : ℕ → Bool) (from end : ℕ) : Type 0 where
   n : ℕ
   le : from ≤ n
@@ -64,7 +64,7 @@ first-known known (suc count) from = by (known from) refl (first-known known cou
 
 module _ {P : Type 0} (offset : P → ℕ) (program : Program) (text : Text) (b : BoundedAttempt) (s : machine.State) {stack : List (StackEntry P)} {c : MemoAndWorkBudget}
     (h : AttemptHasState offset program text b (one_thread (running s) ∷ []) stack c) (test : ℕ → Bool) (least place : ℕ) where
-  -- there are too few characters
+  -- If too few characters pass, the loop fails.
   pub few-happen : {greedy : Bool} → IsUnboundedCharLoop program s test least greedy → place_at text s.pos ≡ Some place → passing text test rightwards place < least
       → MayBeNextEvent offset program text b h (passing text test rightwards place + 2) h.now h.row
   few-happen {greedy} unbounded_loop at few = too_few s test least place greedy h.row unbounded_loop at few
@@ -79,20 +79,20 @@ module _ {P : Type 0} (offset : P → ℕ) (program : Program) (text : Text) (b 
     abbrev ExitKeysAreNew : (n : ℕ) → Type 0
     ExitKeysAreNew n = (m : ℕ) → least ≤ m → m < n → has_failure c.memo (key-of m) ≡ false
 
-    -- from a place on it is known to fail
+    -- If the key at an exit is known to fail, only the nearer exits are left.
     pub known-happens : (n : ℕ) → least ≤ n → n ≤ passing text test rightwards place → ExitKeysAreNew n → has_failure c.memo (key-of n) ≡ true
         → MayBeNextEvent offset program text b h (n + 2) h.now (places-row n ++ h.row)
     known-happens n le few unknown fails =
         fails_from s test least place n h.row unbounded_loop at le few (λ m first less. new offset program text b h (key-of m) (unknown m first less)) (known offset program text b h (key-of n) fails)
 
-    -- from none it is
+    -- If no key is known to fail, the furthest exit is taken.
     pub furthest-happens : (n : ℕ) → n ≡ passing text test rightwards place → least ≤ n → ExitKeysAreNew (n + 1)
         → MayBeNextEvent offset program text b h (n + 2) h.now
         (one_thread (running (behind text rightwards place s n)) ∷ key_record (key-of n) (threads_after_chars program text c.memo.memo_analysis rightwards test place s n) ∷ places-row n ++ h.row)
     furthest-happens n all le unknown =
         takes_furthest s test least place n h.row unbounded_loop at all le (λ m first less. new offset program text b h (key-of m) (unknown m first less))
 
-    -- so far it is from none, so what happens costs so much, or more
+    -- If no key so far is known to fail, the next event costs at least this much.
     pub greedy-at-least : (n : ℕ) → least ≤ n → n ≤ passing text test rightwards place → ExitKeysAreNew n → CostsAtLeast offset program text b h (n + 2)
     greedy-at-least n le few unknown = by (first-known (λ m. has_failure c.memo (key-of m)) count n)
       where
@@ -126,13 +126,13 @@ module _ {P : Type 0} (offset : P → ℕ) (program : Program) (text : Text) (b 
               more = omega (arith, few);
             }
 
--- ---- Lazy ones
+-- ---- Lazy loops
 
--- a place behind characters that pass is one of the text's
+-- The place behind characters that pass lies inside the text.
 inside-passing : (text : Text) (test : ℕ → Bool) (place : ℕ) → place ≤ last_place text → (n : ℕ) → n ≤ passing text test rightwards place → moved text rightwards n place ≤ last_place text
 inside-passing text test place inside n few = let left = passing-left text test rightwards place inside in omega (arith, left, few, inside)
 
--- what waits behind a place goes on from the next one, if there is one
+-- The threads behind a place start at the next place, or there are none.
 pub data Behind {P : Type 0} (offset : P → ℕ) (program : Program) (text : Text) (waits : List Thread) (old new : List (StackEntry P)) : Type 0 where
   none-waits : waits ≡ [] → new ≡ old → Behind offset program text waits old new
   some-wait : (next : State P) → IsPendingLazyLoop offset program text (state_of offset next) (thread_group waits) → new ≡ old ++ AsRun next ∷ [] → Behind offset program text waits old new
@@ -177,7 +177,7 @@ module _ {P : Type 0} (offset : P → ℕ) (program : Program) (text : Text) (t 
           })
           others.waits
 
--- what stands in a row once the nearest place is in hand
+-- The stack stands for these entries once the nearest exit has been taken.
 pub record RowAbove {P : Type 0} (offset : P → ℕ) (program : Program) (text : Text) (waits : List Thread) (rest : List Entry) (stack : List (StackEntry P)) : Type 0 where
   pub row : List Entry
   pub above : ThreadsPendAbove waits rest row

@@ -13,7 +13,7 @@ module _ {P : Type 0} (offset : P → ℕ) (text : Text) (is : HasRisingPlaceOff
   abbrev pub At : (count : ℕ) → P → Type 0
   At count pos = IsAfterChars offset text test place count pos
 
-  -- none so far
+  -- No character has been passed at the start.
   pub past-none : (pos : P) → place_at text (offset pos) ≡ Some place → At 0 pos
   past-none pos e =
       let at = offset-place_at text (offset pos) place is e in
@@ -25,13 +25,13 @@ module _ {P : Type 0} (offset : P → ℕ) (text : Text) (is : HasRisingPlaceOff
         sum = omega (arith, sum);
       }
 
-  -- the next one passes
+  -- If the next character passes, one more character has been passed.
   pub past-more : (count : ℕ) (pos next : P) (found : Bool) → At count pos → found ≡ true → end_if_matched found (offset next) ≡ past_if text test rightwards (offset pos) → At (count + 1) next
   past-more count pos next found h passes led =
       let on = one-on text is test rightwards place count (offset pos) h.at h.within (offset next) (ap (λ b. end_if_matched b (offset next)) (sym passes) ∙ led) in
       record { at = on.there; within = on.within; sum = (let s = h.sum in let l = on.left in omega (arith, s, l)) }
 
-  -- it does not, or there is none
+  -- If the next character fails or the text ends, no more characters pass.
   pub past-all : (count : ℕ) (pos : P) (to : ℕ) (found : Bool) → At count pos → found ≡ false → end_if_matched found to ≡ past_if text test rightwards (offset pos)
       → passing text test rightwards (moved text rightwards count place) ≡ 0
   past-all count pos to found h fails led = none-on text is test rightwards place count (offset pos) h.at h.within (ap (λ b. end_if_matched b to) (sym fails) ∙ led)
@@ -39,7 +39,7 @@ module _ {P : Type 0} (offset : P → ℕ) (text : Text) (is : HasRisingPlaceOff
   pub past-boundary : (count : ℕ) (pos : P) → At count pos → IsBoundary text (offset pos)
   past-boundary count pos h = subst (IsBoundary text) (sym h.at) (offset-IsBoundary text (moved text rightwards count place) is h.within)
 
--- Over the first characters of a run, from an offset: so many, by whatever its test is.
+-- The loop has passed `count` of its required characters from an offset, for any test.
 pub record HasPassed {P : Type 0} (offset : P → ℕ) (text : Text) (tests : Option (ℕ → Bool)) (least from count : ℕ) (pos : P) : Type 0 where
   pub boundary : IsBoundary text (offset pos)
   pub few : count ≤ least

@@ -76,7 +76,7 @@ number-in P least (suc count) h n le less = elim (cases_lt least n) [
 each-number : (P : ℕ → Type 0) (least count : ℕ) → ((n : ℕ) → least ≤ n → n < least + count → P n) → Each P (numbers_from least count)
 each-number P least count h = Each-map _ P (λ n within. h n within.0 within.1) (numbers_from least count) (numbers_between least count)
 
--- the preferred one first, or the other way about
+-- A property of all elements holds in either order.
 either-way : (P : ℕ → Type 0) (ns : List ℕ) → Each P ns → (b : Bool) → Each P (if b then reverse ns else ns)
 either-way P ns h true = Each-reverse P ns h
 either-way P ns h false = h
@@ -85,10 +85,10 @@ of-either-way : (P : ℕ → Type 0) (ns : List ℕ) (b : Bool) → Each P (if b
 of-either-way P ns true h = subst (Each P) (reverse-reverse ns) (Each-reverse P (reverse ns) h)
 of-either-way P ns false h = h
 
--- ---- Threads in a row
+-- ---- Lists of threads
 
 module _ (P : State → Type 0) (f : ℕ → State) where
-  -- what holds of the state of each thread
+  -- The property holds for the state of each thread.
   abbrev AreSo : List Thread → Type 0
   AreSo ts = Each (λ u. P (state_of_thread u)) ts
 
@@ -125,7 +125,7 @@ pub left-few : (text : Text) (d : Direction) (p : ℕ) → p ≤ last_place text
 left-few text rightwards p le = omega arith
 left-few text leftwards p le = le
 
--- ---- AttemptResultIs
+-- ---- Loops in general
 
 module _ (program : Program) (t : MemoAnalysis) (of : IsAnalysisOf program t) (bounded : IsWorkBounded t program) (text : Text) (is_text : HasRisingPlaceOffsets text) (bytes : ReadsAsBytes program text)
     (less : units text < 2 ^ 63) (d : Direction) where
@@ -138,7 +138,7 @@ module _ (program : Program) (t : MemoAnalysis) (of : IsAnalysisOf program t) (b
   abbrev served : Serves program t text
   served = ledgers-serve program t of text is_text bytes less
 
-  -- few threads, at states behind the run, which have keys
+  -- The turn leaves few threads, which have keys and stand behind the loop.
   record LeavesFew (s : State) (least most n : ℕ) (ts : List Thread) : Type 0 where
     states : List State
     are : first_running_and_others_waiting states ≡ ts
@@ -149,7 +149,7 @@ module _ (program : Program) (t : MemoAnalysis) (of : IsAnalysisOf program t) (b
 
   module _ (s : State) (keyed : Keyed s) (least most : ℕ) (greedy : Bool) (run : slice_get program.insns s.ip ≡ Some (Loop1CharBody least most greedy))
       (test : ℕ → Bool) (body : test_of program (slice_get program.insns (s.ip + 1)) ≡ Some test) (place : ℕ) (at : place_at text s.pos ≡ Some place) where
-    -- how many characters it takes at most
+    -- The loop takes at most this many characters.
     abbrev furthest : ℕ
     furthest = min most (passing text test d place)
 
@@ -166,7 +166,7 @@ module _ (program : Program) (t : MemoAnalysis) (of : IsAnalysisOf program t) (b
         of-either-way _ its-places greedy
         (of-turn (λ u. R u u) (behind text d place s) (if greedy then reverse its-places else its-places) (alike-each R _ all))
 
-    -- a state that is keyed at a run stays keyed behind its characters
+    -- A keyed state at a loop stays keyed behind the loop's characters.
     pub scan-keyed : (n : ℕ) → least ≤ n → n ≤ most → n ≤ passing text test d place → Keyed (behind text d place s n)
     scan-keyed n le few passes =
         let right = subst (λ o. IsConsistentAt t program (successors_of_insn_if_any s.ip o) s.ip) run (of.steps s.ip) in
@@ -178,7 +178,7 @@ module _ (program : Program) (t : MemoAnalysis) (of : IsAnalysisOf program t) (b
           no_body = past;
         }
 
-    -- what one turn over its characters leaves
+    -- These lemmas are about the threads that one turn over the characters leaves.
     module _ (n : ℕ) (ts : List Thread) (turned : act program text d s ≡ scans n ts) where
       abbrev its-states : List State
       its-states = char_loop_states text greedy d least furthest place s
@@ -222,14 +222,14 @@ module _ (program : Program) (t : MemoAnalysis) (of : IsAnalysisOf program t) (b
             (turn-so Keyed (behind text d place s) (if greedy then reverse its-places else its-places) (either-way _ its-places places-keyed greedy)));
       }
 
--- ---- AttemptResultIs without a maximum: their keys, and the places that they leave
+-- ---- Loops without a maximum: their keys and the exits that they leave
 
 module _ (program : Program) (t : MemoAnalysis) (of : IsAnalysisOf program t) (bounded : IsWorkBounded t program) (text : Text) (is_text : HasRisingPlaceOffsets text) (bytes : ReadsAsBytes program text)
     (less : units text < 2 ^ 63) (d : Direction) (s : State) (test : ℕ → Bool) (least : ℕ) (greedy : Bool) (unbounded_loop : IsUnboundedCharLoop program s test least greedy) where
   abbrev serves-here : Serves program t text
   serves-here = served program t of bounded text is_text bytes less d
 
-  -- behind the run the way is the same
+  -- The direction behind the loop is the direction at the loop.
   way-behind : insn_direction t (s.ip + 2) ≡ insn_direction t s.ip
   way-behind = (subst (λ o. IsConsistentAt t program (successors_of_insn_if_any s.ip o) s.ip) unbounded_loop.run (of.steps s.ip)).way
 
@@ -245,7 +245,7 @@ module _ (program : Program) (t : MemoAnalysis) (of : IsAnalysisOf program t) (b
         inside = λ l asked. ((serves-here.only.only (s.ip + 2)).empty l asked).0;
       }
 
-  -- The state at the run's body has the key of what the run leaves from there.
+  -- The state at the loop's body has the key of the exits from its place onwards.
   pub key-is : insn_direction t s.ip ≡ d → (place n : ℕ)
       → memo_key_at t (record s { ip = s.ip + 1; pos = offset text (moved text d n place) }) ≡ Some (key_after_chars program text t d test place s n)
   key-is way place n = keys-are-there.run program text t d test greedy s (moved text d n place) (run-records way)
@@ -257,7 +257,7 @@ module _ (program : Program) (t : MemoAnalysis) (of : IsAnalysisOf program t) (b
     abbrev at-place : ℕ → State
     at-place n = behind text d place s n
 
-    -- fewer characters pass than the maximum
+    -- Fewer characters pass than the maximum.
     passes-few : passes < unlimited
     passes-few =
         let a = passing-left text test d place inside in
@@ -268,24 +268,24 @@ module _ (program : Program) (t : MemoAnalysis) (of : IsAnalysisOf program t) (b
     further-inside : (n : ℕ) → n ≤ passes → moved text d n place ≤ last_place text
     further-inside n few = let left = passing-left text test d place inside in place-inside text d n place inside (omega (arith, left, few))
 
-    -- ---- What waits of a lazy run
+    -- ---- The waiting threads of a lazy loop
 
     pub lazy-waits : (n : ℕ) → n ≤ passes → pending_loop_threads text test d n place s ≡ pending_loop_threads text test d 0 (moved text d n place) s
     lazy-waits n few = (lazy-runs-go-on text test d place s inside).waits n few
 
-    -- the next character is accepted
+    -- If the next character passes, the threads from the next place wait.
     pub lazy-later : (n : ℕ) → n ≤ passes → passing text test d (moved text d n place) ≡ 1 + passing text test d (moved text d (n + 1) place)
         → pending_loop_threads text test d (n + 1) place s ≡ pending_loop_threads text test d 0 (moved text d (n + 1) place) s
     lazy-later n few more = let sum = passing-on text test d n place inside few in lazy-waits (n + 1) (omega (arith, sum, more))
 
-    -- or it is not, and none waits
+    -- If the next character does not pass, no thread waits.
     pub lazy-last : (n : ℕ) → n ≤ passes → passing text test d (moved text d n place) ≡ 0 → pending_loop_threads text test d (n + 1) place s ≡ []
     lazy-last n few none =
         let sum = passing-on text test d n place inside few in
         let same : n + 1 ≡ passes + 1 = omega (arith, sum, none) in
         ap (λ m. pending_loop_threads text test d m place s) same ∙ (lazy-runs-go-on text test d place s inside).last
 
-    -- ---- Rows of a greedy run
+    -- ---- The exits of a greedy loop
 
     abbrev its-row : ℕ → List Thread
     its-row n = threads_after_chars program text t d test place s n
@@ -306,7 +306,7 @@ module _ (program : Program) (t : MemoAnalysis) (of : IsAnalysisOf program t) (b
         ap (map pair)
         (ap (λ m. reverse (numbers_from least m)) more ∙ ap reverse (numbers-last least count) ∙ reverse-append (numbers_from least count) ((least + count) ∷ []))
 
-    -- the places above records are those of the law
+    -- The exits above records are those of the law on work.
     rows-are : (count : ℕ) → least + count ≤ passes → each_noted (its-row (least + count)) (its-waiting count) ≡ its-places-row count
     rows-are zero few = refl
     rows-are (suc count) few =
@@ -323,7 +323,7 @@ module _ (program : Program) (t : MemoAnalysis) (of : IsAnalysisOf program t) (b
         let same : n ≡ least + (n - least) = omega (arith, le) in
         ap (λ m. each_noted (its-row m) (its-waiting (n - least))) same ∙ rows-are (n - least) (omega (arith, le, few))
 
-    -- ---- Keyed places
+    -- ---- Keyed exits
 
     module _ (keyed : IsKeyed program text t d s) (at : place_at text s.pos ≡ Some place) where
       place-keyed : (n : ℕ) → least ≤ n → n ≤ passes → IsKeyed program text t d (at-place n)
@@ -369,7 +369,7 @@ module _ (program : Program) (text : Text) (t : MemoAnalysis) (d : Direction) wh
       each-alike (Agree (analysis_as_liveness t) (units text) outermost d) ts
       (Each-map (λ u. IsKeyed program text t d (state_of_thread u)) _ (λ u k. k.sound) ts h)
 
--- ---- StepResultIs
+-- ---- Steps at loops
 
 module _ (program : Program) (t : MemoAnalysis) (of : IsAnalysisOf program t) (bounded : IsWorkBounded t program) (text : Text) (is_text : HasRisingPlaceOffsets text) (bytes : ReadsAsBytes program text)
     (less : units text < 2 ^ 63) (d : Direction) (memory : List Key) (first : List Entry) (work : ℕ) (now : List Key) (rest : List Entry) where
@@ -387,7 +387,7 @@ module _ (program : Program) (t : MemoAnalysis) (of : IsAnalysisOf program t) (b
   abbrev Paid : (more : ℕ) → (front entries : List Entry) → Type 0
   Paid more front entries = IsCostCovered program (potentials_of t) (key_cost_of t) (recorded t) more front entries
 
-  -- ---- A run with a maximum: one turn over characters
+  -- ---- A loop with a maximum: one turn over its characters
 
   module _ (s : State) (least most : ℕ) (greedy : Bool) (run : slice_get program.insns s.ip ≡ Some (Loop1CharBody least most greedy))
       (test : ℕ → Bool) (body : test_of program (slice_get program.insns (s.ip + 1)) ≡ Some test) (place : ℕ) (at : place_at text s.pos ≡ Some place)
@@ -437,10 +437,10 @@ module _ (program : Program) (t : MemoAnalysis) (of : IsAnalysisOf program t) (b
         subst (λ k. Come (work + (n + 1)) now (thread_entries ts ++ key_record k (running s ∷ []) ∷ rest)) has.is
         (with-its-key (record { records = has.records; is = refl }) (subst (λ k. IsNew k now) (sym has.is) new) h)
 
-  -- ---- A greedy run without one
+  -- ---- A greedy loop without a maximum
 
   module _ (s : State) (test : ℕ → Bool) (least place : ℕ) (unbounded_loop : IsUnboundedCharLoop program s test least true) (at : place_at text s.pos ≡ Some place) where
-    -- the keys of its places behind `least` characters up to before so many are new
+    -- The keys of the exits from `least` characters up to `n` are new.
     abbrev pub New : (n : ℕ) → Type 0
     New n = ExitKeysAreNew program text (analysis_as_liveness t) (key_code_questions_of t) (insn_direction t) (recorded t) (plan_steps_below_record program) d test s now place least n
 
@@ -460,7 +460,7 @@ module _ (program : Program) (t : MemoAnalysis) (of : IsAnalysisOf program t) (b
     greedy-paid =
         turns-paid.runs program (potentials_of t) (key_cost_of t) (recorded t) text (analysis_as_liveness t) (key_code_questions_of t) (insn_direction t) (plan_steps_below_record program) d test s place least greedy-ready
 
-    -- what is known to fail from a place on finds nothing
+    -- If the key at an exit is known to fail, the threads from that exit find nothing.
     row-fails : IsKeyed program text t d s → (n : ℕ) → least ≤ n → n ≤ passing text test d place → KeyFails program text t (key_after_chars program text t d test place s n)
         → AllFindNothing program text d (threads_after_chars program text t d test place s n)
     row-fails keyed n le few fails =
@@ -476,7 +476,7 @@ module _ (program : Program) (t : MemoAnalysis) (of : IsAnalysisOf program t) (b
     keyed-places keyed below n le few =
         places-keyed-over program t of bounded text is_text bytes less d s test least true unbounded_loop place on-text keyed at rest below (n - least) (omega (arith, le, few))
 
-    -- from a place on it is known to fail, so nearer places are left
+    -- If the key of an exit is known to fail, only the nearer exits are left.
     pub greedy-known : (n : ℕ) → least ≤ n → n ≤ passing text test d place → KeyFails program text t (key_after_chars program text t d test place s n) → New n
         → Come work now (one_thread (running s) ∷ rest) → Come (work + (n + 2)) now (exits_with_records program text t d test place s least (n - least) ++ rest)
     greedy-known n le few fails new h =
@@ -491,7 +491,7 @@ module _ (program : Program) (t : MemoAnalysis) (of : IsAnalysisOf program t) (b
           keyed = keyed-places keyed h.keyed.1 n le few;
         }
 
-    -- from none it is, so the furthest is taken
+    -- If no key is known to fail, the furthest exit is taken.
     pub greedy-all : (n : ℕ) → n ≡ passing text test d place → least ≤ n → New (n + 1) → Come work now (one_thread (running s) ∷ rest)
         → Come (work + (n + 2)) now (one_thread (running (behind text d place s n)) ∷ key_record (key_after_chars program text t d test place s n) (threads_after_chars program text t d test place s n)
         ∷ exits_with_records program text t d test place s least (n - least) ++ rest)
@@ -516,7 +516,7 @@ module _ (program : Program) (t : MemoAnalysis) (of : IsAnalysisOf program t) (b
           );
         }
 
-    -- there are too few characters
+    -- If too few characters pass, the loop leaves no thread.
     pub greedy-none : passing text test d place < least → Come work now (one_thread (running s) ∷ rest) → Come (work + (passing text test d place + 2)) now rest
     greedy-none few h = record {
       comes = gives work (passing text test d place + 2) now (one_thread (running s) ∷ []) [] rest tt h.comes ((greedy-gives h.keyed.0).none few)
@@ -524,7 +524,7 @@ module _ (program : Program) (t : MemoAnalysis) (of : IsAnalysisOf program t) (b
       keyed = h.keyed.1;
     }
 
-  -- ---- A lazy one
+  -- ---- A lazy loop
 
   module _ (s : State) (test : ℕ → Bool) (least place : ℕ) (unbounded_loop : IsUnboundedCharLoop program s test least false) where
     abbrev lazy-ready : LazyLoopIsCovered program (potentials_of t) (key_cost_of t) (recorded t) least s.ip
@@ -534,7 +534,7 @@ module _ (program : Program) (t : MemoAnalysis) (of : IsAnalysisOf program t) (b
     lazy-paid =
         turns-paid.lazy_runs program (potentials_of t) (key_cost_of t) (recorded t) text (analysis_as_liveness t) (key_code_questions_of t) (insn_direction t) (plan_steps_below_record program) d test s place least lazy-ready
 
-    -- ---- It begins
+    -- ---- The first turn
 
     module _ (at : place_at text s.pos ≡ Some place) where
       abbrev on-its-text : place ≤ last_place text
@@ -545,7 +545,7 @@ module _ (program : Program) (t : MemoAnalysis) (of : IsAnalysisOf program t) (b
           runs-give.lazy program text (analysis_as_liveness t) (key_code_questions_of t) (insn_direction t) (recorded t) (plan_steps_below_record program) d test s now place least unlimited serves.plan.liveness
           (at-run program t of bounded text is_text bytes less d s test least false unbounded_loop place on-its-text keyed at)
 
-      -- the nearest place is taken, and the others wait
+      -- The nearest exit is taken, and the others wait.
       pub lazy-first : least ≤ passing text test d place → Come work now (one_thread (running s) ∷ rest)
           → Come (work + (least + 2)) now (one_thread (running (behind text d place s least)) ∷ thread_group (pending_loop_threads text test d (least + 1) place s) ∷ rest)
       lazy-first le h =
@@ -561,7 +561,7 @@ module _ (program : Program) (t : MemoAnalysis) (of : IsAnalysisOf program t) (b
             );
           }
 
-      -- there are too few characters
+      -- If too few characters pass, the loop leaves no thread.
       pub lazy-none : passing text test d place < least → Come work now (one_thread (running s) ∷ rest) → Come (work + (passing text test d place + 2)) now rest
       lazy-none few h = record {
         comes = gives work (passing text test d place + 2) now (one_thread (running s) ∷ []) [] rest tt h.comes ((lazy-gives h.keyed.0).none few)
@@ -569,7 +569,7 @@ module _ (program : Program) (t : MemoAnalysis) (of : IsAnalysisOf program t) (b
         keyed = h.keyed.1;
       }
 
-    -- ---- It is come back to
+    -- ---- Resumption
 
     module _ (inside : place ≤ last_place text) where
       abbrev its-waits : List Thread
@@ -587,7 +587,7 @@ module _ (program : Program) (t : MemoAnalysis) (of : IsAnalysisOf program t) (b
       nearest-first : its-waits ≡ waiting nearest ∷ more-waits
       nearest-first = (lazy-runs-go-on text test d place s inside).next
 
-      -- what is known of what waits, and of the run
+      -- These facts hold for the waiting threads and for the loop.
       record Waits : Type 0 where
         nearest_keyed : IsKeyed program text t d nearest
         more_keyed : AreKeyed program text t d more-waits
@@ -628,7 +628,7 @@ module _ (program : Program) (t : MemoAnalysis) (of : IsAnalysisOf program t) (b
       alone : threads_in (thread_group its-waits ∷ []) ≡ its-waits
       alone = append-nil its-waits
 
-      -- something stands ready for it
+      -- The potential of the waiting threads is at least one.
       some-ready : 1 ≤ sum_by (entry_potential (potential_by program (potentials_of t) (key_cost_of t) (recorded t))) (thread_group its-waits ∷ [])
       some-ready =
           let weight : List Thread → ℕ = λ ts. potential_by program (potentials_of t) (key_cost_of t) (recorded t) ts in
@@ -639,13 +639,13 @@ module _ (program : Program) (t : MemoAnalysis) (of : IsAnalysisOf program t) (b
       pub lazy-way : Come work now (thread_group its-waits ∷ rest) → insn_direction t s.ip ≡ d
       lazy-way h = run-way (waits-known h)
 
-      -- the state at the run's body has the key of what waits
+      -- The state at the loop's body has the key of the waiting threads.
       pub lazy-key : Come work now (thread_group its-waits ∷ rest) → memo_key_at t (record s { ip = s.ip + 1; pos = offset text place }) ≡ Some its-first-key
       lazy-key h =
           ap (λ p. memo_key_at t (record s { ip = s.ip + 1; pos = offset text p })) (sym (moved-zero text d place))
           ∙ key-is program t of bounded text is_text bytes less d s test least false unbounded_loop (lazy-way h) place 0
 
-      -- what waits is known to fail
+      -- If the key of the waiting threads is known to fail, they are dropped.
       pub lazy-known : KeyFails program text t its-first-key → Come work now (thread_group its-waits ∷ rest) → Come (work + 1) now rest
       lazy-known fails h =
           let w = waits-known h in
@@ -657,7 +657,7 @@ module _ (program : Program) (t : MemoAnalysis) (of : IsAnalysisOf program t) (b
             keyed = w.below;
           }
 
-      -- or the nearest place is taken once more, above a record
+      -- If the key is new, the nearest exit is taken above a record of the key.
       pub lazy-again : IsNew its-first-key now → Come work now (thread_group its-waits ∷ rest)
           → Come (work + 2) now (one_thread (running nearest) ∷ thread_group more-waits ∷ key_record its-first-key its-waits ∷ rest)
       lazy-again new h =
@@ -672,14 +672,14 @@ module _ (program : Program) (t : MemoAnalysis) (of : IsAnalysisOf program t) (b
             keyed = (w.nearest_keyed, Each-append (λ u. IsKeyed program text t d (state_of_thread u)) more-waits (threads_in rest) w.more_keyed w.below);
           }
 
--- ---- None waits
+-- ---- No waiting threads
 
 module _ (program : Program) (t : MemoAnalysis) (text : Text) (memory : List Key) (first : List Entry) (work : ℕ) (now : List Key) (rest : List Entry) (r : State) where
   stays-on : (d : Direction) → GoesOnward d (running r ∷ []) (one_thread (running r) ∷ [])
   stays-on rightwards = (omega arith, tt, tt)
   stays-on leftwards = tt
 
-  -- a mark behind which no thread waits is dropped
+  -- A thread group that has no threads is dropped.
   pub kept-none : (d : Direction) → ReachesEntries program text t d memory first work now (one_thread (running r) ∷ thread_group [] ∷ rest)
       → ReachesEntries program text t d memory first work now (one_thread (running r) ∷ rest)
   kept-none d h =

@@ -39,7 +39,7 @@ use Rattle.regress_bounded.proofs.BoundedStateLemmas.{row-push}
 
 -- ---- Characters
 
--- the next character passes, which begins at a boundary
+-- The next character passes and ends at a boundary.
 pub record OneFurther {P : Type 0} (offset : P → ℕ) (text : Text) (at next : P) : Type 0 where
   pub boundary : IsBoundary text (offset next)
   pub more : offset at < offset next
@@ -64,25 +64,25 @@ module _ {P : Type 0} (offset : P → ℕ) (text : Text) (is : HasRisingPlaceOff
       boundary-of : (q : ℕ) → q ≤ last_place text → IsBoundary text (text_offset text q)
       boundary-of q le = offset-IsBoundary text q is le
 
-  -- the same by whatever the test is
+  -- The next character passes, for any test.
   pub further-by : {tests : Option (ℕ → Bool)} → IsSome tests → (at next : P) (found : Bool) → IsBoundary text (offset at) → found ≡ true
       → ((test : ℕ → Bool) → tests ≡ Some test → end_if_matched found (offset next) ≡ past_if text test rightwards (offset at)) → OneFurther offset text at next
   further-by {tests} some at next found h passes led = let t = some-of tests some in one-further t.0 at next found h passes (led t.0 t.1)
 
-  -- so many characters are no more than units before the place behind them
+  -- The number of characters passed is at most the offset behind them.
   pub past-few : (test : ℕ → Bool) (place count : ℕ) (at : P) → IsAfterChars offset text test place count at → count ≤ offset at
   past-few test place count at h =
       let few : place + count ≤ text_offset text (place + count) = places-few text is (place + count) h.within in
       let e : offset at ≡ text_offset text (place + count) = h.at in
       omega (arith, few, e)
 
--- all characters up to a position pass, and the places before it wait
+-- All characters up to a position pass, and the exits before it wait.
 pub record Furthest {P : Type 0} (offset : P → ℕ) (program : Program) (text : Text) (m : MemoView) (s : machine.State) (least : ℕ) (test : ℕ → Bool) (place : ℕ)
     (old new : List (StackEntry P)) (at : P) (n : ℕ) : Type 0 where
   pub past : IsAfterChars offset text test place n at
   pub wait : ExitsArePending offset program text m.memo_analysis (has_failure m) test place s least old new n
 
--- The same by whatever the test is, and from whatever place the characters begin that a run needs.
+-- The same holds for any test and from any place where the loop may begin.
 pub record HasGoneOver {P : Type 0} (offset : P → ℕ) (program : Program) (text : Text) (m : MemoView) (s : machine.State) (tests : Option (ℕ → Bool)) (least : ℕ) (from : P)
     (left : ℕ) (old new : List (StackEntry P)) (at : P) (n : ℕ) : Type 0 where
   pub boundary : IsBoundary text (offset at)
@@ -92,7 +92,7 @@ pub record HasGoneOver {P : Type 0} (offset : P → ℕ) (program : Program) (te
 
 -- ---- Keys
 
--- keys are the same where their numbers are
+-- Keys with equal addresses, offsets and codes are equal.
 pub same-keys : (j k : Key) → j.ip ≡ k.ip → j.at ≡ k.at → j.code ≡ k.code → j ≡ k
 same-keys j k ip at code =
     let a : j ≡ record { ip = k.ip; at = j.at; code = j.code } = ap (λ n. record { ip = n; at = j.at; code = j.code }) ip in
@@ -108,7 +108,7 @@ module _ {P : Type 0} {offset : P → ℕ} {program : Program} {text : Text} {ru
     abbrev key-of : (test : ℕ → Bool) (place n : ℕ) → Key
     key-of test place n = key_after_chars program text m.memo_analysis rightwards test place s n
 
-    -- the way of a run's instruction is nothing to its keys
+    -- The state at the loop's body has the key of the exit's place.
     key-there : IsSoundMemo program text m → (test : ℕ → Bool) → test_of program (Some (insn_as_spec_insn run.body)) ≡ Some test → (place n : ℕ)
         → memo_key_at m.memo_analysis (record s { ip = s.ip + 1; pos = text_offset text (moved text rightwards n place) }) ≡ Some (key-of test place n)
     key-there r test e place n =
@@ -126,7 +126,7 @@ module _ {P : Type 0} {offset : P → ℕ} {program : Program} {text : Text} {ru
         subst (λ x. memo_key_at m.memo_analysis (record s { ip = s.ip + 1; pos = text_offset text x }) ≡ Some (its x (moved text d 0 x))) zero_on is in
         there ∙ ap (λ y. Some (its q y)) (zero_on ∙ sym (moved-zero text rightwards q))
 
-    -- a key that is found is that of a place
+    -- A key that is found is the key of the exit's place.
     pub key-found : (test : ℕ → Bool) → test_of program (Some (insn_as_spec_insn run.body)) ≡ Some test → (place n at : ℕ) (found : Option Stored) (key : Stored) → found ≡ Some key
         → option_map memo_key_as_spec found ≡ memo_key_at m.memo_analysis (record s { ip = s.ip + 1; pos = at }) → at ≡ text_offset text (moved text rightwards n place) → memo_key_as_spec key ≡ key-of test place n
     key-found test e place n at found key is_key told same =
@@ -137,7 +137,7 @@ module _ {P : Type 0} {offset : P → ℕ} {program : Program} {text : Text} {ru
         from : IsSoundMemo program text m → memo_key_as_spec key ≡ key-of test place n
         from r = some-same _ _ (sym (ap (option_map memo_key_as_spec) is_key) ∙ told ∙ ap (λ x. memo_key_at m.memo_analysis (record s { ip = s.ip + 1; pos = x })) same ∙ key-there r test e place n)
 
-    -- there is one
+    -- An exit at a boundary has a key.
     pub key-some : (test : ℕ → Bool) → test_of program (Some (insn_as_spec_insn run.body)) ≡ Some test → HasRisingPlaceOffsets text → (at : ℕ) → IsBoundary text at → (found : Option Stored) → found ≡ None
         → option_map memo_key_as_spec found ≡ memo_key_at m.memo_analysis (record s { ip = s.ip + 1; pos = at }) → ⊥
     key-some test e is at h found none told = ∥∥₁_elim knows (Prim.hlevel props) (λ r. never r)
@@ -151,7 +151,7 @@ module _ {P : Type 0} {offset : P → ℕ} {program : Program} {text : Text} {ru
             let no : None ≡ Some (key-of test p.0 0) = sym (ap (option_map memo_key_as_spec) none) ∙ told ∙ ap (λ x. memo_key_at m.memo_analysis (record s { ip = s.ip + 1; pos = x })) same ∙ key-there r test e p.0 0 in
             let never : ⊥ = cc in never
 
-    -- its place is one of the memory's
+    -- The memo table has a bit for the place.
     pub place-kept : (at : ℕ) → at ≤ units text → at < m.places
     place-kept at le = ∥∥₁_elim knows (Prim.hlevel props) (λ r. let e = r.is_true.places in omega (arith, le, e))
 
@@ -163,7 +163,7 @@ module _ {P : Type 0} {offset : P → ℕ} {program : Program} {text : Text} {ru
     abbrev places-row : (test : ℕ → Bool) (place count : ℕ) → List Entry
     places-row test place count = exits_with_records program text m.memo_analysis rightwards test place s run.least count
 
-    -- so far none waits
+    -- No exit waits behind the required characters.
     pub furthest-none : (test : ℕ → Bool) (place : ℕ) (old : List (StackEntry P)) (from : P) → IsAfterChars offset text test place run.least from → Goes test place old old from run.least
     furthest-none test place old from h =
         let none : run.least - run.least ≡ 0 = omega arith in
@@ -178,7 +178,7 @@ module _ {P : Type 0} {offset : P → ℕ} {program : Program} {text : Text} {ru
           };
         }
 
-    -- from there on it is known to fail
+    -- If the key of a place is known to fail, the scan ends there.
     pub furthest-known : (test : ℕ → Bool) → test_of program (Some (insn_as_spec_insn run.body)) ≡ Some test → (place : ℕ) (old mid : List (StackEntry P)) (at : P) (n : ℕ)
         (found : Option Stored) (key : Stored) → found ≡ Some key → option_map memo_key_as_spec found ≡ memo_key_at m.memo_analysis (record s { ip = s.ip + 1; pos = offset at }) → Goes test place old mid at n
         → has_failure m (memo_key_as_spec key) ≡ true → (left : ℕ) → ScansWithMemo offset program text m.memo_analysis (has_failure m) test place s run.least left old mid (None, n)
@@ -212,7 +212,7 @@ module _ {P : Type 0} {offset : P → ℕ} {program : Program} {text : Text} {ru
           row-push offset program text mid (AsRecord key) recorded-row (places-row test place (n - run.least) ++ row)
           (record { threads = threads; is = ap (λ k. key_record k threads) (sym its-key) }) (h.wait.rows row r)
 
-      -- it is the last one
+      -- If the next character does not pass, the place is the last exit.
       pub furthest-all : (next : P) (passes : Bool) → HasRisingPlaceOffsets text → passes ≡ false → end_if_matched passes (offset next) ≡ past_if text test rightwards (offset at) → (new : List (StackEntry P))
           → new ≡ mid ++ AsRecord key ∷ [] → (left : ℕ) → ScansWithMemo offset program text m.memo_analysis (has_failure m) test place s run.least left old new (Some there, n)
       furthest-all next passes is_text fails led new same left =
@@ -226,7 +226,7 @@ module _ {P : Type 0} {offset : P → ℕ} {program : Program} {text : Text} {ru
             rows = λ row r. subst (λ xs. IsStackOf offset program text xs (recorded-row ∷ places-row test place (n - run.least) ++ row)) (sym same) (with-record row r);
           }
 
-      -- it waits, and the next one is gone on from
+      -- If the next character passes, the place waits and the scan goes on from the next one.
       pub furthest-more : (next : P) (passes : Bool) → HasRisingPlaceOffsets text → passes ≡ true → end_if_matched passes (offset next) ≡ past_if text test rightwards (offset at) → (new : List (StackEntry P))
           → new ≡ (mid ++ AsRecord key ∷ []) ++ AsThread there ∷ [] → Goes test place old new next (n + 1)
       furthest-more next passes is_text on_it led new same =

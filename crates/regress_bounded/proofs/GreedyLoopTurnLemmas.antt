@@ -23,7 +23,7 @@ use Rattle.regress_bounded.proofs.BoundedStateLemmas.{CostsAtLeast, comes-on, fa
 
 module _ {P : Type 0} {offset : P → ℕ} {program : Program} {text : Text} {run : UnboundedCharLoop} {limit : ℕ} {s : machine.State} {passed : ℕ} {pos : P}
     (p : PassesOver offset program text run limit s passed pos) (few : limit ≤ run.least) (le : run.least ≤ passed) where
-  -- where all are there that are needed, the position is behind so many
+  -- If enough characters pass, the position is behind the required ones.
   pub all-passed : IsAfterChars offset text p.test p.place run.least pos
   all-passed =
       let most = p.over.few in
@@ -34,7 +34,7 @@ module _ {P : Type 0} {offset : P → ℕ} {program : Program} {text : Text} {ru
     abbrev Meets : (test : ℕ → Bool) (place : ℕ) → Option (State P) → Type 0
     Meets test place next = ScansWithMemo offset program text c.memo.memo_analysis (has_failure c.memo) test place s run.least c.left old last (next, n)
 
-    -- what is met from there on, by each test and place
+    -- The scan has met these exits, for each test and place.
     abbrev pub HasMet : Type 0
     HasMet = (test : ℕ → Bool) (place : ℕ) → test_of program (Some (insn_as_spec_insn run.body)) ≡ Some test → IsAfterChars offset text test place run.least pos → Meets test place next
 
@@ -58,7 +58,7 @@ module _ {P : Type 0} {offset : P → ℕ} {program : Program} {text : Text} {b 
   abbrev its : Meets p few le c stack last next n p.test p.place next
   its = met p.test p.place p.tests (all-passed p few le)
 
-  -- there was not so much
+  -- If the cost exceeds the work left, the work is too little.
   pub met-over : (c' : MemoAndWorkBudget) → WorkExceedsBudget (n + 2) c.left c'.left → WorkIsTooLittle offset program text b h c'
   met-over c' spent = falls-short offset program text b h (n + 2) c' (by next its) spent
     where

@@ -44,16 +44,16 @@ use Rattle.regress_bounded.proofs.StepResultLemmas.{some-key}
 use Rattle.regress_bounded.proofs.BoundedStateLemmas.{Popped, popped, back-comes, happens-back, row-push, can-turn, new, known, CostsAtLeast, comes-on, is-short}
 use Rattle.regress_input.proofs.BoundaryPositions.{boundary_inside}
 
--- ---- What a run reads
+-- ---- The characters that a loop reads
 
--- no more characters pass than there are units
+-- At most as many characters pass as the text has code units.
 pub few-passed : (text : Text) → HasRisingPlaceOffsets text → (test : ℕ → Bool) (place : ℕ) → place ≤ last_place text → passing text test rightwards place ≤ units text
 few-passed text is test place inside =
     let a = passing-left text test rightwards place inside in
     let b = places-few text is (last_place text) (omega arith) in
     omega (arith, a, b, inside)
 
--- its test and its place, and so many characters that are passed over, up to a limit
+-- The loop has a test and a place, and it passes over `passed` characters up to a limit.
 pub record PassesOver {P : Type 0} (offset : P → ℕ) (program : Program) (text : Text) (run : UnboundedCharLoop) (limit : ℕ) (s : machine.State) (passed : ℕ) (pos : P) : Type 0 where
   pub test : ℕ → Bool
   pub tests : test_of program (Some (insn_as_spec_insn run.body)) ≡ Some test
@@ -63,7 +63,7 @@ pub record PassesOver {P : Type 0} (offset : P → ℕ) (program : Program) (tex
   pub over : HasPassedOver offset text test limit place passed pos
 
 module _ {P : Type 0} {offset : P → ℕ} {program : Program} {text : Text} {run : UnboundedCharLoop} {greedy : Bool} {s : machine.State} (here : IsAtCharLoop offset program text run greedy s) where
-  -- a test, at a place
+  -- The loop has a test, and its state is at a boundary.
   pub record Reads : Type 0 where
     pub test : IsSome (test_of program (Some (insn_as_spec_insn run.body)))
     pub at : IsBoundary text s.pos
@@ -89,22 +89,22 @@ module _ {P : Type 0} {offset : P → ℕ} {program : Program} {text : Text} {ru
         let p = IsBoundary-place text s.pos is reads-here.at in
         record { test = t.0; tests = t.1; place = p.0; at = p.1; inside = p.3; over = h t.0 p.0 t.1 p.1 }
 
-  -- the run by its test
+  -- The loop is unbounded for each test that its body has.
   pub unbounded_loop-by : (test : ℕ → Bool) → test_of program (Some (insn_as_spec_insn run.body)) ≡ Some test → IsUnboundedCharLoop program s test run.least greedy
   unbounded_loop-by test e = record { run = here.insn; body = ap (test_of program) here.body ∙ e }
 
--- the number of what was passed fits
+-- The number of characters passed fits into a machine word.
 pub passed-fits : {P : Type 0} {offset : P → ℕ} {program : Program} {text : Text} {run : UnboundedCharLoop} {limit : ℕ} {s : machine.State} {passed : ℕ} {pos : P}
     → PassesOver offset program text run limit s passed pos
     → HasRisingPlaceOffsets text → units text < 2 ^ 63 → passed + 2 < 2 ^ 64
 passed-fits p is short = let few = few-passed _ is p.test p.place p.inside in let sum = p.over.past.sum in omega (arith, few, sum, short)
 
--- what is known of whether it is greedy
+-- The loop is the same for an equal greediness.
 pub run-which : {P : Type 0} {offset : P → ℕ} {program : Program} {text : Text} {run : UnboundedCharLoop} {greedy which : Bool} {s : machine.State} → IsAtCharLoop offset program text run greedy s → greedy ≡ which
     → IsAtCharLoop offset program text run which s
 run-which {run = run} here same = record { insn = here.insn ∙ ap (λ b. Some (Loop1CharBody run.least unlimited b)) same; body = here.body }
 
--- ---- Its turn
+-- ---- A turn at a loop
 
 module _ {P : Type 0} {offset : P → ℕ} {program : Program} {text : Text} {b : BoundedAttempt} {s : machine.State} {stack : List (StackEntry P)} {c : MemoAndWorkBudget}
     (h : AttemptHasState offset program text b (one_thread (running s) ∷ []) stack c) {run : UnboundedCharLoop} {passed : ℕ} {pos : P} (p : PassesOver offset program text run (min run.least (c.left - 1)) s passed pos) where
@@ -114,7 +114,7 @@ module _ {P : Type 0} {offset : P → ℕ} {program : Program} {text : Text} {b 
   abbrev Least : Type 0
   Least = CostsAtLeast offset program text b h (passed + 2)
 
-  -- so many characters pass, so what happens costs them, or more
+  -- The next event costs at least the characters that pass.
   pub at-least : {greedy : Bool} → IsAtCharLoop offset program text run greedy s → Least
   at-least {greedy} here = by (cases_lt all run.least)
     where
@@ -146,7 +146,7 @@ module _ {P : Type 0} {offset : P → ℕ} {program : Program} {text : Text} {b 
           }
       by (inr le) = some-first greedy (unbounded_loop-by here p.test p.tests) le
 
-  -- where there are too few, none goes on
+  -- If too few characters pass, the turn leaves no thread.
   pub short-goes : {greedy : Bool} → IsAtCharLoop offset program text run greedy s → passed < run.least → (c' : MemoAndWorkBudget) → c'.memo ≡ c.memo → IsTakenFromBudget (passed + 2) c.left c'.left
       → TakesOneEvent offset program text b h None stack c'
   short-goes here few c' same spent =
@@ -157,7 +157,7 @@ module _ {P : Type 0} {offset : P → ℕ} {program : Program} {text : Text} {b 
       let happens = few-happen offset program text b s h p.test run.least p.place (unbounded_loop-by here p.test p.tests) p.at (omega (arith, is, few)) in
       comes-on offset program text b h None h.row stack (passed + 2) c' (subst (λ n. MayBeNextEvent offset program text b h (n + 2) h.now h.row) is happens) h.is same spent
 
--- ---- The turn of a lazy one
+-- ---- A turn at a lazy loop
 
 module _ {P : Type 0} {offset : P → ℕ} {program : Program} {text : Text} {b : BoundedAttempt} (state : State P) {stack : List (StackEntry P)} {c : MemoAndWorkBudget}
     (h : AttemptHasState offset program text b (one_thread (running (state_of offset state)) ∷ []) stack c) {run : UnboundedCharLoop} (here : IsAtCharLoop offset program text run false (state_of offset state))
@@ -187,7 +187,7 @@ module _ {P : Type 0} {offset : P → ℕ} {program : Program} {text : Text} {b 
       let counted = subst (λ n. MayBeNextEvent offset program text b h (n + 2) h.now (one_thread (running (behind text rightwards p.place s n)) ∷ x.row)) (sym least_is) first in
       comes-on offset program text b h (Some next) x.row new (passed + 2) c' (subst (λ r. MayBeNextEvent offset program text b h (passed + 2) h.now (one_thread (running r) ∷ x.row)) is counted) x.is same spent
 
--- ---- The way back to one
+-- ---- Resumption of a lazy loop
 
 module _ {P : Type 0} {offset : P → ℕ} {program : Program} {text : Text} {b : BoundedAttempt} (stack : List (StackEntry P)) (state : State P) {c : MemoAndWorkBudget}
     (h : AttemptHasState offset program text b [] (stack ++ AsRun state ∷ []) c) where
@@ -212,7 +212,7 @@ module _ {P : Type 0} {offset : P → ℕ} {program : Program} {text : Text} {b 
   abbrev pub key-back : Key
   key-back = key_after_chars program text c.memo.memo_analysis rightwards rest-of.test rest-of.place its 0
 
-  -- its key
+  -- The state at the loop's body has the key of the waiting threads.
   key-there : memo_key_at c.memo.memo_analysis (record its { ip = its.ip + 1; pos = its.pos }) ≡ Some key-back
   key-there =
       let paid = h.right.paid in
@@ -227,7 +227,7 @@ module _ {P : Type 0} {offset : P → ℕ} {program : Program} {text : Text} {b 
       let places = h.right.is_true.places in
       omega (arith, within, places)
 
-  -- a key that is found is it
+  -- A key that is found is the key of the waiting threads.
   module _ {found : Option Stored} {stored : Stored} (found_is : found ≡ Some stored) (told : option_map memo_key_as_spec found ≡ memo_key_at c.memo.memo_analysis (record its { ip = its.ip + 1; pos = its.pos })) where
     abbrev k : Key
     k = memo_key_as_spec stored
@@ -235,7 +235,7 @@ module _ {P : Type 0} {offset : P → ℕ} {program : Program} {text : Text} {b 
     is : k ≡ key-back
     is = some-key (sym (ap (option_map memo_key_as_spec) found_is) ∙ told ∙ key-there)
 
-    -- it is known to fail
+    -- If the key is known to fail, the waiting threads are dropped.
     back-known : has_failure c.memo k ≡ true → MayBeNextEvent offset program text b h 1 h.now left-off.rest
     back-known fails =
         let known-there : IsKnownToFail program text c.memo.memo_analysis rightwards key-back h.now =
@@ -249,7 +249,7 @@ module _ {P : Type 0} {offset : P → ℕ} {program : Program} {text : Text} {b 
     pub back-known-goes : has_failure c.memo k ≡ true → (c' : MemoAndWorkBudget) → c'.memo ≡ c.memo → IsTakenFromBudget 1 c.left c'.left → TakesOneEvent offset program text b h None stack c'
     back-known-goes fails c' same spent = comes-on offset program text b h None left-off.rest stack 1 c' (back-known fails) left-off.below same spent
 
-    -- it is not
+    -- If the key is not known to fail, the nearest exit is taken above a record of the key.
     abbrev recorded-row : List Entry
     recorded-row = key_record key-back (pending_loop_threads text rest-of.test rightwards 0 rest-of.place its) ∷ left-off.rest
 
@@ -282,11 +282,11 @@ module _ {P : Type 0} {offset : P → ℕ} {program : Program} {text : Text} {b 
         comes-on offset program text b h (Some next) x.row last 2 c'
         (subst (λ r. MayBeNextEvent offset program text b h 2 h.now (one_thread (running r) ∷ x.row)) nearest_is (back-again unknown x.row x.above)) x.is same spent
 
--- ---- What there is to come back to
+-- ---- The loop that a stack entry resumes
 
 module _ {P : Type 0} {offset : P → ℕ} {program : Program} {text : Text} (stack : List (StackEntry P)) (state : State P) {c : MemoAndWorkBudget}
     (there : HasAttemptState offset program text [] (stack ++ AsRun state ∷ []) c) where
-  -- its place is one of the memory's
+  -- The memo table has a bit for the place of the loop.
   pub back-place : offset state.pos < c.memo.places
   back-place = ∥∥₁_elim there (Prim.hlevel props) (λ x. place-in stack state x.stands)
 
@@ -296,7 +296,7 @@ module _ {P : Type 0} {offset : P → ℕ} {program : Program} {text : Text} (st
   pub back-tested : IsSome (test_of program (slice_get program.insns (state.ip + 1)))
   back-tested = ∥∥₁_elim there (Prim.hlevel props) (λ x. ap is_some (rest-of stack state x.stands).run.body)
 
-  -- it has a key
+  -- The state at the loop's body has a key.
   pub back-keyed : {found : Option Stored} → found ≡ None → option_map memo_key_as_spec found ≡ memo_key_at c.memo.memo_analysis (record (state_of offset state) { ip = state.ip + 1; pos = offset state.pos }) → ⊥
   back-keyed none told =
       ∥∥₁_elim there (Prim.hlevel props) (λ x.

@@ -16,9 +16,9 @@ use Rattle.regex_meaning.specs.CompilationRelation.{is_uninverted_ascii_class, l
 use Rattle.regress_program.specs.CompilationOfTreesAsFunction.{brackets_of, code_of, group_reset_insns, loop_count, node_insn_count, string_code, strings_code, strings_size}
 use Rattle.regress_bounded.specs.Unboundedness.{is_unbounded_insn, is_unbounded_node}
 
--- What is sought: lookarounds or backreferences.
+-- The flag chooses between lookarounds and backreferences.
 module _ (looks : Bool) where
-  -- whether instructions have one
+  -- Instructions have a lookaround or a backreference.
   abbrev has : List Insn → Bool
   has = list_any (is_unbounded_insn looks)
 
@@ -67,7 +67,7 @@ module _ (looks : Bool) where
       list_any-append (is_unbounded_insn looks) (string_code unicode icase behind s) (Jump (second + strings_size (t ∷ more)) ∷ later)
       ∙ ap (λ b. b || has later) (has-string unicode icase behind s) ∙ has-strings unicode icase behind (t ∷ more) second
 
-  -- code between other code
+  -- The code of a node has one, at any position in a program, if the node has one.
   pub has-code : (u d : Bool) (n : Node) (at l b : ℕ) → has (code_of u d n at l b) ≡ fold_nodes ◌||◌ (is_unbounded_node looks) n
   unfolding code_of
   has-code u d empty at l b = refl

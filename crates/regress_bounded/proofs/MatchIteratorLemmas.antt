@@ -12,13 +12,13 @@ use Rattle.regress_search.specs.CostsOfSearches.{Failures}
 use Rattle.regress_bounded.specs.CostsOfAttempts.{BeginsSearches}
 use Rattle.regress_bounded.specs.WorkBoundForAllMatches.{ExecutorIsAtStart, YieldsMatchesIfWorkSuffices}
 
--- an executor that has made no attempt has all before it, from whatever start
+-- An executor that has made no attempt has enough work for all of them, from any start.
 fresh-enough : (enough : Bool) (ahead : ℕ) (test : Bool) (start : ℕ)
     → enough ≡ true → ahead ≡ 0 → is_work_enough enough ahead (if test then Some start else None) ≡ true
 fresh-enough enough ahead true start e z = rw (e, z) (leb-zero start)
 fresh-enough enough ahead false start e z = e
 
--- What is to come of an executor at its start.
+-- The iterator still yields all matches from its start.
 abbrev pub HasBegun : (tree : Tree) (text : Text) (budget : Option ℕ) (enough : Bool) (ahead left start : ℕ) (it : RemainingAnswersAndWork) → Type 0
 HasBegun tree text budget enough ahead left start it =
     (it.remaining.answers ≡ answers_within tree text budget start) × (it.remaining.limited ≡ not (finishes_within tree text budget start)) × (it.remaining.text_end ≡ units text)
@@ -36,7 +36,7 @@ begun-Yields {tree} {its_tree} {text} {its_text} {per_unit} {work} {budget} {eno
       ∙ fresh-enough enough ahead (nat_le start (units its_text)) start (s.is_enough ∙ le-leb (per_unit * (units text + 1)) work e) s.first;
 }
 
--- What the cost of its first call depends on.
+-- The cost of the first call depends on the tree, the text, the failures and the position.
 pub begun-costs : {tree its_tree now_tree : Tree} {text its_text now_text : Text} {per_unit work : ℕ} {budget : Option ℕ} {enough : Bool} {ahead left start : ℕ} {failures now_failures : Failures} {position : Option ℕ}
     → ExecutorIsAtStart tree text per_unit work its_tree its_text budget enough ahead left failures → now_tree ≡ its_tree → now_text ≡ its_text → now_failures ≡ failures
     → position ≡ (if nat_le start (units its_text) then Some start else None) → BeginsSearches tree text start now_tree now_text now_failures position

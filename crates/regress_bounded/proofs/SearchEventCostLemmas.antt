@@ -23,9 +23,9 @@ use Rattle.regress_bounded.specs.WorkOfCharLoopsAndAttempts.{IsUnboundedCharLoop
 use Rattle.regress_bounded.proofs.CharLoopWorkLemmas.{limited-turned, limited-recorded, greedy-none, greedy-known, greedy-all, lazy-none, lazy-first, lazy-known, lazy-again}
 use Rattle.regress_bounded.proofs.CharLoopWorkLemmas.{kept-none}
 
--- ---- What a run reads
+-- ---- The characters that a loop reads
 
--- a run that scans has a test, and stands at a place
+-- A loop that scans has a test and stands at a place.
 pub record ScansAt (program : Program) (text : Text) (s : State) : Type 0 where
   pub test : ℕ → Bool
   pub body : test_of program (slice_get program.insns (s.ip + 1)) ≡ Some test
@@ -51,7 +51,7 @@ not-unlimited most other e = let yes : (most == unlimited) ≡ true = ap (λ m. 
 
 -- ---- One event
 
--- it costs something
+-- Each event costs at least one unit of work.
 pub cost-some : {program : Program} {text : Text} {t : MemoAnalysis} {d : Direction} {memory : List Key} {cost : ℕ} {row : List Entry} {now' : List Key} {row' : List Entry}
     → IsSearchEvent program text t d memory cost row now' row' → 1 ≤ cost
 cost-some (drops s k rest is known) = omega arith
@@ -76,7 +76,7 @@ module _ (program : Program) (text : Text) (t : MemoAnalysis) (paid : AnalysisBo
   abbrev laws : (work : ℕ) (now : List Key) (rest : List Entry) → StepsReachEntries program text t rightwards memory first work now rest
   laws work now rest = searches-are-paid.comes_on program t paid.memo_analysis paid.bounded text paid.is_text paid.bytes paid.short rightwards memory first work now rest
 
-  -- an entry for threads that wait, where some do
+  -- An entry for the waiting threads stands above the others if there are any.
   waits-above : (work : ℕ) (now : List Key) (r : State) (ts : List Thread) (rest row : List Entry) → ThreadsPendAbove ts rest row
       → Come work now (one_thread (running r) ∷ thread_group ts ∷ rest) → Come work now (one_thread (running r) ∷ row)
   waits-above work now r ts rest row (none_waits e) h =
@@ -108,7 +108,7 @@ module _ (program : Program) (text : Text) (t : MemoAnalysis) (paid : AnalysisBo
   had-too-few work now rest s test least place false unbounded_loop at few h =
       lazy-none program t paid.memo_analysis paid.bounded text paid.is_text paid.bytes paid.short rightwards memory first work now rest s test least place unbounded_loop at few h
 
-  -- what was done before it and what it costs are covered
+  -- The events before it and the event itself are covered.
   pub event-comes : (work cost : ℕ) (now now' : List Key) (row row' : List Entry) → Event now cost row now' row' → Come work now row → Come (work + cost) now' row'
   event-comes work cost now now' row row' (drops s k rest is known) h = (laws work now rest).known s k is known.fails h
   event-comes work cost now now' row row' (turns s ts key rest acts is new) h = turned work now rest s ts key acts is new h
@@ -132,9 +132,9 @@ module _ (program : Program) (text : Text) (t : MemoAnalysis) (paid : AnalysisBo
   event-comes work cost now now' row row' (resumes s rest) h = (laws work now rest).taken_up s h
   event-comes work cost now now' row row' (reaches k ts rest) h = (laws work now rest).reached k ts h
 
--- ---- A course of events
+-- ---- A sequence of events
 
--- It is one of the laws on work: whatever it costs is covered.
+-- The laws on work cover the cost of each sequence of events.
 pub costs-come : (program : Program) (text : Text) (t : MemoAnalysis) → AnalysisBoundsSearch program text t → (at : ℕ) → at ≤ units text → (memory : List Key) (work : ℕ) (now : List Key) (row : List Entry)
     → Costs program text t rightwards memory (thread_entries (initial_threads program at)) work now row → ReachesEntries program text t rightwards memory (thread_entries (initial_threads program at)) work now row
 costs-come program text t paid at inside memory work now row nothing_yet =

@@ -26,7 +26,7 @@ snoc-same xs ys y e =
     ∙ ap reverse (ap (drop 1) (sym (reverse-append xs (y ∷ [])) ∙ ap reverse e ∙ reverse-append ys (y ∷ [])))
     ∙ reverse-reverse ys
 
--- all of them wait
+-- Once no state is left, all but the preferred one have been pushed.
 pub taken-all : {X Y : Type 0} (f : X → Y) (first : X) (stack old : List Y) (left states others : List X) → IsTaken f first stack left (old ++ map f states) → left ≡ []
     → states ≡ others ++ first ∷ [] → stack ≡ old ++ map f others
 taken-all f first stack old left states others h none e =

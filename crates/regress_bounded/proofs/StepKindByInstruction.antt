@@ -13,20 +13,20 @@ use Rattle.regress_machine.specs.Machine.{effect_at_iteration_end, loop_again_ef
 use Rattle.regress_memo.specs.SkippedLookarounds.{lookaround_at}
 use Rattle.regress_bounded.specs.BoundedState.{is_goal_insn}
 
--- an end is the state's own, nothing is asked where there is no lookaround, and nothing gone over where there is no run
+-- Ends are the state's own, searches need a lookaround, and scans need a char loop.
 abbrev pub EndsAs : (looks run : Bool) → State → Next → Type 0
 EndsAs looks run s (ends e) = e ≡ s
 EndsAs looks run s (asks d negate u t) = looks ≡ true
 EndsAs looks run s (scans tries ts) = run ≡ true
 EndsAs looks run s _ = Unit {0}
 
--- whether a lookaround stands there
+-- The instruction is a lookaround.
 abbrev pub is_look : Option Insn → Bool
 is_look (Some (Lookahead negate start_group end_group continuation)) = true
 is_look (Some (Lookbehind negate start_group end_group continuation)) = true
 is_look _ = false
 
--- whether a run of characters does
+-- The instruction is a char loop.
 abbrev pub is_run : Option Insn → Bool
 is_run (Some (Loop1CharBody least most greedy)) = true
 is_run _ = false
@@ -85,7 +85,7 @@ module _ (looks run : Bool) (s : State) where
       as-with_some (test_of program o) (λ test. with_some (place_at text u.pos) (λ p. scan text least most greedy test d p u))
       (λ test. as-with_some (place_at text u.pos) (λ p. scan text least most greedy test d p u) (λ p. is))
 
--- what stands where characters are gone over
+-- A turn that scans characters is at a char loop.
 pub record IsRun (o : Option Insn) : Type 0 where
   pub least : ℕ
   pub most : ℕ
@@ -124,7 +124,7 @@ module _ (program : Program) (text : Text) (d : Direction) (s : State) where
   act-ends-as (Some (Lookbehind negate start_group end_group continuation)) = refl
   act-ends-as (Some _) = as-stay false false s text _ s
 
-  -- an end is the state in hand
+  -- A turn that ends the search ends it in the current state.
   pub ends-itself : (e : State) → act program text d s ≡ ends e → e ≡ s
   ends-itself e is = subst (EndsAs (is_look (slice_get program.insns s.ip)) (is_run (slice_get program.insns s.ip)) s) is (act-ends-as (slice_get program.insns s.ip))
 
@@ -134,7 +134,7 @@ module _ (program : Program) (text : Text) (d : Direction) (s : State) where
   looks-there (Some (Lookbehind negate start_group end_group continuation)) h = cc
   looks-there (Some _) h = refl
 
-  -- nothing is asked where no lookaround stands
+  -- A turn asks for no search where no lookaround stands.
   pub asks-none : (inner : Direction) (negate : Bool) (u t : State) → act program text d s ≡ asks inner negate u t → lookaround_at (slice_get program.insns s.ip) ≡ None → ⊥
   asks-none inner negate u t is none =
       let yes : is_look (slice_get program.insns s.ip) ≡ true = subst (EndsAs (is_look (slice_get program.insns s.ip)) (is_run (slice_get program.insns s.ip)) s) is (act-ends-as (slice_get program.insns s.ip)) in
@@ -146,7 +146,7 @@ module _ (program : Program) (text : Text) (d : Direction) (s : State) where
       run-there (slice_get program.insns s.ip)
       (subst (EndsAs (is_look (slice_get program.insns s.ip)) (is_run (slice_get program.insns s.ip)) s) is (act-ends-as (slice_get program.insns s.ip)))
 
-  -- Elsewhere than at the end of the program no turn ends a search: what it would come to may be any state.
+  -- An instruction other than a goal does not end the search.
   other-ends-as : (x : Insn) (u : State) → is_goal_insn x ≡ false → EndsAs (is_look (Some x)) (is_run (Some x)) u (act_on program text d (Some x) s)
   other-ends-as Goal u h = cc
   other-ends-as JustFail u h = tt

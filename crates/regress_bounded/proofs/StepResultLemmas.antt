@@ -15,22 +15,22 @@ use Rattle.regress_bounded.specs.BoundedState.{BoundedAttempt, AttemptHasState, 
 use Rattle.regress_bounded.specs.BoundedState.{StepResultFrom, AttemptResultIs}
 use Rattle.regress_bounded.proofs.SearchEventCostLemmas.{cost-some}
 
--- what holds of a refusal holds of what hands it on
+-- A property of an error holds for the result that hands the error on.
 pub handed-on : {X : Type 0} (P : Result X AttemptAbortReason → Type 0) (r : Result X AttemptAbortReason) (e : AttemptAbortReason) → IsErrAnd r (λ f. f ≡ e) → P (Err e) → P r
 handed-on P (Ok x) e h p = absurd h
 handed-on P (Err f) e h p = subst (λ f. P (Err f)) (sym h) p
 
--- what is in one option is in an equal one
+-- Equal options have equal values.
 pub some-key : {X : Type 0} {x y : X} → Some x ≡ Some y → x ≡ y
 some-key e = cc
 
 module _ {P : Type 0} {offset : P → ℕ} {program : Program} {text : Text} {b : BoundedAttempt} {front : List Entry} {stack : List (StackEntry P)} {c : MemoAndWorkBudget}
     (h : AttemptHasState offset program text b front stack c) where
-  -- an event is some work
+  -- An event takes at least one unit of work.
   pub comes-less : {next : Option (State P)} {new : List (StackEntry P)} {after : MemoAndWorkBudget} → TakesOneEvent offset program text b h next new after → after.left < c.left
   comes-less {after = after} x = let e : c.left ≡ x.cost + after.left = x.spent in let some = cost-some x.happens in omega (arith, e, some)
 
-  -- it may be given up where the next event costs more than is left
+  -- An attempt may stop if the next event costs more than the work left.
   pub may-stop : (e : AttemptAbortReason) (after : MemoAndWorkBudget) → (e ≡ Work → WorkIsTooLittle offset program text b h after) → MayStop offset program text b h e after
   may-stop Memory after short = tt
   may-stop Work after short = short refl
@@ -48,7 +48,7 @@ module _ {P : Type 0} {offset : P → ℕ} {program : Program} {text : Text} {b 
         → StepResultIs offset program text b h r stack' after
     turns-short r e handed short = turns-handed r e handed (may-stop e after short)
 
-  -- what stops a part of an attempt stops the attempt
+  -- An error in a part of an attempt is the error of the attempt.
   stops-all : (after : MemoAndWorkBudget) → after.memo.memo_analysis ≡ c.memo.memo_analysis → (e : AttemptAbortReason) → MayStop offset program text b h e after → AttemptResultIs offset program text b (Err e) after
   stops-all after same Memory stops = tt
   stops-all after same Work stops = record { front = front; stack = stack; before = c; stands = h; same = same; short = stops }
@@ -57,12 +57,12 @@ module _ {P : Type 0} {offset : P → ℕ} {program : Program} {text : Text} {b 
       → MayStop offset program text b h e after → AttemptResultIs offset program text b r after
   runs-stopped after same r e handed stops = handed-on (λ r. AttemptResultIs offset program text b r after) r e handed (stops-all after same e stops)
 
--- a refusal of an attempt is handed on
+-- An error of an attempt is handed on.
 pub runs-handed : {P : Type 0} (offset : P → ℕ) (program : Program) (text : Text) (b : BoundedAttempt) (after : MemoAndWorkBudget) (r : Result (Option (State P)) AttemptAbortReason)
     (e : AttemptAbortReason) → IsErrAnd r (λ f. f ≡ e) → AttemptResultIs offset program text b (Err e) after → AttemptResultIs offset program text b r after
 runs-handed offset program text b after r e handed stops = handed-on (λ r. AttemptResultIs offset program text b r after) r e handed stops
 
--- what a turn came to
+-- These lemmas are about the result of a turn.
 module _ {P : Type 0} {offset : P → ℕ} {program : Program} {text : Text} {front : List Entry} {old : List (StackEntry P)} {before : MemoAndWorkBudget}
     (there : HasAttemptState offset program text front old before) (new : List (StackEntry P)) (behind : MemoAndWorkBudget) {came : StepResult P} where
   pub came-on : {next : Option (State P)} → came ≡ On next → StepResultFrom offset program text front old before (Ok came) new behind

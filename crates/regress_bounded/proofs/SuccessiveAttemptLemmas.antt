@@ -34,15 +34,15 @@ use Rattle.regress_memo.proofs.MemoTableLawLemmas.{memos-hold}
 use Rattle.regress_memo.proofs.AmortizedMemoSearchLemmas.{searches-are-paid}
 use Rattle.regress_bounded.specs.WorkOfCharLoopsAndAttempts.{HasMadeAttempts, IsWalked, AttemptIsUnderWay}
 
--- ---- What is known
+-- ---- Known failures
 
--- at first nothing is
+-- An empty memo has no known failures.
 pub memory-of : (t : MemoAnalysis) (places : ℕ) (records_successes : Bool) (m : MemoView) → IsEmptyMemo t places records_successes m → ListsExactlyKnownKeys (has_failure m) []
 memory-of t places records_successes m begun = (memos-hold.begun t places records_successes m begun).0
 
 -- ---- Places
 
--- where the next attempt begins at the earliest, behind a match from an offset that ends at another one
+-- The next attempt begins behind the match, and at least one offset further.
 pub behind-end : (at end : ℕ) → at ≤ end → (end ≤ (if nat_lt at end then end else end + 1)) × (at < (if nat_lt at end then end else end + 1))
 behind-end at end le = by (nat_lt at end) refl
   where
@@ -59,7 +59,7 @@ module _ (program : Program) (t : MemoAnalysis) (of : IsAnalysisOf program t) (t
   abbrev Come : (at : ℕ) → (memory : List Key) → (work : ℕ) → (now : List Key) → List Entry → Type 0
   Come at memory work now row = ReachesEntries program text t rightwards memory (thread_entries (initial_threads program at)) work now row
 
-  -- the search at an offset answers
+  -- The search at an offset has an answer.
   abbrev Answered : ℕ → Type 0
   Answered at = Answers program text rightwards (initial_threads program at)
 
@@ -72,7 +72,7 @@ module _ (program : Program) (t : MemoAnalysis) (of : IsAnalysisOf program t) (t
   abbrev weight : List Thread → ℕ
   weight ts = potential_by program (potentials_of t) (key_cost_of t) (recorded t) ts
 
-  -- before the first attempt
+  -- No work has been done before the first attempt.
   pub stands-still : (at : ℕ) → Walked at 0 []
   stands-still at = record {
     from = at;
@@ -83,7 +83,7 @@ module _ (program : Program) (t : MemoAnalysis) (of : IsAnalysisOf program t) (t
     is = record { known = tt; distinct = tt; inside = tt };
   }
 
-  -- the next one may begin further on
+  -- The next attempt may begin at any later offset.
   pub still-onward : (ahead done : ℕ) (memory : List Key) → Walked ahead done memory → (at : ℕ) → ahead ≤ at → Walked at done memory
   still-onward ahead done memory w at le = let order = w.order in record {
     from = w.from;
@@ -94,20 +94,20 @@ module _ (program : Program) (t : MemoAnalysis) (of : IsAnalysisOf program t) (t
     is = w.is;
   }
 
-  -- what one has in hand at first
+  -- An attempt starts with the initial threads and no work done.
   pub in-hand : (at : ℕ) → at ≤ units text → (memory : List Key) → Come at memory 0 memory (thread_entries (initial_threads program at))
   in-hand at inside memory = searches-are-paid.begins program t of text is_text bytes less at inside memory
 
   first-onward : (at : ℕ) → AreOnward at (thread_entries (initial_threads program at))
   first-onward at = (omega arith, tt, tt)
 
-  -- it goes on from there
+  -- All threads of an attempt are at or behind its start.
   pub in-order : (at : ℕ) (memory : List Key) (work : ℕ) (now : List Key) (u : Thread) (rest : List Entry) → Come at memory work now (one_thread u ∷ rest) → at ≤ at_of u
   in-order at memory work now u rest h =
       (turns-go-on program text (analysis_as_liveness t) (analysis_keys program text t) rightwards price weight memory (initial_threads program at) at work now (one_thread u ∷ rest) refl (first-onward at) h.comes).0
 
   module _ (at done : ℕ) (memory : List Key) (walked : Walked at done memory) (answers : Answered at) (more : ℕ) (now : List Key) (row : List Entry) where
-    -- what a search knows and owes after any number of turns
+    -- The work bound holds in a search after any number of turns.
     stands-so : Come at memory more now row
         → turns.KeepsResultWithinPotential program text (analysis_as_liveness t) (analysis_keys program text t) rightwards price weight memory (initial_threads program at) more now row answers.found
     stands-so h =
@@ -123,7 +123,7 @@ module _ (program : Program) (t : MemoAnalysis) (of : IsAnalysisOf program t) (t
           inside = Each-right (λ k. IsIn k (analysis_keys program text t).all) (keys_in row) now s.inside;
         }
 
-    -- what the attempts so far may do, and this one, and one unit more for each place
+    -- The work of the attempts so far and of this one leaves room for one unit per place.
     pub with-room : at ≤ units text → Come at memory more now row
         → done + more + (units text + 1) ≤ (1 + (work_per_position t + (all_keys_cost_per_position t + (insn_analysis_of t 0).ready))) * (units text + 1)
     with-room inside h =
@@ -161,7 +161,7 @@ module _ (program : Program) (t : MemoAnalysis) (of : IsAnalysisOf program t) (t
         → done + more ≤ (1 + (work_per_position t + (all_keys_cost_per_position t + (insn_analysis_of t 0).ready))) * (units text + 1)
     so-far inside h = let all = with-room inside h in omega (arith, all)
 
-  -- ---- An attempt is done
+  -- ---- The end of an attempt
 
   pub then-failed : (at done : ℕ) (memory : List Key) → Walked at done memory → Answered at → (more : ℕ) (now : List Key) → Come at memory more now []
       → Walked (at + 1) (done + more) now
@@ -174,7 +174,7 @@ module _ (program : Program) (t : MemoAnalysis) (of : IsAnalysisOf program t) (t
     is = still-memory at done memory w answers more now [] h;
   }
 
-  -- the current thread ends, and the next match is looked for from there on, or further on if the match is empty
+  -- If the current thread ends, the next attempt begins there or behind an empty match.
   pub then-found : (at done : ℕ) (memory : List Key) → Walked at done memory → Answered at → (more : ℕ) (now : List Key) (u : Thread) (rest : List Entry)
       → Come at memory more now (one_thread u ∷ rest) → (on : ℕ) → at_of u ≤ on → at < on → Walked on (done + more) now
   then-found at done memory w answers more now u rest h on le further = let order = w.order in record {
@@ -186,7 +186,7 @@ module _ (program : Program) (t : MemoAnalysis) (of : IsAnalysisOf program t) (t
     is = still-memory at done memory w answers more now (one_thread u ∷ rest) h;
   }
 
-  -- ---- With what is known
+  -- ---- Attempts and the failures that they know
 
   module _ (known : Key → Bool) where
     abbrev Behind : (ahead done : ℕ) → Type 0
@@ -198,7 +198,7 @@ module _ (program : Program) (t : MemoAnalysis) (of : IsAnalysisOf program t) (t
     pub then-starts : ListsExactlyKnownKeys known [] → (at : ℕ) → Behind at 0
     then-starts holds at = record { memory = []; has = stands-still at; holds = holds }
 
-    -- a match ends it
+    -- If a match is found, the next attempt begins behind it.
     pub then-ends : (at done work : ℕ) (u : Thread) (rest : List Entry) → Answered at → Trying at done work (one_thread u ∷ rest)
         → (on : ℕ) → at_of u ≤ on → at < on → Behind on (done + work)
     then-ends at done work u rest answers b on le further = record {
@@ -207,7 +207,7 @@ module _ (program : Program) (t : MemoAnalysis) (of : IsAnalysisOf program t) (t
       holds = b.holds;
     }
 
-    -- no match begins there
+    -- If no match begins at an offset, the next attempt begins at the next one.
     pub then-none : (at done work : ℕ) → Answered at → Trying at done work [] → Behind (at + 1) (done + work)
     then-none at done work answers b = record {
       memory = b.now;

@@ -44,9 +44,9 @@ use Rattle.regress_bounded.proofs.SearchEventCostLemmas.{ScansAt, scans-at}
 use Rattle.regress_bounded.proofs.StepResultLemmas.{some-key}
 use Rattle.regress_bounded.proofs.BoundedStateLemmas.{row-push, can-turn, inside, new, known, comes-on, is-short}
 
--- ---- What the thread in hand can do
+-- ---- The steps of the current thread
 
--- whether an instruction can run
+-- An instruction can run unless it is stuck.
 abbrev can_take : Next → Bool
 can_take stuck = false
 can_take _ = true
@@ -75,13 +75,13 @@ module _ {P : Type 0} {offset : P → ℕ} {program : Program} {text : Text} {s 
   pub standing-inside : s.pos ≤ units text
   standing-inside = ∥∥₁_elim there (Prim.hlevel props) (λ h. inside offset program text h.begin s h.stands)
 
-  -- what is remembered has a bit for each offset of the text
+  -- The memo table has a bit for the offset of the current thread.
   pub standing-place : s.pos < c.memo.places
   standing-place =
       ∥∥₁_elim there (Prim.hlevel props) (λ h.
       let within = inside offset program text h.begin s h.stands in let all = h.stands.right.is_true.places in omega (arith, within, all))
 
--- a key that is known
+-- The option has a key that the test accepts.
 record IsKnownKey (test : Key → Bool) (o : Option Key) : Type 0 where
   key : Key
   is : o ≡ Some key
@@ -91,7 +91,7 @@ known-key : (test : Key → Bool) (key : Option Stored) (o : Option Key) → opt
 known-key test None o e h = cc
 known-key test (Some k) o e h = record { key = memo_key_as_spec k; is = sym e; known = h }
 
--- it has failed
+-- The key of the current thread is known to fail.
 module _ {P : Type 0} {offset : P → ℕ} {program : Program} {text : Text} {b : BoundedAttempt} {s : machine.State} {stack : List (StackEntry P)} {c : MemoAndWorkBudget}
     (h : AttemptHasState offset program text b (one_thread (running s) ∷ []) stack c) (key : Option Stored) (its : option_map memo_key_as_spec key ≡ memo_key_at c.memo.memo_analysis s)
     (fails : is_known_key (has_failure c.memo) (option_map memo_key_as_spec key) ≡ true) where
@@ -104,14 +104,14 @@ module _ {P : Type 0} {offset : P → ℕ} {program : Program} {text : Text} {b 
   pub known-goes : (c' : MemoAndWorkBudget) → c'.memo ≡ c.memo → IsTakenFromBudget 1 c.left c'.left → TakesOneEvent offset program text b h None stack c'
   known-goes c' same spent = comes-on offset program text b h None h.row stack 1 c' known-happens h.is same spent
 
--- ---- What stands there
+-- ---- The current instruction
 
--- no other instruction is a run
+-- No instruction but a char loop is an unbounded loop.
 pub unbounded_loop-other : (insn : Coded) → ((greedy : Bool) (least most : ℕ) → insn ≡ CodedRun greedy least most → ⊥) → None ≡ min_and_greed_of_loop (insn_as_spec_insn insn)
 unbounded_loop-other (CodedRun greedy least most) other = absurd (other greedy least most refl)
 unbounded_loop-other insn other = refl
 
--- no other instruction ends the search
+-- No instruction but a goal ends the search.
 pub goal-other : (insn : Coded) → (insn ≡ CodedGoal → ⊥) → false ≡ is_goal_insn (insn_as_spec_insn insn)
 goal-other CodedGoal other = absurd (other refl)
 goal-other insn other = refl
@@ -120,7 +120,7 @@ pub char-loop-other : (insn : Coded) → ((greedy : Bool) (least most : ℕ) →
 char-loop-other (CodedRun greedy least most) other = absurd (other greedy least most refl)
 char-loop-other insn other = refl
 
--- a run of this maximum
+-- The instruction is a char loop with this maximum.
 record HasMaximum (x : Insn) (most : ℕ) : Type 0 where
   least : ℕ
   greedy : Bool
@@ -130,7 +130,7 @@ maximum-of : (x : Insn) (most : ℕ) → Some most ≡ char_loop_max x → HasMa
 maximum-of (Loop1CharBody l m g) most e = let same : most ≡ m = some-key e in record { least = l; greedy = g; is = ap (λ n. Loop1CharBody l n g) (sym same) }
 maximum-of x most e = cc
 
--- one that has a maximum
+-- A char loop that is not unbounded has a maximum.
 pub has-maximum : (greedy : Bool) (least most : ℕ) → None ≡ min_and_greed_of_loop (Loop1CharBody least most greedy) → (most == unlimited) ≡ false
 has-maximum greedy least most none = by (most == unlimited) refl
   where
@@ -150,7 +150,7 @@ unbounded_loop-run (Loop1CharBody l m g) greedy least found = by (m == unlimited
 unbounded_loop-run insn greedy least found = cc
 
 module _ {P : Type 0} (offset : P → ℕ) (re : Regex) (text : Text) (insns : List Coded) (s : machine.State) where
-  -- a run without a maximum, and the instruction that it reads by
+  -- The current instruction is an unbounded char loop, and its body follows it.
   pub record RunAt (greedy : Bool) (least : ℕ) : Type 0 where
     pub below : s.ip + 1 < length insns
     pub reads : (body : Coded) → body ≡ get_or insns (s.ip + 1) body → slice_get (compiled (tree_of re)).insns (s.ip + 1) ≡ Some (insn_as_spec_insn body)
@@ -168,7 +168,7 @@ module _ (re : Regex) (text : Text) (insns : List Coded) (code : map insn_as_spe
   pub can-insn : (insn : Coded) → insn ≡ get_or insns s.ip insn → slice_get its-program.insns s.ip ≡ Some (insn_as_spec_insn insn)
   can-insn insn is = insn-here re insns code text rightwards s can insn is
 
-  -- a run, and the instruction that it reads by
+  -- The current instruction is a char loop, and its body follows it.
   pub record ReadsAt (least most : ℕ) (greedy : Bool) : Type 0 where
     pub run : slice_get its-program.insns s.ip ≡ Some (Loop1CharBody least most greedy)
     pub at : ScansAt its-program text s
@@ -181,7 +181,7 @@ module _ (re : Regex) (text : Text) (insns : List Coded) (code : map insn_as_spe
       let tested = body-tested its-program s.ip at.test at.body in
       record { run = run; at = at; below = body-below re insns code s.ip tested; body = λ body is. body-insn re insns code s.ip tested body is }
 
-  -- the same by its maximum
+  -- The current instruction is a char loop with this maximum, and its body follows it.
   pub record ReadsUpTo (most : ℕ) : Type 0 where
     pub least : ℕ
     pub greedy : Bool
@@ -206,9 +206,9 @@ module _ {P : Type 0} {offset : P → ℕ} (re : Regex) {text : Text} (insns : L
       let x = reads-at re text insns code s (standing-can there) least unlimited greedy (here-insn insn is ∙ ap Some (unbounded_loop-run (insn_as_spec_insn insn) greedy least found)) in
       record { below = x.below; reads = x.body; here = λ body body_is. record { insn = x.run; body = x.body body body_is } }
 
--- ---- What its turn is
+-- ---- The work of a turn
 
--- a turn that ends the search is at an instruction that does
+-- A turn at a goal ends the search.
 pub goal-ends : (re : Regex) (text : Text) (s : machine.State) (insn : Coded) → slice_get (compiled (tree_of re)).insns s.ip ≡ Some (insn_as_spec_insn insn) → true ≡ is_goal_insn (insn_as_spec_insn insn)
     → act (compiled (tree_of re)) text rightwards s ≡ ends s
 goal-ends re text s insn here goal =
@@ -218,7 +218,7 @@ goal-ends re text s insn here goal =
     by Goal e = refl
     by x e = cc
 
--- one elsewhere leaves threads
+-- A turn that is not at a goal leaves threads.
 module _ {P : Type 0} {offset : P → ℕ} {program : Program} {text : Text} {s : machine.State} {stack : List (StackEntry P)} {c : MemoAndWorkBudget}
     (there : HasAttemptState offset program text (one_thread (running s) ∷ []) stack c) where
   pub leads-on : (insn : Insn) → slice_get program.insns s.ip ≡ Some insn → false ≡ is_goal_insn insn → LeavesThreads (act program text rightwards s)
@@ -232,7 +232,7 @@ module _ {P : Type 0} {offset : P → ℕ} {program : Program} {text : Text} {s 
           ∥∥₁_elim there (Prim.hlevel props) (λ h. asks-none program text rightwards s inner negate u t is (h.stands.right.paid.no_look s.ip))
       by stuck is can = absurd can
 
--- elsewhere than at a run it tries no character
+-- A turn that is not at a char loop tries no character.
 pub other-work : (program : Program) (text : Text) (s : machine.State) (x : Insn) → slice_get program.insns s.ip ≡ Some x → None ≡ char_loop_max x → (left : ℕ)
     → IsWorkOrMoreThanLeft left (work_of (act program text rightwards s)) 1
 other-work program text s x here none left = inl (by (act program text rightwards s) refl)
@@ -247,7 +247,7 @@ other-work program text s x here none left = inl (by (act program text rightward
     by (asks inner negate u t) is = refl
     by stuck is = refl
 
--- how much work it is, where so many characters pass up to a limit
+-- A turn at a char loop does this much work for the characters that pass up to a limit.
 pub run-work : (program : Program) (text : Text) (s : machine.State) → HasRisingPlaceOffsets text → (test : ℕ → Bool) (place least most : ℕ) (greedy : Bool)
     → slice_get program.insns s.ip ≡ Some (Loop1CharBody least most greedy) → test_of program (slice_get program.insns (s.ip + 1)) ≡ Some test → place_at text s.pos ≡ Some place
     → {P : Type 0} (offset : P → ℕ) (left passed : ℕ) (pos : P) → HasPassedOver offset text test (min most (left - 1)) place passed pos
@@ -274,7 +274,7 @@ run-work program text s is_text test place least most greedy run body at offset 
           | inr le ↦ let both : min most (passed + 1) + 1 ≡ min most (all + 1) + 1 = omega (arith, full, few, le, sum) in inl (both ∙ ap (λ n. n + 1) (sym tries_are))
         ]
 
--- ---- What becomes of what it leaves
+-- ---- The threads that a turn leaves
 
 pub leads-can : (x : Next) → LeavesThreads x → IsNotStuck x
 leads-can (goes ts) leads = tt
@@ -283,7 +283,7 @@ leads-can (ends t) leads = absurd leads
 leads-can (asks inner negate u t) leads = absurd leads
 leads-can stuck leads = absurd leads
 
--- what the executor makes of it, by one arm of a turn
+-- The lemmas below carry the facts of a turn to the value that the executor returns.
 module _ {P : Type 0} (offset : P → ℕ) {step : Next} {t x : NextStates P} (turned : effect_of_next_states offset t ≡ step) (is : t ≡ x) where
   pub arm-leads : LeavesThreads step → LeavesThreads (effect_of_next_states offset x)
   arm-leads leads = subst LeavesThreads (sym turned ∙ ap (effect_of_next_states offset) is) leads
@@ -291,19 +291,19 @@ module _ {P : Type 0} (offset : P → ℕ) {step : Next} {t x : NextStates P} (t
   pub arm-threads : threads_left step ≡ threads_left (effect_of_next_states offset x)
   arm-threads = ap threads_left (sym turned ∙ ap (effect_of_next_states offset) is)
 
--- the same where the states are told
+-- The same holds if the states are given.
 pub taken-threads : {P E : Type 0} (offset : P → ℕ) (ts : List Thread) (states : List (State P)) (old last : List (StackEntry P)) → ts ≡ first_running_and_others_waiting (states_by_priority offset states)
     → (r : Result (Option (State P)) E) → IfOk r (λ next. HasTaken offset states old next last) → IfOk r (λ next. TakesPreferredThread offset ts old next last)
 taken-threads offset ts states old last are (Ok next) h = record { states = states; are = are; taken = h }
 taken-threads offset ts states old last are (Err e) h = tt
 
--- one thread more behind others
+-- The entries of threads with one more thread end with the entry of that thread.
 tries-on : (us : List Thread) (u : Thread) (row : List Entry) → thread_entries (us ++ u ∷ []) ++ row ≡ thread_entries us ++ one_thread u ∷ row
 tries-on [] u row = refl
 tries-on (v ∷ us) u row = ap (λ l. one_thread v ∷ l) (tries-on us u row)
 
 module _ {P : Type 0} (offset : P → ℕ) (program : Program) (text : Text) where
-  -- these wait as well, the last one first
+  -- The other states wait on the stack, the last one first.
   rows-push : (others : List (State P)) (old : List (StackEntry P)) (row : List Entry) → IsStackOf offset program text old row
       → IsStackOf offset program text (old ++ map (λ o. AsThread o) others) (thread_entries (waiting_threads offset others) ++ row)
   rows-push [] old row r = subst (λ l. IsStackOf offset program text l row) (sym (append-nil old)) r
@@ -316,7 +316,7 @@ module _ {P : Type 0} (offset : P → ℕ) (program : Program) (text : Text) whe
       (subst (λ l. IsStackOf offset program text l (thread_entries (waiting_threads offset others) ++ one_thread (waiting (state_of offset s)) ∷ row))
       (append_assoc old (AsThread s ∷ []) (map (λ o. AsThread o) others)) all)
 
-  -- the preferred one is taken, and the others wait above a row
+  -- The preferred state is taken, and the others wait above the entries below.
   record TakenAbove (ts : List Thread) (below : List Entry) (next : Option (State P)) (stack : List (StackEntry P)) : Type 0 where
     row : List Entry
     same : thread_entries ts ++ below ≡ entry_of_current_thread offset next ++ row
@@ -363,13 +363,13 @@ module _ {P : Type 0} {offset : P → ℕ} {program : Program} {text : Text} {b 
       by (asks inner negate u t) is leads = absurd leads
       by stuck is leads = absurd leads
 
-  -- there was not so much
+  -- If the work of the turn exceeds the work left, the work is too little.
   pub turn-over : (number : ℕ) → IsWorkOrMoreThanLeft c.left (work_of (act program text rightwards s)) number → (c' : MemoAndWorkBudget) → WorkExceedsBudget number c.left c'.left
       → WorkIsTooLittle offset program text b h c'
   turn-over number (inl same) c' spent = is-short offset program text b h (work_of (act program text rightwards s)) c' turn-happens (subst (λ n. WorkExceedsBudget n c.left c'.left) same spent)
   turn-over number (inr more) c' spent = is-short offset program text b h (work_of (act program text rightwards s)) c' turn-happens (more.1, spent.1)
 
-  -- its record waits
+  -- The record of the current thread's key waits on the stack.
   record-waits : (mid : List (StackEntry P)) → mid ≡ stack_with_record key stack → IsStackOf offset program text mid recorded
   record-waits mid pushed = subst (λ xs. IsStackOf offset program text xs recorded) (sym pushed) (by key)
     where

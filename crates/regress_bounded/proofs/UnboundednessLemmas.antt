@@ -19,19 +19,19 @@ any-map : {X Y : Type 0} (test : Y → Bool) (f : X → Y) (xs : List X) → lis
 any-map test f [] = refl
 any-map test f (x ∷ xs) = ap (λ b. test (f x) || b) (any-map test f xs)
 
--- whether a tree has one, as it was found in its code
+-- A test of the code's instructions tells whether the tree has such a node.
 pub tree-has : (looks : Bool) (insns : List Insn) (tree : Tree) (found : Bool) → map insn_as_spec_insn insns ≡ (compiled tree).insns
     → found ≡ list_any (λ x. is_unbounded_insn looks (insn_as_spec_insn x)) insns → fold_nodes ◌||◌ (is_unbounded_node looks) tree.root ≡ found
 unfolding compiled
 tree-has looks insns tree found code is =
     sym (has-code looks tree.flags.unicode false tree.root 0 0 0) ∙ ap (list_any (is_unbounded_insn looks)) (sym code) ∙ any-map (is_unbounded_insn looks) insn_as_spec_insn insns ∙ sym is
 
--- the code of a tree without lookarounds has none
+-- The code of a tree that has no lookaround has none.
 pub code-has-none : (tree : Tree) → has_lookaround tree ≡ false → list_any (is_unbounded_insn true) (compiled tree).insns ≡ false
 unfolding compiled
 code-has-none tree none = has-code true tree.flags.unicode false tree.root 0 0 0 ∙ none
 
--- a tree in whose code neither is found
+-- A tree whose code has no lookaround and no backreference has neither.
 pub plain-by : (insns : List Insn) (tree : Tree) (look back : Bool) → map insn_as_spec_insn insns ≡ (compiled tree).insns
     → look ≡ list_any (λ x. is_unbounded_insn true (insn_as_spec_insn x)) insns → look ≡ false
     → back ≡ list_any (λ x. is_unbounded_insn false (insn_as_spec_insn x)) insns → back ≡ false → HasNoLookaroundOrBackreference tree
@@ -40,12 +40,12 @@ plain-by insns tree look back code looks no_look backs no_back = record {
   no_backreference = tree-has false insns tree back code backs ∙ no_back;
 }
 
--- an allocation that failed after that
+-- If the tree has neither, the error `Memory` states a true reason.
 pub memory-refused : {X : Type 0} (tree : Tree) (r : Result X Unbounded) → IsErrAnd r (λ e. e ≡ Memory) → HasNoLookaroundOrBackreference tree → IfErr r (IsReasonForUnboundedness tree)
 memory-refused tree (Ok x) h plain = tt
 memory-refused tree (Err e) h plain = subst (IsReasonForUnboundedness tree) (sym h) plain
 
--- at no counter is a lookaround where no instruction is one
+-- If no instruction is a lookaround, no instruction at an address is one.
 pub no-looks : (insns : List layout.Insn) → list_any (is_unbounded_insn true) insns ≡ false → (ip : ℕ) → lookaround_at (slice_get insns ip) ≡ None
 no-looks insns none ip = by (slice_get insns ip) refl
   where

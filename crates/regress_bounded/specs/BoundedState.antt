@@ -1,5 +1,5 @@
--- The state of a bounded search as a list of entries of `regress_memo`: threads, pending lazy
--- loops, and records.
+-- The state of a bounded search as a list of search entries: threads, pending lazy loops, and
+-- records.
 use Rattle.std.specs.Prelude.{◌≡◌, ◌≤◌, ◌<◌, ◌^◌, ◌+◌, ◌-◌, ℕ, Bool, true, false, List, [], ◌∷◌, ◌++◌, map, reverse, Option, Some, None, option_map}
 use Rattle.std.specs.Prelude.{Result, Ok, Err, IfSome, ◌⊎◌, ◌==◌, if◌then◌else◌, slice_get}
 use Rattle.regex_meaning.specs.Text.{Text, rightwards, moved, last_place}
@@ -40,13 +40,13 @@ use Rattle.regress_bounded.specs.CostsOfSearchEvents.{Costs, IsSearchEvent}
 use Rattle.regress_bounded.specs.WorkOfCharLoopsAndAttempts.{IsUnboundedCharLoop, key_after_chars, threads_after_chars, exits_with_records}
 use Rattle.regress_pikevm.specs.States.{state_of, states_by_priority, current_thread_if_any}
 
--- The stack with a record of the key pushed, if there is a key.
+-- The stack with a record of the key on top. If there is no key, the stack is unchanged.
 abbrev pub stack_with_record : {P : Type 0} → Option Stored → List (StackEntry P) → List (StackEntry P)
 stack_with_record None stack = stack
 stack_with_record (Some key) stack = stack ++ AsRecord key ∷ []
 
 module _ (program : Program) (text : Text) where
-  -- The memo analysis covers searches of this text, and the program has no lookarounds.
+  -- The memo analysis bounds the searches of this text with the program, which has no lookarounds.
   pub record AnalysisBoundsSearch (t : MemoAnalysis) : Type 0 where
     pub memo_analysis : IsAnalysisOf program t
     pub bounded : IsWorkBounded t program
@@ -55,12 +55,12 @@ module _ (program : Program) (text : Text) where
     pub bytes : ReadsAsBytes program text
     pub short : units text < 2 ^ 63
 
-  -- Everything that is known to fail does fail.
+  -- The memo table is right: each key that is known to fail does fail.
   pub record IsSoundMemo (m : MemoView) : Type 0 where
     pub paid : AnalysisBoundsSearch m.memo_analysis
     pub is_true : IsTrueOf program text m
 
-  -- The same as a proposition.
+  -- `IsSoundMemo` as a proposition.
   abbrev pub IsMemoRight : MemoView → Type 0
   IsMemoRight m = ∥ IsSoundMemo m ∥₁
 
@@ -68,7 +68,8 @@ module _ (program : Program) (text : Text) where
 abbrev pub IsMemoRightForRegex : Regex → Text → MemoView → Type 0
 IsMemoRightForRegex re text m = IsMemoRight (compiled (tree_of re)) text m
 
--- The key of a state, if it has one, which is not known to fail.
+-- `key` is the key of the state. It is `None` if the state has no key; otherwise it is not known to
+-- fail.
 pub record IsUnfailedStateKeyIfAny (m : MemoView) (s : machine.State) (key : Option Stored) : Type 0 where
   pub is : memo_key_at m.memo_analysis s ≡ option_map memo_key_as_spec key
   pub unknown : IfSome key (λ k. has_failure m (memo_key_as_spec k) ≡ false)
@@ -83,22 +84,23 @@ abbrev pub min_and_greed_of_loop : Insn → Option (ℕ × Bool)
 min_and_greed_of_loop (Loop1CharBody least most greedy) = if most == unlimited then Some (least, greedy) else None
 min_and_greed_of_loop _ = None
 
--- The maximum of a char loop.
+-- The maximum of a char loop. `None` for other instructions.
 abbrev pub char_loop_max : Insn → Option ℕ
 char_loop_max (Loop1CharBody least most greedy) = Some most
 char_loop_max _ = None
 
--- Whether an instruction ends the search.
+-- Whether the instruction is the goal, which ends the search.
 abbrev pub is_goal_insn : Insn → Bool
 is_goal_insn Goal = true
 is_goal_insn _ = false
 
--- No char loop without a maximum is at this instruction.
+-- The instruction is not a char loop without a maximum.
 abbrev pub IsNotUnboundedCharLoop : Program → (ip : ℕ) → Type 0
 IsNotUnboundedCharLoop program ip = (least most : ℕ) (greedy : Bool)
     → slice_get program.insns ip ≡ Some (Loop1CharBody least most greedy) → (most == unlimited) ≡ false
 
--- An attempt: its start offset, the failures known, the work allowed, and the result of the search.
+-- An attempt: its start offset, the failures known at its start, the work allowed, and the result
+-- of the search.
 pub record BoundedAttempt : Type 0 where
   pub at : ℕ
   pub memory : List Key
@@ -106,7 +108,7 @@ pub record BoundedAttempt : Type 0 where
   pub turns : ℕ
   pub found : Found
 
--- An attempt begins at an offset with this memo table and budget.
+-- The attempt begins at an offset with this memo table and work budget.
 pub record BoundedAttemptBegins (program : Program) (text : Text) (from : ℕ) (c : MemoAndWorkBudget)
     (b : BoundedAttempt) : Type 0 where
   pub right : IsSoundMemo program text c.memo
@@ -118,14 +120,14 @@ pub record BoundedAttemptBegins (program : Program) (text : Text) (from : ℕ) (
   pub answers : search program text b.turns rightwards (initial_threads program b.at) ≡ Some b.found
 
 module _ {P : Type 0} (offset : P → ℕ) where
-  -- The entry of the current thread, if there is one.
+  -- The entry of the current thread. Empty if there is no current thread.
   abbrev pub entry_of_current_thread : Option (State P) → List Entry
   entry_of_current_thread next = thread_entries (current_thread_if_any offset next)
 
   module _ (program : Program) (text : Text) where
     -- ---- Pending entries
 
-    -- A pending lazy loop stands for its exits from a place on.
+    -- A pending lazy loop represents its exits from a place on.
     pub record IsPendingLazyLoop (s : machine.State) (e : Entry) : Type 0 where
       pub test : ℕ → Bool
       pub least : ℕ
@@ -134,31 +136,32 @@ module _ {P : Type 0} (offset : P → ℕ) where
       pub at : place_at text s.pos ≡ Some place
       pub is : e ≡ thread_group (pending_loop_threads text test rightwards 0 place s)
 
-    -- A record stands for the record entry of its key.
+    -- A record on the stack represents the record entry of its key.
     pub record IsRecordOf (k : Key) (e : Entry) : Type 0 where
       pub threads : List Thread
       pub is : e ≡ key_record k threads
 
-    -- The entry of the search that a stack entry stands for.
+    -- The search entry that a stack entry represents.
     abbrev pub StandsFor : StackEntry P → Entry → Type 0
     StandsFor (AsThread s) e = e ≡ one_thread (waiting (state_of offset s))
     StandsFor (AsRun s) e = IsPendingLazyLoop (state_of offset s) e
     StandsFor (AsRecord k) e = IsRecordOf (memo_key_as_spec k) e
 
-    -- Stack entries and search entries correspond one to one.
+    -- Stack entries and search entries correspond one to one, in the same order.
     abbrev pub StackStandsFor : List (StackEntry P) → List Entry → Type 0
     StackStandsFor [] [] = Unit {0}
     StackStandsFor (w ∷ ws) (e ∷ row) = StandsFor w e × StackStandsFor ws row
     StackStandsFor _ _ = ⊥
 
-    -- A stack stands for a list of entries; the top of the stack comes first.
+    -- A stack represents a list of search entries, which begins with the top of the stack.
     abbrev pub IsStackOf : List (StackEntry P) → List Entry → Type 0
     IsStackOf stack row = StackStandsFor (reverse stack) row
 
     -- ---- The state of an attempt
 
-    -- The events so far led to the entries `front`, followed by those of the stack. The budget is
-    -- what they cost and what is left. The memo table holds exactly the known failures.
+    -- The events so far led to the entries `front`, followed by those of the stack. The initial
+    -- budget is the sum of their costs and of the work left. The memo table has exactly the known
+    -- failures.
     pub record AttemptHasState (b : BoundedAttempt) (front : List Entry) (stack : List (StackEntry P))
         (c : MemoAndWorkBudget) : Type 0 where
       pub right : IsSoundMemo program text c.memo
@@ -176,24 +179,24 @@ module _ {P : Type 0} (offset : P → ℕ) where
       pub holds : ListsExactlyKnownKeys (has_failure c.memo) now
       pub spent : work + c.left ≡ b.total
 
-    -- There is an attempt in this state.
+    -- An attempt exists that has this state.
     pub record SomeAttemptHasState (front : List Entry) (stack : List (StackEntry P)) (c : MemoAndWorkBudget) : Type 0
       where
         pub begin : BoundedAttempt
         pub stands : AttemptHasState begin front stack c
 
-    -- The same as a proposition.
+    -- `SomeAttemptHasState` as a proposition.
     abbrev pub HasAttemptState : (front : List Entry) → List (StackEntry P) → MemoAndWorkBudget → Type 0
     HasAttemptState front stack c = ∥ SomeAttemptHasState front stack c ∥₁
 
     module _ (b : BoundedAttempt) {front : List Entry} {stack : List (StackEntry P)} {c : MemoAndWorkBudget}
         (h : AttemptHasState b front stack c) where
-      -- What may happen next, and what it costs.
+      -- An event that may happen next, with its cost.
       abbrev pub MayBeNextEvent : (cost : ℕ) → List Key → List Entry → Type 0
       MayBeNextEvent cost now row =
           IsSearchEvent program text c.memo.memo_analysis rightwards h.now cost (front ++ h.row) now row
 
-      -- The next event costs more than is left. Then nothing is left.
+      -- The next event costs more than the work left. Afterwards, no work is left.
       pub record WorkIsTooLittle (after : MemoAndWorkBudget) : Type 0 where
         pub cost : ℕ
         pub now : List Key
@@ -202,7 +205,7 @@ module _ {P : Type 0} (offset : P → ℕ) where
         pub over : c.left < cost
         pub none : after.left ≡ 0
 
-      -- One event leads to the next thread, and exactly its cost is taken from what was left.
+      -- One event leads to the next thread. Exactly its cost is taken from the work left.
       pub record TakesOneEvent (next : Option (State P)) (new : List (StackEntry P)) (after : MemoAndWorkBudget) : Type
           0 where
         pub stands : AttemptHasState b (entry_of_current_thread next) new after
@@ -210,13 +213,14 @@ module _ {P : Type 0} (offset : P → ℕ) where
         pub happens : MayBeNextEvent cost stands.now (entry_of_current_thread next ++ stands.row)
         pub spent : IsTakenFromBudget cost c.left after.left
 
-      -- An attempt may be given up: always for lack of memory, and for lack of work only if the
-      -- next event costs more than is left.
+      -- When an attempt may be aborted. `Memory`: at any time. `Work`: only if the next event costs
+      -- more than the work left.
       abbrev pub MayStop : AttemptAbortReason → MemoAndWorkBudget → Type 0
       MayStop Memory after = Unit {0}
       MayStop Work after = WorkIsTooLittle after
 
-      -- The result of a part of an attempt: it continues with the next thread, or is given up.
+      -- The result of a part of an attempt: the attempt continues with the next thread, or is
+      -- aborted.
       abbrev pub ContinuesOrStops : Result (Option (State P)) AttemptAbortReason → List (StackEntry P)
           → MemoAndWorkBudget → Type 0
       ContinuesOrStops (Ok next) new after = TakesOneEvent next new after
@@ -236,7 +240,7 @@ module _ {P : Type 0} (offset : P → ℕ) where
       pub stands : AttemptHasState b (one_thread (running from) ∷ []) stack c
       pub ends : act program text rightwards from ≡ ends (state_of offset end)
 
-    -- The result of a step: the search continues, ends, or is given up.
+    -- The result of a step: the attempt continues, ends, or is aborted.
     abbrev pub StepResultIs : (b : BoundedAttempt) {front : List Entry} {stack : List (StackEntry P)}
         {c : MemoAndWorkBudget} → AttemptHasState b front stack c
         → Result (StepResult P) AttemptAbortReason → List (StackEntry P) → MemoAndWorkBudget → Type 0
@@ -251,7 +255,8 @@ module _ {P : Type 0} (offset : P → ℕ) where
     StepResultFrom front old c r new after = (b : BoundedAttempt) (h : AttemptHasState b front old c)
         → StepResultIs b h r new after
 
-    -- The attempt was given up before an event that costs more than was left. Now nothing is left.
+    -- The attempt was aborted before an event that costs more than the work left. Now no work is
+    -- left.
     pub record StoppedForWork (b : BoundedAttempt) (c : MemoAndWorkBudget) : Type 0 where
       pub front : List Entry
       pub stack : List (StackEntry P)
@@ -260,7 +265,7 @@ module _ {P : Type 0} (offset : P → ℕ) where
       pub same : c.memo.memo_analysis ≡ before.memo.memo_analysis
       pub short : WorkIsTooLittle b stands c
 
-    -- The result of an attempt: no entry is left, it found an end, or it was given up.
+    -- The result of an attempt: no entry is left, an end was found, or the attempt was aborted.
     abbrev pub AttemptResultIs : BoundedAttempt → Result (Option (State P)) AttemptAbortReason → MemoAndWorkBudget
         → Type 0
     AttemptResultIs b (Ok None) c = AttemptHasState b [] [] c
@@ -270,7 +275,7 @@ module _ {P : Type 0} (offset : P → ℕ) where
 
     -- ---- Char loops without a maximum
 
-    -- The loop of a state and the instruction that reads its characters.
+    -- The char loop at a state, and the instruction that reads its characters.
     pub record IsAtCharLoop (run : UnboundedCharLoop) (greedy : Bool) (s : machine.State) : Type 0 where
       pub insn : slice_get program.insns s.ip ≡ Some (Loop1CharBody run.least unlimited greedy)
       pub body : slice_get program.insns (s.ip + 1) ≡ Some (insn_as_spec_insn run.body)
@@ -280,7 +285,8 @@ module _ {P : Type 0} (offset : P → ℕ) where
       abbrev pub key_of_place : (n : ℕ) → Key
       key_of_place n = key_after_chars program text t rightwards test place s n
 
-      -- The exits after `least` characters up to fewer than `n` are pending with their records.
+      -- The exits after at least `least` and fewer than `n` characters are pending, each with its
+      -- record.
       pub record ExitsArePending (old new : List (StackEntry P)) (n : ℕ) : Type 0 where
         pub enough : least ≤ n
         pub pass : n ≤ passing text test rightwards place
@@ -288,8 +294,8 @@ module _ {P : Type 0} (offset : P → ℕ) where
         pub rows : (row : List Entry) → IsStackOf old row
             → IsStackOf new (exits_with_records program text t rightwards test place s least (n - least) ++ row)
 
-      -- All exits up to the furthest one are recorded, and the thread at the furthest exit is
-      -- current.
+      -- All exits before the furthest one are pending with their records, and the thread at the
+      -- furthest exit is current.
       pub record AllExitsArePending (old new : List (StackEntry P)) (here : State P) (n : ℕ) : Type 0 where
         pub enough : least ≤ n
         pub all : n ≡ passing text test rightwards place
@@ -299,8 +305,9 @@ module _ {P : Type 0} (offset : P → ℕ) where
             → IsStackOf new (key_record (key_of_place n) (threads_after_chars program text t rightwards test place s n)
             ∷ exits_with_records program text t rightwards test place s least (n - least) ++ row)
 
-      -- After `n` characters the loop is known to fail or the work left does not suffice, or else it
-      -- was scanned up to its end.
+      -- How a scan ends. Without a thread, it stopped after `n` characters, because the loop is
+      -- known to fail from there or the work left does not suffice. With a thread, the loop was
+      -- scanned to its end.
       abbrev pub ScansWithMemo : (left : ℕ) (old new : List (StackEntry P)) → Option (State P) × ℕ → Type 0
       ScansWithMemo left old new (None, n) = ExitsArePending old new n
           × ((known (key_of_place n) ≡ true) ⊎ (left < n + 2))
@@ -308,20 +315,21 @@ module _ {P : Type 0} (offset : P → ℕ) where
 
   -- ---- Characters read
 
-  -- A position is `count` characters after a place, all of which pass the test.
+  -- The position is `count` characters after a place, and all of these characters pass the test.
   pub record IsAfterChars (text : Text) (test : ℕ → Bool) (place count : ℕ) (pos : P) : Type 0 where
     pub at : offset pos ≡ text_offset text (moved text rightwards count place)
     pub within : moved text rightwards count place ≤ last_place text
     pub sum : passing text test rightwards place ≡ count + passing text test rightwards
         (moved text rightwards count place)
 
-  -- `count` characters pass the test, at most `least`; fewer only if the next one does not pass.
+  -- `count` characters, at most `least`, pass the test. If there are fewer than `least`, the next
+  -- one does not pass.
   pub record HasPassedOver (text : Text) (test : ℕ → Bool) (least place count : ℕ) (pos : P) : Type 0 where
     pub few : count ≤ least
     pub past : IsAfterChars text test place count pos
     pub all : count < least → passing text test rightwards (moved text rightwards count place) ≡ 0
 
-  -- The pending entry of a lazy loop, which continues after the next character.
+  -- The pending entry of a lazy loop that continues after the next character.
   pub record LaterExitsPend (text : Text) (place : ℕ) (s : State P) (old new : List (StackEntry P)) : Type 0 where
     pub next : State P
     pub is : state_of offset next ≡ record (state_of offset s) {
@@ -330,27 +338,27 @@ module _ {P : Type 0} (offset : P → ℕ) where
     }
     pub waits : new ≡ old ++ AsRun next ∷ []
 
-  -- The thread at the nearest exit of a lazy loop; further exits, if there are any, are pending.
+  -- The thread at the nearest exit of a lazy loop. If there are further exits, they are pending.
   pub record TakesNearestExit (text : Text) (test : ℕ → Bool) (place : ℕ) (at : P) (s here : State P)
       (old new : List (StackEntry P)) : Type 0 where
     pub is_here : state_of offset here ≡ state_after_char_loop_to_offset (offset at) (state_of offset s)
     pub alone : passing text test rightwards place ≡ 0 → new ≡ old
     pub others : 1 ≤ passing text test rightwards place → LaterExitsPend text place s old new
 
-  -- The last state is taken, and the others are pushed.
+  -- The last state becomes current, and the others are pushed.
   pub record TakesLast (states : List (State P)) (old : List (StackEntry P)) (s : State P)
       (new : List (StackEntry P)) : Type 0 where
     pub others : List (State P)
     pub is : states ≡ others ++ s ∷ []
     pub wait : new ≡ old ++ map (λ o. AsThread o) others
 
-  -- The preferred state is taken, if there is one, and the others are pushed.
+  -- The preferred state becomes current if there is one, and the others are pushed.
   abbrev pub HasTaken : (states : List (State P)) (old : List (StackEntry P)) → Option (State P)
       → (new : List (StackEntry P)) → Type 0
   HasTaken states old None new = (states ≡ []) × (new ≡ old)
   HasTaken states old (Some s) new = TakesLast states old s new
 
-  -- The preferred one of these threads is taken, and the others are pushed.
+  -- The preferred thread becomes current, and the others are pushed.
   pub record TakesPreferredThread (ts : List Thread) (old : List (StackEntry P)) (next : Option (State P))
       (new : List (StackEntry P)) : Type 0 where
     pub states : List (State P)

@@ -1,5 +1,5 @@
--- What attempts cost that remember failures from the first one on: an attempt is a search from the
--- first instruction on, whose events (`CostsOfSearchEvents`) cost the sum of their costs.
+-- The cost of attempts that remember failures from the first one on. An attempt is a search from
+-- the first instruction. Its cost is the sum of the costs of its events (`CostsOfSearchEvents`).
 use Rattle.std.specs.Prelude.{◌≡◌, ◌+◌, ℕ, false, List, [], ◌∷◌, Option, IfSome}
 use Rattle.regex_meaning.specs.Text.{Text, rightwards}
 use Rattle.regex_meaning.specs.Tree.{Tree}
@@ -19,7 +19,7 @@ use Rattle.regress_search.specs.CostsOfCalls.{WorkMatchesView}
 use Rattle.regress_search.specs.declared.exec.MatchProducer.{Ghosts}
 use Rattle.regress_bounded.specs.CostsOfSearchEvents.{Costs}
 
--- The failures in a memo table.
+-- The failures known to a memo table.
 abbrev pub failures_of : MemoView → Failures
 failures_of m ip at code = has_failure m (record { ip = ip; at = at; code = code })
 
@@ -27,15 +27,15 @@ failures_of m ip at code = has_failure m (record { ip = ip; at = at; code = code
 abbrev pub ListsFailures : Failures → List Key → Type 0
 ListsFailures failures memory = ListsExactlyKnownKeys (λ k. failures k.ip k.at k.code) memory
 
--- A search is over: no entry is left, or the operation of the current thread ends it.
+-- A search is over if no entry is left, or if the operation of the current thread ends it.
 pub data HasFinished (program : Program) (text : Text) : List Entry → Type 0 where
   no_entry : HasFinished program text []
   is_end : (s end : State) (rest : List Entry) → act program text rightwards s ≡ ends end
       → HasFinished program text (one_thread (running s) ∷ rest)
 
--- The events of an attempt at an offset, by a memo analysis of the tree's program. Their costs are
--- `cost`, and the failures `before` are known at first. If the attempt is over, the failures `after`
--- are known.
+-- The events of an attempt at an offset, for a memo analysis of the tree's program. Their total
+-- cost is `cost`, and the failures `before` are known at the start. If the attempt is over, the
+-- failures `after` are known; `None` if it is not over.
 pub record EventsOfAttempt (tree : Tree) (text : Text) (before : Failures) (at cost : ℕ)
     (after : Option Failures) : Type 0 where
   pub memo_analysis : MemoAnalysis
@@ -48,7 +48,7 @@ pub record EventsOfAttempt (tree : Tree) (text : Text) (before : Failures) (at c
       (thread_entries (initial_threads (compiled tree) at)) cost now row
   pub over : IfSome after (λ failures. HasFinished (compiled tree) text row × ListsFailures failures now)
 
--- The attempt, or a part of it from its beginning on, costs this (a proposition).
+-- The attempt, or a first part of it, has this cost (as a proposition).
 abbrev pub AttemptCosts : (tree : Tree) (text : Text) (before : Failures) (at cost : ℕ) (after : Option Failures)
     → Type 0
 AttemptCosts tree text before at cost after = ∥ EventsOfAttempt tree text before at cost after ∥₁
@@ -57,8 +57,8 @@ AttemptCosts tree text before at cost after = ∥ EventsOfAttempt tree text befo
 abbrev pub NoFailuresAreKnown : Failures → Type 0
 NoFailuresAreKnown failures = (ip at code : ℕ) → failures ip at code ≡ false
 
--- What the cost of the first call of an iterator depends on: it searches this text with the tree's
--- program from `start` on, and no failure is known.
+-- What determines the cost of an iterator's first call: it searches this text with the tree's
+-- program from `start`, and no failure is known.
 pub record BeginsSearches (tree : Tree) (text : Text) (start : ℕ) (its_tree : Tree) (its_text : Text)
     (its_failures : Failures) (its_position : Option ℕ) : Type 0 where
   pub of_tree : its_tree ≡ tree
@@ -66,7 +66,7 @@ pub record BeginsSearches (tree : Tree) (text : Text) (start : ℕ) (its_tree : 
   pub fresh : NoFailuresAreKnown its_failures
   pub position : its_position ≡ offset_within text start
 
--- `BeginsSearches` of an iterator, by the ghost state of its producer.
+-- `BeginsSearches` for an iterator, stated by the ghost state of its producer.
 abbrev pub IteratorBeginsSearches : {E Q : Type 0} (e : Ghosts E Q) (tree : Tree) (text : Text) (start : ℕ)
     → WorkMatchesView E → Type 0
 IteratorBeginsSearches e tree text start it =

@@ -1,17 +1,17 @@
--- Why no work bound of a tree's program is known.
+-- The reasons why a tree's program has no known work bound.
 use Rattle.std.specs.Prelude.{◌≡◌, ◌||◌, Bool, true, false, not}
 use Rattle.regex_meaning.specs.CompilationRelation.{Insn, BackRef, Lookahead, Lookbehind}
 use Rattle.regex_meaning.specs.Tree.{Node, Tree, back_ref, fold_nodes, lookaround}
 use Rattle.regress_bounded.specs.declared.work_bound.Unbounded.{Unbounded}
 use Rattle.regress_bounded.specs.declared.work_bound.Unbounded.TheVariants.{Memory, Lookaround, Backreference, Count, BoundTooLarge}
 
--- Whether a node is a lookaround, or, if `looks` is false, a backreference.
+-- Whether the node is a lookaround (if `looks`) or a backreference (otherwise).
 abbrev pub is_unbounded_node : (looks : Bool) → Node → Bool
 is_unbounded_node looks (lookaround l contents) = looks
 is_unbounded_node looks (back_ref group same) = not looks
 is_unbounded_node looks _ = false
 
--- The same of an instruction.
+-- Whether the instruction is a lookaround (if `looks`) or a backreference (otherwise).
 abbrev pub is_unbounded_insn : (looks : Bool) → Insn → Bool
 is_unbounded_insn looks (Lookahead negate start_group end_group continuation) = looks
 is_unbounded_insn looks (Lookbehind negate start_group end_group continuation) = looks
@@ -36,9 +36,8 @@ pub record HasOnlyBackreferences (tree : Tree) : Type 0 where
   pub no_lookaround : has_lookaround tree ≡ false
   pub backreference : has_backreference tree ≡ true
 
--- When the program of a tree is refused with this reason: `Lookaround` if the tree has a lookaround,
--- `Backreference` if it has a backreference but no lookaround. The other reasons are given only if it
--- has neither.
+-- What each reason says about the tree. `Lookaround`: it has a lookaround. `Backreference`: it has
+-- a backreference but no lookaround. The other reasons occur only if it has neither.
 abbrev pub IsReasonForUnboundedness : Tree → Unbounded → Type 0
 IsReasonForUnboundedness tree Lookaround = has_lookaround tree ≡ true
 IsReasonForUnboundedness tree Backreference = HasOnlyBackreferences tree

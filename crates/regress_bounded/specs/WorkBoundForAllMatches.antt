@@ -1,4 +1,4 @@
--- Work bounds of programs: how much work is enough for all matches of a text together.
+-- Work bounds of programs: how much work suffices for all matches of a text together.
 use Rattle.std.specs.Arc.{arc_value}
 use Rattle.std.specs.List.{fold, sum_by}
 use Rattle.std.specs.Prelude.{◌≡◌, ◌≤◌, ℕ, ◌+◌, ◌*◌, ◌/◌, ◌==◌, Bool, true, false, if◌then◌else◌, max, nat_le, slice_get, Option, None}
@@ -19,11 +19,13 @@ use Rattle.regress_memo.specs.CheckedAnalysis.{IsAnalysisOf}
 use Rattle.regress_bounded.specs.CostsOfAttempts.{NoFailuresAreKnown}
 use Rattle.regress_bounded.specs.declared.work_bound.WorkBound.{WorkBound}
 
--- The bound per position: 1 to pass it, the work of all searches together, and that of one more.
+-- The bound per position: 1 to pass the position, the work of all searches together, and the work
+-- of one more search.
 abbrev pub work_per_unit : MemoAnalysis → ℕ
 work_per_unit t = 1 + (work_per_position t + work_per_position t / 3)
 
--- The size of an instruction: 1, plus the maximum of a char loop, or its minimum without a maximum.
+-- The size of an instruction. That of a char loop is 1 plus its maximum, or 1 plus its minimum if
+-- it has no maximum. That of other instructions is 1.
 abbrev pub size_of_insn : Insn → ℕ
 size_of_insn (Loop1CharBody least most greedy) = 1 + (if most == unlimited then least else most)
 size_of_insn _ = 1
@@ -36,30 +38,30 @@ program_size program = sum_by size_of_insn program.insns
 abbrev pub most_memo_codes_per_insn : MemoAnalysis → ℕ
 most_memo_codes_per_insn t = fold (λ most x. max most x.codes) 0 t.lines.items
 
--- The memo analysis covers searches with the program, which has no lookarounds.
+-- The memo analysis bounds the searches with the program, which has no lookarounds.
 pub record AnalysisBoundsProgram (program : Program) (t : MemoAnalysis) : Type 0 where
   pub memo_analysis : IsAnalysisOf program t
   pub bounded : IsWorkBounded t program
   pub no_look : (ip : ℕ) → lookaround_at (slice_get program.insns ip) ≡ None
 
--- The bound is that of the tree's program. Per unit, it is at most a constant times the program's
--- size and its largest number of codes.
+-- The bound belongs to the tree's program. Per unit, it is at most a constant times the size of the
+-- program times its largest number of codes.
 pub record IsWorkBoundOfTree (tree : Tree) (bound : WorkBound) : Type 0 where
   pub has : AnalysisBoundsProgram (compiled tree) (arc_value bound.memo_analysis)
   pub per_unit : bound.per_unit ≡ work_per_unit (arc_value bound.memo_analysis)
   pub few : bound.per_unit ≤ 64 * (program_size (compiled tree) * most_memo_codes_per_insn
       (arc_value bound.memo_analysis))
 
--- The bound is one of the tree's program (a proposition).
+-- `IsWorkBoundOfTree` as a proposition.
 abbrev pub TreeHasWorkBound : Tree → WorkBound → Type 0
 TreeHasWorkBound tree bound = ∥ IsWorkBoundOfTree tree bound ∥₁
 
--- Whether this much work is enough for all matches of a text.
+-- Whether this much work suffices for all matches of a text.
 abbrev pub is_work_enough_for_text : (per_unit : ℕ) → Text → (work : ℕ) → Bool
 is_work_enough_for_text per_unit text work = nat_le (per_unit * (units text + 1)) work
 
--- The public state of an executor before its first attempt: its tree and text, no step limit, the
--- work left, whether that is enough, and no known failures.
+-- What contracts see of an executor before its first attempt: its tree and text, no step limit, the
+-- work left, whether that suffices, and no known failures.
 pub record ExecutorIsAtStart (tree : Tree) (text : Text) (per_unit work : ℕ)
     (its_tree : Tree) (its_text : Text) (budget : Option ℕ) (enough : Bool) (ahead left : ℕ)
     (failures : Failures) : Type 0 where
@@ -71,20 +73,20 @@ pub record ExecutorIsAtStart (tree : Tree) (text : Text) (per_unit work : ℕ)
   pub has_left : left ≡ work
   pub fresh : NoFailuresAreKnown failures
 
--- `ExecutorIsAtStart` of an executor, by its ghost state, with the bound of a tree's program; the tree's
--- unicode flag selects the text.
+-- `ExecutorIsAtStart` for an executor with the bound of a tree's program, stated by its ghost
+-- state. The flag `unicode` of the tree selects the text.
 abbrev pub HasMadeNoAttempt : {E Q : Type 0} (e : Ghosts E Q) (tree : Tree) (text_of : Bool → Text) (bound : WorkBound)
     (work : ℕ) → E → Type 0
 HasMadeNoAttempt e tree text_of bound work x =
     ExecutorIsAtStart tree (text_of tree.flags.unicode) bound.per_unit work
     (e.tree x) (e.text x) (e.budget x) (e.enough x) (e.ahead x) (e.left x) (e.failures x)
 
--- The work that is enough for a text: `per_unit` for each unit of it, and once more.
+-- The work that suffices for a text: `per_unit` times the number of its units plus one.
 abbrev pub enough_work_for_text : (per_unit : ℕ) → Text → ℕ
 enough_work_for_text per_unit text = per_unit * (units text + 1)
 
--- The remaining matches of a search from `start` are the tree's list of matches in the text, and no
--- step limit ends the list. `work` is left, and it is enough for all of them if it is at least
+-- An iterator yields the tree's list of matches in the text from `start` on, and no step limit ends
+-- this list. The work left is `work`. It suffices for all matches if it is at least
 -- `enough_work_for_text`.
 pub record YieldsMatchesIfWorkSuffices (tree : Tree) (text : Text) (start per_unit work : ℕ)
     (it : RemainingAnswersAndWork) : Type 0 where

@@ -1,5 +1,5 @@
--- Costs of a search that remembers from its first attempt on: char loops without a maximum, and all
--- attempts of an iteration.
+-- The work of a search that remembers failures from its first attempt on: of char loops without a
+-- maximum, and of all attempts of an iterator.
 use Rattle.std.specs.Prelude.{◌≡◌, ◌≤◌, ℕ, zero, suc, ◌+◌, Bool, List, [], ◌∷◌, Some, slice_get}
 use Rattle.regex_meaning.specs.Text.{Text, Direction, rightwards, moved}
 use Rattle.regex_meaning.specs.CompilationRelation.{Program, Loop1CharBody}
@@ -28,19 +28,19 @@ pub record IsUnboundedCharLoop (program : Program) (s : State) (test : ℕ → B
 
 module _ (program : Program) (text : Text) (t : MemoAnalysis) (d : Direction) (test : ℕ → Bool) (place : ℕ) (s : State)
   where
-    -- The key of what the loop leaves from `n` characters after a place on.
+    -- The key of the threads that the loop leaves from the position `n` characters after a place.
     abbrev pub key_after_chars : (n : ℕ) → Key
     key_after_chars n =
         key_behind program text (analysis_as_liveness t) (key_code_questions_of t) (insn_direction t) (recorded t)
         (plan_steps_below_record program)
         d test s place n
 
-    -- The threads that a greedy loop leaves from there.
+    -- The threads that a greedy loop leaves from the position `n` characters after a place.
     abbrev pub threads_after_chars : (n : ℕ) → List Thread
     threads_after_chars n = greedy_loop_threads text test d 0 (moved text d n place) s
 
-    -- The exits after `least` to `least + count - 1` characters, the furthest first, each above the
-    -- record of the loop from it on.
+    -- The exits after `least` to `least + count - 1` characters. The furthest comes first. Each one
+    -- is above the record of the loop at this exit.
     abbrev pub exits_with_records : (least count : ℕ) → List Entry
     exits_with_records least zero = []
     exits_with_records least (suc count) =
@@ -51,9 +51,9 @@ module _ (program : Program) (text : Text) (t : MemoAnalysis) (d : Direction) (t
 -- ---- Attempts
 
 module _ (program : Program) (text : Text) (t : MemoAnalysis) where
-  -- Attempts of an iteration, each of which began no earlier than the previous one ended. The next
-  -- one begins at `ahead` or after it. They did `done` units of work and left these keys in the
-  -- memory.
+  -- The attempts of an iterator, each of which began no earlier than the one before it ended. The
+  -- next one begins at `ahead` or later. They did `done` units of work, and the memory has these
+  -- keys.
   pub record HasMadeAttempts (ahead done : ℕ) (memory : List Key) : Type 0 where
     pub from : ℕ
     pub looks : ℕ
@@ -65,13 +65,13 @@ module _ (program : Program) (text : Text) (t : MemoAnalysis) where
     pub order : from ≤ ahead
     pub is : IsMemory program text (analysis_as_liveness t) (analysis_keys program text t) memory
 
-  -- Such attempts, whose remembered keys are the known ones.
+  -- Such attempts whose memory is the list of known keys.
   pub record IsWalked (known : Key → Bool) (ahead done : ℕ) : Type 0 where
     pub memory : List Key
     pub has : HasMadeAttempts ahead done memory
     pub holds : ListsExactlyKnownKeys known memory
 
-  -- An attempt at an offset after these attempts, which reached the entries `row` in `work` units
+  -- An attempt at an offset after such attempts. It has reached the entries `row` in `work` units
   -- of work.
   pub record AttemptIsUnderWay (known : Key → Bool) (at done work : ℕ) (row : List Entry) : Type 0 where
     pub memory : List Key

@@ -1,5 +1,5 @@
--- The attempts made for successive matches: their work, and that the work left is enough for the
--- others.
+-- The attempts for successive matches: the work that they did, and that the work left suffices for
+-- the others.
 use Rattle.std.specs.Prelude.{◌≤◌, ℕ, ◌+◌, ◌*◌}
 use Rattle.regex_meaning.specs.Text.{Text}
 use Rattle.regex_meaning.specs.CodeUnitOffsets.{units}
@@ -10,13 +10,13 @@ use Rattle.regress_bounded.specs.WorkBoundForAllMatches.{work_per_unit}
 use Rattle.regress_bounded.specs.WorkOfCharLoopsAndAttempts.{IsWalked}
 
 module _ (program : Program) (text : Text) (c : MemoAndWorkBudget) (ahead : ℕ) where
-  -- No attempt was made at `ahead` or after it; the work done and the work left together are
-  -- enough.
+  -- No attempt was made at `ahead` or later. The work done and the work left together suffice for
+  -- all attempts.
   pub record Walked : Type 0 where
     pub done : ℕ
     pub walked : IsWalked program text c.memo.memo_analysis (has_failure c.memo) ahead done
     pub enough : work_per_unit c.memo.memo_analysis * (units text + 1) ≤ done + c.left
 
-  -- The same as a proposition.
+  -- `Walked` as a proposition.
   abbrev pub HasWalked : Type 0
   HasWalked = ∥ Walked ∥₁

@@ -1,4 +1,4 @@
-//! The bounded executor: it copies its states, and remembers each failure from the first attempt
+//! The bounded executor. It copies its states, and remembers each failure from the first attempt
 //! on.
 
 ghost use Rattle.std.specs.Prelude.{◌≡◌, ◌≤◌, ◌<◌, ◌^◌, ◌*◌, ◌+◌, nat_le, not, IfErr, IfOk, IsAscii, None, Some, [], false, refl, true};
@@ -29,28 +29,29 @@ use regress_search::exec::{MatchProducer, SearchError, WorkLimitedProducer, Work
 use regress_search::program_and_input::ProgramAndInput;
 use regress_search::search_loop::{SingleAttemptExecutor, group_at};
 
-/// Searches a text with a program that has a bound, in a limited amount of work for all matches
-/// together.
+/// Searches a text with a program that has a work bound. A limited amount of work is shared by all
+/// matches.
 ///
 /// A unit of work is a step of a thread, a backtrack to a pending entry, a thread that is dropped
-/// because it is known to fail, a character that a char loop tests, or a record of a failure that is
-/// reached (`CostsOfSearchEvents`). Copying states and passing over positions is not counted.
+/// because it is known to fail, a character that a char loop tests, or a record that is reached
+/// (`CostsOfSearchEvents`). Copying states and passing over positions are not counted.
 ///
-/// Only a `WorkMatches` holds such an executor, and it reports an exhausted budget as `WorkLimit`.
-/// No function returns the executor itself, because a `SearchError` cannot report this.
+/// Only `WorkMatches` holds such an executor, and it reports an exhausted budget as `WorkLimit`. No
+/// function returns the executor itself, because `SearchError` has no such variant.
 #[derive(Drop)]
 pub struct BoundedExecutor<'r, Input: InputIndexer> {
     searched: ProgramAndInput<'r, Input>,
-    // pending entries, the next one last
+    // The pending entries. The next one is last.
     stack: Vec<StackEntry<Input::Position>>,
-    // Groups of the last attempt that found an end.
+    // The groups of the last attempt that found an end.
     groups: Vec<Option<(Input::Position, Input::Position)>>,
     progress: MemoAndWorkBudget,
-    // Whether the budget is sufficient and all attempts were made in order, so that no later
+    // Whether the budget suffices and all attempts were made in ascending order, so that no later
     // attempt is before `ahead`.
     enough: bool,
     ahead: usize,
-    // Whether the last attempt was given up because the budget was exhausted; then no work is left.
+    // Whether the last attempt was aborted because the budget was exhausted. If so, no work is
+    // left.
     out: bool,
     ghost right: { IsMemoRightForRegex searched.program.now (Input.text searched.input)
         progress.memo } by { Prim.hlevel props },
@@ -60,7 +61,7 @@ pub struct BoundedExecutor<'r, Input: InputIndexer> {
     ghost spent: { out ≡ true → progress.left ≡ 0 } by { Prim.hlevel props },
 }
 
-// Returns the preferred end that is reached from a state, within the budget.
+// Returns the preferred end state that can be reached from a state, within the budget.
 fn run<Input: InputIndexer>(
     searched: &ProgramAndInput<'_, Input>,
     start: State<Input::Position>,
@@ -96,8 +97,8 @@ fn run<Input: InputIndexer>(
     }
 }
 
-// Returns the final state of the preferred thread from a position to an end, if there is one,
-// within the budget.
+// Returns the end state of the preferred match that begins at a position, within the budget.
+// Returns `None` if there is none.
 fn preferred_final_state<Input: InputIndexer>(
     searched: &ProgramAndInput<'_, Input>,
     stack: &mut Vec<StackEntry<Input::Position>>,
@@ -194,7 +195,7 @@ impl<'r, Input: InputIndexer> SingleAttemptExecutor for BoundedExecutor<'r, Inpu
     }
 }
 
-// Returns the earliest offset of the next attempt after a match.
+// Returns the least offset of the next attempt after a match.
 fn least_offset_after_match(at: usize, end: usize) -> usize
     requires { end + 1 < 2 ^ 64 }
     ensures { result ≡ least_offset_after_match at end }
@@ -215,7 +216,7 @@ impl<'r, Input: InputIndexer> WorkLimitedProducer for BoundedExecutor<'r, Input>
 }
 
 impl<'r, Input: InputIndexer> BoundedExecutor<'r, Input> {
-    // Creates an executor that has made no attempt yet.
+    // Creates an executor that has made no attempt.
     fn over(
         searched: ProgramAndInput<'r, Input>,
         bound: &WorkBound,
@@ -248,7 +249,7 @@ impl<'r, Input: InputIndexer> BoundedExecutor<'r, Input> {
     }
 }
 
-// Checks whether `work` is enough for a text with this number of positions.
+// Checks whether `work` suffices for a text with this number of positions.
 fn is_enough(per_unit: u64, places: usize, work: u64) -> bool
     ensures { result ≡ nat_le (per_unit * places) work }
 {
@@ -259,13 +260,13 @@ fn is_enough(per_unit: u64, places: usize, work: u64) -> bool
 }
 
 impl<'r, 't> BoundedExecutor<'r, Ucs2Input<'t>> {
-    /// Returns an iterator over the matches of the program `re` in a UCS-2 text, from
-    /// offset `start` in code units on, with at most `work` work for all of them together. `start`
+    /// Returns an iterator over the matches of the program `re` in a UCS-2 text, from offset
+    /// `start` (in code units) on. All matches together take at most `work` units of work. `start`
     /// is a boundary or past the end.
     ///
     /// # Errors
     ///
-    /// `Memory` if no memo table can be allocated.
+    /// Returns `Memory` if the memo table cannot be allocated.
     pub fn matches_ucs2(
         re: &'r CompiledRegexFor16BitUnits,
         bound: &WorkBound,
@@ -305,13 +306,13 @@ impl<'r, 't> BoundedExecutor<'r, Ucs2Input<'t>> {
 }
 
 impl<'r, 't> BoundedExecutor<'r, Utf8Input<'t>> {
-    /// Returns an iterator over the matches of the program `re` in a UTF-8 text, from
-    /// offset `start` in code units on, with at most `work` work for all of them together. `start`
+    /// Returns an iterator over the matches of the program `re` in a UTF-8 text, from offset
+    /// `start` (in code units) on. All matches together take at most `work` units of work. `start`
     /// is a boundary or past the end.
     ///
     /// # Errors
     ///
-    /// `Memory` if no memo table can be allocated.
+    /// Returns `Memory` if the memo table cannot be allocated.
     pub fn matches_utf8(
         re: &'r CompiledRegex,
         bound: &WorkBound,
@@ -352,12 +353,12 @@ impl<'r, 't> BoundedExecutor<'r, Utf8Input<'t>> {
 
 impl<'r, 't> BoundedExecutor<'r, AsciiInput<'t>> {
     /// Returns an iterator over the matches of the program `re` in an ASCII text (`is_ascii`), from
-    /// offset `start` in code units on, with at most `work` work for all of them together. `start`
-    /// is a boundary or past the end.
+    /// offset `start` (in code units) on. All matches together take at most `work` units of work.
+    /// `start` is a boundary or past the end.
     ///
     /// # Errors
     ///
-    /// `Memory` if no memo table can be allocated.
+    /// Returns `Memory` if the memo table cannot be allocated.
     pub fn matches_ascii(
         re: &'r CompiledRegex,
         bound: &WorkBound,
@@ -399,13 +400,13 @@ impl<'r, 't> BoundedExecutor<'r, AsciiInput<'t>> {
 }
 
 impl<'r, 't> BoundedExecutor<'r, Utf16Input<'t>> {
-    /// Returns an iterator over the matches of the program `re` in a UTF-16 text, from
-    /// offset `start` in code units on, with at most `work` work for all of them together. `start`
+    /// Returns an iterator over the matches of the program `re` in a UTF-16 text, from offset
+    /// `start` (in code units) on. All matches together take at most `work` units of work. `start`
     /// is a boundary or past the end.
     ///
     /// # Errors
     ///
-    /// `Memory` if no memo table can be allocated.
+    /// Returns `Memory` if the memo table cannot be allocated.
     pub fn matches_utf16(
         re: &'r CompiledRegexFor16BitUnits,
         bound: &WorkBound,

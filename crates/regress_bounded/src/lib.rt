@@ -1,4 +1,4 @@
-//! Searches with a work budget, and how much work is enough for all matches of a text.
+//! Searches within a work budget, and how much work suffices for all matches of a text.
 #![tactic(auto)]
 
 pub mod executor;

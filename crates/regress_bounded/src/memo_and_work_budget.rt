@@ -1,4 +1,4 @@
-//! The work budget of a search: what is known to fail, and how much work may still be done.
+//! The memo table and the work budget of a search.
 
 ghost use Rattle.std.specs.Prelude.{◌≡◌, ◌<◌, ◌≤◌, ◌-◌, min, OnOk, IfErr, IfSome, option_map};
 ghost use Rattle.regress_memo.specs.CheckedAnalysis.{IsRecordableMemoKey};
@@ -13,12 +13,12 @@ use regress_memo::memo::{MemoTable, ThreadMemoKey};
 use regress_pikevm::pikevm::states::State;
 use std::alloc::AllocError;
 
-/// The reason why an attempt is given up.
+/// Why an attempt was aborted.
 #[derive(Clone, Copy)]
 pub(crate) enum AttemptAbortReason {
-    /// Memory could not be allocated.
+    /// An allocation failed.
     Memory,
-    /// The work budget is exhausted.
+    /// The work budget was exhausted.
     Work,
 }
 
@@ -30,7 +30,7 @@ impl From<AllocError> for AttemptAbortReason {
     }
 }
 
-/// The memo table of failures, and how much work may still be done.
+/// The memo table of failures, and the work that is left.
 #[derive(Drop)]
 pub(crate) struct MemoAndWorkBudget {
     pub(crate) memo: MemoTable,
@@ -38,7 +38,7 @@ pub(crate) struct MemoAndWorkBudget {
 }
 
 impl MemoAndWorkBudget {
-    /// Spends `work`. If not that much is left, the rest is spent and `Err` is returned.
+    /// Takes `work` from the work that is left. If less is left, takes all of it and returns `Err`.
     #[inline(always)]
     pub(crate) fn spend(&mut self, work: u64) -> Result<(), AttemptAbortReason>
         ensures memo { self.new.memo ≡ self.old.memo }
@@ -54,8 +54,8 @@ impl MemoAndWorkBudget {
         Ok(())
     }
 
-    /// Returns how many characters a step may read, at most `most`: each costs 1, and the step itself
-    /// does.
+    /// Returns the number of characters that a step may read, up to `most`. Each character costs 1,
+    /// and so does the step.
     #[inline(always)]
     pub(crate) fn chars_within_budget(&self, most: usize) -> usize
         ensures { result ≡ min most (self.now.left - 1) }
@@ -63,7 +63,7 @@ impl MemoAndWorkBudget {
         most.min(self.left.saturating_sub(1) as usize)
     }
 
-    /// Returns the key that a state would have at this instruction and position, or `None` if the
+    /// Returns the key of a state at this instruction and position. Returns `None` if the
     /// instruction does not record.
     #[inline(always)]
     pub(crate) fn key_at<P: PositionType>(

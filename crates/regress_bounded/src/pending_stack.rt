@@ -1,5 +1,4 @@
-//! The stack of pending entries below the current thread: threads, lazy loops to be continued, and
-//! records.
+//! The stack of pending entries below the current thread: threads, lazy loops, and records.
 
 ghost use Rattle.std.specs.Prelude.{◌≡◌, ◌++◌, ◌∷◌, [], map, OnOk};
 ghost use Rattle.regress_pikevm.specs.States.{loop_of};
@@ -18,12 +17,12 @@ pub(crate) enum StackEntry<P> {
     Thread(State<P>),
     /// A lazy char loop without a maximum, at the position where it continues.
     Run(State<P>),
-    /// The record of a key: when it is popped, everything that was above it has failed.
+    /// The record of a key. When it is popped, all entries that were above it have failed.
     Record(ThreadMemoKey),
 }
 
-/// A char loop without a maximum: the instruction that reads its characters, their minimum number,
-/// and whether the loop is greedy.
+/// A char loop without a maximum: the instruction that reads its characters, its minimum, and
+/// whether it is greedy.
 #[derive(Clone, Copy)]
 pub(crate) struct UnboundedCharLoop {
     pub(crate) body: Insn,
@@ -31,8 +30,7 @@ pub(crate) struct UnboundedCharLoop {
     pub(crate) greedy: bool,
 }
 
-/// Pushes an entry, which is then the next one to be popped. Allocation failure is returned as
-/// `Err`.
+/// Pushes an entry onto the stack. Returns `Err` if an allocation fails.
 pub(crate) fn push_entry<P: PositionType>(
     one: StackEntry<P>,
     stack: &mut Vec<StackEntry<P>>,

@@ -1,4 +1,4 @@
-//! Steps of threads and backtracking, each with its work.
+//! Executes steps of threads and backtracks, and takes the work of each from the budget.
 
 ghost use Rattle.std.specs.Prelude.{◌≡◌, ◌≤◌, List, IfErr, IfOk, IfSome, OnOk, [], ◌∷◌, ◌++◌, map, option_map};
 ghost use Rattle.regex_meaning.specs.{CodeUnitOffsets.{units}, Text.{rightwards}};
@@ -31,14 +31,14 @@ use regress_program::insn::Insn;
 use regress_search::program_and_input::ProgramAndInput;
 use std::alloc::AllocError;
 
-/// The result of a step: the thread that continues, if one does, or the end of the search.
+/// The result of a step: the thread that continues (if there is one), or the end of the search.
 #[derive(Drop)]
 pub(crate) enum StepResult<P> {
     On(Option<State<P>>),
     End(State<P>),
 }
 
-/// Executes one step of a thread, or drops the thread if its key is known to fail.
+/// Executes one step of a thread. If its key is known to fail, drops the thread instead.
 pub(crate) fn execute_thread_step<Input: InputIndexer>(
     searched: &ProgramAndInput<'_, Input>,
     insns: &[Insn],
@@ -74,8 +74,8 @@ pub(crate) fn execute_thread_step<Input: InputIndexer>(
     Ok(StepResult::On(next))
 }
 
-// Returns the minimum number of characters of a char loop without a maximum, and whether it is
-// greedy. Returns `None` for any other instruction.
+// Returns the minimum of a char loop without a maximum, and whether the loop is greedy. Returns
+// `None` for other instructions.
 #[inline(always)]
 fn unbounded_loop(insn: Insn) -> Option<(usize, bool)>
     ensures { result ≡ min_and_greed_of_loop (insn_as_spec_insn insn) }
@@ -95,7 +95,7 @@ fn unbounded_loop(insn: Insn) -> Option<(usize, bool)>
     }
 }
 
-// Checks whether there is a key and it is known to fail.
+// Checks whether the key exists and is known to fail.
 #[inline(always)]
 fn is_known(key: Option<ThreadMemoKey>, progress: &MemoAndWorkBudget) -> bool
     requires { IfSome key (λ k. IsRecordableMemoKey progress.now.memo.memo_analysis progress.now.memo.places
@@ -108,8 +108,8 @@ fn is_known(key: Option<ThreadMemoKey>, progress: &MemoAndWorkBudget) -> bool
     }
 }
 
-// Executes one instruction whose work is spent first. If there is a key, its record is pushed before
-// the threads that the instruction leaves.
+// Takes the work of an instruction from the budget, and executes it. If there is a key, pushes its
+// record below the threads that the instruction leaves.
 fn execute_with_record<Input: InputIndexer>(
     searched: &ProgramAndInput<'_, Input>,
     insns: &[Insn],
@@ -149,8 +149,9 @@ fn is_goal(insn: Insn) -> bool
     matches!(insn, Insn::Goal)
 }
 
-// Returns the work of a step: 1, and 1 for each character that a char loop tries. If this is more
-// than is left, returns a number that is also more, and reads no more characters than are left.
+// Returns the work of a step: 1, plus 1 for each character that a char loop tests. If this is more
+// than is left, returns another number that is more than is left. It reads no more characters than
+// work is left.
 fn work_of_step<Input: InputIndexer>(
     searched: &ProgramAndInput<'_, Input>,
     insns: &[Insn],
@@ -172,7 +173,7 @@ fn work_of_step<Input: InputIndexer>(
     most.min(passed + 1) as u64 + 1
 }
 
-// Returns the maximum of a char loop, or `None` for any other instruction.
+// Returns the maximum of a char loop. Returns `None` for other instructions.
 #[inline(always)]
 fn char_loop_max(insn: Insn) -> Option<usize>
     ensures { result ≡ char_loop_max (insn_as_spec_insn insn) }
@@ -183,7 +184,7 @@ fn char_loop_max(insn: Insn) -> Option<usize>
     Some(max_iters)
 }
 
-// Executes an instruction that does not end the search, pushes the threads that it leaves, and
+// Executes an instruction that does not end the search. Pushes the threads that it leaves, and
 // returns the preferred one.
 fn push_threads_of_step<Input: InputIndexer>(
     searched: &ProgramAndInput<'_, Input>,
@@ -212,7 +213,7 @@ fn push_threads_of_step<Input: InputIndexer>(
     }
 }
 
-// Spends `work`, and pushes a record if there is a key.
+// Takes `work` from the budget. If there is a key, pushes its record.
 fn spend_and_push_record<P: PositionType>(
     key: Option<ThreadMemoKey>,
     work: u64,
@@ -233,7 +234,7 @@ fn spend_and_push_record<P: PositionType>(
     Ok(())
 }
 
-// Takes the preferred one of the states and pushes the others.
+// Returns the preferred state, and pushes the others.
 fn take_first<P: PositionType>(
     mut states: Vec<State<P>>,
     stack: &mut Vec<StackEntry<P>>,
@@ -250,8 +251,8 @@ fn take_first<P: PositionType>(
     Ok(Some(first))
 }
 
-/// Backtracks to a pending entry: resumes a thread or a loop, or records a failure, because
-/// everything above a record has failed.
+/// Backtracks to a pending entry: resumes a thread or a loop, or reaches a record. When a record is
+/// reached, all threads above it have failed, so its failure is stored.
 pub(crate) fn resume_or_record<Input: InputIndexer>(
     searched: &ProgramAndInput<'_, Input>,
     insns: &[Insn],

@@ -1,4 +1,4 @@
-//! Char loops without a maximum: each of their exits has a record.
+//! Char loops without a maximum. Each of their exits has a record.
 
 ghost use Rattle.std.specs.Prelude.{◌≡◌, ◌<◌, ◌≤◌, ◌^◌, ◌+◌, ◌-◌, ℕ, Bool, true, false, min, Some, IfOk, IfErr, IsSome, [], ◌∷◌, ◌++◌, map};
 ghost use Rattle.regex_meaning.specs.CodeUnitOffsets.{IsBoundary, place_at};
@@ -27,8 +27,8 @@ use regress_program::insn::Insn;
 use regress_search::program_and_input::ProgramAndInput;
 use std::alloc::AllocError;
 
-/// Reads the characters at a position that a loop accepts, at most `most`, and no more than the
-/// budget has work for beside the step itself. Returns how many there were.
+/// Reads the next characters that a loop accepts, up to `most` and up to what the budget allows
+/// after the cost of the step itself. Returns their number.
 pub(crate) fn read_chars_within_budget<Input: InputIndexer>(
     searched: &ProgramAndInput<'_, Input>,
     body: Insn,
@@ -60,9 +60,9 @@ pub(crate) fn read_chars_within_budget<Input: InputIndexer>(
 
 /// Executes a char loop without a maximum.
 ///
-/// A greedy loop takes the furthest exit and pushes the nearer ones. It stops at a position from
-/// which on it is known to fail. A lazy loop takes the nearest exit and pushes one entry for all
-/// others. No more characters are read than the budget has work for.
+/// A greedy loop continues at its furthest exit, and pushes the nearer ones. It stops at a position
+/// from which it is known to fail. A lazy loop continues at its nearest exit, and pushes one entry
+/// for all others. It reads no more characters than the budget allows.
 pub(crate) fn unbounded_char_loop_with_memo<Input: InputIndexer>(
     searched: &ProgramAndInput<'_, Input>,
     run: UnboundedCharLoop,
@@ -101,9 +101,9 @@ pub(crate) fn unbounded_char_loop_with_memo<Input: InputIndexer>(
     Ok(Some(next))
 }
 
-// Scans a greedy loop from its nearest exit on. Returns the thread at the furthest exit, or `None`
-// if the loop is known to fail from some position on or the work left does not suffice, and the
-// number of characters accepted in all.
+// Scans a greedy loop from its nearest exit on. Returns the thread at the furthest exit and the
+// number of accepted characters. The thread is `None` if the loop is known to fail from some
+// position, or if the work left does not suffice.
 fn scan_with_memo<Input: InputIndexer>(
     searched: &ProgramAndInput<'_, Input>,
     run: UnboundedCharLoop,
@@ -151,8 +151,8 @@ fn scan_with_memo<Input: InputIndexer>(
     }
 }
 
-// Returns the thread at an exit of a lazy loop, and pushes the loop at its next exit, if there is
-// one.
+// Returns the thread at an exit of a lazy loop. If there is a next exit, pushes the loop at that
+// exit.
 fn nearest<Input: InputIndexer>(
     searched: &ProgramAndInput<'_, Input>,
     body: Insn,

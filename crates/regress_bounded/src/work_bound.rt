@@ -1,4 +1,4 @@
-//! How much work is enough for all matches of a text.
+//! Work bounds: how much work suffices for all matches of a text.
 
 ghost use Rattle.std.specs.Arc.{arc_value};
 ghost use Rattle.std.specs.Prelude.{◌≡◌, ◌+◌, ◌-◌, ◌/◌, ◌*◌, ◌≤◌, ◌^◌, IfErr, IfOk, IfSome, MatchOption, OnOk, false, map, min, nat_le, true};
@@ -18,17 +18,17 @@ use std::alloc::{AllocError, AllocFailed, Global};
 use std::sync::Arc;
 use thiserror::Error;
 
-// The largest bound that is accepted, per unit of program size and per code. With a larger one, no
+// The largest accepted bound, per unit of program size and per key code. If a bound is larger, no
 // bound is known.
 const MAX_BOUND_PER_SIZE_AND_CODE: u64 = 64;
 
-// A loop over one character with this maximum has no memo analysis.
+// A loop over one character with this maximum or a larger one has no memo analysis.
 const LARGE_MAX: usize = 0x1_0000;
 
-// A minimum of a loop over one character from which on its costs alone may be too large.
+// From this minimum on, the costs of a loop over one character alone may be too large.
 const LARGE_MIN: usize = 0x4000_0000;
 
-/// Why no work bound of a pattern is known.
+/// Why a pattern has no known work bound.
 #[derive(Clone, Copy, Debug, PartialEq, Eq, Error)]
 pub enum Unbounded {
     /// An allocation failed. The pattern may have a bound.
@@ -40,14 +40,14 @@ pub enum Unbounded {
     /// The pattern has a backreference.
     #[error("no work bound is known: the pattern has a backreference")]
     Backreference,
-    /// The counts of loops are too large, or loops are nested too deeply: an instruction needs more than
-    /// 64 key codes, or a loop over one character has a maximum of 65,536 or more, or a minimum of some
-    /// 2^31 (`docs/LINEAR.md`).
+    /// The counts of loops are too large, or loops are nested too deeply. An instruction needs more
+    /// than 64 key codes, or a loop over one character has a maximum of 65,536 or more or a minimum
+    /// of about 2^31 (`docs/LINEAR.md`).
     #[error("no work bound is known: counts are too large, or loops are nested too deeply")]
     Count,
-    /// The bound does not fit in 64 bits, or is more than 64 times the program's size times its largest
-    /// number of key codes, or the cost of an instruction does not fit in 31 bits. Many lazy loops in
-    /// sequence are a cause.
+    /// The bound does not fit in 64 bits, or is more than 64 times the program's size times its
+    /// largest number of key codes, or the cost of an instruction does not fit in 31 bits. Many
+    /// lazy loops in sequence are one cause.
     #[error("no work bound is known: the bound of the pattern is too large")]
     BoundTooLarge,
 }
@@ -72,7 +72,7 @@ impl<T: Drop> From<AllocFailed<T>> for Unbounded {
     }
 }
 
-/// How much work is enough for all matches of a text together, with the memo analysis that proves
+/// How much work suffices for all matches of a text together, with the memo analysis that proves
 /// it.
 #[derive(Drop)]
 pub struct WorkBound {
@@ -81,11 +81,11 @@ pub struct WorkBound {
 }
 
 impl WorkBound {
-    /// Computes the bound of searches of byte texts.
+    /// Computes the work bound for searches of byte texts.
     ///
     /// # Errors
     ///
-    /// Why no bound is known. Lookarounds are looked for first, then backreferences.
+    /// Returns the reason why no bound is known. A lookaround is reported before a backreference.
     pub fn bound_for_bytes(re: &CompiledRegex) -> Result<WorkBound, Unbounded>
         ensures bound { IfOk result (TreeHasWorkBound (tree_of re.now)) }
         ensures plain { OnOk result (HasNoLookaroundOrBackreference (tree_of re.now)) }
@@ -94,11 +94,11 @@ impl WorkBound {
         WorkBound::bound_of_program(re.common_program())
     }
 
-    /// Computes the bound of searches of texts of 16-bit units, as `bound_for_bytes` does for bytes.
+    /// Computes the work bound for searches of texts of 16-bit units, like `bound_for_bytes`.
     ///
     /// # Errors
     ///
-    /// The same as `bound_for_bytes`.
+    /// The same as for `bound_for_bytes`.
     pub fn bound_for_units(re: &CompiledRegexFor16BitUnits) -> Result<WorkBound, Unbounded>
         ensures bound { IfOk result (TreeHasWorkBound (tree_of re.now)) }
         ensures plain { OnOk result (HasNoLookaroundOrBackreference (tree_of re.now)) }
@@ -147,8 +147,8 @@ impl WorkBound {
         })
     }
 
-    /// Returns the bound per code unit: this much work for each unit of a text, and once more, is
-    /// enough.
+    /// Returns the bound per code unit. For a text of `n` units, `n + 1` times this much work
+    /// suffices.
     pub fn per_unit(&self) -> u64
         ensures { result ≡ self.now.per_unit }
     {
@@ -169,15 +169,15 @@ impl WorkBound {
     }
 }
 
-// Returns the work per position: one to pass it, what all searches together do for it, and what one
-// more search does.
+// Returns the work per position: 1 to pass it, the work of all searches together, and the work of
+// one more search.
 fn with_one_more(work: u64) -> Option<u64>
     ensures { IfSome result (λ all. all ≡ 1 + (work + work / 3)) }
 {
     work.checked_add(work / 3)?.checked_add(1)
 }
 
-// Checks that the bound is at most a constant times the program size and the number of codes.
+// Checks that the bound is at most a constant times the program size times the number of codes.
 fn is_few(per_unit: u64, size: u64, codes: u64) -> bool
     ensures { result ≡ nat_le per_unit (64 * (size * codes)) }
 {
@@ -187,7 +187,7 @@ fn is_few(per_unit: u64, size: u64, codes: u64) -> bool
             .saturating_mul(MAX_BOUND_PER_SIZE_AND_CODE)
 }
 
-// Returns the size of a program, saturating at `u64::MAX`.
+// Returns the size of a program, or `u64::MAX` if that is larger.
 fn program_size(insns: &[Insn]) -> u64
     ensures { result ≡ min (sum_by size_of_insn (map insn_as_spec_insn insns.now)) (2 ^ 64 - 1) }
 {
@@ -198,8 +198,8 @@ fn program_size(insns: &[Insn]) -> u64
     all
 }
 
-// Returns the size of an instruction: 1, plus the maximum of a char loop, or its minimum if it has
-// no maximum.
+// Returns the size of an instruction: 1, plus the maximum of a char loop or, if it has none, its
+// minimum.
 fn size_of(insn: Insn) -> u64
     ensures { result ≡ min (size_of_insn (insn_as_spec_insn insn)) (2 ^ 64 - 1) }
 {
@@ -259,8 +259,8 @@ fn is_backreference(insn: &Insn) -> bool
     matches!(insn, Insn::BackRef { .. })
 }
 
-// Checks whether counts or the nesting of loops may be why a program without lookarounds and
-// backreferences has no memo analysis. If not, its costs are too large. No clause says so.
+// Checks whether counts or nesting may be the reason why a program without lookarounds and
+// backreferences has no memo analysis. If not, its costs are too large. This is not proved.
 fn may_exceed_counts(insns: &[Insn]) -> bool {
     let mut codes = 1usize;
     for insn in insns {
@@ -276,7 +276,7 @@ fn may_exceed_counts(insns: &[Insn]) -> bool {
     false
 }
 
-// Returns the largest number by which the loop at `begin` multiplies the number of codes.
+// Returns the largest factor by which the loop at `begin` may multiply the number of codes.
 fn most_codes_of_loop_at(insns: &[Insn], begin: usize) -> usize
     ensures { 1 ≤ result }
 {
@@ -286,8 +286,8 @@ fn most_codes_of_loop_at(insns: &[Insn], begin: usize) -> usize
     }
 }
 
-// Returns the largest number by which a loop with this head multiplies the number of codes: the
-// number of counts that keys distinguish, and twice that if they distinguish empty iterations.
+// Returns the largest factor by which a loop with this head may multiply the number of codes: the
+// number of distinguished counts, times two if empty iterations are distinguished.
 fn most_codes_of_loop(insn: &Insn) -> usize
     ensures { 1 ≤ result }
 {
@@ -307,7 +307,8 @@ fn most_codes_of_loop(insn: &Insn) -> usize
     counts.saturating_mul(2)
 }
 
-// Checks whether an instruction is a loop over one character whose count no memo analysis allows.
+// Checks whether an instruction is a loop over one character whose count is too large for a memo
+// analysis.
 fn has_large_count(insn: &Insn) -> bool {
     let Insn::Loop1CharBody {
         min_iters,

@@ -32,7 +32,7 @@ use Rattle.regress_c.proofs.SpanBufferLemmas.{at-more, written-more}
 use Rattle.regress_c.proofs.InWorkLemmas.{too-little}
 use Rattle.regress_c.proofs.ReplyLemmas.{spans-count}
 
--- the matches that were written so far, and the view of the iterator that yields those after them
+-- The matches written so far are in the buffer, and the iterator yields those after them.
 pub record Writing (ranges : ℕ) (start : RemainingAnswersAndWork) (before : List Span) (view : RemainingAnswersAndWork) (now : List Span) (count at : ℕ) : Type 0 where
   pub found : List Answer
   pub answers : start.remaining.answers ≡ found ++ view.remaining.answers
@@ -62,7 +62,7 @@ module _ {ranges : ℕ} {start : RemainingAnswersAndWork} {before : List Span} w
     written = refl;
   }
 
-  -- a match that comes has so many ranges
+  -- A match that the iterator yields has `ranges` ranges.
   pub ranges-of : (view view' : RemainingAnswersAndWork) (now : List Span) (count at : ℕ) (m : Match) → Writing ranges start before view now count at
       → NextYieldsWithinWork view (Some (Ok m)) view' → ranges ≡ length (spans_of (answer_of m))
   ranges-of view view' now count at m f gives = sym (subst (Each (λ m. length (spans_of m) ≡ ranges)) gives.0.0 f.each).0
@@ -87,7 +87,7 @@ module _ {ranges : ℕ} {start : RemainingAnswersAndWork} {before : List Span} w
       }
 
   module _ (view : RemainingAnswersAndWork) (now : List Span) (count at : ℕ) (f : Writing ranges start before view now count at) (reply : Reply) where
-    -- there is no room for one more
+    -- If the buffer has no room for one more match, the reply is `done`.
     pub is-full : length before - at < ranges → reply ≡ record { code = done; count = count } → WritesInWork ranges start view before now reply
     is-full room r = (
       record { found = f.found; rest = view.remaining.answers; ending = full },
@@ -96,7 +96,7 @@ module _ {ranges : ℕ} {start : RemainingAnswersAndWork} {before : List Span} w
       f.written,
     )
 
-    -- there is no further match
+    -- If the iterator yields no further match, the reply is `no_match`.
     pub is-over : (view' : RemainingAnswersAndWork) → NextYieldsWithinWork view None view' → reply ≡ record { code = no_match; count = count }
         → WritesInWork ranges start view' before now reply
     is-over view' gives r = (
@@ -111,7 +111,7 @@ module _ {ranges : ℕ} {start : RemainingAnswersAndWork} {before : List Span} w
     fails worked.Memory view' gives = tt
     fails worked.WorkLimit view' gives = (not-enough start.enough view.enough f.enough gives.0.0.0, gives.0.0.1)
 
-    -- the search for one more failed
+    -- If the search for the next match fails, the reply has the code of the error.
     pub is-failed : (e : WorkError) (view' : RemainingAnswersAndWork) → NextYieldsWithinWork view (Some (Err e)) view' → reply ≡ record { code = code_of (refusal_of_work_error e); count = count }
         → WritesInWork ranges start view' before now reply
     is-failed e view' gives r = (
@@ -121,14 +121,14 @@ module _ {ranges : ℕ} {start : RemainingAnswersAndWork} {before : List Span} w
       f.written,
     )
 
--- ---- Of a text
+-- ---- Searches of a text
 
 Each-front : {A : Type 0} (P : A → Type 0) (xs ys : List A) → Each P (xs ++ ys) → Each P xs
 Each-front P [] ys h = tt
 Each-front P (x ∷ xs) ys h = (h.0, Each-front P xs ys h.1)
 
 module _ (re : Regex) (text : List ℕ) (start : ℕ) where
-  -- each match in a text has a range for the whole, and one for each group
+  -- Each match in a text has one range for the whole and one for each group.
   pub ranges-each : Each (λ m. length (spans_of m) ≡ range_count re) (utf8_answers re text start)
   ranges-each =
       let tree = tree_for_byte_units re in
@@ -136,7 +136,7 @@ module _ (re : Regex) (text : List ℕ) (start : ℕ) where
       (λ m is. let count = spans-count m in let groups = is.count in omega (arith, count, groups)) (utf8_answers re text start)
       (answers-IsAnswerOf tree.root (bytes_as_utf8_text re text) (utf8_text-IsText text tree.flags.unicode) start)
 
-  -- and so has each match that an iterator in it yields
+  -- Each match that the iterator yields has as many ranges.
   pub ranges-come : (per_unit work : ℕ) (it : RemainingAnswersAndWork) → YieldsMatchesIfWorkSuffices (tree_for_byte_units re) (bytes_as_utf8_text re text) start per_unit work it
       → Each (λ m. length (spans_of m) ≡ range_count re) it.remaining.answers
   ranges-come per_unit work it yields = subst (Each (λ m. length (spans_of m) ≡ range_count re)) (sym yields.answers) ranges-each
@@ -150,7 +150,7 @@ module _ (re : Regex) (text : List ℕ) (start : ℕ) where
     ends w (failed worked.Memory) h = tt
     ends w (failed worked.WorkLimit) h = (left_is ∙ h.1, (per_unit, bound, too-little re text start per_unit work it behind bound yields h.0))
 
-    -- the matches that were written are those of the text
+    -- The matches written are those of the text.
     pub has-written : WritesInWork (range_count re) it behind before after reply → RepliesOutcome re text start work left before after reply
     has-written (w, written, r, b) =
         let all = sym yields.answers ∙ written.answers in (
@@ -173,7 +173,7 @@ module _ (re : Regex) (text : List ℕ) (start : ℕ) where
 -- ---- Refusals
 
 module _ (re : Regex) (bytes : List ℕ) (start : ℕ) where
-  -- a text or a start that is refused
+  -- A text or a start that fails its check is refused.
   pub starts-refused : (r : Refusal) → Starts bytes start (Err r) → RefusesAllInWork re bytes start r
   starts-refused NotUtf8 h = h
   starts-refused NotBoundary h = h
@@ -184,20 +184,20 @@ module _ (re : Regex) (bytes : List ℕ) (start : ℕ) where
         → RepliesOutcome re bytes start work left before after reply
     is-refused r h is = (refused r, (h.0, h.1), is, h.2)
 
-    -- there is no room for one match
+    -- If the buffer has no room for one match, the reply has the code of `ShortBuffer`.
     pub is-short : (text : Bor (List ℕ)) → Starts bytes start (Ok text) → length before < range_count re → left ≡ work → after ≡ before
         → reply ≡ record { code = code_of ShortBuffer; count = range_count re } → RepliesOutcome re bytes start work left before after reply
     is-short text starts room l a is = (short, (starts.1, starts.2, room, l), is, a)
 
--- nothing is held
+-- If the handle holds no pattern, the reply has the code of `Empty`.
 pub not-held : (held : Option Regex) (bytes : List ℕ) (start work : ℕ) (before : List Span) (reply : Reply) → None ≡ held
     → reply ≡ record { code = code_of Empty; count = 0 } → RepliesAllInWork held bytes start work work before before reply
 not-held held bytes start work before reply none r =
     subst (λ h. RepliesAllInWork h bytes start work work before before reply) none (r, refl, refl)
 
--- ---- By a bounded pattern
+-- ---- Bounded patterns
 
--- The text of these bytes, and the pattern that a bound was computed for.
+-- The text has these bytes, and the bound is that of the pattern.
 module _ (re : Regex) (bytes : List ℕ) (start work : ℕ) (text : Bor (List ℕ)) (bounded : BoundedView) (it : RemainingAnswersAndWork) (ranges : ℕ)
     (starts : Starts bytes start (Ok text)) (of_re : bounded.re ≡ re) (each : IsHigherOfProgramWorkBounds re bounded.per_unit)
     (yields : YieldsMatchesIfWorkSuffices (tree_for_byte_units bounded.re) (bytes_as_utf8_text bounded.re text.now) start bounded.per_unit work it) (ranges_is : ranges ≡ range_count re) where

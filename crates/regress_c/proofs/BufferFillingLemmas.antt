@@ -42,11 +42,11 @@ no_more-same : (a : Option ℕ) → IsBudgetAtMost a a
 no_more-same None = tt
 no_more-same (Some n) = le_refl n
 
--- a result leaves no more than there was
+-- The budget after a result is at most the budget before it.
 no_more-after : (tree : Tree) (text : Text) (left left' : Option ℕ) (next : ℕ) → left' ≡ budget_after tree text left next → IsBudgetAtMost left' left
 no_more-after tree text left left' next e = subst (λ l. IsBudgetAtMost l left) (sym e) (left-no_more left (need_from tree text next))
 
--- the matches that were written so far, behind which the list goes on from here
+-- The matches written so far are in the buffer, and the list of matches goes on from here.
 pub record Filling (tree : Tree) (text : Text) (steps : Option ℕ) (start : ℕ) (before now : List Span) (matches next at : ℕ) (left : Option ℕ) : Type 0 where
   pub found : List Answer
   pub answers : answers_within tree text steps start ≡ found ++ answers_within tree text left next
@@ -69,7 +69,7 @@ refusal-stops : (tree : Tree) (text : Text) (room : ℕ) (run : Run) (e : Search
 refusal-stops tree text room run Memory g = g
 refusal-stops tree text room run StepLimit g = g
 
--- what is said of a tree and a text that are the same
+-- A result for an equal tree and text is a result for this tree and text.
 pub goes-same : (tree tree' : Tree) (text text' : Text) (budget : Option ℕ) (start : ℕ) (r : Result (Option Step) SearchError) (left : Option ℕ)
     → tree' ≡ tree → text' ≡ text → ResumesFrom tree' text' budget start r left → ResumesFrom tree text budget start r left
 goes-same tree tree' text text' budget start r left e f h =
@@ -113,7 +113,7 @@ module _ {tree : Tree} {text : Text} {steps : Option ℕ} {start : ℕ} {before 
         written = more.1;
       }
 
-  -- one match more, and then on from there
+  -- One more match is written, and the search goes on behind it.
   pub one_more : (now after : List Span) (matches next at ranges next' : ℕ) (left left' : Option ℕ) (step : Step)
       → Filling tree text steps start before now matches next at left → FindsNext tree text left next (answer_of step.found) step.next left' → ranges ≡ ranges_of tree
       → next' ≡ step.next → after ≡ take at now ++ spans_of (answer_of step.found) ++ drop (at + ranges) now
@@ -122,7 +122,7 @@ module _ {tree : Tree} {text : Text} {steps : Option ℕ} {start : ℕ} {before 
       subst (λ n. Filling tree text steps start before after (matches + 1) n (at + ranges) left') (sym on)
       (step_more now after matches next at ranges left left' step f s r w)
 
-  -- there is no room for one more
+  -- If the buffer has no room for one more match, the call stops as `Full`.
   pub fills-full : (now : List Span) (filled : Filled) (at ranges : ℕ) (left : Option ℕ)
       → Filling tree text steps start before now filled.matches filled.next at left → filled.stop ≡ Full → length before - at < ranges → ranges ≡ ranges_of tree
       → Fills tree text steps start before now filled left
@@ -144,7 +144,7 @@ module _ {tree : Tree} {text : Text} {steps : Option ℕ} {start : ℕ} {before 
     written = f.written;
   }
 
-  -- there is no further match
+  -- If no further match exists, the call stops as `Over`.
   pub fills-over : (now : List Span) (filled : Filled) (next at : ℕ) (left left' : Option ℕ) → HasRisingPlaceOffsets text → units text < filled.next
       → Filling tree text steps start before now filled.matches next at left → filled.stop ≡ Over → IsExhaustedFrom tree text left next × (left' ≡ budget_after tree text left next)
       → Fills tree text steps start before now filled left'
@@ -168,7 +168,7 @@ module _ {tree : Tree} {text : Text} {steps : Option ℕ} {start : ℕ} {before 
         written = f.written;
       }
 
-  -- the search for one more was refused
+  -- If the search for the next match fails, the call stops as `Refused`.
   pub fills-refused : (now : List Span) (filled : Filled) (at : ℕ) (left left' : Option ℕ) (e : SearchError)
       → Filling tree text steps start before now filled.matches filled.next at left → filled.stop ≡ Refused e → ResumesFrom tree text left filled.next (Err e) left'
       → Fills tree text steps start before now filled left'

@@ -15,7 +15,7 @@ use Rattle.regress_c.specs.declared.refusal.Refusal.TheVariants.{Empty, Full, No
 use Rattle.regress_c.specs.declared.refusal.Refusal.TheVariants.{TooManyGroups, TooManyLoops, TooManyInstructions, UnknownFlag, TooLong, TooDeep}
 use Rattle.regress_c.specs.declared.refusal.Refusal.TheVariants.{NoGroup, NotOpen, NotCounted, Unbounded, WorkLimit, UnknownSyntax}
 
--- want of memory, or the pattern itself
+-- A refusal of compiling is an allocation failure or an error in the pattern.
 abbrev pub IsOfCompiling : Given → Refusal → Type 0
 IsOfCompiling g r = (r ≡ Memory) ⊎ RefusesPattern g.syntax (flags_from_letters g.flags) g.characters r
 

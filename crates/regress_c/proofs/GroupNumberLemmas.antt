@@ -10,7 +10,7 @@ use Rattle.regress_c.specs.Codes.{code_of}
 use Rattle.regress_c.specs.GroupNumbers.{first_id_named, number_reply, numbered_reply}
 use Rattle.regress_c.specs.declared.refusal.Refusal.TheVariants.{NoGroup}
 
--- the first name that is equal is the first from an index on
+-- The first group name equal to `name` is the first one from index `i` on.
 abbrev pub Sought : (name : List ℕ) (names : List (List ℕ)) (i : ℕ) → Type 0
 Sought name names i = first_id_named name names ≡ slice_get (ids_where (bytes_eq name) i (drop i names)) 0
 

@@ -27,7 +27,7 @@ module _ (re : Regex) (text : List ℕ) (start work left : ℕ) where
   started (Err WorkLimit) is can first = (is, can, first)
   started (Err _) is can first = absurd first
 
--- of the pattern that a bound was reckoned for, and the text of these bytes
+-- A search by the bounded pattern is a search by its pattern in the text with these bytes.
 pub found-by : (re : Regex) (bytes : List ℕ) (start work left : ℕ) (text : Bor (List ℕ)) (bounded : BoundedView) (found : Result (Option Match) Refusal)
     → Starts bytes start (Ok text) → bounded.re ≡ re
     → IsFirstInWork bounded.re text.now start work found left → FindsInWork re bytes start work found left
@@ -35,27 +35,27 @@ found-by re bytes start work left text bounded found starts of_re first =
     started re bytes start work left found starts.1 starts.2
     (subst (λ r. IsFirstInWork r bytes start work found left) of_re (subst (λ t. IsFirstInWork bounded.re t start work found left) starts.0 first))
 
--- and its number is that of bounds
+-- The work per unit of a bounded pattern is a bound of its program.
 pub enough-by : (re : Regex) (bounded : BoundedView) → bounded.re ≡ re → IsHigherOfProgramWorkBounds re bounded.per_unit
     → IsHigherOfProgramWorkBounds bounded.re bounded.per_unit
 enough-by re bounded of_re each = subst (λ r. IsHigherOfProgramWorkBounds r bounded.per_unit) (sym of_re) each
 
--- a pattern without a bound
+-- A pattern without a bound is refused with the reason.
 pub unbounded-by : (re : Regex) (bytes : List ℕ) (start work : ℕ) (text : Bor (List ℕ)) (reason : unbounded.Unbounded)
     → Starts bytes start (Ok text) → IsPatternUnboundedBy re reason → FindsInWork re bytes start work (Err (Unbounded reason)) work
 unbounded-by re bytes start work text reason starts refused = (starts.1, starts.2, (refl, refused))
 
--- what was reckoned by the pattern of a handle
+-- The work bound is that of the pattern that the handle holds.
 pub work_bound_found-by : (held : Option Regex) (re at : Regex) (result : Result ℕ Refusal) → Some re ≡ held → at ≡ re → IsWorkBoundResult (Some at) result → IsWorkBoundResult held result
 work_bound_found-by held re at result taken same is =
     subst (λ h. IsWorkBoundResult h result) taken (subst (λ r. IsWorkBoundResult (Some r) result) same is)
 
--- what a refusal is handed on as
+-- A property of an error holds for the result that hands the error on.
 pub handed-on : {X : Type 0} (P : Result X Refusal → Type 0) (r : Result X Refusal) (e : Refusal) → IsErrAnd r (λ f. f ≡ e) → P (Err e) → P r
 handed-on P (Ok x) e h p = absurd h
 handed-on P (Err f) e h p = subst (λ f. P (Err f)) (sym h) p
 
--- what an item that came is to a caller
+-- The item that an iterator yields is turned into the result that the caller gets.
 abbrev as_found : Result (Option Match) WorkError → Result (Option Match) Refusal
 as_found (Ok m) = Ok m
 as_found (Err e) = Err (refusal_of_work_error e)
@@ -81,7 +81,7 @@ module _ (re : Regex) (text : List ℕ) (start per_unit work : ℕ) (it behind :
   is-first (Some (Err worked.Memory)) gives = no-more (Some (Err worked.Memory)) gives
   is-first (Some (Err worked.WorkLimit)) gives = (gives.0.0.1, (per_unit, each, too-little gives.0.0.0))
 
-  -- the item that came, and how much work is left behind it
+  -- The first item and the work left after it are the result of the search.
   module _ (first : Option (Result Match WorkError)) (r : Result (Option Match) WorkError) (left : ℕ)
       (gives : NextYieldsWithinWork it first behind) (transposed : r ≡ option_transpose first) (left_is : left ≡ behind.left) where
     came : IsFirstInWork re text start work (as_found r) left

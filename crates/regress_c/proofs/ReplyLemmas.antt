@@ -22,7 +22,7 @@ one-more (x ∷ new) [] i d p q = absurd (omega arith)
 one-more (x ∷ new) (y ∷ old) zero d p q = refl
 one-more (x ∷ new) (y ∷ old) (suc i) d p q = ap (λ zs. x ∷ zs) (one-more new old i d (omega arith) (omega arith))
 
--- what is written in a part from an index to the end, is written in the whole
+-- A part written from an index to the end of a buffer is written in the whole buffer.
 pub written_part : {X : Type 0} (new old part : List X) (at n count : ℕ) → n ≡ length old - at → part ≡ new ++ drop count (take n (drop at old))
     → take at old ++ (part ++ drop n (drop at old)) ≡ take at old ++ new ++ drop (at + count) old
 written_part new old part at n count rest written =

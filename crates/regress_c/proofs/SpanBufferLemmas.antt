@@ -8,11 +8,11 @@ use Rattle.regex_meaning.specs.MatchGroupsByNumberAndName.{Answer}
 use Rattle.regress_c.specs.Replies.{spans_of, written_over}
 use Rattle.regress_c.specs.declared.reply.Span.{Span}
 
--- one part more of the same length
+-- The index after one more match is the number of matches times the ranges of each.
 pub at-more : (k n at ranges each : ℕ) → at ≡ k * each → n ≡ k + 1 → ranges ≡ each → at + ranges ≡ n * each
 at-more k n at ranges each a l r = rw (a, r, l) (omega arith)
 
--- the ranges of one match more
+-- The ranges of one more match follow those of the matches before it.
 pub written-more : (found : List Answer) (m : Answer) (before now after : List Span) (at ranges : ℕ)
     → length (spans_of m) ≡ ranges → length (flat_map spans_of found) ≡ at
     → now ≡ written_over (flat_map spans_of found) before → after ≡ take at now ++ spans_of m ++ drop (at + ranges) now

@@ -1,4 +1,4 @@
--- The matches that one call writes within a work budget, and why it writes no more.
+-- The matches that one call writes within a work budget, and why it stops.
 use Rattle.std.specs.Prelude.{◌≡◌, ◌<◌, ◌≤◌, ◌+◌, ◌*◌, ◌++◌, ℕ, false, List, [], Option, Some, None, Result, Ok, Err, IsUtf8, flat_map, length}
 use Rattle.regex_meaning.specs.Laws.{Each}
 use Rattle.regex_meaning.specs.MatchGroupsByNumberAndName.{Answer}
@@ -20,35 +20,35 @@ use Rattle.regress_c.specs.declared.reply.Span.{Span}
 
 -- ---- Matches of an iterator
 
--- Why no further match was written: there is no room for one more, no match remains, or the search
--- for the next match failed.
+-- Why no further match was written: there is no room for it, no match remains, or the search for it
+-- failed.
 pub data Ending : Type 0 where
   full : Ending
   over : Ending
   failed : WorkError → Ending
 
--- The code that reports it.
+-- The code that reports why no further match was written.
 abbrev pub code_of_ending : Ending → ℕ
 code_of_ending full = done
 code_of_ending over = no_match
 code_of_ending (failed error) = code_of (refusal_of_work_error error)
 
--- The matches that were written, those that remain after them, and why no more were written.
+-- The matches that were written, the matches that remain, and why no more were written.
 pub record Written : Type 0 where
   pub found : List Answer
   pub rest : List Answer
   pub ending : Ending
 
--- The reply for written matches: their number, and why there are no more.
+-- The reply after matches were written: their number, and the code of why no more were written.
 abbrev pub written_reply : Written → Reply
 written_reply w = record { code = code_of_ending w.ending; count = length w.found }
 
--- The buffer after written matches: the ranges of one match after those of another.
+-- The buffer after matches were written. It has the ranges of one match after another.
 abbrev pub spans_written : Written → (before : List Span) → List Span
 spans_written w before = written_over (flat_map spans_of w.found) before
 
--- The iterator yields matches with `ranges` ranges each, and has the view `before` at first and
--- `behind` at last.
+-- An iterator over matches with `ranges` ranges each. Its view is `before` at first and `behind` at
+-- the end.
 module _ (ranges room : ℕ) (before behind : RemainingAnswersAndWork) where
   -- When no further match of the iterator is written.
   abbrev pub EndsIterator : Written → Ending → Type 0
@@ -71,19 +71,19 @@ WritesInWork ranges before behind old new reply = (w : Written)
 
 -- ---- Matches in a text
 
--- A search with this pattern in a UTF-8 text, with `work` work of which `left` is left, and with
--- room for so many ranges.
+-- A search with this pattern in a UTF-8 text. `work` is the work budget, `left` is the work that is
+-- left, and `room` is the number of ranges that fit into the buffer.
 module _ (re : Regex) (text : List ℕ) (work left room : ℕ) where
-  -- When no further match is written: there is no room for the ranges of one more, no match
-  -- remains, an allocation failed, or the work was not enough and none is left.
+  -- When no further match is written. There is no room for its ranges, no match remains, an
+  -- allocation failed, or the work did not suffice and none is left.
   abbrev pub EndsInWork : Written → Ending → Type 0
   EndsInWork w full = room < (length w.found + 1) * range_count re
   EndsInWork w over = w.rest ≡ []
   EndsInWork w (failed worked.Memory) = Unit {0}
   EndsInWork w (failed worked.WorkLimit) = IsUsedUp re text work left
 
-  -- The matches from `start` on are those that were written, followed by those that remain. There is
-  -- room for one match.
+  -- The matches from `start` on are the written ones, followed by those that remain. There is room
+  -- for at least one match.
   pub record RunsInWork (start : ℕ) (w : Written) : Type 0 where
     pub answers : utf8_answers re text start ≡ w.found ++ w.rest
     pub fits : range_count re ≤ room
@@ -91,7 +91,7 @@ module _ (re : Regex) (text : List ℕ) (work left room : ℕ) where
     pub ranges : Each (λ m. length (spans_of m) ≡ range_count re) w.found
     pub ends : EndsInWork w w.ending
 
--- When a call is refused before it searches. It takes no work then.
+-- When a call is refused before it searches. Then it takes no work.
 abbrev pub RefusesAllInWork : Regex → (text : List ℕ) → (start : ℕ) → Refusal → Type 0
 RefusesAllInWork re text start NotUtf8 = ¬ IsUtf8 text
 RefusesAllInWork re text start NotBoundary = IsUtf8 text × ¬ can_start_utf8 text start
@@ -107,7 +107,7 @@ pub data Outcome : Type 0 where
   short : Outcome
   refused : Refusal → Outcome
 
--- The outcome with this pattern.
+-- The outcome of a call with this pattern.
 abbrev pub IsCallResult : Regex → (text : List ℕ) → (start work left room : ℕ) → Outcome → Type 0
 IsCallResult re text start work left room (ran w) = IsUtf8 text × can_start_utf8 text start
     × RunsInWork re text work left room start w
@@ -127,21 +127,21 @@ spans_after_outcome (ran w) before = spans_written w before
 spans_after_outcome short before = before
 spans_after_outcome (refused refusal) before = before
 
--- The reply, the work that is left and the buffer afterwards are those of an outcome.
+-- The reply, the work that is left and the final buffer are those of some outcome.
 abbrev pub RepliesOutcome : Regex → (text : List ℕ) → (start work left : ℕ) → (before after : List Span) → Reply
     → Type 0
 RepliesOutcome re text start work left before after reply = (o : Outcome)
     × IsCallResult re text start work left (length before) o × (reply ≡ outcome_reply re o)
     × (after ≡ spans_after_outcome o before)
 
--- The reply, or why the call is refused, and then neither the work nor the buffer changes.
+-- The reply of a call. If the call is refused, neither the work nor the buffer changes.
 abbrev pub FillsInWork : Regex → (text : List ℕ) → (start work left : ℕ) → (before after : List Span)
     → Result Reply Refusal → Type 0
 FillsInWork re text start work left before after (Ok reply) = RepliesOutcome re text start work left before after reply
 FillsInWork re text start work left before after (Err refusal) = RefusesAllInWork re text start refusal × (left ≡ work)
     × (after ≡ before)
 
--- The reply, the work that is left and the buffer afterwards with the handle's pattern. The call is
+-- The reply, the work that is left and the final buffer for the handle's pattern. The call is
 -- refused if the handle is empty.
 abbrev pub RepliesAllInWork : (held : Option Regex) → (text : List ℕ) → (start work left : ℕ)
     → (before after : List Span) → Reply → Type 0

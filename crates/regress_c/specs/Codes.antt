@@ -1,4 +1,4 @@
--- The codes of refusals, and the refusals for the errors of the crates below.
+-- The codes of refusals, and the refusal for each error of the crates below.
 use Rattle.std.specs.Prelude.{ℕ}
 use Rattle.regex_parser.specs.declared.parse.ParseError.TheVariants as parse
 use Rattle.regress_program.specs.declared.emit.EmitError.TheVariants as emit
@@ -54,7 +54,8 @@ code_of (Unbounded reason) = code_of_reason reason
 code_of WorkLimit = 20
 code_of UnknownSyntax = 21
 
--- The refusal for an error of compiling a pattern. Every other error is reported as `Memory`.
+-- The refusal for an error of compiling a pattern. All errors that are not listed are reported as
+-- `Memory`.
 abbrev pub refused_as : Error → Refusal
 refused_as (error.Parse (parse.Syntax d)) = Syntax
 refused_as (error.Emit emit.TooManyGroups) = TooManyGroups

@@ -1,4 +1,4 @@
--- The results of compiling a pattern, and of copying one.
+-- The results of compiling a pattern, and of copying a compiled one.
 use Rattle.std.specs.Prelude.{◌≡◌, ◌<◌, ◌≤◌, ◌-◌, ◌^◌, ℕ, List, Option, Some, None, Result, Ok, Err, length}
 use Rattle.regex_meaning.specs.Tree.{Flags}
 use Rattle.regex_meaning.specs.FlagLettersAndEscaping.{flags_from_letters}
@@ -18,8 +18,8 @@ use Rattle.regress_c.specs.declared.refusal.Refusal.{Refusal}
 use Rattle.regress_c.specs.declared.refusal.Refusal.TheVariants.{Empty, Full, NotUtf8, Memory, Syntax, TooManyGroups, TooManyLoops}
 use Rattle.regress_c.specs.declared.refusal.Refusal.TheVariants.{TooManyInstructions, UnknownFlag, UnknownSyntax, TooLong, TooDeep}
 
--- A pattern as given: its language, whether it is valid in its encoding, its code points, and the
--- letters of its flags.
+-- A pattern as the caller gives it: its language, whether it is valid in its encoding, its code
+-- points, and the letters of its flags.
 pub record Given : Type 1 where
   pub syntax : pattern.Syntax
   pub is_text : Type 0
@@ -35,22 +35,22 @@ given_with_syntax syntax is_text characters flags =
 abbrev pub given : (is_text : Type 0) → (characters flags : List ℕ) → Given
 given = given_with_syntax Profile
 
--- All letters are those of flags, and the pattern is valid in its encoding.
+-- All letters are letters of flags, and the pattern is valid in its encoding.
 pub record IsReadable (g : Given) : Type 0 where
   pub letters : AreFlags g.flags
   pub text : g.is_text
 
--- The bounds that every pattern is within: the greatest `u64` each.
+-- Bounds that do not limit patterns: both are the greatest `u64`.
 abbrev pub unbounded : Bounds
 unbounded = record { length = 2 ^ 64 - 1; nesting = 2 ^ 64 - 1 }
 
--- The pattern is no longer and nested no deeper than the bounds allow.
+-- The length and the nesting depth of the pattern are within the bounds.
 pub record IsWithin (bounds : Bounds) (characters : List ℕ) : Type 0 where
   pub length_is : length characters ≤ bounds.length
   pub nesting_is : greatest_parenthesis_depth_in characters ≤ bounds.nesting
 
--- When the pattern itself is refused: the grammar has no tree for it, it opens too many groups, or
--- its tree exceeds another limit.
+-- When the pattern is refused because of what it says: the grammar has no tree for it, it opens too
+-- many groups, or its tree exceeds another limit.
 abbrev pub RefusesPattern : pattern.Syntax → Flags → (characters : List ℕ) → Refusal → Type 0
 RefusesPattern syntax flags characters Syntax = HasNoTreeIn (spec_syntax_of syntax) flags characters
 RefusesPattern syntax flags characters TooManyGroups = OpensTooManyGroups characters
@@ -60,7 +60,7 @@ RefusesPattern syntax flags characters TooManyInstructions =
     ExceedsLimitWithSyntax (spec_syntax_of syntax) flags characters emit.TooManyInstructions
 RefusesPattern syntax flags characters _ = ⊥
 
--- The result is the pattern compiled with these flags, or why it is refused.
+-- The result of compiling: the compiled pattern, or a refusal.
 abbrev pub Compiles : Given → Bounds → Result Regex Refusal → Type 0
 Compiles g bounds (Ok re) =
     IsReadable g × IsWithin bounds g.characters × IsCompiledWithSyntax (spec_syntax_of g.syntax)
@@ -73,7 +73,8 @@ Compiles g bounds (Err TooDeep) = IsReadable g × (bounds.nesting < greatest_par
 Compiles g bounds (Err refusal) = IsReadable g × IsWithin bounds g.characters
     × RefusesPattern g.syntax (flags_from_letters g.flags) g.characters refusal
 
--- The result of compiling into a handle that holds `held`; a handle that is not empty is refused.
+-- The result of compiling into a handle that holds `held`. If the handle is not empty, the call is
+-- refused.
 abbrev pub CompilesInto : (held : Option Regex) → Given → Bounds → Result Regex Refusal → Type 0
 CompilesInto None g bounds made = Compiles g bounds made
 CompilesInto (Some re) g bounds made = made ≡ Err Full
@@ -83,33 +84,33 @@ abbrev pub code_of_made : Result Regex Refusal → ℕ
 code_of_made (Ok re) = done
 code_of_made (Err refusal) = code_of refusal
 
--- What a handle that held `held` holds after a result.
+-- The content of a handle after a result. Before, it held `held`.
 abbrev pub held_after : (held : Option Regex) → Result Regex Refusal → Option Regex
 held_after held (Ok re) = Some re
 held_after held (Err refusal) = held
 
--- The code and the handle afterwards are those of a result of compiling.
+-- The code and the final handle are those of some result of compiling.
 abbrev pub RepliesMade : (before : Option Regex) → Given → Bounds → (after : Option Regex) → (code : ℕ) → Type 0
 RepliesMade before g bounds after code = (made : Result Regex Refusal)
     × CompilesInto before g bounds made × (code ≡ code_of_made made) × (after ≡ held_after before made)
 
--- The same for a pattern of this language. Without one, the language is refused, and the handle is
--- unchanged.
+-- `RepliesMade` for a pattern of the given language. If there is no language, the call is refused
+-- and the handle is unchanged.
 abbrev pub RepliesMadeWithSyntax :
     (before : Option Regex) → Option pattern.Syntax → (pattern.Syntax → Given) → Bounds → (after : Option Regex)
     → (code : ℕ) → Type 0
 RepliesMadeWithSyntax before None g bounds after code = (code ≡ code_of UnknownSyntax) × (after ≡ before)
 RepliesMadeWithSyntax before (Some syntax) g bounds after code = RepliesMade before (g syntax) bounds after code
 
--- The result is an equal pattern if a pattern is held and the other handle is empty; otherwise it
--- is refused, or an allocation failed.
+-- The result of copying: an equal pattern if the first handle holds one and the second is empty.
+-- Otherwise the call is refused. An allocation may also fail.
 abbrev pub ClonesInto : (held into : Option Regex) → Result Regex Refusal → Type 0
 ClonesInto None into made = made ≡ Err Empty
 ClonesInto (Some re) (Some other) made = made ≡ Err Full
 ClonesInto (Some re) None (Ok copy) = copy ≡ re
 ClonesInto (Some re) None (Err refusal) = refusal ≡ Memory
 
--- The code and the other handle afterwards are those of a result of copying.
+-- The code and the final content of the second handle are those of some result of copying.
 abbrev pub RepliesCloned : (held before after : Option Regex) → (code : ℕ) → Type 0
 RepliesCloned held before after code = (made : Result Regex Refusal)
     × ClonesInto held before made × (code ≡ code_of_made made) × (after ≡ held_after before made)

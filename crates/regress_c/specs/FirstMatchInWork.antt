@@ -14,12 +14,13 @@ use Rattle.regress_c.specs.declared.refusal.Refusal.TheVariants.{Empty, NotUtf8,
 use Rattle.regress_c.specs.declared.reply.Reply.{Reply}
 use Rattle.regress_c.specs.declared.reply.Span.{Span}
 
--- No work is left, and the budget was less than the pattern's bound requires for the text.
+-- No work is left, and the budget was less than what the pattern's bound requires for the text.
 abbrev pub IsUsedUp : Regex → (text : List ℕ) → (work left : ℕ) → Type 0
 IsUsedUp re text work left = (left ≡ 0) × ((per_unit : ℕ) × IsHigherOfProgramWorkBounds re per_unit
     × (work < enough_work_for_text per_unit (bytes_as_utf8_text re text)))
 
--- The result is the first match from `start` on, or `None` exactly if there is none; or a refusal.
+-- The result of the search: the first match from `start` on, `None` exactly if there is none, or a
+-- refusal.
 abbrev pub IsFirstInWork : Regex → (text : List ℕ) → (start work : ℕ) → Result (Option Match) Refusal → (left : ℕ)
     → Type 0
 IsFirstInWork re text start work (Ok m) left = (option_map answer_of m ≡ slice_get (utf8_answers re text start) 0)
@@ -29,7 +30,7 @@ IsFirstInWork re text start work (Err (Unbounded reason)) left = (left ≡ work)
 IsFirstInWork re text start work (Err WorkLimit) left = IsUsedUp re text work left
 IsFirstInWork re text start work (Err _) left = ⊥
 
--- The result for bytes that are first checked to be UTF-8, and a start that is checked.
+-- The result after checking that the bytes are UTF-8 and that a search may start at `start`.
 abbrev pub FindsInWork : Regex → (text : List ℕ) → (start work : ℕ) → Result (Option Match) Refusal → (left : ℕ)
     → Type 0
 FindsInWork re text start work (Err NotUtf8) left = (¬ IsUtf8 text) × (left ≡ work)
@@ -37,20 +38,20 @@ FindsInWork re text start work (Err NotBoundary) left = IsUtf8 text × (¬ can_s
 FindsInWork re text start work found left = IsUtf8 text × can_start_utf8 text start
     × IsFirstInWork re text start work found left
 
--- The result with the handle's pattern, which is refused if the handle is empty.
+-- The result for the handle's pattern. The call is refused if the handle is empty.
 abbrev pub FindsInWorkBy : (held : Option Regex) → (text : List ℕ) → (start work : ℕ) → Result (Option Match) Refusal
     → (left : ℕ) → Type 0
 FindsInWorkBy None text start work found left = (found ≡ Err Empty) × (left ≡ work)
 FindsInWorkBy (Some re) text start work found left = FindsInWork re text start work found left
 
--- The reply and the buffer afterwards are those of a result, and `left` is the work that is left.
+-- The reply and the final buffer are those of some result, and `left` is the work that is left.
 abbrev pub RepliesInWork : (held : Option Regex) → (text : List ℕ) → (start work left : ℕ) → (before after : List Span)
     → Reply → Type 0
 RepliesInWork held text start work left before after reply = (found : Result (Option Match) Refusal)
     × FindsInWorkBy held text start work found left × (reply ≡ reply_to found (length before))
     × (after ≡ buffer_after_search found before)
 
--- The result is the work bound of the handle's pattern, or why there is none.
+-- The result is the work bound of the handle's pattern, or the reason why it has none.
 abbrev pub IsWorkBoundResult : (held : Option Regex) → Result ℕ Refusal → Type 0
 IsWorkBoundResult None result = result ≡ Err Empty
 IsWorkBoundResult (Some re) (Ok per_unit) = IsHigherOfProgramWorkBounds re per_unit
@@ -62,12 +63,12 @@ abbrev pub code_of_work_bound : Result ℕ Refusal → ℕ
 code_of_work_bound (Ok per_unit) = done
 code_of_work_bound (Err refusal) = code_of refusal
 
--- The number in the caller's variable after a result.
+-- The caller's variable after a result. It held `before`.
 abbrev pub number_after_work_bound : Result ℕ Refusal → (before : ℕ) → ℕ
 number_after_work_bound (Ok per_unit) before = per_unit
 number_after_work_bound (Err refusal) before = before
 
--- The code and the caller's variable afterwards are those of a result.
+-- The code and the caller's final variable are those of some result.
 abbrev pub RepliesWorkBound : (held : Option Regex) → (before after : ℕ) → (code : ℕ) → Type 0
 RepliesWorkBound held before after code = (work_bound_found : Result ℕ Refusal)
     × IsWorkBoundResult held work_bound_found × (code ≡ code_of_work_bound work_bound_found)

@@ -7,23 +7,23 @@ use Rattle.regress_c.specs.Codes.{code_of, done}
 use Rattle.regress_c.specs.declared.refusal.Refusal.TheVariants.{Empty, NoGroup}
 use Rattle.regress_c.specs.declared.reply.Reply.{Reply}
 
--- The position of the first of these names that is equal to `name`.
+-- The index of the first name in the list that is equal to `name`.
 abbrev pub first_id_named : (name : List ℕ) → (names : List (List ℕ)) → Option ℕ
 first_id_named name names = slice_get (ids_where (bytes_eq name) 0 names) 0
 
--- The number of the group with this name, from 1 on. None has the empty name, which stands for a
--- group without a name.
+-- The number of the group with this name, counted from 1. `None` for the empty name, which marks
+-- groups without a name.
 abbrev pub number_of_name : Regex → (name : List ℕ) → Option ℕ
 number_of_name re [] = None
 number_of_name re (c ∷ name) =
     option_map (λ id. id + 1) (first_id_named (c ∷ name) (group_names_by_id (tree_for_byte_units re).root))
 
--- The reply with a number, or `NoGroup` without one.
+-- The reply with a number. If there is none, the code is `NoGroup`.
 abbrev pub numbered_reply : Option ℕ → Reply
 numbered_reply None = record { code = code_of NoGroup; count = 0 }
 numbered_reply (Some number) = record { code = done; count = number }
 
--- The reply with the number of a group, which is refused if the handle is empty.
+-- The reply with the number of a group. The call is refused if the handle is empty.
 abbrev pub number_reply : (held : Option Regex) → (name : List ℕ) → Reply
 number_reply None name = record { code = code_of Empty; count = 0 }
 number_reply (Some re) name = numbered_reply (number_of_name re name)

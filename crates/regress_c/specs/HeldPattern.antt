@@ -1,4 +1,4 @@
--- What a handle owns: the pattern on the heap, or nothing if its pointer is null.
+-- What a handle owns: a pattern on the heap, or nothing if its pointer is null.
 use Rattle.std.specs.Prelude.{◌≡◌, Option, Some, None}
 use Rattle.std.specs.Box.Ownership.{box_owns}
 use Rattle.std.specs.declared.alloc.Global.{Global}
@@ -7,7 +7,7 @@ use base.Fml.{Fml, ftrue, fex}
 use denote.RattleType.{RattleType}
 use denote.RawPtr.{Ptr, null_ptr}
 
--- The only value of the global allocator, whose token is the right to free a block.
+-- The only value of the global allocator. Its token is the right to free a block.
 abbrev pub global : Global
 global = record { memory = record { seal = tt } }
 

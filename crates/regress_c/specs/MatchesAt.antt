@@ -5,7 +5,7 @@ use Rattle.regress_match.specs.ProgramTreesAndAnswers.{ucs2_answer_beginning_at,
 use Rattle.regress_match.specs.declared.api.regex.Regex.{Regex}
 use Rattle.regress_c.specs.Searching.{MatchesToCome}
 
--- The list of this match, if there is one.
+-- The match as a list. Empty if there is none.
 abbrev pub at_most_one : Option Answer → List Answer
 at_most_one None = []
 at_most_one (Some m) = m ∷ []

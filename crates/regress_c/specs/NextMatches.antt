@@ -1,4 +1,4 @@
--- The matches that one call writes, and the offset from which the search continues.
+-- The matches that one call writes, and the offset at which the search continues.
 use Rattle.regex_meaning.specs.CodeUnitOffsets.{IsBoundaryOrPastEnd}
 use Rattle.std.specs.Prelude.{◌≡◌, ◌≢◌, ◌<◌, ◌+◌, ◌*◌, ℕ, false, List, [], ◌++◌, Option, Some, None, Result, Ok, Err, IsSome, flat_map, length}
 use Rattle.regex_meaning.specs.Laws.{Each}
@@ -28,9 +28,9 @@ use Rattle.regress_c.specs.declared.search.Search.{Search}
 
 -- ---- Written matches
 
--- One call: the matches found, the offset behind them, the offset from which the list continues
--- (past the end of the text if no match remains), why no more were found, the steps that were left
--- when it stopped looking, and the steps left afterwards.
+-- One call. It has the matches that were found, the offset after them, the offset at which the list
+-- continues (past the end of the text if no match remains), why no more were found, the steps that
+-- were left when the search for more stopped, and the steps that are left after the call.
 pub record Run : Type 0 where
   pub found : List Answer
   pub behind : ℕ
@@ -39,15 +39,16 @@ pub record Run : Type 0 where
   pub steps : Option ℕ
   pub left : Option ℕ
 
--- The number of ranges of a match: one for the whole, and one for each group.
+-- The number of ranges of a match: one for the whole match, and one for each group.
 abbrev pub ranges_of : Tree → ℕ
 ranges_of tree = length (group_ids tree.root) + 1
 
 -- A search with the pattern's tree in a text.
 module _ (tree : Tree) (text : Text) where
-  -- Why the call stopped: no room for one more match, no match remains, an allocation failed, or
-  -- the steps are not enough for the next match. To find that no match remains takes exactly the
-  -- steps that it needs, and an allocation failure leaves no fewer than a result would leave.
+  -- Why the call stopped: there is no room for one more match, no match remains, an allocation
+  -- failed, or the steps do not suffice for the next match. Finding that no match remains takes
+  -- exactly the steps that it needs. After an allocation failure, at least as many steps are left
+  -- as after a result.
   abbrev pub Stops : (room : ℕ) → Run → Stop → Type 0
   Stops room run Full = (room < (length run.found + 1) * ranges_of tree) × (run.left ≡ run.steps)
   Stops room run Over =
@@ -59,9 +60,9 @@ module _ (tree : Tree) (text : Text) where
       (answers_within tree text run.steps run.next ≡ []) × (finishes_within tree text run.steps run.next ≡ false)
       × (run.left ≡ Some 0)
 
-  -- The matches from `start` on within `steps` are those found, followed by those from `run.next`
-  -- on within `run.steps`. They are found one after another, and take exactly the steps that they
-  -- need. Each match has `ranges_of tree` ranges.
+  -- Within `steps` steps, the matches from `start` on are those found, followed by those from
+  -- `run.next` on within `run.steps` steps. They are found one after another, and take exactly the
+  -- steps that they need. Each match has `ranges_of tree` ranges.
   pub record IsRun (steps : Option ℕ) (start room : ℕ) (run : Run) : Type 0 where
     pub answers : answers_within tree text steps start ≡ run.found ++ answers_within tree text run.steps run.next
     pub limit : finishes_within tree text steps start ≡ finishes_within tree text run.steps run.next
@@ -71,8 +72,8 @@ module _ (tree : Tree) (text : Text) where
     pub ranges : Each (λ m. length (spans_of m) ≡ ranges_of tree) run.found
     pub stops : Stops room run run.stop
 
-  -- The call's results and the buffer are those of a run. `left` is what remains of the step
-  -- budget; the field `filled.left` is not constrained.
+  -- The results of the call and the buffer are those of some run. `left` is what remains of the
+  -- step budget. The field `filled.left` is not constrained.
   pub record Fills (steps : Option ℕ) (start : ℕ) (before after : List Span) (filled : Filled) (left : Option ℕ) : Type
       0 where
     pub run : Run
@@ -83,7 +84,7 @@ module _ (tree : Tree) (text : Text) where
     pub left_is : left ≡ run.left
     pub written : after ≡ written_over (flat_map spans_of run.found) before
 
--- ---- With the pattern of a handle
+-- ---- Searches with the pattern of a handle
 
 -- The tree of the program for texts in this encoding.
 abbrev pub tree_by : Regex → Encoding → Tree
@@ -97,7 +98,7 @@ text_by re s Utf8 = bytes_as_utf8_text re s.bytes.now
 text_by re s Utf16 = units_as_utf16_text re s.units.now
 text_by re s Ucs2 = units_as_ucs2_text re s.units.now
 
--- The offset from which the search continues splits no character.
+-- The offset at which the search continues does not split a character.
 abbrev pub CanGoOn : Search → Encoding → Type 0
 CanGoOn s Utf8 = can_start_utf8 s.bytes.now s.next
 CanGoOn s Utf16 = can_start_utf16 s.units.now s.next
@@ -115,14 +116,14 @@ IsCounted steps Utf8 = Unit {0}
 IsCounted steps Utf16 = steps ≡ None
 IsCounted steps Ucs2 = steps ≡ None
 
--- When an open search with room for one match is refused.
+-- When an open search that has room for one match is refused.
 abbrev pub RefusesSearch : Search → Encoding → (steps : Option ℕ) → Refusal → Type 0
 RefusesSearch s e steps refusal.NotBoundary = ¬ CanGoOn s e
 RefusesSearch s e steps refusal.NotCounted = (e ≢ Utf8) × IsSome steps
 RefusesSearch s e steps refusal.Memory = Unit {0}
 RefusesSearch s e steps _ = ⊥
 
--- The matches of a search in this encoding are written, or it is refused and the buffer is
+-- The matches of a search in this encoding are written, or the call is refused and the buffer is
 -- unchanged.
 abbrev pub FillsIn : Regex → Search → Encoding → (steps : Option ℕ) → (before after : List Span) → Result Filled Refusal
     → Type 0
@@ -130,8 +131,8 @@ FillsIn re s e steps before after (Ok filled) =
     Fills (tree_by re e) (text_by re s e) steps s.next before after filled filled.left × IsCounted steps e
 FillsIn re s e steps before after (Err r) = RefusesSearch s e steps r × (after ≡ before)
 
--- The matches of a tree in a text from `start` on are written, or it is refused and the buffer is
--- unchanged.
+-- The matches of a tree in a text from `start` on are written, or the call is refused and the
+-- buffer is unchanged.
 abbrev pub FillsFrom : Tree → Text → (can_start : Type 0) → (steps : Option ℕ) → (start : ℕ)
     → (before after : List Span) → Result Filled Refusal → Type 0
 FillsFrom tree text can_start steps start before after (Ok filled) =
@@ -146,19 +147,19 @@ pub data CallOutcome : Type 0 where
   short : (ranges : ℕ) → CallOutcome
   refused : Refusal → CallOutcome
 
--- The outcome for a search with this pattern in this encoding.
+-- The outcome of a search with this pattern in this encoding.
 abbrev pub OutcomeInEncoding : Regex → Search → Encoding → (steps : Option ℕ) → (room : ℕ) → CallOutcome → Type 0
 OutcomeInEncoding re s e steps room (ran run) = IsRun (tree_by re e) (text_by re s e) steps s.next room run
     × IsCounted steps e
 OutcomeInEncoding re s e steps room (short ranges) = (ranges ≡ ranges_of (tree_by re e)) × (room < ranges)
 OutcomeInEncoding re s e steps room (refused r) = RefusesSearch s e steps r
 
--- The outcome for a search with this pattern, which is refused if it is not open.
+-- The outcome of a search with this pattern. The call is refused if the search is not open.
 abbrev pub OutcomeIfOpen : Regex → Search → Option Encoding → (steps : Option ℕ) → (room : ℕ) → CallOutcome → Type 0
 OutcomeIfOpen re s None steps room went = went ≡ refused refusal.NotOpen
 OutcomeIfOpen re s (Some e) steps room went = OutcomeInEncoding re s e steps room went
 
--- The outcome for a search with the handle's pattern, which is refused if the handle is empty.
+-- The outcome of a search with the handle's pattern. The call is refused if the handle is empty.
 abbrev pub OutcomeOfHandle : (held : Option Regex) → Search → (steps : Option ℕ) → (room : ℕ) → CallOutcome → Type 0
 OutcomeOfHandle None s steps room went = went ≡ refused refusal.Empty
 OutcomeOfHandle (Some re) s steps room went = OutcomeIfOpen re s (encoding_of s.encoding) steps room went
@@ -169,7 +170,7 @@ call_outcome_reply (ran run) = record { code = code_of_stop run.stop; count = le
 call_outcome_reply (short ranges) = record { code = code_of refusal.ShortBuffer; count = ranges }
 call_outcome_reply (refused r) = record { code = code_of r; count = 0 }
 
--- The offset from which the search continues after an outcome.
+-- The offset at which the search continues after an outcome.
 abbrev pub next_after : CallOutcome → (next : ℕ) → ℕ
 next_after (ran run) next = run.next
 next_after (short ranges) next = next
@@ -193,7 +194,7 @@ pub record HasSameText (s s' : Search) : Type 0 where
   pub units : s'.units ≡ s.units
   pub encoding : s'.encoding ≡ s.encoding
 
--- The reply, the search, the step budget and the buffer afterwards are those of an outcome.
+-- The reply, the search, the step budget and the final buffer are those of some outcome.
 pub record RepliesNext (held : Option Regex) (s s' : Search) (steps left : Option ℕ) (before after : List Span)
     (reply : Reply) : Type 0 where
   pub went : CallOutcome

@@ -8,7 +8,7 @@ use Rattle.regress_c.specs.declared.search.Encoding.{Encoding}
 use Rattle.regress_c.specs.declared.search.Encoding.TheVariants.{Utf8, Utf16, Ucs2}
 use Rattle.regress_c.specs.declared.search.Search.{Search}
 
--- How a search with this number reads its text, or `None` if it is not open.
+-- How a search with this number reads its text. `None` if the search is not open.
 abbrev pub encoding_of : ℕ → Option Encoding
 encoding_of n = if n == 1 then Some Utf8 else if n == 2 then Some Utf16 else if n == 3 then Some Ucs2 else None
 
@@ -52,7 +52,7 @@ abbrev pub search_after : (before : Search) → Result Search Refusal → Search
 search_after before (Ok s) = s
 search_after before (Err refusal) = before
 
--- The code and the caller's search afterwards are those of a result.
+-- The code and the caller's final search are those of some result.
 abbrev pub RepliesOpened : (Result Search Refusal → Type 0) → (before after : Search) → (code : ℕ) → Type 0
 RepliesOpened Opens before after code = (opened : Result Search Refusal)
     × Opens opened × (code ≡ code_of_opened opened) × (after ≡ search_after before opened)

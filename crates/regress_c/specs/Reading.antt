@@ -1,4 +1,4 @@
--- Reading of flags, of the numbers of languages, and of the texts of patterns.
+-- How flags, the numbers of languages, and the texts of patterns are read.
 use Rattle.std.specs.Prelude.{◌≡◌, ℕ, Bool, List, ◌||◌, ◌==◌, IsTrue, Option, Some, None, Result, Ok, Err, Vec, if◌then◌else◌}
 use Rattle.std.specs.List.{All}
 use Rattle.regex_meaning.specs.FlagLettersAndEscaping.{flags_from_letters}
@@ -13,18 +13,18 @@ use Rattle.regress_c.specs.declared.refusal.Refusal.TheVariants.{NotUtf8, Memory
 abbrev pub is_flag_letter : ℕ → Bool
 is_flag_letter c = c == 105 || c == 109 || c == 115 || c == 117 || c == 118
 
--- All letters are those of flags.
+-- Each letter is the letter of a flag.
 abbrev pub AreFlags : (letters : List ℕ) → Type 0
 AreFlags letters = All (λ c. IsTrue (is_flag_letter c)) letters
 
--- The result is the flags with these letters, or `UnknownFlag` if one of them is not the letter of
+-- The result is the flags with these letters, or `UnknownFlag` if some letter is not the letter of
 -- a flag.
 abbrev pub ReadsFlags : (letters : List ℕ) → Result Flags Refusal → Type 0
 ReadsFlags letters (Ok flags) = AreFlags letters × (spec_flags_of flags ≡ flags_from_letters letters)
 ReadsFlags letters (Err UnknownFlag) = ¬ AreFlags letters
 ReadsFlags letters (Err _) = ⊥
 
--- The language with this number.
+-- The language with this number. `None` if there is no such language.
 abbrev pub syntax_of_number : (number : ℕ) → Option Syntax
 syntax_of_number number = if number == 0 then Some Profile else if number == 1 then Some EcmaScript2018 else None
 

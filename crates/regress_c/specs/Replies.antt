@@ -1,4 +1,4 @@
--- The reply to the result of a search, and the caller's buffer afterwards.
+-- The reply of a search, and the caller's buffer after it.
 use Rattle.std.specs.Prelude.{ℕ, ◌-◌, ◌^◌, ◌++◌, List, Option, Some, None, Result, Ok, Err, drop, length, map, nat_le, if◌then◌else◌}
 use Rattle.regex_meaning.specs.MatchGroupsByNumberAndName.{Answer}
 use Rattle.regress_search.specs.MatchesAsSpecAnswers.{answer_of}
@@ -14,29 +14,29 @@ use Rattle.regress_c.specs.declared.reply.Span.{Span}
 abbrev pub greatest : ℕ
 greatest = 2 ^ 64 - 1
 
--- The span of a range; both ends are `greatest` for a group that did not match.
+-- The span of a range. If the group did not match, both ends are `greatest`.
 abbrev pub span_of : Option (ℕ × ℕ) → Span
 span_of (Some r) = record { start = r.0; end = r.1 }
 span_of None = record { start = greatest; end = greatest }
 
--- The spans of the whole match and of each group by number.
+-- The span of the whole match, followed by the spans of the groups by number.
 abbrev pub spans_of : Answer → List Span
 spans_of m = map span_of (all_groups m)
 
--- The list `old`, with its front overwritten by `new`.
+-- The list `old` after `new` is written to its front.
 abbrev pub written_over : {A : Type 0} → (new old : List A) → List A
 written_over new old = new ++ drop (length new) old
 
--- The reply to the result of a search. Its code is `done` only if there is room for the ranges of
--- the match.
+-- The reply of a search, given its result. The code is `done` only if there is room for all ranges
+-- of the match.
 abbrev pub reply_to : Result (Option Match) Refusal → (room : ℕ) → Reply
 reply_to (Ok (Some m)) room = let count = length (spans_of (answer_of m)) in
     record { code = if nat_le count room then done else code_of ShortBuffer; count = count }
 reply_to (Ok None) room = record { code = no_match; count = 0 }
 reply_to (Err refusal) room = record { code = code_of refusal; count = 0 }
 
--- The buffer after the result of a search. It is unchanged without a match, or without room for its
--- ranges.
+-- The buffer after a search, given its result. It is unchanged if there is no match, or no room for
+-- its ranges.
 abbrev pub buffer_after_search : Result (Option Match) Refusal → (before : List Span) → List Span
 buffer_after_search (Ok (Some m)) before = let spans = spans_of (answer_of m) in
     if nat_le (length spans) (length before) then written_over spans before else before

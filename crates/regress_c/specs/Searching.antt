@@ -15,7 +15,7 @@ use Rattle.regress_c.specs.declared.refusal.Refusal.TheVariants.{Empty, NotUtf8,
 use Rattle.regress_c.specs.declared.reply.Reply.{Reply}
 use Rattle.regress_c.specs.declared.reply.Span.{Span}
 
--- The remaining matches, and whether a step limit follows them in place of the end.
+-- The remaining matches, and whether a step limit follows them instead of the end.
 pub record MatchesToCome : Type 0 where
   pub answers : List Answer
   pub limited : Bool
@@ -32,42 +32,42 @@ utf16_matches_to_come text re start = record { answers = utf16_answers re text s
 abbrev pub ucs2_matches_to_come : (text : List ℕ) → Regex → (start : ℕ) → MatchesToCome
 ucs2_matches_to_come text re start = record { answers = ucs2_answers re text start; limited = false }
 
--- A start in a UTF-8 text splits no character, or is past the end.
+-- The start does not split a character of the UTF-8 text, or is past the end.
 abbrev pub can_start_utf8 : (text : List ℕ) → (start : ℕ) → Type 0
 can_start_utf8 text start = IsCharBoundary text start ⊎ (length text < start)
 
--- A start in a UTF-16 text splits no surrogate pair, or is past the end.
+-- The start does not split a surrogate pair of the UTF-16 text, or is past the end.
 abbrev pub can_start_utf16 : (text : List ℕ) → (start : ℕ) → Type 0
 can_start_utf16 text start = IsTrue (is_unit_boundary text start) ⊎ (length text < start)
 
 -- The result is the first of the remaining matches, or `None` exactly if there is none and no step
--- limit; or the search is refused, at the step limit or because an allocation failed.
+-- limit. The search is refused at a step limit, or if an allocation fails.
 abbrev pub IsFirst : MatchesToCome → Result (Option Match) Refusal → Type 0
 IsFirst coming (Ok m) = (option_map answer_of m ≡ slice_get coming.answers 0) × IfNone m (coming.limited ≡ false)
 IsFirst coming (Err Memory) = Unit {0}
 IsFirst coming (Err StepLimit) = (coming.answers ≡ []) × (coming.limited ≡ true)
 IsFirst coming (Err _) = ⊥
 
--- The result for a text and a start that are checked first.
+-- The result after the text and the start are checked.
 abbrev pub Finds : (is_text can_start : Type 0) → MatchesToCome → Result (Option Match) Refusal → Type 0
 Finds is_text can_start coming (Err NotUtf8) = ¬ is_text
 Finds is_text can_start coming (Err NotBoundary) = is_text × ¬ can_start
 Finds is_text can_start coming found = is_text × can_start × IsFirst coming found
 
--- The result is the text of these bytes, if they are UTF-8 and a search may start at `start`.
+-- The result is the text with these bytes, if they are UTF-8 and a search may start at `start`.
 abbrev pub Starts : (bytes : List ℕ) → (start : ℕ) → Result (Bor (List ℕ)) Refusal → Type 0
 Starts bytes start (Ok text) = (text.now ≡ bytes) × IsUtf8 bytes × can_start_utf8 bytes start
 Starts bytes start (Err NotUtf8) = ¬ IsUtf8 bytes
 Starts bytes start (Err NotBoundary) = IsUtf8 bytes × ¬ can_start_utf8 bytes start
 Starts bytes start (Err _) = ⊥
 
--- The result with the handle's pattern, which is refused if the handle is empty.
+-- The result for the handle's pattern. The call is refused if the handle is empty.
 abbrev pub FindsBy : (held : Option Regex) → (is_text can_start : Type 0) → (Regex → MatchesToCome)
     → Result (Option Match) Refusal → Type 0
 FindsBy None is_text can_start coming found = found ≡ Err Empty
 FindsBy (Some re) is_text can_start coming found = Finds is_text can_start (coming re) found
 
--- The reply and the buffer afterwards are those of a result.
+-- The reply and the final buffer are those of some result.
 abbrev pub Replies : (held : Option Regex) → (is_text can_start : Type 0) → (Regex → MatchesToCome)
     → (before after : List Span) → Reply → Type 0
 Replies held is_text can_start coming before after reply = (found : Result (Option Match) Refusal)

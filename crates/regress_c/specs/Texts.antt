@@ -23,8 +23,8 @@ use Rattle.regress_c.specs.declared.reply.Reply.{Reply}
 
 -- ---- A text, and a buffer for it
 
--- The reply for a text. Its code is `code` only if there is room for the text; its count is the
--- length of the text in any case.
+-- The reply for a text. The code is `code` only if there is room for the text. The count is always
+-- the length of the text.
 abbrev pub text_reply : (code : ℕ) → (text : List ℕ) → (room : ℕ) → Reply
 text_reply code text room = record {
   code = if nat_le (length text) room then code
@@ -32,7 +32,7 @@ text_reply code text room = record {
   count = length text;
 }
 
--- The buffer after a text. It is unchanged without room for the text.
+-- The buffer after a text. It is unchanged if there is no room for the text.
 abbrev pub buffer_after_text : (text before : List ℕ) → List ℕ
 buffer_after_text text before = if nat_le (length text) (length before) then written_over text before else before
 
@@ -46,7 +46,7 @@ abbrev pub buffer_after_made_text : Result (List ℕ) Refusal → (before : List
 buffer_after_made_text (Ok text) before = buffer_after_text text before
 buffer_after_made_text (Err refusal) before = before
 
--- The reply and the buffer afterwards are those of a produced text or a refusal.
+-- The reply and the final buffer are those of some produced text or refusal.
 abbrev pub RepliesText : (Result (List ℕ) Refusal → Type 0) → (before after : List ℕ) → Reply → Type 0
 RepliesText Makes before after reply = (made : Result (List ℕ) Refusal)
     × Makes made × (reply ≡ made_reply made (length before)) × (after ≡ buffer_after_made_text made before)
@@ -67,7 +67,7 @@ Replaces re text replacement which (Err NotUtf8) = ¬ (IsUtf8 text × IsUtf8 rep
 Replaces re text replacement which (Err Memory) = IsUtf8 text × IsUtf8 replacement
 Replaces re text replacement which (Err _) = ⊥
 
--- The result with the handle's pattern, which is refused if the handle is empty.
+-- The result for the handle's pattern. The call is refused if the handle is empty.
 abbrev pub ReplacesBy : (held : Option Regex) → (text replacement : List ℕ) → ReplacedMatches → Result (List ℕ) Refusal
     → Type 0
 ReplacesBy None text replacement which made = made ≡ Err Empty
@@ -86,20 +86,20 @@ Escapes text (Err _) = ⊥
 abbrev pub range_count : Regex → ℕ
 range_count re = length (group_ids (tree_for_byte_units re).root) + 1
 
--- The reply with the number of ranges, which is refused if the handle is empty.
+-- The reply with the number of ranges. The call is refused if the handle is empty.
 abbrev pub count_reply : (held : Option Regex) → Reply
 count_reply None = record { code = code_of Empty; count = 0 }
 count_reply (Some re) = record { code = done; count = range_count re }
 
--- The result is the name of a group, which is empty if it has none, or `NoGroup` if there is no
--- such group.
+-- The result is the name of a group (empty if it has no name), or `NoGroup` if there is no such
+-- group.
 abbrev pub Names : Regex → (number : ℕ) → Result (List ℕ) Refusal → Type 0
 Names re number (Ok name) = (1 ≤ number) × (number ≤ length (group_ids (tree_for_byte_units re).root))
     × (name ≡ get_or (group_names_by_id (tree_for_byte_units re).root) (number - 1) [])
 Names re number (Err NoGroup) = ¬ ((1 ≤ number) × (number ≤ length (group_ids (tree_for_byte_units re).root)))
 Names re number (Err _) = ⊥
 
--- The result with the handle's pattern, which is refused if the handle is empty.
+-- The result for the handle's pattern. The call is refused if the handle is empty.
 abbrev pub NamesBy : (held : Option Regex) → (number : ℕ) → Result (List ℕ) Refusal → Type 0
 NamesBy None number made = made ≡ Err Empty
 NamesBy (Some re) number made = Names re number made
@@ -110,8 +110,8 @@ NamesBy (Some re) number made = Names re number made
 abbrev pub IsPlaceIn : (width : ℕ → ℕ) → (characters : List ℕ) → (at : ℕ) → Type 0
 IsPlaceIn width characters at = (n : ℕ) × (n ≤ length characters) × (at ≡ sum_by width (take n characters))
 
--- The result is a diagnosis with an offset in the pattern, none, or a refusal. ReplacedMatches diagnosis it
--- is, in which words, and whether there is one, is not specified.
+-- The result is a diagnosis with an offset in the pattern, no diagnosis, or a refusal. Which
+-- diagnosis is given, its wording, and whether there is one are not specified.
 abbrev pub Diagnoses : Given → (width : ℕ → ℕ) → Result (Option CauseAndOffset) Refusal → Type 0
 Diagnoses given width (Ok (Some told)) = IsReadable given × IsPlaceIn width given.characters told.at
 Diagnoses given width (Ok None) = IsReadable given
@@ -120,33 +120,33 @@ Diagnoses given width (Err NotUtf8) = ¬ given.is_text
 Diagnoses given width (Err Memory) = IsReadable given
 Diagnoses given width (Err _) = ⊥
 
--- The reply for a diagnosis, for none, or for a refusal.
+-- The reply for a diagnosis, for no diagnosis, or for a refusal.
 abbrev pub diagnosis_reply : Result (Option CauseAndOffset) Refusal → (room : ℕ) → Reply
 diagnosis_reply (Ok (Some told)) room = text_reply (code_of Syntax) (string_bytes told.cause) room
 diagnosis_reply (Ok None) room = record { code = done; count = 0 }
 diagnosis_reply (Err refusal) room = record { code = code_of refusal; count = 0 }
 
--- The buffer after a diagnosis, after none, or after a refusal.
+-- The buffer after a diagnosis, after no diagnosis, or after a refusal.
 abbrev pub buffer_after_diagnosis : Result (Option CauseAndOffset) Refusal → (before : List ℕ) → List ℕ
 buffer_after_diagnosis (Ok (Some told)) before = buffer_after_text (string_bytes told.cause) before
 buffer_after_diagnosis (Ok None) before = before
 buffer_after_diagnosis (Err refusal) before = before
 
--- The caller's variable for the offset after a diagnosis, after none, or after a refusal.
+-- The caller's variable for the offset, after a diagnosis, after no diagnosis, or after a refusal.
 abbrev pub place_after : Result (Option CauseAndOffset) Refusal → (at : ℕ) → ℕ
 place_after (Ok (Some told)) at = told.at
 place_after (Ok None) at = at
 place_after (Err refusal) at = at
 
--- The reply, the caller's variable for the offset and the buffer afterwards are those of a result.
+-- The reply, the caller's final offset and the final buffer are those of some result.
 abbrev pub RepliesDiagnosis : Given → (width : ℕ → ℕ) → (at : ℕ) → (before : List ℕ) → (at' : ℕ) → (after : List ℕ)
     → Reply → Type 0
 RepliesDiagnosis given width at before at' after reply = (told : Result (Option CauseAndOffset) Refusal)
     × Diagnoses given width told × (reply ≡ diagnosis_reply told (length before)) × (at' ≡ place_after told at)
     × (after ≡ buffer_after_diagnosis told before)
 
--- The same for a pattern of this language. Without one, the language is refused, and nothing is
--- written.
+-- `RepliesDiagnosis` for a pattern of the given language. If there is no language, the call is
+-- refused and nothing is written.
 abbrev pub RepliesDiagnosisWithSyntax : Option pattern.Syntax → (pattern.Syntax → Given) → (width : ℕ → ℕ)
     → (at : ℕ) → (before : List ℕ) → (at' : ℕ) → (after : List ℕ) → Reply → Type 0
 RepliesDiagnosisWithSyntax None given width at before at' after reply =

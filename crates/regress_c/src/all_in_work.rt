@@ -14,8 +14,8 @@ use regress_match::{BoundedRegex, Regex};
 use regress_search::exec::{WorkLimitedProducer, WorkMatches};
 use std::alloc::Global;
 
-/// Writes the matches in a UTF-8 text from an offset on, as many as there is room for, with at most
-/// `work` work for all of them. Sets `work` to the work that is left.
+/// Writes the matches in a UTF-8 text from an offset on, as many as there is room for. All of them
+/// together take at most `work` work. Sets `work` to the work that is left.
 pub(crate) fn find_all(
     alloc: Global,
     pattern: &mut Pattern,
@@ -71,8 +71,8 @@ fn fill_by(
     Ok(reply)
 }
 
-// Writes the remaining matches of an iterator to the buffer, as many as there is room for, each
-// with `ranges` ranges.
+// Writes the remaining matches of an iterator to the buffer, as many as there is room for. Each
+// match has `ranges` ranges.
 fn write_all<P: WorkLimitedProducer + Drop>(
     matches: &mut WorkMatches<P>,
     ranges: usize,

@@ -1,4 +1,4 @@
-//! Texts in each encoding in which only a match that begins at the start is searched for.
+//! Texts in each encoding, for searches that only look for a match that begins at the start.
 
 ghost use Rattle.std.specs.Prelude.{◌≡◌, IsUtf8};
 ghost use Rattle.regress_c.specs.Searching.{can_start_utf16, can_start_utf8};

@@ -19,12 +19,12 @@ use std::alloc::Global;
 pub struct Bounds {
     /// The maximum length in code points.
     pub length: usize,
-    /// The maximum number of parentheses open at once, outside of classes.
+    /// The maximum number of parentheses that are open at the same time, outside of classes.
     pub nesting: usize,
 }
 
 impl Bounds {
-    /// The bounds that every pattern is within.
+    /// Bounds that do not limit patterns.
     pub(crate) const NONE: Bounds = Bounds {
         length: usize::MAX,
         nesting: usize::MAX,
@@ -87,7 +87,7 @@ fn fill(pattern: &mut Pattern, made: Result<Box<Regex>, Refusal>) -> u32
     }
 }
 
-// Compiles a pattern with the flags of these letters, if it is within the bounds.
+// Compiles a pattern with the flags of these letters. Refuses a pattern that exceeds the bounds.
 fn compiled<S: Source>(
     alloc: Global,
     source: &S,

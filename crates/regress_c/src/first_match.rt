@@ -25,7 +25,7 @@ pub(crate) fn search<S: Subject>(
     reply_with(find(alloc, pattern, subject, start), spans)
 }
 
-// Finds the first match with the pattern of the handle, which holds the pattern again afterwards.
+// Finds the first match with the handle's pattern. The handle holds the pattern again afterwards.
 fn find<S: Subject>(
     alloc: Global,
     pattern: &mut Pattern,

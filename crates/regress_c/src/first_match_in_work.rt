@@ -10,8 +10,8 @@ use crate::subject::text_from;
 use regress_match::{BoundedRegex, Match, Regex};
 use std::alloc::Global;
 
-/// Finds the first match with the pattern of the handle, which holds the pattern again afterwards,
-/// with at most `work` work. Sets `work` to the work that is left.
+/// Finds the first match with the handle's pattern, with at most `work` work. The handle holds the
+/// pattern again afterwards. Sets `work` to the work that is left.
 pub(crate) fn find(
     alloc: Global,
     pattern: &mut Pattern,
@@ -56,8 +56,8 @@ fn first_in_work(
     Ok(first.transpose()?)
 }
 
-/// Sets `per_unit` to the work bound of the handle's pattern: on a text of n units, `per_unit`
-/// × (n + 1) work is enough. Returns a code.
+/// Sets `per_unit` to the work bound of the handle's pattern: for a text of n units, `per_unit` ×
+/// (n + 1) work suffices. Returns a code.
 pub(crate) fn write_work_bound(alloc: Global, pattern: &mut Pattern, per_unit: &mut u64) -> u32
     ensures replies { RepliesWorkBound pattern.old.held per_unit.old per_unit.new result }
     ensures kept { pattern.new.held ≡ pattern.old.held }
@@ -71,7 +71,7 @@ pub(crate) fn write_work_bound(alloc: Global, pattern: &mut Pattern, per_unit: &
     }
 }
 
-// Returns the work bound, or why there is none.
+// Returns the work bound, or the reason why there is none.
 fn work_bound_found(alloc: Global, pattern: &mut Pattern) -> Result<u64, Refusal>
     ensures reckons { IsWorkBoundResult pattern.old.held result }
     ensures kept { pattern.new.held ≡ pattern.old.held }

@@ -1,9 +1,9 @@
 //! Regular expressions for C: the functions that `c/regress_c.h` declares, over `regress_match`.
 //!
-//! C callers are not verified, so no function here requires more of its arguments than their types
-//! do. Each precondition of `regress_match` is checked at run time, and a violation is reported by
-//! a code. `Global` has size zero, so C passes nothing for it. A slice is passed as a pointer
-//! followed by a length.
+//! C callers are not verified, so the functions here require nothing of their arguments beyond
+//! their types. Each precondition of `regress_match` is checked at run time, and a violation is
+//! reported by a code. `Global` has size zero, so C passes nothing for it. A slice is passed as a
+//! pointer followed by a length.
 #![tactic(auto)]
 
 ghost use Rattle.std.specs.Prelude.{◌≡◌, IsUtf8, None, Some, chars, length};
@@ -69,7 +69,7 @@ pub extern "C" fn regress_c_version() -> u32
 // ---- Patterns
 
 /// Compiles a UTF-8 pattern with the flags of these letters into an empty handle, and returns a
-/// code. If it is refused, the handle is unchanged.
+/// code. If the call is refused, the handle is unchanged.
 #[unsafe(no_mangle)]
 pub extern "C" fn regress_c_compile_utf8(
     alloc: Global,
@@ -458,8 +458,8 @@ pub extern "C" fn regress_c_match_at_ucs2(
 
 // ---- Within a work budget
 
-/// Sets `per_unit` to the work bound of the pattern: on a text of n bytes, `per_unit` × (n + 1)
-/// work is enough. Returns a code.
+/// Sets `per_unit` to the work bound of the pattern: for a text of n bytes, `per_unit` × (n + 1)
+/// work suffices. Returns a code.
 #[unsafe(no_mangle)]
 pub extern "C" fn regress_c_work_per_unit(
     alloc: Global,
@@ -489,8 +489,8 @@ pub extern "C" fn regress_c_find_utf8_in_work(
     reply_with(find(alloc, pattern, text, start, work), spans)
 }
 
-/// Writes the matches in a UTF-8 text from `start` on, an offset in bytes, as many as there is room
-/// for, with at most `work` work for all of them. Sets `work` to the work that is left.
+/// Writes the matches in a UTF-8 text from `start` on (an offset in bytes), as many as there is
+/// room for. All of them together take at most `work` work. Sets `work` to the work that is left.
 #[unsafe(no_mangle)]
 pub extern "C" fn regress_c_find_all_utf8_in_work(
     alloc: Global,
@@ -508,8 +508,8 @@ pub extern "C" fn regress_c_find_all_utf8_in_work(
 
 // ---- All matches
 
-/// Opens a search in a UTF-8 text from `start` on, an offset in bytes, and returns a code. If it is
-/// refused, `search` is unchanged.
+/// Opens a search in a UTF-8 text from `start` on, an offset in bytes, and returns a code. If the
+/// call is refused, `search` is unchanged.
 #[unsafe(no_mangle)]
 pub extern "C" fn regress_c_search_utf8<'t>(
     search: &mut Search<'t>,
@@ -580,7 +580,7 @@ pub extern "C" fn regress_c_next_within(
     went.reply
 }
 
-/// Closes a search, which then borrows no text.
+/// Closes a search. Then it no longer borrows a text.
 #[unsafe(no_mangle)]
 pub extern "C" fn regress_c_close(search: &mut Search<'_>)
     ensures { search.new.encoding ≡ 0 }
@@ -645,7 +645,7 @@ pub extern "C" fn regress_c_escape_utf8(alloc: Global, text: &[u8], escaped: &mu
 
 // ---- Messages
 
-/// Writes the text of a code, in ASCII. A number that is no code has a text too.
+/// Writes the text of a code, in ASCII. There is also a text for numbers that are not codes.
 #[unsafe(no_mangle)]
 pub extern "C" fn regress_c_message_utf8(code: u32, message: &mut [u8]) -> Reply
     ensures reply { result ≡ text_reply done (message_of code) (length message.old) }

@@ -25,12 +25,12 @@ pub(crate) enum Stop {
     Full,
     /// No match remains.
     Over,
-    /// The search for the next match was refused.
+    /// The search for the next match failed.
     Refused(SearchError),
 }
 
 impl Stop {
-    // Returns the code that reports it.
+    // Returns the code that reports why no further match was written.
     fn code(self) -> u32
         ensures { result ≡ code_of_stop self }
     {
@@ -42,18 +42,18 @@ impl Stop {
     }
 }
 
-/// The result of writing matches: how many were written, the offset from which the list continues
-/// after them, and why no more were written.
+/// The result of writing matches: their number, the offset at which the list continues after them,
+/// and why no more were written.
 #[derive(Clone, Copy)]
 pub(crate) struct Filled {
     pub(crate) matches: usize,
     pub(crate) next: usize,
     pub(crate) stop: Stop,
-    /// How many steps are left, if they are counted.
+    /// The number of steps that are left, if steps are counted.
     pub(crate) left: Option<u64>,
 }
 
-/// The reply of a call, and how many steps are left, if they are counted.
+/// The reply of a call, and the number of steps that are left, if steps are counted.
 #[derive(Clone, Copy)]
 pub(crate) struct CallOutcome {
     pub(crate) reply: Reply,
@@ -61,7 +61,7 @@ pub(crate) struct CallOutcome {
 }
 
 /// Writes the next matches of a search with the handle's pattern, as many as there is room for. If
-/// steps are counted, returns how many are left.
+/// steps are counted, returns the number that is left.
 pub(crate) fn write_next_matches(
     alloc: Global,
     pattern: &mut Pattern,
@@ -118,7 +118,7 @@ fn write_next_matches_by(
     }
 }
 
-// Returns the result of a refused call, which uses no steps.
+// Returns the result of a refused call, which takes no steps.
 fn refused(refusal: Refusal, steps: Option<u64>) -> CallOutcome
     ensures { result ≡ record { reply = record { code = number_of refusal; count = 0 }; left = steps } }
 {
@@ -209,7 +209,7 @@ fn in_ucs2(re: &Regex, units: &[u16], start: usize, spans: &mut [Span]) -> Resul
     Ok(fill(&mut executor, start, re.unit_group_count() + 1, spans))
 }
 
-// Writes matches from an offset on, as many as there is room for, each with `ranges` ranges.
+// Writes matches from an offset on, as many as there is room for. Each match has `ranges` ranges.
 fn fill<E: SingleAttemptExecutor>(
     search: &mut E,
     start: usize,
@@ -250,7 +250,7 @@ fn fill<E: SingleAttemptExecutor>(
     filled
 }
 
-// Writes the `count` ranges of a match to the buffer from index `at` on. Returns the offset from
+// Writes the `count` ranges of a match to the buffer from index `at` on. Returns the offset at
 // which the list of matches continues.
 fn write_step(step: Step, count: usize, at: usize, spans: &mut [Span]) -> usize
     requires all { count ≡ length (spans_of (answer_of step.found)) }

@@ -22,7 +22,7 @@ pub(crate) fn open<'t>(search: &mut Search<'t>, opened: Result<Search<'t>, Refus
     }
 }
 
-/// Checks whether a start is within a UTF-8 text and splits a character.
+/// Checks whether a start in a UTF-8 text splits a character.
 pub(crate) fn splits_utf8_character(text: &str, start: usize) -> bool
     ensures cut { result ≡ true → ¬ can_start_utf8 text.now start }
     ensures whole { result ≡ false → can_start_utf8 text.now start }
@@ -30,7 +30,7 @@ pub(crate) fn splits_utf8_character(text: &str, start: usize) -> bool
     start <= text.len() && !text.is_char_boundary(start)
 }
 
-/// Checks whether a start is within a UTF-16 text and splits a surrogate pair.
+/// Checks whether a start in a UTF-16 text splits a surrogate pair.
 pub(crate) fn splits_surrogate_pair(units: &[u16], start: usize) -> bool
     ensures cut { result ≡ true → ¬ can_start_utf16 units.now start }
     ensures whole { result ≡ false → can_start_utf16 units.now start }

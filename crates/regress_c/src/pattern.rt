@@ -13,8 +13,8 @@ use std::marker::Model;
 use std::mem::replace;
 use std::ptr::null_mut;
 
-/// A handle that holds a pattern, or nothing if the pointer is null. Only `take` gives the pattern
-/// back to be freed, since that needs the allocator.
+/// A handle. It holds a pattern, or nothing if the pointer is null. Only `take` returns the pattern
+/// to be freed, because freeing needs the allocator.
 #[repr(C)]
 #[derive(Drop)]
 pub struct Pattern {
@@ -27,7 +27,7 @@ impl Model for Pattern {
 }
 
 impl Pattern {
-    // Returns a handle that holds a pattern, from its pointer.
+    // Creates a handle that holds a pattern, from its pointer.
     fn of(loose: RawBox<Regex, Global>) -> Pattern
         ensures { result.held ≡ Some loose.value }
     {
@@ -57,8 +57,7 @@ impl Pattern {
         }
     }
 
-    /// Takes the pattern out of the handle, which is empty afterwards. Returns `None` if it was
-    /// empty.
+    /// Takes the pattern out of the handle, which becomes empty. Returns `None` if it was empty.
     pub(crate) fn take(&mut self, alloc: Global) -> Option<Box<Regex>>
         ensures taken { option_map (λ b. b.value) result ≡ self.old.held }
         ensures empty { self.new.held ≡ None }

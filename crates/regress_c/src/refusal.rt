@@ -1,4 +1,4 @@
-//! Why a call is refused, and the codes that are returned to C.
+//! Why a call is refused, and the codes that C receives.
 
 ghost use Rattle.std.specs.Prelude.{◌≡◌};
 ghost use Rattle.regress_c.specs.Codes.{code_of, code_of_reason, refused_as};
@@ -41,7 +41,7 @@ pub(crate) enum Refusal {
     TooManyLoops,
     /// The program of the pattern has too many instructions.
     TooManyInstructions,
-    /// A letter is not that of a flag.
+    /// A letter is not the letter of a flag.
     UnknownFlag,
     /// The pattern is longer than the bounds allow.
     TooLong,
@@ -62,7 +62,7 @@ pub(crate) enum Refusal {
 }
 
 impl Refusal {
-    /// Returns the code, as in the header.
+    /// Returns the code in the header.
     pub(crate) fn code(self) -> u32
         ensures { result ≡ code_of self }
     {
@@ -90,7 +90,7 @@ impl Refusal {
         }
     }
 
-    /// Returns the reply of a refused call, whose count is 0.
+    /// Returns the reply of a refused call. Its count is 0.
     pub(crate) fn reply(self) -> Reply
         ensures { result ≡ record { code = code_of self; count = 0 } }
     {

@@ -1,4 +1,4 @@
-//! The reply of a search, and the ranges that it writes into the caller's buffer.
+//! The reply of a search, and the ranges that a search writes into the caller's buffer.
 
 ghost use Rattle.std.specs.Prelude.{◌≡◌, ◌≤◌, ◌+◌, ◌++◌, Ok, Some, drop, length, option_map, take};
 ghost use Rattle.regress_c.specs.Replies.{buffer_after_search, reply_to, span_of, spans_of, written_over};
@@ -7,7 +7,7 @@ ghost use Rattle.regress_search.specs.MatchesAsSpecAnswers.{answer_of, range_as_
 use crate::refusal::{DONE, NO_MATCH, Refusal};
 use regress_match::{Match, Range};
 
-/// A range of the text in units. Both ends are `usize::MAX` for a group that did not match.
+/// A range of the text, in units. If a group did not match, both ends are `usize::MAX`.
 #[repr(C)]
 #[derive(Clone, Copy)]
 pub struct Span {
@@ -15,8 +15,8 @@ pub struct Span {
     pub end: usize,
 }
 
-/// A code and a count. For a search, the count is the number of ranges of the match, or 0 without
-/// one.
+/// A code and a count. For a search, the count is the number of ranges of the match, or 0 if there
+/// is no match.
 #[repr(C)]
 #[derive(Clone, Copy)]
 pub struct Reply {
@@ -24,7 +24,7 @@ pub struct Reply {
     pub count: usize,
 }
 
-// Returns the span of a range, or that of a group that did not match.
+// Returns the span of a range. `None` is the range of a group that did not match.
 fn to_span(range: Option<Range<usize>>) -> Span
     ensures { result ≡ span_of (option_map range_as_pair range) }
 {
@@ -76,7 +76,7 @@ pub(crate) fn reply_with(found: Result<Option<Match>, Refusal>, spans: &mut [Spa
     }
 }
 
-// Replies to a match.
+// Returns the reply for a match.
 #[tactic(auto, using(crate::proofs::ReplyLemmas::count_is, crate::proofs::ReplyLemmas::done_reply, crate::proofs::ReplyLemmas::short_reply, crate::proofs::ReplyLemmas::done_left, crate::proofs::ReplyLemmas::short_left))]
 fn matched(found: &Match, spans: &mut [Span]) -> Reply
     ensures reply { result ≡ reply_to (Ok (Some found.now)) (length spans.old) }

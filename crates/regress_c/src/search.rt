@@ -1,4 +1,4 @@
-//! An open search: its text, which is validated once, and the offset from which the list of matches
+//! An open search: its text, which is validated once, and the offset at which the list of matches
 //! continues.
 
 ghost use Rattle.std.specs.Prelude.{◌≡◌, IsUtf8};
@@ -15,16 +15,16 @@ pub(crate) enum Encoding {
     Ucs2,
 }
 
-/// A search in a text that is borrowed from the caller who opened it.
+/// A search in a text that is borrowed from the caller.
 #[repr(C)]
 #[derive(Drop)]
 pub struct Search<'t> {
-    /// The UTF-8 text; empty if the text is one of 16-bit code units.
+    /// The UTF-8 text. Empty if the text has 16-bit code units.
     pub bytes: &'t [u8],
-    /// The text of 16-bit code units; empty if the text is UTF-8.
+    /// The text of 16-bit code units. Empty if the text is UTF-8.
     pub units: &'t [u16],
-    /// The offset in units of the text from which the search continues; past the end once it is
-    /// over.
+    /// The offset, in units of the text, at which the search continues. It is past the end when the
+    /// search is over.
     pub next: usize,
     /// How the text is read: 1 for UTF-8, 2 for UTF-16, 3 for UCS-2. Any other number means that no
     /// search is open.
@@ -66,7 +66,7 @@ impl<'t> Search<'t> {
         unsafe { str::from_utf8_unchecked(self.bytes) }
     }
 
-    /// Returns a search in a UTF-8 text from an offset in bytes on. Refuses a text that is not
+    /// Returns a search in a UTF-8 text, from an offset in bytes on. Refuses bytes that are not
     /// UTF-8, and a start that splits a character.
     pub(crate) fn in_utf8(bytes: &'t [u8], start: usize) -> Result<Self, Refusal>
         ensures { OpensUtf8 bytes.now start result }

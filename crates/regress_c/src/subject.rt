@@ -10,7 +10,7 @@ use regress_match::{Match, Regex, is_unit_boundary};
 use regress_search::exec::{MatchProducer, Matches};
 
 /// A text to be searched. Contracts see whether it is valid in its encoding, where a search may
-/// start, and the matches from there on.
+/// start, and the matches from a start on.
 pub(crate) trait Subject {
     ghost is_text: { Self → Type 0 };
 
@@ -18,8 +18,8 @@ pub(crate) trait Subject {
 
     ghost coming: { Self → Compiled → ℕ → MatchesToCome };
 
-    /// Returns the first match from an offset in units on. Refuses a text that is not valid, and a
-    /// start that splits a character.
+    /// Returns the first match from an offset in units on. Refuses an invalid text, and a start
+    /// that splits a character.
     fn first(&self, re: &Regex, start: usize) -> Result<Option<Match>, Refusal>
         ensures { Finds (is_text self.now) (can_start self.now start) (coming self.now re.now start) result };
 }
@@ -31,7 +31,7 @@ fn first_of<P: MatchProducer + Drop>(mut matches: Matches<P>) -> Result<Option<M
     Ok(matches.next().transpose()?)
 }
 
-/// Returns these bytes as UTF-8 text, if they are valid and a search may start at `start`.
+/// Returns these bytes as a UTF-8 text, if they are valid UTF-8 and a search may start at `start`.
 pub(crate) fn text_from(bytes: &[u8], start: usize) -> Result<&str, Refusal>
     ensures { Starts bytes.now start result }
 {
@@ -62,7 +62,7 @@ impl Subject for Utf8<'_> {
     }
 }
 
-/// A text in UTF-16. Any code units are one: an unpaired surrogate is a character.
+/// A text in UTF-16. All sequences of code units are valid: an unpaired surrogate is a character.
 #[derive(Drop)]
 pub(crate) struct Utf16<'t> {
     pub(crate) units: &'t [u16],

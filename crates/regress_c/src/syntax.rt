@@ -1,11 +1,11 @@
-//! The languages of patterns by their numbers.
+//! The languages of patterns, and their numbers.
 
 ghost use Rattle.std.specs.Prelude.{◌≡◌};
 ghost use Rattle.regress_c.specs.Reading.{syntax_of_number};
 
 use regress_match::Syntax;
 
-/// Returns the language that has this number in the header, or `None` if none has.
+/// Returns the language with this number in the header, or `None` if there is no such language.
 pub(crate) fn syntax_of(number: u32) -> Option<Syntax>
     ensures { result ≡ syntax_of_number number }
 {

@@ -28,8 +28,8 @@ pub(crate) enum ReplacedMatches {
     All,
 }
 
-// Writes a text to the front of the buffer if there is room for all of it. The reply has its
-// length.
+// Writes a text to the front of the buffer if there is room for all of it. The count of the reply
+// is its length.
 fn copied(text: &[u8], buffer: &mut [u8], code: u32) -> Reply
     ensures reply { result ≡ text_reply code text.now (length buffer.old) }
     ensures written { buffer.new ≡ buffer_after_text text.now buffer.old }
@@ -43,7 +43,7 @@ fn copied(text: &[u8], buffer: &mut [u8], code: u32) -> Reply
     Reply { code, count }
 }
 
-// Writes a produced text like `copied`, or replies with the refusal.
+// Writes a produced text like `copied`, or returns the reply for a refusal.
 fn answered(made: Result<String, Refusal>, buffer: &mut [u8]) -> Reply
     ensures reply { result ≡ made_reply (result_map_both string_bytes (λ e. e) made) (length buffer.old) }
     ensures written { buffer.new ≡ buffer_after_made_text (result_map_both string_bytes (λ e. e) made) buffer.old }
@@ -106,8 +106,8 @@ fn escaped_text(alloc: Global, text: &[u8]) -> Result<String, Refusal>
     Ok(escape(alloc, str::from_utf8(text)?)?)
 }
 
-/// Replies with the number of ranges of a match of the handle's pattern: one more than it has
-/// groups.
+/// Replies with the number of ranges of a match of the handle's pattern, which is one more than the
+/// number of groups.
 pub(crate) fn range_count(alloc: Global, pattern: &mut Pattern) -> Reply
     ensures reply { result ≡ count_reply pattern.old.held }
     ensures kept { pattern.new.held ≡ pattern.old.held }
@@ -120,7 +120,7 @@ pub(crate) fn range_count(alloc: Global, pattern: &mut Pattern) -> Reply
     Reply { code: DONE, count }
 }
 
-/// Writes the name of a group, which is empty if it has none.
+/// Writes the name of a group. The name is empty if the group has none.
 pub(crate) fn named(re: &Regex, number: usize, buffer: &mut [u8]) -> Reply
     ensures { RepliesText (Names re.now number) buffer.old buffer.new result }
 {
@@ -197,7 +197,7 @@ pub(crate) fn diagnosis_with_syntax<S: Source>(
     }
 }
 
-/// Writes what is wrong with a pattern that has a syntax error, and sets `at` to where.
+/// If a pattern has a syntax error, writes what is wrong with it, and sets `at` to the position.
 pub(crate) fn diagnosis<S: Source>(
     alloc: Global,
     source: &S,
@@ -222,14 +222,15 @@ pub(crate) fn diagnosis<S: Source>(
     }
 }
 
-// A diagnosis: the cause in words, and the offset in units of the pattern at which it begins.
+// A diagnosis: a description of the cause, and the offset in units of the pattern at which the
+// error begins.
 #[derive(Drop)]
 struct CauseAndOffset {
     cause: String,
     at: usize,
 }
 
-// Returns the diagnosis of a pattern, or `None` if there is nothing wrong.
+// Returns the diagnosis of a pattern. Returns `None` if the pattern is valid.
 fn diagnosed<S: Source>(
     alloc: Global,
     source: &S,

@@ -1,4 +1,4 @@
--- What reading a text from an offset yields.
+-- What is read from a text at an offset.
 use Rattle.std.specs.Prelude.{◌≡◌, ℕ, zero, suc, ◌+◌, ◌-◌, Bool, true, false, ◌&&◌, ◌||◌, List, length, map, Option, Some, None, option_map}
 use Rattle.std.specs.Prelude.{option_and_then, unwrap_or, if◌then◌else◌, nat_le, nat_eq, ◌==◌, slice_get, slice_range, encode_utf8_all, drop, IsTrue}
 use Rattle.std.specs.Prelude.{IsUtf8}
@@ -17,7 +17,8 @@ abbrev pub direction_of_forward_flag : (forward : Bool) → Direction
 direction_of_forward_flag true = rightwards
 direction_of_forward_flag false = leftwards
 
--- The result of a matcher as one value: the offset that it leaves, `None` if it does not match.
+-- The result of a matcher as one value: the offset at which it ends, or `None` if it does not
+-- match.
 abbrev pub end_if_matched : (matches : Bool) → (at : ℕ) → Option ℕ
 end_if_matched matches at = if matches then Some at else None
 
@@ -68,7 +69,7 @@ module _ (text : Text) where
   abbrev pub past_folded_range_if_next : (from to : ℕ) → Direction → (at : ℕ) → Option ℕ
   past_folded_range_if_next from to = past_spelled_if_next (same_fold text.fold) (characters_between from to)
 
-  -- Like `past_repeated_range_if_next`, for characters that are the same in this sense.
+  -- Like `past_repeated_range_if_next`, but characters are compared by this sameness.
   abbrev pub past_same_range_if_next : Sameness → (from to : ℕ) → Direction → (at : ℕ) → Option ℕ
   past_same_range_if_next same from to = past_spelled_if_next (is_same text same) (characters_between from to)
 
@@ -93,7 +94,7 @@ is_byte_encoding utf8 = true
 is_byte_encoding utf16 = false
 is_byte_encoding ucs2 = false
 
--- The bytes of the text if its code units are bytes, else `None`.
+-- The bytes of the text if its code units are bytes, and `None` otherwise.
 abbrev pub bytes_if_byte_units : (are_bytes : Bool) → Text → Option (List ℕ)
 bytes_if_byte_units are_bytes text = if are_bytes then Some (bytes_of text) else None
 
@@ -117,7 +118,8 @@ abbrev pub moved_by_units : (all : ℕ) → Direction → (n at : ℕ) → Optio
 moved_by_units all rightwards n at = if nat_le (at + n) all then Some (at + n) else None
 moved_by_units all leftwards n at = if nat_le n at && nat_le (at - n) all then Some (at - n) else None
 
--- The offset past the units `these` if they occur next to `at` in the direction, else `None`.
+-- The offset past the units `these` if they occur next to `at` in the direction, and `None`
+-- otherwise.
 abbrev pub past_units_if_next : {Unit : Type 0} → (same : Unit → Unit → Bool) → (all : List Unit) → (these : List Unit)
     → Direction → (at : ℕ) → Option ℕ
 past_units_if_next same all these rightwards at =
@@ -131,7 +133,7 @@ past_units_if_next same all these leftwards at =
 abbrev pub past_numbers_if_next : (all : List ℕ) → (bytes : List ℕ) → Direction → (at : ℕ) → Option ℕ
 past_numbers_if_next = past_units_if_next nat_eq
 
--- What is read in bytes if code units are bytes, else `None`.
+-- What is read in bytes if code units are bytes, and `None` otherwise.
 abbrev pub read_if_units_are_bytes : (are_bytes : Bool) → Option ℕ → Option ℕ
 read_if_units_are_bytes true read = read
 read_if_units_are_bytes false read = None

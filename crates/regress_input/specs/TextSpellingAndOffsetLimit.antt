@@ -1,4 +1,4 @@
--- Texts of each encoding are spelled in it, and their offsets are below 2^63.
+-- Texts of each encoding are spelled in that encoding, and their offsets are below 2^63.
 use Rattle.std.specs.Prelude.{◌≡◌, ℕ, ◌<◌, ◌≤◌, ◌^◌, Bool, List, [], ◌∷◌, length, map, if◌then◌else◌, IsUtf8, IsAscii}
 use Rattle.std.proofs.Common.{◌⊎◌, inl, inr, refl, sym, ◌∙◌, ap, ap₂, subst, lt-ltb, le-ltb, le-leb}
 use Rattle.std.proofs.lemmas.Bool.{cases_lt, lt-leb}
@@ -16,7 +16,8 @@ use Rattle.regress_input.specs.Utf16CharactersAtOffsets.{AreU16Units}
 
 -- ---- The width of a character is the length of its spelling
 
--- If widths are lengths of spellings, they are so for lists of characters too.
+-- If the width of each character is the length of its spelling, this also holds for lists of
+-- characters.
 widths : (e : Encoding) (width : ℕ → ℕ) → ((c : ℕ) → length (spelled_in e c) ≡ width c) → (cs : List ℕ)
     → map width cs ≡ map (λ c. length (spelled_in e c)) cs
 widths e width sized [] = refl

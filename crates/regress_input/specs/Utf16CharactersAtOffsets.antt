@@ -26,6 +26,6 @@ character_before units at =
     if nat_le 2 at && is_surrogate_pair_at units (at - 2) then (char_of_surrogate_pair_at units (at - 2), at - 2)
     else (slice_index units (at - 1), at - 1)
 
--- The offset if it is a boundary, else `None`.
+-- The offset if it is a boundary, and `None` otherwise.
 abbrev pub if_utf16_boundary : List ℕ → Option ℕ → Option ℕ
 if_utf16_boundary units at = option_and_then (λ to. if is_unit_boundary units to then Some to else None) at

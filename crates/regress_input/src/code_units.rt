@@ -26,8 +26,8 @@ pub trait CodeUnit: Copy + PartialEq {
     fn as_bytes(all: &[Self]) -> Option<&[u8]>
         ensures { option_map (λ bytes. bytes.now) result ≡ as_bytes_if is_byte number all.now };
 
-    /// Tests 32 units from `at` on: bit `i` of the result is set if and only if unit `at + i` has, of
-    /// the bits in `mask`, exactly those in `bits`.
+    /// Tests 32 units from `at` on. Bit `i` of the result is set if and only if, among the bits in
+    /// `mask`, exactly those in `bits` are set in unit `at + i`.
     fn units_with_bits(all: &[Self], at: usize, mask: u16, bits: u16) -> u64
         requires { at + 32 ≤ length all.now }
         ensures { MarksUnitsWithBits (map number all.now) at mask bits result };
@@ -184,8 +184,8 @@ pub trait HasUnitType {
     type Units: CodeUnitEncoding;
 }
 
-/// States whether code units are bytes. Each type with `HasUnitType` implements it, and has no
-/// other implementation.
+/// States whether code units are bytes. It is implemented for each type with `HasUnitType`, in one
+/// way only.
 pub trait DeclaresWhetherUnitsAreBytes: HasUnitType {
     ghost CODE_UNITS_ARE_BYTES: { Bool };
 

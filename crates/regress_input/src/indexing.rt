@@ -81,7 +81,7 @@ pub trait InputIndexer: Copy + Debug + DeclaresWhetherUnitsAreBytes {
 
     ghost is_text: { (it : Self) → HasRisingPlaceOffsets (text it) };
 
-    // Offsets are below 2^63, so one is left for the position that represents no position.
+    // Offsets are below 2^63, so one offset is left for the value that stands for no position.
     ghost offsets_fit: { (it : Self) → units (text it) < 2 ^ 63 };
 
     ghost spelled: { (it : Self) → IsSpelledIn Self.Units.encoding (text it) };
@@ -379,8 +379,8 @@ pub trait InputIndexer: Copy + Debug + DeclaresWhetherUnitsAreBytes {
     }
 
     /// Returns the position `amt` code units to the left, or `None` if that is past the left end.
-    /// `pos` may be any position. From one past the right end the result is also `None` if the move
-    /// still ends past the right end.
+    /// `pos` may be any position. If `pos` is past the right end and the move still ends past it,
+    /// the result is also `None`.
     #[inline(always)]
     final fn try_move_left(&self, pos: Self::Position, amt: usize) -> Option<Self::Position>
         ensures { let at = Self.Position.offset in
@@ -459,7 +459,7 @@ pub trait InputIndexer: Copy + Debug + DeclaresWhetherUnitsAreBytes {
 }
 
 /// States a law and does nothing: a read to the right and a read to the left are inverse to each
-/// other. Each returns the character that the other returned, and goes back to where the other
+/// other. Each returns the character that the other one returned, and ends where the other one
 /// began.
 pub fn law_reads_are_inverse<Input: InputIndexer>(_input: &Input)
     ensures right_then_left { ReadsAreInverse (Input.text _input.now) rightwards leftwards }

@@ -28,8 +28,8 @@ pub trait PositionType: Copy
     fn to_offset(self) -> usize
         ensures { result ≡ offset self };
 
-    /// Returns the position that represents no position. Its offset is the greatest one, which no
-    /// text has.
+    /// Returns the value that stands for no position. Its offset is the greatest one, which no text
+    /// has.
     fn no_position() -> Self
         ensures { offset result ≡ 2 ^ 64 - 1 };
 

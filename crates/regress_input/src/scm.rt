@@ -12,8 +12,8 @@ use crate::front::{BracketContents, ByteArraySet, ByteSet, MAX_CHAR_SET_LENGTH, 
 use crate::indexing::{CharProperties, CodeUnitEncoding, ElementType, InputIndexer};
 use crate::utf8_decoding;
 
-/// A matcher of one character. Contracts see which characters it accepts (`accepted`), and what it
-/// requires of itself (`can_match`) and of its input.
+/// A matcher of one character. Contracts see the characters that it accepts (`accepted`), and what
+/// it requires of its own value (`can_match`) and of its input.
 pub trait SingleCharMatcher<Input: InputIndexer, Dir: Direction> {
     ghost can_match: { Self → Type 0 } = { λ _. ⊤ };
 
@@ -169,8 +169,8 @@ impl<Input: InputIndexer, Dir: Direction, ArraySet: SmallArraySet> SingleCharMat
     }
 }
 
-// Matches a character of a set of ASCII bytes. An ASCII character is one byte, so a byte is read if
-// code units are bytes; otherwise a character is read.
+// Matches a character of a set of ASCII bytes. If code units are bytes, one byte is read, because
+// an ASCII character is one byte. Otherwise a character is read.
 #[inline(always)]
 fn matches_ascii_byte_set<Bytes: ByteSet, Input: InputIndexer, Dir: Direction>(
     bytes: &Bytes,

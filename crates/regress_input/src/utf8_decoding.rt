@@ -52,8 +52,8 @@ pub(crate) fn character_before(bytes: &[u8], end: usize) -> (char, usize)
     )
 }
 
-// The characters that two, three and four bytes encode. The lead byte has a fixed part, and so has
-// each continuation byte; the number that is subtracted is the sum of these parts.
+// The characters that two, three and four bytes encode. The lead byte and each continuation byte
+// have a fixed part. The number that is subtracted is the sum of these parts.
 
 #[inline(always)]
 fn character_of_two(first: u8, second: u8) -> char

@@ -1,4 +1,5 @@
--- Instructions that find nothing at an offset, decided by the text to the right of it.
+-- Instructions from which a search finds nothing at an offset. The text to the right of the offset
+-- decides this.
 use Rattle.std.specs.Prelude.{◌≡◌, ℕ, ◌+◌, Bool, true, false, ◌&&◌, ◌||◌, ◌==◌, Option, Some, None, nat_lt, slice_get, encode_utf8_all}
 use Rattle.regex_meaning.specs.Tree.{start_of_line, end_of_line}
 use Rattle.regex_meaning.specs.Text.{Text, rightwards, next_character}
@@ -27,8 +28,8 @@ module _ (program : Program) (text : Text) (at : ℕ) (may : ℕ → Bool) where
   may_repeat (Some (EnterLoop f)) begin = may (begin + 1) || may f.exit
   may_repeat _ begin = false
 
-  -- Whether an instruction may find something at the offset, if `may` decides this for its
-  -- successors at that offset.
+  -- Whether an instruction may find something at the offset, given by `may` for its successors at
+  -- that offset.
   abbrev pub insn_may_find : Option Insn → (ip : ℕ) → Bool
   insn_may_find (Some Goal) ip = true
   insn_may_find (Some (Char c)) ip = accepts_char_at_offset text at (test_of program (Some (Char c)))
@@ -65,7 +66,8 @@ module _ (program : Program) (text : Text) (at : ℕ) (may : ℕ → Bool) where
   insn_may_find (Some (Lookbehind negate start_group end_group continuation)) ip = may continuation
   insn_may_find _ ip = false
 
--- `may` is closed: each instruction that it excludes at the offset is also excluded by `insn_may_find`.
+-- `may` is closed: each instruction that `may` excludes at the offset is also excluded by
+-- `insn_may_find`.
 pub record IsClosed (program : Program) (text : Text) (at : ℕ) (may : ℕ → Bool) : Type 0 where
   pub closed : (ip : ℕ) → may ip ≡ false → insn_may_find program text at may (slice_get program.insns ip) ip ≡ false
 

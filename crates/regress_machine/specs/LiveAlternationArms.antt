@@ -2,7 +2,7 @@
 use Rattle.std.specs.Prelude.{◌≡◌, ◌⊎◌, ℕ, zero, suc, ◌+◌, Bool, false, List, [], ◌∷◌, Some, slice_get}
 use Rattle.regex_meaning.specs.CompilationRelation.{Program, Alt}
 
--- The arm is in front of the others, or is omitted because `may` excludes it.
+-- `all` is the arm followed by the others, or the arm is omitted because `may` excludes it.
 abbrev pub IsArmKeptIfLive : (may : ℕ → Bool) → (arm : ℕ) → (others all : List ℕ) → Type 0
 IsArmKeptIfLive may arm others all = (all ≡ arm ∷ others) ⊎ ((all ≡ others) × (may arm ≡ false))
 

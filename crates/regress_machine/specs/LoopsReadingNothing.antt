@@ -18,18 +18,18 @@ ForksOrChanges true stop ip insn = (other : ℕ) × (insn ≡ Alt other) × (ip 
 ForksOrChanges false stop ip insn = (id : ℕ) × ((insn ≡ ResetCaptureGroup id)
     ⊎ ((insn ≡ BeginCaptureGroup id) ⊎ (insn ≡ EndCaptureGroup id)))
 
--- The instruction is one of these, so a thread stays at its position in the text.
+-- The instruction reads nothing and leads onward, so a thread at it keeps its position in the text.
 abbrev pub ReadsNothingAndLeadsOnward : (forks : Bool) → (stop ip : ℕ) → Insn → Type 0
 ReadsNothingAndLeadsOnward forks stop ip insn = LeadsTo stop ip insn ⊎ ForksOrChanges forks stop ip insn
 
--- From instruction `from` a thread reaches `stop` and reads nothing. Either there is no
+-- A thread from instruction `from` reaches `stop` without reading anything. On the way there is no
 -- alternation, or no group is changed.
 abbrev pub ReadsNothingUntil : (forks : Bool) → Program → (from stop : ℕ) → Type 0
 ReadsNothingUntil forks program from stop =
     (ip : ℕ) → from ≤ ip → ip < stop → (insn : Insn) → slice_get program.insns ip ≡ Some insn
     → ReadsNothingAndLeadsOnward forks stop ip insn
 
--- The loop that begins at `begin` has such a body.
+-- The body of the loop that begins at `begin` reads nothing.
 pub record HasEmptyBody (program : Program) (begin : ℕ) (f : LoopFields) : Type 0 where
   pub stop : ℕ
   pub behind : begin < stop
@@ -38,7 +38,8 @@ pub record HasEmptyBody (program : Program) (begin : ℕ) (f : LoopFields) : Typ
   pub forks : Bool
   pub reads_nothing : ReadsNothingUntil forks program (begin + 1) stop
 
--- The last required iteration of such a loop may replace any required one.
+-- If the body of a loop reads nothing, its last required iteration may replace any other required
+-- one.
 abbrev pub LastRequiredEmptyIterationReplacesOthers : Type 0
 LastRequiredEmptyIterationReplacesOthers = (program : Program) (text : Text) (d : Direction) (begin : ℕ)
     (f : LoopFields) → HasEmptyBody program begin f → f.min_iters ≤ f.max_iters

@@ -1,4 +1,4 @@
--- The code units that must follow for a thread to find something (a required prefix).
+-- Required prefixes: the code units that must follow if a thread finds something.
 use Rattle.std.specs.Prelude.{◌≡◌, ◌≤◌, ◌<◌, ℕ, ◌+◌, Bool, false, Option, Some, None}
 use Rattle.regex_meaning.specs.Tree.{Tree}
 use Rattle.regex_meaning.specs.Text.{Text, rightwards, last_place}
@@ -15,7 +15,7 @@ use Rattle.regress_machine.specs.FirstSetTables.{HasUnitsForTables, unit_key_at}
 abbrev pub AllowedUnitsAhead : Type 0
 AllowedUnitsAhead = (ahead key : ℕ) → Bool
 
--- Whether the unit that is `ahead` units further on is allowed there. It must exist.
+-- Whether the unit that is `ahead` units further on exists and is allowed there.
 abbrev pub unit_is_allowed : AllowedUnitsAhead → (ahead : ℕ) → Option ℕ → Bool
 unit_is_allowed allowed ahead None = false
 unit_is_allowed allowed ahead (Some key) = allowed ahead key

@@ -39,7 +39,7 @@ end_in_offsets text o = (offset text o.end, groups_in_offsets text o.groups)
 abbrev pub end_of : State → ℕ × Groups
 end_of s = (s.pos, s.groups)
 
--- The program is the code of the tree, which is well-formed, and can search the text.
+-- The program is the code of the tree, which is well formed, and can search the text.
 pub record TreeProgramCanSearchText (program : Program) (tree : Tree) (text : Text) : Type 0 where
   pub code : IsCodeOf program tree
   pub well_formed : IsWellFormed tree.root
@@ -47,8 +47,8 @@ pub record TreeProgramCanSearchText (program : Program) (tree : Tree) (text : Te
   pub unicode : text.unicode ≡ tree.flags.unicode
   pub bytes : IsTrue (tree_contains_byte_nodes tree.root) → HasUtf8CharactersAndOffsets text
 
--- A number of operations that suffices at a place: one for each step to the first outcome, and one
--- more.
+-- A number of operations that is enough at a place: one for each step up to the first outcome, and
+-- one more.
 abbrev pub sufficient_turns_at : Tree → Text → (place : ℕ) → ℕ
 sufficient_turns_at tree text place = ticks_to_first (items_at tree text place) + 1
 
@@ -72,7 +72,7 @@ SearchesFindFirstOutcome = (program : Program) (tree : Tree) (text : Text) → T
 abbrev pub match_in_offsets : Text → Match → ℕ × Groups
 match_in_offsets text m = (offset text m.end, groups_in_offsets text m.groups)
 
--- With any number of operations that suffices, a search from a place ends with the match there.
+-- With any number of operations that is enough, a search from a place ends with the match there.
 abbrev pub SearchResultIsMatchAtPlace : Type 0
 SearchResultIsMatchAtPlace = (program : Program) (tree : Tree) (text : Text)
     → TreeProgramCanSearchText program tree text

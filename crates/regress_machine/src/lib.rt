@@ -39,7 +39,7 @@ pub fn byte_texts_are_read()
 {}
 
 /// Threads that simulate those of a search find the same end, in no more steps. If steps are
-/// counted, they take exactly as many fewer as were spent.
+/// counted, the steps of both searches differ by exactly the number of steps that were spent.
 pub fn simulating_threads_find_same_end()
     ensures { SimulatingThreadsFindSameEnd }
 {}

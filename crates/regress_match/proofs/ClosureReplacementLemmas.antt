@@ -13,8 +13,8 @@ use Rattle.regress_match.specs.declared.api.compile_and_replace_errors.ReplaceEr
 use Rattle.regress_match.specs.declared.api.compile_and_replace_errors.ReplaceError.TheVariants.{Search, Closure}
 
 module _ {T E : Type 0} (says : Bor Match → Result T E → Type 0) (units : T → List ℕ) (text : List ℕ) where
-  -- What is made of all these matches so far, where some are left: an answer stands for each of the others, and whatever
-  -- stands for the rest goes behind it.
+  -- The matches before `from` are replaced in `made`, and those in `left` are still to come:
+  -- appending their replacement to `made` gives the whole replaced text.
   pub record IsBegun (ms left : List Answer) (from : ℕ) (made : List ℕ) : Type 0 where
     pub pieces : List (Answer × List ℕ)
     pub matches : map (λ p. p.0) pieces ++ left ≡ ms
@@ -30,7 +30,7 @@ module _ {T E : Type 0} (says : Bor Match → Result T E → Type 0) (units : T 
   }
 
   module _ (ms left : List Answer) (from : ℕ) (made : List ℕ) (b : IsBegun ms left from made) where
-    -- one match more, with what was answered there
+    -- The next match is replaced by the closure's result.
     pub goes : (rest : List Answer) (to : ℕ) (reached next : List ℕ) (m : Answer) (piece : T) → left ≡ m ∷ rest
         → reached ≡ made ++ slice_range text from m.range.0 → next ≡ reached ++ units piece → to ≡ m.range.1
         → Answered says m (Ok piece) → IsBegun ms rest to next
@@ -51,7 +51,7 @@ module _ {T E : Type 0} (says : Bor Match → Result T E → Type 0) (units : T 
               ∙ b.goes_on ((m, units piece) ∷ more) ∙ ap (replaced text 0) (sym (append_assoc b.pieces last more)));
         }
 
-    -- no match is left
+    -- If no match is left, the rest of the text is appended.
     pub ends : (final : List ℕ) → left ≡ [] → final ≡ made ++ drop from text → IsReplacedBy says units text ms final
     unfolding replaced
     ends final l f = record {
@@ -61,7 +61,7 @@ module _ {T E : Type 0} (says : Bor Match → Result T E → Type 0) (units : T 
       made_is = f ∙ b.goes_on [] ∙ ap (replaced text 0) (append-nil b.pieces);
     }
 
-    -- an error was answered at the next one
+    -- If the closure fails at the next match, the replacement fails with that error.
     pub refuses : (rest : List Answer) (m : Answer) (e : E) → left ≡ m ∷ rest → Answered says m (Err e) → ClosureFailedAtMatch says units ms e
     refuses rest m e l says_so = record {
       before = b.pieces;
@@ -73,7 +73,7 @@ module _ {T E : Type 0} (says : Bor Match → Result T E → Type 0) (units : T 
     }
 
     module _ (rest : List Answer) (m : Answer) (answer : Result T E) (l : left ≡ m ∷ rest) (says_so : Answered says m answer) where
-      -- an answer that was written
+      -- If the closure's result was written, the next match is replaced.
       pub goes-answered : (to : ℕ) (reached next : List ℕ) → reached ≡ made ++ slice_range text from m.range.0
           → IsOkAnd answer (λ piece. next ≡ reached ++ units piece) → to ≡ m.range.1 → IsBegun ms rest to next
       goes-answered to reached next r n t = by answer n says_so
@@ -82,7 +82,7 @@ module _ {T E : Type 0} (says : Bor Match → Result T E → Type 0) (units : T 
           by (Ok piece) n h = goes rest to reached next m piece l r n t h
           by (Err e) n h = absurd n
 
-      -- one that was refused
+      -- An error of the replacement is the closure's error or an allocation failure.
       pub refuses-answered : {W : Type 0} (r : Result W (ReplaceError E)) (e : ReplaceError E) → IsErrAnd r (λ x. x ≡ e) → IsClosureErrorOrOutOfMemory answer e
           → IfErr r (CanRefuseWith says units ms)
       refuses-answered (Ok x) e h can = absurd h

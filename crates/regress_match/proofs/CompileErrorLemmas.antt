@@ -25,7 +25,7 @@ module _ (syntax : Syntax) (flags : Flags) (pattern : List ℕ) where
   parse-refuses (parse.Syntax d) told = told
   parse-refuses parse.TooManyGroups many = many
 
-  -- a tree with too many groups is that of a pattern that opens as many
+  -- A tree with too many groups is that of a pattern that opens too many groups.
   opens-many : (tree : Tree) → ParsesBy (spec_syntax_of syntax) flags pattern tree → 2 ^ 16 ≤ length (group_ids tree.root) → OpensTooManyGroups pattern
   opens-many tree parsed many = let same : length (group_ids tree.root) ≡ length (group_names_found_by_scan pattern) = scan-counts-groups syntax flags pattern tree parsed in omega (arith, same, many)
 
@@ -39,7 +39,7 @@ module _ (syntax : Syntax) (flags : Flags) (pattern : List ℕ) where
   emit-refuses tree parsed emit.TooManyInstructions h k refused = record { tree = tree; parsed = parsed; refused = refused }
   emit-refuses tree parsed emit.Memory h k refused = tt
 
--- a refusal that is this error
+-- If `e` is the only error that `P` admits, a result that fails with `P` has the property of `e`.
 pub err-refused : {T : Type 0} (r : Result T Error) (e : Error) (P : Error → Type 0) (R : Error → Type 0)
     → ((x : Error) → P x → x ≡ e) → IsErrAnd r P → R e → IfErr r R
 err-refused (Ok x) e P R same h can = absurd h

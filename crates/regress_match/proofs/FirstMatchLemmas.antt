@@ -18,12 +18,12 @@ use Rattle.regress_search.specs.declared.exec.Match.{Match}
 use Rattle.regress_match.specs.ExpansionsAndMatchRanges.{MatchFitsText, MatchRangesLieWithinUnits, IsRangeWithinUnits, MatchesFitTextInOrderFrom}
 
 module _ (root : Node) (text : Text) (is : HasRisingPlaceOffsets text) where
-  -- the first answer is the head of the list
+  -- The first answer is the head of the list of answers.
   first-heads : (start : ℕ) (m : Answer) → first_answer root text start ≡ Some m
       → answers_from root text start ≡ m ∷ answers_on root text (next_start root text start)
   first-heads start m e = answers-go_on root text is start ∙ ap (λ f. answer_then_list root text f (next_start root text start)) e
 
-  -- a match at an offset is the first answer from there
+  -- A match at an offset is the first answer from that offset on.
   pub at-first : (at : ℕ) (m : Answer) → answer_at root text at ≡ Some m → first_answer root text at ≡ Some m
   at-first at m e = by (first_answer root text at) refl (sym (matches_at-first root text is at) ∙ e)
     where
@@ -42,7 +42,7 @@ module _ (root : Node) (text : Text) (is : HasRisingPlaceOffsets text) where
       let le = offset-le text place.0 (last_place text) is place.3 (le_refl (last_place text)) in
       omega (arith, le, place.2)
 
-  -- ---- In 16-bit units
+  -- ---- Text of 16-bit units
 
   module _ (us : List ℕ) (size : units text ≡ length us) where
     within : (range : ℕ × ℕ) → IsRange text range → IsRangeWithinUnits us range
@@ -53,7 +53,7 @@ module _ (root : Node) (text : Text) (is : HasRisingPlaceOffsets text) where
     all-within (None ∷ groups) h = (tt, all-within groups h.1)
     all-within (Some range ∷ groups) h = (within range h.0, all-within groups h.1)
 
-    -- the first match from an offset on stands in the text, behind that
+    -- The first match from an offset on lies within the text's units.
     pub first-fits_units : (start : ℕ) (m : Answer) → first_answer root text start ≡ Some m → MatchRangesLieWithinUnits us m
     first-fits_units start m e =
         let answer = (subst (Each (IsAnswerOf root text)) (first-heads start m e) (answers-IsAnswerOf root text is start)).0 in
@@ -64,25 +64,25 @@ module _ (root : Node) (text : Text) (is : HasRisingPlaceOffsets text) where
     found-fits_units start None e = tt
     found-fits_units start (Some m) e = first-fits_units start (answer_of m) (sym e)
 
-    -- so does the match at an offset
+    -- A match at an offset lies within the text's units.
     pub at-fits_units : (at : ℕ) (found : Option Match) → option_map answer_of found ≡ answer_at root text at
         → IfSome found (λ m. MatchRangesLieWithinUnits us (answer_of m))
     at-fits_units at None e = tt
     at-fits_units at (Some m) e = first-fits_units at (answer_of m) (at-first at (answer_of m) (sym e))
 
-  -- a match at an offset is of whole characters where those from there are
+  -- A match at an offset lies on character boundaries if the answers from there do.
   pub at-fits_text : (bytes : List ℕ) (at : ℕ) (found : Option Match) → MatchesFitTextInOrderFrom bytes at (answers_from root text at) → option_map answer_of found ≡ answer_at root text at
       → IfSome found (λ m. MatchFitsText bytes (answer_of m))
   at-fits_text bytes at None stand e = tt
   at-fits_text bytes at (Some m) stand e = (subst (MatchesFitTextInOrderFrom bytes at) (first-heads at (answer_of m) (at-first at (answer_of m) (sym e))) stand).1
 
--- what was found at a place by an executor is what is at it, by the program and the text that it was made of
+-- A match that an executor finds at an offset is the answer of the pattern's tree there.
 pub at-found : (make : Bool → Text) (re program : Regex) (tree : Tree) (text : Text) (at : ℕ) (found : Option Answer) → tree ≡ tree_of program
     → text ≡ make (tree_of program).flags.unicode → program ≡ re → found ≡ answer_at tree.root text at → found ≡ answer_at (tree_of re).root (make (tree_of re).flags.unicode) at
 at-found make re program tree text at found is_tree is_text same e =
     e ∙ ap₂ (λ (t : Tree) (x : Text). answer_at t.root x at) is_tree is_text ∙ ap (λ re. answer_at (tree_of re).root (make (tree_of re).flags.unicode) at) same
 
--- the head of the list is the first answer
+-- The head of the list of answers is the first answer.
 pub head-first : (root : Node) (text : Text) (is : HasRisingPlaceOffsets text) (start : ℕ) → slice_get (answers_from root text start) 0 ≡ first_answer root text start
 head-first root text is start = ap (λ ms. slice_get ms 0) (answers-go_on root text is start) ∙ by (first_answer root text start)
   where

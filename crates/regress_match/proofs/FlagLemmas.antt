@@ -38,13 +38,13 @@ pub flags-none : (i m d n u v : Bool) → i ≡ false → m ≡ false → d ≡ 
 unfolding flags_from_letters
 flags-none i m d n u v ei em ed en eu ev = rw (ei, em, ed, en, eu, ev) refl
 
--- the letters of the flags that are set, piece by piece
+-- The letters of the set flags are the concatenation of the letters of each flag.
 pub flags_text-parts : (f : Flags) (m i d u v : List ℕ) → m ≡ letter_if_flag_set f.multiline 109 → i ≡ letter_if_flag_set f.icase 105 → d ≡ letter_if_flag_set f.dot_all 115
     → u ≡ letter_if_flag_set f.unicode 117 → v ≡ letter_if_flag_set f.unicode_sets 118 → m ++ (i ++ (d ++ (u ++ v))) ≡ flags_text f
 unfolding flags_text
 flags_text-parts f m i d u v em ei ed eu ev = rw (em, ei, ed, eu, ev) (simp append_assoc)
 
--- a list with one number more
+-- Appending a number to a list adds it to the numbers that the list contains.
 contains-push : (n x : ℕ) (xs : List ℕ) → (contains xs n || nat_eq x n) ≡ contains (xs ++ x ∷ []) n
 contains-push n x [] = either_way x n ∙ last (nat_eq n x)
   where
@@ -57,11 +57,11 @@ contains-push n x (y ∷ ys) = or-assoc (nat_eq n y) (contains ys n) (nat_eq x n
     or-assoc true b c = refl
     or-assoc false b c = refl
 
--- the flag of a letter, where one letter more has come
+-- A flag is set if it was set before or its letter has been appended.
 flag-more : (set : Bool) (n x : ℕ) (letters : List ℕ) → set ≡ contains letters n → (set || nat_eq x n) ≡ contains (letters ++ x ∷ []) n
 flag-more set n x letters e = ap (λ b. b || nat_eq x n) e ∙ contains-push n x letters
 
--- the flags of letters, where one letter more has come
+-- The flags of letters with one more letter are those of the letters and the new one.
 pub flags-more : (i m d n u v : Bool) (letters : List ℕ) (x : ℕ) → flags_by i m d n u v ≡ flags_from_letters letters
     → flags_by (i || nat_eq x 105) (m || nat_eq x 109) (d || nat_eq x 115) n (u || nat_eq x 117) (v || nat_eq x 118) ≡ flags_from_letters (letters ++ x ∷ [])
 unfolding flags_from_letters

@@ -14,7 +14,7 @@ use Rattle.regress_match.specs.Laws.{SearchesFollowThePattern, SearchesFollowGra
 use Rattle.regress_match.specs.ProgramTreesAndAnswers.{IsCompiledWithSyntax, tree_for_byte_units, tree_for_16_bit_units}
 use Rattle.regress_match.specs.declared.api.regex.Regex.{Regex}
 
--- a pattern of this syntax has at most one tree
+-- A pattern of this dialect has at most one tree.
 abbrev HasOneTree : PatternDialect → Type 0
 HasOneTree s = (flags : Flags) (pattern : List ℕ) (t u : Tree) → ParsesBy s flags pattern t → ParsesBy s flags pattern u → t ≡ u
 

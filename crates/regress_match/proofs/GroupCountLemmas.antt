@@ -18,7 +18,7 @@ use Rattle.regex_parser.specs.ParserInvariants.{group_names_found_by_scan}
 use Rattle.regex_parser.specs.declared.syntax.Syntax.{Syntax}
 use Rattle.regex_parser.specs.declared.syntax.Syntax.TheVariants.{Profile, EcmaScript2018}
 
--- ---- The scan takes the groups at its parentheses
+-- ---- The scan finds the groups at their parentheses
 
 abbrev names_at : List RemainingCodePoints → List RemainingCodePoints
 names_at = flat_map name_of_opened_group
@@ -38,7 +38,7 @@ scanned-at b (c ∷ d ∷ t) =
     (chosen (c ∈ "(" && not b) ((d ∷ t) ∷ texts_after_parentheses b (d ∷ t)) (texts_after_parentheses b (d ∷ t))
     (ap (λ x. name_of_opened_group (d ∷ t) ++ x) (scanned-at b (d ∷ t))) (scanned-at b (d ∷ t)))))
 
--- ---- As many as open, in any dialect that is read in one way
+-- ---- The scan counts the groups in any dialect that is read in one way
 
 module _ (S : PatternDialect) (one : IsReadInOneWay S) where
   none-at-look : (negate backwards : Bool) {text : RemainingCodePoints} (here : RemainingCodePoints) → 40 ∷ text ≡ codes (lookaround_opener negate backwards) ++ here → name_of_opened_group text ≡ []

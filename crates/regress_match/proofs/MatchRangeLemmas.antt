@@ -23,7 +23,7 @@ use Rattle.regress_match.specs.ProgramTreesAndAnswers.{tree_for_byte_units, asci
 use Rattle.regress_match.specs.ExpansionsAndMatchRanges.{IsCharBoundaryRange, MatchFitsText, MatchesFitTextInOrderFrom}
 use Rattle.regress_match.specs.declared.api.regex.Regex.{Regex}
 
--- ---- Where matches stand
+-- ---- Matches in the text
 
 module _ (bytes : List ℕ) (unicode : Bool) (is_utf8 : IsUtf8 bytes) where
   slice_of : (range : ℕ × ℕ) → IsRange (utf8_text bytes unicode) range → IsCharBoundaryRange bytes range
@@ -44,16 +44,16 @@ module _ (bytes : List ℕ) (unicode : Bool) (is_utf8 : IsUtf8 bytes) where
       stand root start start _ (omega arith) (answers-StandInOrder root (utf8_text bytes unicode) (utf8_text-IsText bytes unicode) start)
       (answers-IsAnswerOf root (utf8_text bytes unicode) (utf8_text-IsText bytes unicode) start)
 
--- the matches of a search stand in the text, from the start on
+-- The matches of a search lie in the text in order, from the start on.
 pub matches-stand : MatchesLieInTextInOrder
 matches-stand re text start is_utf8 = answers-stand text (tree_for_byte_units re).flags.unicode is_utf8 (tree_for_byte_units re).root start
 
--- so do those of a text of ASCII
+-- The matches of an ASCII text lie in the text in order.
 pub ascii-stand : (re : Regex) (text : List ℕ) (start : ℕ) → IsUtf8 text → IsAscii text → MatchesFitTextInOrderFrom text start (ascii_answers re text start)
 ascii-stand re text start is_utf8 ascii =
     subst (MatchesFitTextInOrderFrom text start) (sym (ascii-utf8 (tree_for_byte_units re).root text (tree_for_byte_units re).flags.unicode ascii start)) (matches-stand re text start is_utf8)
 
--- and those that so many steps are enough for
+-- The matches that the steps suffice for lie in the text in order.
 pub within-stand : (text : List ℕ) (from steps : ℕ) (needs : List ℕ) (ms : List Answer) → MatchesFitTextInOrderFrom text from ms → MatchesFitTextInOrderFrom text from (items_within_steps steps needs ms)
 within-stand text from steps [] ms h = tt
 within-stand text from steps (n ∷ needs) [] h = tt
@@ -63,14 +63,14 @@ within-stand text from steps (n ∷ needs) (m ∷ ms) h = by (nat_le n steps) (w
     by true rest = (h.0, h.1, rest)
     by false rest = tt
 
--- and the first one
+-- The first match lies in the text.
 pub first-fits : (text : List ℕ) (start : ℕ) (ms : List Answer) (first : Option Match) → MatchesFitTextInOrderFrom text start ms → option_map answer_of first ≡ slice_get ms 0
     → IfSome first (λ m. MatchFitsText text (answer_of m))
 first-fits text start ms None h e = tt
 first-fits text start [] (Some m) h e = absurd (cc e)
 first-fits text start (n ∷ ms) (Some m) h e = let same : n ≡ answer_of m = cc e in subst (MatchFitsText text) same h.1
 
--- ---- Its groups by name
+-- ---- Groups by name
 
 module _ (P : ℕ × ℕ → Type 0) where
   unwrapped : (o : Option (Option (ℕ × ℕ))) → IfSome o (λ g. IfSome g P) → IfSome (unwrap_or o None) P
@@ -95,21 +95,21 @@ module _ (P : ℕ × ℕ → Type 0) where
   named-each m [] h = tt
   named-each m (name ∷ names) h = (first_range-each m (ids_named m name) h, named-each m names h)
 
--- the range of each name is one of whole characters
+-- The range of each named group lies on character boundaries.
 pub named-fit : (text : List ℕ) (m : Answer) → MatchFitsText text m → Each (λ (named : List ℕ × Option (ℕ × ℕ)). IfSome named.1 (IsCharBoundaryRange text)) (named_groups m)
 named-fit text m fits = named-each (IsCharBoundaryRange text) m (first_appearances [] m.names) fits.groups
 
 -- ---- A loop over matches
 
--- What a loop over matches knows of those that are left: they stand in the text from an offset on, which is a boundary, and a
--- limit of steps stands behind them or does not.
+-- The remaining matches lie in the text from a boundary on, and
+-- the number of steps is limited or not.
 pub record IsReached (text : List ℕ) (limited : Bool) (from : ℕ) (left : RemainingView) : Type 0 where
   pub boundary : IsCharBoundary text from
   pub stand : MatchesFitTextInOrderFrom text from left.answers
   pub limit : left.limited ≡ limited
 
--- What one turn knows of the match that it takes: it is the next one, it stands in the text behind the offset reached, and so
--- do those that it leaves behind its end.
+-- A turn takes the next match, which lies behind the reached offset, and leaves the
+-- matches behind its end.
 pub record TakesNext (text : List ℕ) (limited : Bool) (from : ℕ) (left rest : RemainingView) (m : Answer) : Type 0 where
   pub next : left.answers ≡ m ∷ rest.answers
   pub before : IsCharBoundaryRange text (from, m.range.0)
@@ -120,7 +120,7 @@ stand-lower : (text : List ℕ) (low from : ℕ) (ms : List Answer) → low ≤ 
 stand-lower text low from [] le h = tt
 stand-lower text low from (m ∷ ms) le h = (omega (arith, h.0), h.1, h.2)
 
--- before the first turn the left end is reached
+-- The invariant holds at the left end before the first turn.
 pub reached-none : (text : List ℕ) (start : ℕ) (all left : RemainingView) → IsUtf8 text → MatchesFitTextInOrderFrom text start all.answers → left ≡ all → IsReached text all.limited 0 left
 reached-none text start all left is_utf8 h e = record {
   boundary = IsCharBoundary-start text is_utf8;
@@ -128,7 +128,7 @@ reached-none text start all left is_utf8 h e = record {
   limit = ap (λ (it : RemainingView). it.limited) e;
 }
 
--- with no limit on the steps
+-- The invariant holds if the steps are not limited.
 pub reached-unlimited : (text : List ℕ) (all left : RemainingView) → IsUtf8 text → all.limited ≡ false → MatchesFitTextInOrderFrom text 0 all.answers → left ≡ all → IsReached text false 0 left
 reached-unlimited text all left is_utf8 unlimited h e = subst (λ b. IsReached text b 0 left) unlimited (reached-none text 0 all left is_utf8 h e)
 

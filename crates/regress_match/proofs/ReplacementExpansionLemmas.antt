@@ -16,9 +16,9 @@ use Rattle.regex_meaning.specs.Replace.{parse_braced_name, parse_after_dollar, p
 use Rattle.regex_meaning.specs.Replace.{text_of_part, text_of_parts, expansion, max_capture_groups}
 use Rattle.regress_match.specs.ExpansionsAndMatchRanges.{IsCharBoundaryRange, MatchFitsText}
 
--- ---- What is left of a replacement
+-- ---- The rest of a replacement
 
--- of two rests that are short enough, either
+-- If both rests are short enough, so is either of them.
 either-rest : (c : Bool) (x y : ParsedPart) (n : ℕ) → length x.rest ≤ n → length y.rest ≤ n → length (if c then x else y).rest ≤ n
 either-rest true x y n h k = h
 either-rest false x y n h k = k
@@ -53,14 +53,14 @@ dollar-rest (b ∷ bytes) =
     (either-rest (is_ascii_digit b) (parse_digits_of_group_number 0 (b ∷ bytes)) name_or_alone whole (numbered-rest 0 (b ∷ bytes))
     (either-rest (b == 123) (parse_braced_name bytes) alone whole (omega (arith, named)) (omega arith)))
 
--- the part at the head of a replacement
+-- The parser returns this part for the head of a replacement.
 abbrev begun : ℕ → List ℕ → ParsedPart
 begun b bytes = if b == 36 then parse_after_dollar bytes else parsed_part_from_single_replacement_part (literal b) bytes
 
 begun-rest : (b : ℕ) (bytes : List ℕ) → length (begun b bytes).rest ≤ length bytes
 begun-rest b bytes = either-rest (b == 36) (parse_after_dollar bytes) (parsed_part_from_single_replacement_part (literal b) bytes) (length bytes) (dollar-rest bytes) (omega arith)
 
--- any number of steps that is enough
+-- Parsing gives the same parts for all sufficient numbers of steps.
 enough : (n k : ℕ) (bytes : List ℕ) → length bytes ≤ n → length bytes ≤ k → parse_replacement n bytes ≡ parse_replacement k bytes
 enough zero zero bytes h l = refl
 enough zero (suc k) [] h l = refl
@@ -72,7 +72,7 @@ enough (suc n) (suc k) (b ∷ bytes) h l =
     let short = begun-rest b bytes in
     ap (λ ps. (begun b bytes).parts ++ ps) (enough n k (begun b bytes).rest (omega (arith, h, short)) (omega (arith, l, short)))
 
--- ---- What is written
+-- ---- The written text
 
 abbrev pub is_dollar : ℕ → Bool
 is_dollar b = b == 36
@@ -97,7 +97,7 @@ module _ (text : List ℕ) (m : Answer) where
   pub expansion-dollar : (bytes : List ℕ) → expansion text m (36 ∷ bytes) ≡ text_of_parts text m (parse_after_dollar bytes).parts ++ expansion text m (parse_after_dollar bytes).rest
   expansion-dollar bytes = expansion-step 36 bytes
 
-  -- a replacement without `$`
+  -- The expansion of a replacement without `$` is the replacement itself.
   pub expansion-plain : (bytes : List ℕ) → position_or_len is_dollar bytes ≡ length bytes → expansion text m bytes ≡ bytes
   unfolding expansion
   expansion-plain [] h = refl
@@ -115,7 +115,7 @@ module _ (text : List ℕ) (m : Answer) where
       let dropped : 1 + n + 1 ≡ suc (n + 1) = omega arith in
       rw (dropped, taken) refl
 
-  -- what stands before the first `$` is itself
+  -- The text before the first `$` is written as it is.
   until-dollar : (bytes : List ℕ) → position_or_len is_dollar bytes < length bytes
       → expansion text m bytes ≡ before_first is_dollar bytes ++ expansion text m (36 ∷ after_first is_dollar bytes)
   until-dollar [] h = absurd (omega (arith, h))
@@ -128,7 +128,7 @@ module _ (text : List ℕ) (m : Answer) where
       by f true e k = ap (λ x. expansion text m (x ∷ bytes)) (eqb-true b 36 e)
       by f false e k = expansion-literal b bytes e ∙ ap (λ t. b ∷ t) (f (omega (arith, k))) ∙ sym (one-on b (position_or_len is_dollar bytes) bytes)
 
-  -- one part more: what is written, with what the rest says, stays the whole
+  -- After a part is written, the text and the expansion of the rest still give the whole.
   pub expansion-more : (bytes before behind left : List ℕ) (parts : List ReplacementPart) (out written next whole : List ℕ)
       → position_or_len is_dollar bytes < length bytes → before ≡ before_first is_dollar bytes → behind ≡ after_first is_dollar bytes
       → record { parts = parts; rest = left } ≡ parse_after_dollar behind → written ≡ out ++ before → next ≡ written ++ text_of_parts text m parts
@@ -141,7 +141,7 @@ module _ (text : List ℕ) (m : Answer) where
       ∙ ap (λ t. out ++ t) (ap (λ t. t ++ expansion text m (36 ∷ behind)) b ∙ ap (λ t. before_first is_dollar bytes ++ expansion text m (36 ∷ t)) a ∙ sym (until-dollar bytes inside))
       ∙ e)
 
-  -- what is left has no `$`
+  -- If the rest has no `$`, the rest is appended as it is.
   pub expansion-end : {T E : Type 0} (r : Result T E) (new out rest whole : List ℕ) → new ≡ (if is_ok r then out ++ rest else out)
       → out ++ expansion text m rest ≡ whole → position_or_len is_dollar rest ≡ length rest → IfOk r (λ _. new ≡ whole)
   expansion-end (Ok x) new out rest whole n e none = n ∙ ap (λ t. out ++ t) (sym (expansion-plain rest none)) ∙ e
@@ -151,7 +151,7 @@ module _ (text : List ℕ) (m : Answer) where
   literals [] = refl
   literals (b ∷ bytes) = ap (λ t. b ∷ t) (literals bytes)
 
-  -- a `$` and literal text are written
+  -- A `$` and literal text are written.
   pub dollar-written : {T E : Type 0} (r : Result T E) (new mid old behind : List ℕ) (parts : List ReplacementPart) → mid ≡ old ++ encode_utf8 36
       → new ≡ (if is_ok r then mid ++ behind else mid) → parts ≡ literal 36 ∷ map literal behind → IfOk r (λ _. new ≡ old ++ text_of_parts text m parts)
   dollar-written (Ok x) new mid old behind parts h n p =
@@ -159,7 +159,7 @@ module _ (text : List ℕ) (m : Answer) where
       ∙ ap (λ t. old ++ 36 ∷ t) (sym (literals behind)) ∙ ap (λ ps. old ++ text_of_parts text m ps) (sym p)
   dollar-written (Err x) new mid old behind parts h n p = tt
 
-  -- the text of a group is written
+  -- The text of a group is written.
   pub part-written : {T E : Type 0} (r : Result T E) (new old : List ℕ) (range : Option (ℕ × ℕ)) (part : ReplacementPart) (parts : List ReplacementPart)
       → IfOk r (λ _. (o : Answer) → new ≡ old ++ text_of text o range) → text_of text m range ≡ text_of_part text m part → parts ≡ part ∷ []
       → IfOk r (λ _. new ≡ old ++ text_of_parts text m parts)
@@ -167,7 +167,7 @@ module _ (text : List ℕ) (m : Answer) where
       h m ∙ ap (λ t. old ++ t) (e ∙ sym (append-nil (text_of_part text m part))) ∙ ap (λ ps. old ++ text_of_parts text m ps) (sym p)
   part-written (Err x) new old range part parts h e p = tt
 
-  -- ---- Ranges of groups
+  -- ---- The ranges of groups
 
   in-groups : (groups : List (Option (ℕ × ℕ))) → Each (λ g. IfSome g (IsCharBoundaryRange text)) groups → (id : ℕ) → IfSome (group_range groups id) (IsCharBoundaryRange text)
   in-groups [] h id = tt
@@ -192,7 +192,7 @@ module _ (text : List ℕ) (m : Answer) where
 
 -- ---- The text behind a `$`
 
--- behind a first byte of ASCII is a boundary
+-- The offset behind an ASCII byte at the start is a boundary.
 pub behind-first : (bytes shown : List ℕ) (first : ℕ) → shown ≡ bytes → IsUtf8 bytes → Some first ≡ slice_get shown 0 → first < 128 → IsCharBoundary bytes 1
 behind-first [] shown first e u h l = absurd (cc (h ∙ ap (λ bs. slice_get bs 0) e))
 behind-first (b ∷ bytes) shown first e u h l =
@@ -232,7 +232,7 @@ pub name-unclosed : (bytes rest : List ℕ) → slice_get bytes 0 ≡ Some 123 �
 name-unclosed bytes rest h r none =
     rw (first-is bytes 123 h, ← r) (ap (λ c. if c then parsed_part_from_single_replacement_part (named_part (before_first is_brace rest)) (after_first is_brace rest) else record { parts = literal 36 ∷ literal 123 ∷ map literal rest; rest = [] }) (sym (any-none is_brace rest none)))
 
--- less is left to be read
+-- The rest after a part is shorter than the rest before it.
 pub left-less : (rest behind left : List ℕ) (parts : List ReplacementPart) → position_or_len is_dollar rest < length rest → behind ≡ after_first is_dollar rest
     → record { parts = parts; rest = left } ≡ parse_after_dollar behind → length left < length rest
 left-less rest behind left parts inside b e =

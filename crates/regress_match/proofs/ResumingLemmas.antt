@@ -34,7 +34,7 @@ offset-is : (b : Bool) (at start : ℕ) → Some at ≡ (if b then Some start el
 offset-is true at start e = cc
 offset-is false at start e = cc
 
--- a position that there is stands at the offset, and where there is none it is past the end
+-- The position found has the given offset, and no position is found past the end.
 pub place-is : {P : Type 0} (offset : P → ℕ) (found : Option P) (p : P) (last start : ℕ) → found ≡ Some p
     → option_map offset found ≡ (if nat_le start last then Some start else None) → offset p ≡ start
 place-is offset found p last start e at = offset-is (nat_le start last) (offset p) start (sym (ap (option_map offset) e) ∙ at)
@@ -44,7 +44,7 @@ pub place-none : {P : Type 0} (offset : P → ℕ) (found : Option P) (last star
 place-none offset found last start e at = sym (ap (option_map offset) e) ∙ at
 
 module _ (tree : Tree) (text : Text) (is : HasRisingPlaceOffsets text) where
-  -- past the end no step is taken
+  -- Past the end no step is taken.
   past-steps : (budget : Option ℕ) (start : ℕ) → None ≡ (if nat_le start (units text) then Some start else None) → budget ≡ budget_after tree text budget start
   past-steps budget start e = by (nat_le start (units text)) refl e
     where
@@ -59,7 +59,7 @@ module _ (tree : Tree) (text : Text) (is : HasRisingPlaceOffsets text) where
           ap (λ place. option_map_or (need tree text) place 0) (place_at-past text start is (leb-false start (units text) q)) in
           subst (λ n. budget ≡ remaining_budget budget n) (sym zero) (none-spent budget)
 
-  -- and nothing is to come
+  -- Past the end no match is left and no step is taken.
   pub past-over : (budget : Option ℕ) (start : ℕ) → None ≡ (if nat_le start (units text) then Some start else None)
       → IsExhaustedFrom tree text budget start × (budget ≡ budget_after tree text budget start)
   past-over budget start e = let n = new-comes tree text is budget start None e in ((sym n.0, sym n.1), past-steps budget start e)
@@ -68,7 +68,7 @@ module _ (tree : Tree) (text : Text) (is : HasRisingPlaceOffsets text) where
       → SpendsNeedOrReachesLimit (need_from tree text start) budget (Ok x) after → IsExhaustedFrom tree text budget start × (after ≡ budget_after tree text budget start)
   none-over budget start x after found (within, left) = (within-none tree text is budget start (sym found) within, left)
 
-  -- where the list goes on, as a number
+  -- The list of answers continues at the next start, or past the end.
   module _ (fits : units text < greatest) where
     comes-next : (budget next : Option ℕ)
         → (answers_within_from_next tree text budget next ≡ answers_within tree text budget (unwrap_or next greatest))
@@ -118,7 +118,7 @@ module _ (tree : Tree) (text : Text) (is : HasRisingPlaceOffsets text) where
   refused-from X budget start e after (Err f) h s =
       refusal-from budget start f after (handed X (Option Step) (need_from tree text start) budget after e (Err f) h s)
 
--- one match more
+-- Matches found in order extend the list by the next match.
 pub turn-more : (tree : Tree) (text : Text) (budget : Option ℕ) (start : ℕ) (ms : List Answer) (m : Answer) (left left' : Option ℕ) (next next' : ℕ)
     → AreFoundInOrder tree text budget start ms left next → FindsNext tree text left next m next' left' → AreFoundInOrder tree text budget start (ms ++ m ∷ []) left' next'
 turn-more tree text budget start [] m left left' next next' (e, f) s =

@@ -5,7 +5,7 @@ use Rattle.regress_search.specs.RemainingAnswers.{RemainingView}
 use Rattle.regress_search.specs.declared.exec.SearchError.TheVariants.{Memory, StepLimit}
 use Rattle.regress_match.specs.SearchResults.{NextResult, NextCallsYield, AllNone, ResultsAreMatchesInOrder, SearchesReturnMatchesInOrder}
 
--- what has ended answers nothing
+-- A search that has ended returns no more matches.
 ended-AllNone : (s t : RemainingView) (rs : List NextResult) → s.ended ≡ true → NextCallsYield s rs t → AllNone rs
 ended-AllNone s t [] e h = tt
 ended-AllNone s t (None ∷ rs) e (u, h, k) = (refl, ended-AllNone u t rs h.2.2 k)

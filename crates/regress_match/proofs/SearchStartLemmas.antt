@@ -18,7 +18,7 @@ module _ (text : Text) (bytes : List ℕ) (unicode : Bool) (same : text ≡ utf8
   utf8_start start (inl b) = inl (subst (λ t. IsBoundary t start) (sym same) (boundary_of_char bytes unicode ∣ is_utf8 ∣₁ start b))
   utf8_start start (inr l) = inr (omega (arith, l, utf8_units))
 
--- a start within, or past the end
+-- A start is a boundary or past the end if each start within the text is a boundary.
 within-or-past : (text : Text) (size start : ℕ) → units text ≡ size → (start ≤ size → IsBoundary text start) → IsBoundaryOrPastEnd text start
 within-or-past text size start same inside = by (leb_tells start size)
   where
@@ -26,7 +26,7 @@ within-or-past text size start same inside = by (leb_tells start size)
     by (inl (e, l)) = inl (inside l)
     by (inr (e, l)) = inr (omega (arith, l, same))
 
--- a text of which each unit is a character
+-- In a text of one unit per character each start is a boundary or past the end.
 one-start : (text : Text) (us : List ℕ) (unicode : Bool) (fold : ℕ → ℕ) → text ≡ text_of one_unit us unicode fold → units text ≡ length us → (start : ℕ) → IsBoundaryOrPastEnd text start
 one-start text us unicode fold same size start =
     within-or-past text (length us) start size (λ l. subst (λ t. IsBoundary t start) (sym same) (boundary us unicode fold start l))

@@ -10,33 +10,33 @@ use Rattle.regress_search.specs.MatchesAsSpecAnswers.{answer_of}
 use Rattle.regress_search.specs.declared.exec.Match.{Match}
 use Rattle.regress_match.specs.StringClosures.{ClosureCanBeCalled}
 
--- the first of the matches alone
+-- If matches are ascending and disjoint, so is the first one alone.
 pub first-stands : (from : ℕ) (ms : List Answer) → AreAscendingDisjointAnswersFrom from ms → AreAscendingDisjointAnswersFrom from (take 1 ms)
 first-stands from [] h = tt
 first-stands from (m ∷ ms) h = (h.0, h.1, tt)
 
--- ---- A closure that may be called at all matches
+-- ---- Closures that may be called at all matches
 
--- at those that are left, where these are all
+-- A closure that may be called at all matches may be called at the remaining ones.
 pub callable-all : (takes : Bor Match → Type 0) (left all : List Answer) → ClosureCanBeCalled takes all → left ≡ all → ClosureCanBeCalled takes left
 callable-all takes left all h e = subst (ClosureCanBeCalled takes) (sym e) h
 
--- at the next one
+-- A closure may be called at the next match.
 pub callable-next : (takes : Bor Match → Type 0) (left rest : List Answer) (found : Bor Match) → ClosureCanBeCalled takes left → left ≡ answer_of found.now ∷ rest → takes found
 callable-next takes left rest found h e = h found (subst (λ ms. Contains ms (answer_of found.now)) (sym e) (0, omega arith, refl))
 
--- at the rest
+-- A closure may be called at the matches behind the next one.
 pub callable-rest : (takes : Bor Match → Type 0) (left rest : List Answer) (m : Answer) → ClosureCanBeCalled takes left → left ≡ m ∷ rest → ClosureCanBeCalled takes rest
 callable-rest takes left rest m h e = λ found among. h found (subst (λ ms. Contains ms (answer_of found.now)) (sym e) (suc among.0, omega (arith, among.1), among.2))
 
--- ---- Replacements
+-- ---- Replaced text
 
 module _ (text : List ℕ) (says : Answer → List ℕ) where
-  -- matches, each with what is said for it
+  -- Each match is paired with the text that the closure gives for it.
   abbrev said : List Answer → List (Answer × List ℕ)
   said ms = map (λ m. (m, says m)) ms
 
-  -- what is made, with the matches that are left, is the whole: so it stays when one is replaced
+  -- After a match is replaced, the text and the replaced rest still give the whole.
   pub replaced-more : (made reached next whole : List ℕ) (from to : ℕ) (left rest : List Answer) (m : Answer)
       → made ++ replaced text from (said left) ≡ whole → left ≡ m ∷ rest
       → reached ≡ made ++ slice_range text from m.range.0 → next ≡ reached ++ says m → to ≡ m.range.1

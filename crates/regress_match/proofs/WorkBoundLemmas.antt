@@ -33,16 +33,16 @@ use Rattle.regress_match.specs.WorkBounds.{IsPatternUnboundedBy, YieldsMatchesIf
 use Rattle.regress_match.specs.ProgramTreesAndAnswers.{tree_for_byte_units, tree_for_16_bit_units}
 use Rattle.regress_match.specs.declared.api.regex.Regex.{Regex}
 
--- ---- Calls in a row
+-- ---- Successive calls
 
--- what has ended answers nothing
+-- A search that has ended returns no more matches.
 ended-None : (s t : RemainingAnswersAndWork) (rs : List WorkLimitedNextResult) → s.remaining.ended ≡ true → NextCallsYieldWithinWork s rs t → Each (λ r. r ≡ None) rs
 ended-None s t [] e h = tt
 ended-None s t (None ∷ rs) e (u, h, k) = (refl, ended-None u t rs h.0.1.2 k)
 ended-None s t (Some (Ok m) ∷ rs) e (u, h, k) = absurd (cc (sym e ∙ h.0.1))
 ended-None s t (Some (Err x) ∷ rs) e (u, h, k) = absurd (cc (sym e ∙ h.0.1))
 
--- it is enough, or there is too little
+-- The results are the matches in order, unless the work is too little.
 calls-Answer : (too_little : Type 0) (s t : RemainingAnswersAndWork) (rs : List WorkLimitedNextResult)
     → (s.enough ≡ true) ⊎ too_little → NextCallsYieldWithinWork s rs t → ResultsAreMatchesWithinWork too_little s.remaining.answers rs
 calls-Answer too_little s t [] e h = tt
@@ -53,7 +53,7 @@ calls-Answer too_little s t (Some (Err Memory) ∷ rs) e (u, h, k) = ended-None 
 calls-Answer too_little s t (Some (Err WorkLimit) ∷ rs) (inl e) (u, h, k) = absurd (cc (sym e ∙ h.0.0.0))
 calls-Answer too_little s t (Some (Err WorkLimit) ∷ rs) (inr l) (u, h, k) = (l, ended-None u t rs h.0.2.2 k)
 
--- no call gives back work that was done
+-- No call increases the work that is left.
 calls-left : (s t : RemainingAnswersAndWork) (rs : List WorkLimitedNextResult) → NextCallsYieldWithinWork s rs t → t.left ≤ s.left
 calls-left s t [] e = subst (λ (x : RemainingAnswersAndWork). t.left ≤ x.left) e (omega arith)
 calls-left s t (r ∷ rs) (u, h, k) = let less : t.left ≤ u.left = calls-left u t rs k in let fewer : u.left ≤ s.left = h.1 in omega (arith, less, fewer)
@@ -69,10 +69,10 @@ searches-ResultsAreMatchesWithinWork tree text start per_unit work it t rs y k =
     by (inl (e, l)) = inl (y.enough l)
     by (inr (e, l)) = inr l
 
--- ---- What the calls cost
+-- ---- The cost of calls
 
 module _ {P : Type 0} (attempt_costs : Tree → Text → (before : Failures) → (at cost : ℕ) → (after : Option Failures) → Type 0) (tree_of : P → Tree) (text_of : P → Text) (failures_of : P → Failures) where
-  -- with enough work, no call is refused, and each takes its cost
+  -- If the work is enough and no allocation fails, the calls take exactly their costs.
   calls-cost : (s t : WorkMatchesView P) (rs : List WorkLimitedNextResult) → s.enough ≡ true → NextCallsYieldAtCost attempt_costs tree_of text_of failures_of s rs t
       → Each IsNoAllocationFailure rs → (cost : ℕ) × CallsCost attempt_costs tree_of text_of failures_of s rs cost t × (s.left ≡ cost + t.left)
   calls-cost s t [] e h n = (0, (h, refl), (let same : s.left ≡ t.left = ap (λ (v : WorkMatchesView P). v.left) (sym h) in omega (arith, same)))
@@ -92,17 +92,17 @@ module _ {P : Type 0} (attempt_costs : Tree → Text → (before : Failures) →
       let all = calls-cost it t rs (y.enough big) k n in
       (all.0, all.1, sym y.left ∙ all.2)
 
--- ---- What is enough
+-- ---- Sufficient work
 
--- a bound that was reckoned of a program, which is a pattern's
+-- A work bound of a program is the bound of a pattern's program if both are equal.
 pub bound-came : {X : Type 0} (of : X → Tree) (program own : X) (bound : WorkBound) → TreeHasWorkBound (of program) bound → program ≡ own → TreeHasWorkBound (of own) bound
 bound-came of program own bound is same = subst (λ p. TreeHasWorkBound (of p) bound) same is
 
--- such a program without lookarounds and backreferences
+-- An equal program has no lookaround or backreference either.
 pub plain-came : {X : Type 0} (of : X → Tree) (program own : X) → HasNoLookaroundOrBackreference (of program) → program ≡ own → HasNoLookaroundOrBackreference (of own)
 plain-came of program own is same = subst (λ p. HasNoLookaroundOrBackreference (of p)) same is
 
--- why the program for 16-bit units has none, or that for bytes where the former has one
+-- The pattern is unbounded because its 16-bit program is, or else its byte program is.
 module _ {X : Type 0} (re : Regex) (r : Result X Unbounded) (e : Unbounded) (is : IsErrAnd r (λ f. f ≡ e)) where
   handed-on : (P : Unbounded → Type 0) → P e → IfErr r P
   handed-on P p = by r is
@@ -117,7 +117,7 @@ module _ {X : Type 0} (re : Regex) (r : Result X Unbounded) (e : Unbounded) (is 
   pub bytes-unbounded : (tree : Tree) → tree ≡ tree_for_byte_units re → HasNoLookaroundOrBackreference (tree_for_16_bit_units re) → IsReasonForUnboundedness tree e → IfErr r (IsPatternUnboundedBy re)
   bytes-unbounded tree same plain refused = handed-on (IsPatternUnboundedBy re) (inr (plain, subst (λ t. IsReasonForUnboundedness t e) same refused))
 
--- either number is at most the higher one
+-- Either number is at most the higher one.
 pub higher-left : (a b : ℕ) → a ≤ higher a b
 higher-left a b = by (nat_lt a b) refl
   where
@@ -132,7 +132,7 @@ higher-right a b = by (nat_lt a b) refl
     by true e = omega arith
     by false e = ltb-false a b e
 
--- What is yielded within a bound is yielded within a higher one.
+-- Matches that are yielded within a bound are yielded within a higher one.
 more-Yields : {tree : Tree} {text : Text} {few many work start : ℕ} {it : RemainingAnswersAndWork} → few ≤ many → YieldsMatchesIfWorkSuffices tree text start few work it
     → YieldsMatchesIfWorkSuffices tree text start many work it
 more-Yields {tree} {text} {few} {many} {work} {start} {it} l y = record {
@@ -143,7 +143,7 @@ more-Yields {tree} {text} {few} {many} {work} {start} {it} l y = record {
   enough = λ e. let less : enough_work_for_text few text ≤ enough_work_for_text many text = mul-le-mul_right (units text + 1) l in y.enough (omega (arith, less, e));
 }
 
--- The same of a pattern with its number, as its fields show it, by a program of one of its trees (`of`).
+-- The same holds for a bounded pattern and the program of one of its trees.
 pub bound-Yields : {b : BoundedView} {own : Tree} {few many work start : ℕ} {it : RemainingAnswersAndWork}
     (of : Regex → Tree) (re : Regex) (text_of : Bool → Text) → few ≤ many → record { re = re; per_unit = many } ≡ b → own ≡ of re
     → YieldsMatchesIfWorkSuffices own (text_of own.flags.unicode) start few work it
@@ -152,7 +152,7 @@ bound-Yields {b} {own} {few} {many} {work} {start} {it} of re text_of l view sam
     subst (λ (v : BoundedView). YieldsMatchesIfWorkSuffices (of v.re) (text_of (of v.re).flags.unicode) start v.per_unit work it) view
     (subst (λ (t : Tree). YieldsMatchesIfWorkSuffices t (text_of t.flags.unicode) start many work it) same (more-Yields l y))
 
--- What the cost of its first call depends on, by a program of one of the trees of a pattern.
+-- A bounded pattern begins its searches as the program of its tree does.
 pub bound-Begins : {b : BoundedView} {own its_tree : Tree} {its_text : Text} {failures : Failures} {position : Option ℕ} {many start : ℕ}
     (of : Regex → Tree) (re : Regex) (text_of : Bool → Text) → record { re = re; per_unit = many } ≡ b → own ≡ of re
     → BeginsSearches own (text_of own.flags.unicode) start its_tree its_text failures position
@@ -161,9 +161,9 @@ bound-Begins {its_tree = its_tree} {its_text = its_text} {failures = failures} {
     subst (λ (v : BoundedView). BeginsSearches (of v.re) (text_of (of v.re).flags.unicode) start its_tree its_text failures position) view
     (subst (λ (t : Tree). BeginsSearches t (text_of t.flags.unicode) start its_tree its_text failures position) same y)
 
--- ---- What no bound exceeds
+-- ---- The limit of all bounds
 
--- each instruction has few codes, so the most that one has are few
+-- Each instruction has at most 64 codes, so the maximum of all of them is at most 64.
 codes-each : (xs : List InsnAnalysis) → ((i : ℕ) → i < length xs → (unwrap_or (slice_get xs i) no_insn_analysis).codes ≤ 64) → Each (λ x. x.codes ≤ 64) xs
 codes-each [] h = tt
 codes-each (x ∷ xs) h = (h 0 (omega arith), codes-each xs (λ i l. h (suc i) (omega (arith, l))))

@@ -1,4 +1,4 @@
--- Replacement by a closure, for any type of its results.
+-- Replacement by the results of a closure. The results may have any type.
 use Rattle.std.specs.Prelude.{◌≡◌, ℕ, List, ◌∷◌, ◌++◌, map, IsOk, Result, Ok, Err}
 use Rattle.std.specs.Borrow.{Bor}
 use Rattle.regex_meaning.specs.Laws.{Each}
@@ -10,7 +10,8 @@ use Rattle.regress_match.specs.CompileErrors.{IsOutOfMemory}
 use Rattle.regress_match.specs.declared.api.compile_and_replace_errors.ReplaceError.{ReplaceError}
 use Rattle.regress_match.specs.declared.api.compile_and_replace_errors.ReplaceError.TheVariants.{Search, Closure}
 
--- The error after one closure result: `Memory` if it was a text, otherwise the closure's error.
+-- The error of one closure result: `Memory` if the closure returned a text, and otherwise the
+-- closure's error.
 abbrev pub IsClosureErrorOrOutOfMemory : {T E : Type 0} → Result T E → ReplaceError E → Type 0
 IsClosureErrorOrOutOfMemory answer (Search e) = IsOk answer × IsOutOfMemory e
 IsClosureErrorOrOutOfMemory answer (Closure e) = answer ≡ Err e
@@ -21,7 +22,7 @@ module _ {T E : Type 0} (says : Bor Match → Result T E → Type 0) where
   abbrev pub Answered : Answer → Result T E → Type 0
   Answered m result = (found : Bor Match) × (answer_of found.now ≡ m) × says found result
 
-  -- `units` gives the text of a closure result, as its units.
+  -- `units` gives the units of the text of a closure result.
   module _ (units : T → List ℕ) where
     -- Each match is paired with a text that the closure returned for it.
     abbrev pub AreClosureResults : List (Answer × List ℕ) → Type 0

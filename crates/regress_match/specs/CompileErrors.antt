@@ -1,4 +1,5 @@
--- The errors of the compilation stages as errors of the whole, and when each of them occurs.
+-- The errors of compiling a pattern: how the errors of the stages are reported, and when each one
+-- occurs.
 use Rattle.std.specs.Prelude.{◌≡◌, ℕ, List, Option, Some, None}
 use Rattle.regex_meaning.specs.Tree.{Tree, Flags}
 use Rattle.regex_meaning.specs.Grammar.{PatternDialect, ParsesBy, profile}
@@ -15,8 +16,8 @@ use Rattle.regress_search.specs.declared.exec.SearchError.TheVariants as search
 use Rattle.regress_match.specs.declared.api.compile_and_replace_errors.Error.{Error}
 use Rattle.regress_match.specs.declared.api.compile_and_replace_errors.Error.TheVariants.{Parse, Emit, Memory}
 
--- The public error of a parse error. An allocation failure is `Memory` and too many groups are
--- `Emit`, whichever stage finds them.
+-- The public error for a parse error. An allocation failure is `Memory` and too many groups are
+-- `Emit`, whichever stage detects them.
 abbrev pub error_of_parse : ParseError → Error
 error_of_parse parse.Memory = Memory
 error_of_parse parse.TooManyGroups = Emit emit.TooManyGroups
@@ -27,7 +28,7 @@ abbrev pub diagnosis_in_error : Error → Option Diagnosis
 diagnosis_in_error (Parse (parse.Syntax diagnosis)) = Some diagnosis
 diagnosis_in_error _ = None
 
--- The public error of an error of the emitter.
+-- The public error for an error of the emitter.
 abbrev pub error_of_emit : EmitError → Error
 error_of_emit emit.Memory = Memory
 error_of_emit e = Emit e
@@ -38,13 +39,14 @@ pub record ExceedsLimitWithSyntax (s : PatternDialect) (flags : Flags) (pattern 
   pub parsed : ParsesBy s flags pattern tree
   pub refused : TreeHasByteCompileErrorCause e tree
 
--- The same for a pattern of the profile.
+-- `ExceedsLimitWithSyntax` for a pattern of the profile.
 abbrev pub ExceedsLimit : Flags → (pattern : List ℕ) → EmitError → Type 0
 ExceedsLimit = ExceedsLimitWithSyntax profile
 
--- When a pattern of this syntax is refused: the grammar has no tree for it, and the diagnosis is at a
--- code point of it or at its end; it opens too many groups; its tree exceeds another limit; or an
--- allocation failed.
+-- When a pattern of this syntax is refused. `Syntax`: the grammar has no tree for it, and the
+-- diagnosis is at one of its code points or at its end. `Emit`: it opens too many groups, or its
+-- tree exceeds another limit. `Memory`: at any time, since no definition says when an allocation
+-- fails.
 abbrev pub IsPatternRefusedWithSyntax : PatternDialect → Flags → (pattern : List ℕ) → Error → Type 0
 IsPatternRefusedWithSyntax s flags pattern (Parse (parse.Syntax d)) = IsDiagnosisIn s flags pattern d
 IsPatternRefusedWithSyntax s flags pattern (Parse parse.TooManyGroups) = ⊥
@@ -59,10 +61,10 @@ IsPatternRefusedWithSyntax s flags pattern (Emit emit.BytesInUnits) = ⊥
 IsPatternRefusedWithSyntax s flags pattern (Emit emit.Memory) = ⊥
 IsPatternRefusedWithSyntax s flags pattern Memory = Unit {0}
 
--- When a pattern of the profile is refused.
+-- `IsPatternRefusedWithSyntax` for a pattern of the profile.
 abbrev pub IsPatternRefusedWith : Flags → (pattern : List ℕ) → Error → Type 0
 IsPatternRefusedWith = IsPatternRefusedWithSyntax profile
 
--- The error is an allocation failure, the only error of a search without a step limit.
+-- The error is an allocation failure. A search without a step limit has no other error.
 abbrev pub IsOutOfMemory : SearchError → Type 0
 IsOutOfMemory e = e ≡ search.Memory

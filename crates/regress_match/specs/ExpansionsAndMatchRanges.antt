@@ -4,7 +4,7 @@ use Rattle.regex_meaning.specs.Laws.{Each}
 use Rattle.regex_meaning.specs.MatchGroupsByNumberAndName.{Answer}
 use Rattle.regex_meaning.specs.Replace.{expansion}
 
--- Each match, paired with the expansion of the replacement for it.
+-- Each match with the expansion of the replacement for it.
 abbrev pub matches_with_expansions : (text replacement : List ℕ) → List Answer → List (Answer × List ℕ)
 matches_with_expansions text replacement answers = map (λ m. (m, expansion text m replacement)) answers
 

@@ -9,15 +9,15 @@ use Rattle.regress_match.specs.ProgramTreesAndAnswers.{IsCompiledWithSyntax, utf
 use Rattle.regress_match.specs.ExpansionsAndMatchRanges.{MatchesFitTextInOrderFrom, matches_with_expansions}
 use Rattle.regress_match.specs.declared.api.regex.Regex.{Regex}
 
--- Replacing the first match, or all matches, by `$0` gives the text back.
+-- Replacing the first match, or all matches, by `$0` does not change the text.
 abbrev pub ReplacingByMatchKeepsText : Type 0
 ReplacingByMatchKeepsText = (re : Regex) (text : List ℕ)
     → let answers = utf8_answers re text 0 in
     (replaced text 0 (matches_with_expansions text (codes "$0") (take 1 answers)) ≡ text)
     × (replaced text 0 (matches_with_expansions text (codes "$0") answers) ≡ text)
 
--- The matches in a text, in each encoding, are those of the tree that the grammar gives to the
--- pattern of this syntax.
+-- The matches of a compiled pattern in a text, in each encoding, are those of the tree that the
+-- grammar of this syntax gives to the pattern.
 abbrev pub SearchesFollowGrammar : PatternDialect → Type 0
 SearchesFollowGrammar s = (flags : Flags) (pattern : List ℕ) (re : Regex) (tree : Tree)
     → IsCompiledWithSyntax s flags pattern re → ParsesBy s flags pattern tree → (text : List ℕ) (start : ℕ)
@@ -26,12 +26,12 @@ SearchesFollowGrammar s = (flags : Flags) (pattern : List ℕ) (re : Regex) (tre
     × (utf16_answers re text start ≡ answers_from tree.root (utf16_text text flags.unicode) start)
     × (ucs2_answers re text start ≡ answers_from tree.root (ucs2_text text flags.unicode) start)
 
--- The same for a pattern of the profile.
+-- `SearchesFollowGrammar` for patterns of the profile.
 abbrev pub SearchesFollowThePattern : Type 0
 SearchesFollowThePattern = SearchesFollowGrammar profile
 
--- The matches from a start on lie in the text, in order and without overlap, and each match and
--- each of its groups is a range of whole characters.
+-- The matches from a start on are in the text, in ascending order and without overlap. The ranges
+-- of each match and of its groups begin and end at character boundaries.
 abbrev pub MatchesLieInTextInOrder : Type 0
 MatchesLieInTextInOrder = (re : Regex) (text : List ℕ) (start : ℕ) → IsUtf8 text
     → MatchesFitTextInOrderFrom text start (utf8_answers re text start)

@@ -1,8 +1,8 @@
--- The public flags as flags of the definitions.
+-- The public flags as flags of the specification.
 use Rattle.regex_meaning.specs.Tree as tree
 use Rattle.regress_match.specs.declared.api.flags.Flags.{Flags}
 
--- The flags of the definitions with the same settings as the public ones.
+-- The flags of the specification with the same settings.
 abbrev pub spec_flags_of : Flags → tree.Flags
 spec_flags_of f = record {
   icase = f.icase;

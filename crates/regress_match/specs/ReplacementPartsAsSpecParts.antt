@@ -1,11 +1,11 @@
--- The parts of a replacement, as the code reads them.
+-- The parts of a replacement that the code reads, as parts of the specification.
 use Rattle.std.specs.Prelude.{ℕ, List, [], ◌∷◌, map}
 use Rattle.regex_meaning.specs.Replace as replace
 use Rattle.regex_meaning.specs.Replace.{ParsedPart, literal, group_part, named_part}
 use Rattle.regress_match.specs.declared.api.replace.expansion.DollarSubstitution.{DollarSubstitution}
 use Rattle.regress_match.specs.declared.api.replace.expansion.DollarSubstitution.TheVariants.{Dollar, Group, Named}
 
--- The parts of the definitions that one part of the code represents.
+-- The parts of the specification that one part of the code represents.
 abbrev pub spec_parts_of_substitution : DollarSubstitution → List replace.ReplacementPart
 spec_parts_of_substitution (Dollar behind) = literal 36 ∷ map literal behind.now
 spec_parts_of_substitution (Group number) = group_part number ∷ []

@@ -1,4 +1,4 @@
--- Searches that resume from an offset.
+-- Searches that resume at an offset.
 use Rattle.regex_meaning.specs.CodeUnitOffsets.{IsBoundaryOrPastEnd}
 use Rattle.std.specs.Prelude.{◌≡◌, ℕ, true, false, List, [], ◌∷◌, length, Option, Some, None, Result, Ok, Err}
 use Rattle.regex_meaning.specs.MatchGroupsByNumberAndName.{Answer}
@@ -11,18 +11,19 @@ use Rattle.regress_search.specs.declared.exec.SearchError.TheVariants.{Memory, S
 use Rattle.regress_match.specs.declared.api.searches_resumed_at_offsets.Step.{Step}
 
 module _ (tree : Tree) (text : Text) where
-  -- The budget that is left once the first match from an offset on is found, or is known not to
-  -- exist. The steps taken are exactly those that this needs, and none past the end of the text.
+  -- The steps that are left when the first match from an offset on is found, or is known not to
+  -- exist. The search takes exactly the steps that this needs. Past the end of the text it takes
+  -- none.
   abbrev pub budget_after : (budget : Option ℕ) → (start : ℕ) → Option ℕ
   budget_after budget start = remaining_budget budget (need_from tree text start)
 
-  -- No match remains from an offset on, and the budget is enough to find that out.
+  -- No match remains from an offset on, and the budget suffices to find that out.
   abbrev pub IsExhaustedFrom : (budget : Option ℕ) → (start : ℕ) → Type 0
   IsExhaustedFrom budget start = (answers_within tree text budget start ≡ [])
       × (finishes_within tree text budget start ≡ true)
 
-  -- A match remains, and after it the matches from `next` on within the budget that is left. The
-  -- match has an entry for each group.
+  -- A match remains. The matches after it are those from `next` on within the budget that is left.
+  -- The match has an entry for each group.
   pub record FindsNext (budget : Option ℕ) (start : ℕ) (found : Answer) (next : ℕ) (left : Option ℕ) : Type 0 where
     pub answers : answers_within tree text budget start ≡ found ∷ answers_within tree text left next
     pub limit : finishes_within tree text budget start ≡ finishes_within tree text left next
@@ -30,16 +31,16 @@ module _ (tree : Tree) (text : Text) where
     pub steps : left ≡ budget_after budget start
     pub groups : length found.captures ≡ length (group_ids tree.root)
 
-  -- These matches are found one after another from an offset on. They take the budget to `left` and
-  -- the search to the offset `next`.
+  -- These matches are found one after another from an offset on. Then the budget is `left`, and the
+  -- search is at the offset `next`.
   abbrev pub AreFoundInOrder : (budget : Option ℕ) → (start : ℕ) → List Answer → (left : Option ℕ) → (next : ℕ) → Type 0
   AreFoundInOrder budget start [] left next = (left ≡ budget) × (next ≡ start)
   AreFoundInOrder budget start (m ∷ ms) left next =
       (to : ℕ) × FindsNext budget start m to (budget_after budget start)
       × AreFoundInOrder (budget_after budget start) to ms left next
 
-  -- The result of a call from an offset on, and the budget that is left after it. Allocation failure
-  -- may occur at any step: it leaves no more than there was, and no less than a result would leave.
+  -- The result of a call at an offset, and the budget after it. An allocation may fail at any step.
+  -- Then at most the budget before the call is left, and at least what a result would leave.
   abbrev pub ResumesFrom : (budget : Option ℕ) → (start : ℕ) → Result (Option Step) SearchError → (left : Option ℕ)
       → Type 0
   ResumesFrom budget start (Ok (Some step)) left = FindsNext budget start (answer_of step.found) step.next left

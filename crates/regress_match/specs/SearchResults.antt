@@ -1,4 +1,4 @@
--- The main theorem's statement: what a search yields.
+-- The statement of the main theorem: what a search yields.
 use Rattle.std.specs.Prelude.{◌≡◌, ℕ, List, [], ◌∷◌, false, Option, Some, None, Result, Ok, Err}
 use Rattle.regex_meaning.specs.Tree.{Tree}
 use Rattle.regex_meaning.specs.Text.{Text}
@@ -11,21 +11,21 @@ use Rattle.regress_search.specs.declared.exec.SearchError.{SearchError}
 use Rattle.regress_match.specs.CompileErrors.{IsOutOfMemory}
 
 -- The remaining matches of a search from `start` are exactly the tree's list of matches in the
--- text: the leftmost match, of highest priority, with its end and all groups, and then the matches
+-- text: the leftmost match of highest priority, with its end and all groups, and then the matches
 -- after it. No step limit ends the list.
 pub record YieldsMatches (tree : Tree) (text : Text) (start : ℕ) (it : RemainingView) : Type 0 where
   pub answers : it.answers ≡ answers_from tree.root text start
   pub unlimited : it.limited ≡ false
   pub text_end : it.text_end ≡ units text
 
--- ---- Results of its calls
+-- ---- Results of calls of `next`
 
 -- The result of one call of `next`.
 abbrev pub NextResult : Type 0
 NextResult = Option (Result Match SearchError)
 
--- Successive calls of `next` return these results, and take the iterator from the view `before` to
--- the view `behind`.
+-- Successive calls of `next` return these results. The iterator's view is `before` at first and
+-- `behind` at the end.
 abbrev pub NextCallsYield : (before : RemainingView) → List NextResult → (behind : RemainingView) → Type 0
 NextCallsYield before [] behind = behind ≡ before
 NextCallsYield before (r ∷ rs) behind = (next : RemainingView) × NextYields before r next
@@ -36,9 +36,9 @@ abbrev pub AllNone : {A : Type 0} → List (Option A) → Type 0
 AllNone [] = Unit {0}
 AllNone (r ∷ rs) = (r ≡ None) × AllNone rs
 
--- The results are the matches of the list one after another. `None` is returned at the end of the
--- list and nowhere else, and then for good. An error is an allocation failure. The matches before
--- it are a prefix of the list, and `None` follows it for good.
+-- The results are the matches of the list, one after another. After the last match, and only then,
+-- each call returns `None`. The only error is an allocation failure. The matches before it are a
+-- prefix of the list, and each call after it returns `None`.
 abbrev pub ResultsAreMatchesInOrder : List Answer → List NextResult → Type 0
 ResultsAreMatchesInOrder matches [] = Unit {0}
 ResultsAreMatchesInOrder matches (Some (Ok m) ∷ rs) = (rest : List Answer) × (matches ≡ answer_of m ∷ rest)
@@ -46,7 +46,7 @@ ResultsAreMatchesInOrder matches (Some (Ok m) ∷ rs) = (rest : List Answer) × 
 ResultsAreMatchesInOrder matches (None ∷ rs) = (matches ≡ []) × AllNone rs
 ResultsAreMatchesInOrder matches (Some (Err e) ∷ rs) = IsOutOfMemory e × AllNone rs
 
--- The results of a search, however often it is called.
+-- The results of a search, for any number of calls.
 abbrev pub SearchesReturnMatchesInOrder : Type 0
 SearchesReturnMatchesInOrder =
     (tree : Tree) (text : Text) (start : ℕ) (it behind : RemainingView) (rs : List NextResult)

@@ -1,4 +1,5 @@
--- Closures that return a text for a match: where they may be called, and the text they result in.
+-- Closures that return a text for a match: for which matches they may be called, and what text
+-- results.
 use Rattle.std.specs.Prelude.{ℕ, List, Result, String, string_bytes}
 use Rattle.std.specs.Borrow.{Bor}
 use Rattle.std.specs.List.{Contains}

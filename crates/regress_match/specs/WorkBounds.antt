@@ -23,17 +23,17 @@ use Rattle.regress_match.specs.ProgramTreesAndAnswers.{tree_for_byte_units, tree
 
 -- ---- Bounds
 
--- A pattern and its work per unit, in any encoding: on a text of n units, `per_unit` × (n + 1) work
--- is enough.
+-- A pattern and its work per unit. In any encoding, `per_unit` × (n + 1) work suffices for a text
+-- of n units.
 pub record BoundedView : Type 0 where
   pub re : Regex
   pub per_unit : ℕ
 
--- The higher of two numbers.
+-- The greater of two numbers.
 abbrev pub higher : ℕ → ℕ → ℕ
 higher a b = if nat_lt a b then b else a
 
--- The higher of the bounds for texts of bytes and for texts of 16-bit code units.
+-- The greater of the bounds for texts of bytes and for texts of 16-bit code units.
 abbrev pub higher_bound_of : (bytes units : WorkBound) → ℕ
 higher_bound_of bytes units = higher bytes.per_unit units.per_unit
 
@@ -42,7 +42,7 @@ pub record AreBoundsOf (re : Regex) (bytes units : WorkBound) : Type 0 where
   pub bound_for_bytes : TreeHasWorkBound (tree_for_byte_units re) bytes
   pub bound_for_units : TreeHasWorkBound (tree_for_16_bit_units re) units
 
--- The number is the higher of the bounds of the pattern's two programs.
+-- `per_unit` is the greater of the bounds of the pattern's two programs.
 abbrev pub IsHigherOfProgramWorkBounds : Regex → ℕ → Type 0
 IsHigherOfProgramWorkBounds re per_unit = (bytes : WorkBound) × (units : WorkBound) × AreBoundsOf re bytes units
     × (per_unit ≡ higher_bound_of bytes units)
@@ -52,43 +52,44 @@ pub record HasNoLookaroundOrBackref (re : Regex) : Type 0 where
   pub units : HasNoLookaroundOrBackreference (tree_for_16_bit_units re)
   pub bytes : HasNoLookaroundOrBackreference (tree_for_byte_units re)
 
--- When a pattern is refused with this reason: if its tree for 16-bit units, which is that of the
--- pattern as it is written, is, or if that has a bound and the tree for bytes is refused.
+-- When a pattern has no work bound for this reason. Either the reason holds for its tree for 16-bit
+-- units, which is the tree of the pattern as written. Or that tree has a bound, and the reason
+-- holds for its tree for bytes.
 abbrev pub IsPatternUnboundedBy : Regex → Unbounded → Type 0
 IsPatternUnboundedBy re reason = IsReasonForUnboundedness (tree_for_16_bit_units re) reason
     ⊎ (HasNoLookaroundOrBackreference (tree_for_16_bit_units re)
     × IsReasonForUnboundedness (tree_for_byte_units re) reason)
 
--- A number that no bound of the pattern exceeds, by its two programs alone: 64 for each unit of the
--- greater program's size, for each of the 64 codes that an instruction may have.
+-- A number that no bound of the pattern exceeds, computed from its two programs: 64 for each unit
+-- of the greater program size, for each of the up to 64 codes of an instruction.
 abbrev pub work_per_unit_limit : Regex → ℕ
 work_per_unit_limit re = 64 * (64 * higher (program_size (compiled (tree_for_byte_units re)))
     (program_size (compiled (tree_for_16_bit_units re))))
 
--- Whatever bound of the pattern a search answers by, this much work for each unit of a text, and
--- once more, is enough.
+-- For each bound of the pattern that a search may have, this much work per unit of the text, and
+-- once more, suffices.
 abbrev pub WorkPerUnitLimitSuffices : Type 0
 WorkPerUnitLimitSuffices = (re : Regex) (per_unit : ℕ) → IsHigherOfProgramWorkBounds re per_unit
     → (per_unit ≤ work_per_unit_limit re) × ((text : Text)
     → enough_work_for_text per_unit text ≤ enough_work_for_text (work_per_unit_limit re) text)
 
--- ---- Results of its calls
+-- ---- Results of calls of `next`
 
 -- The result of one call of `next`.
 abbrev pub WorkLimitedNextResult : Type 0
 WorkLimitedNextResult = Option (Result Match WorkError)
 
--- Successive calls of `next` return these results, and take the iterator from the view `before` to
--- the view `behind`.
+-- Successive calls of `next` return these results. The iterator's view is `before` at first and
+-- `behind` at the end.
 abbrev pub NextCallsYieldWithinWork : (before : RemainingAnswersAndWork) → List WorkLimitedNextResult
     → (behind : RemainingAnswersAndWork) → Type 0
 NextCallsYieldWithinWork before [] behind = behind ≡ before
 NextCallsYieldWithinWork before (r ∷ rs) behind = (next : RemainingAnswersAndWork) × NextYieldsWithinWork before r next
     × NextCallsYieldWithinWork next rs behind
 
--- The results are the matches of the list one after another. `None` is returned at the end of the
--- list, or after an error, and nowhere else, and then for good. The error is an allocation failure,
--- or `WorkLimit` where `too_little` holds.
+-- The results are the matches of the list, one after another. After the last match or an error, and
+-- only then, each call returns `None`. The error is an allocation failure, or `WorkLimit` if
+-- `too_little` holds.
 abbrev pub ResultsAreMatchesWithinWork : (too_little : Type 0) → List Answer → List WorkLimitedNextResult → Type 0
 ResultsAreMatchesWithinWork too_little matches [] = Unit {0}
 ResultsAreMatchesWithinWork too_little matches (Some (Ok m) ∷ rs) =
@@ -97,8 +98,8 @@ ResultsAreMatchesWithinWork too_little matches (None ∷ rs) = (matches ≡ []) 
 ResultsAreMatchesWithinWork too_little matches (Some (Err Memory) ∷ rs) = AllNone rs
 ResultsAreMatchesWithinWork too_little matches (Some (Err WorkLimit) ∷ rs) = too_little × AllNone rs
 
--- The results of a search within a work budget, however often it is called. No more work is left
--- than it had.
+-- The results of a search within a work budget, for any number of calls. The work that is left
+-- never exceeds the budget.
 abbrev pub SearchesReturnMatchesWithinWork : Type 0
 SearchesReturnMatchesWithinWork = (tree : Tree) (text : Text) (start per_unit work : ℕ)
     (it behind : RemainingAnswersAndWork) (rs : List WorkLimitedNextResult)
@@ -106,17 +107,17 @@ SearchesReturnMatchesWithinWork = (tree : Tree) (text : Text) (start per_unit wo
     → ResultsAreMatchesWithinWork (work < enough_work_for_text per_unit text) (answers_from tree.root text start) rs
     × (behind.left ≤ work)
 
--- ---- Costs of its calls
+-- ---- Costs of calls of `next`
 
--- The call returns no allocation failure.
+-- The result is not an allocation failure.
 abbrev pub IsNoAllocationFailure : WorkLimitedNextResult → Type 0
 IsNoAllocationFailure (Some (Err Memory)) = ⊥
 IsNoAllocationFailure _ = Unit {0}
 
 module _ {P : Type 0} (attempt_costs : Tree → Text → (before : Failures) → (at cost : ℕ) → (after : Option Failures)
     → Type 0) (tree_of : P → Tree) (text_of : P → Text) (failures_of : P → Failures) where
-  -- Successive calls of `next` return these results, and take the iterator from the view `before` to
-  -- the view `behind`.
+  -- Successive calls of `next` return these results. The iterator's view is `before` at first and
+  -- `behind` at the end.
   abbrev pub NextCallsYieldAtCost : (before : WorkMatchesView P) → List WorkLimitedNextResult
       → (behind : WorkMatchesView P) → Type 0
   NextCallsYieldAtCost before [] behind = behind ≡ before
@@ -124,7 +125,7 @@ module _ {P : Type 0} (attempt_costs : Tree → Text → (before : Failures) →
       (next : WorkMatchesView P) × NextYieldsAtCost attempt_costs tree_of text_of failures_of before r next
       × NextCallsYieldAtCost next rs behind
 
-  -- The same, where the searches of the calls cost `cost` together.
+  -- Like `NextCallsYieldAtCost`, where the searches of all calls together cost `cost`.
   abbrev pub CallsCost : (before : WorkMatchesView P) → List WorkLimitedNextResult → (cost : ℕ)
       → (behind : WorkMatchesView P) → Type 0
   CallsCost before [] cost behind = (behind ≡ before) × (cost ≡ 0)
@@ -134,8 +135,8 @@ module _ {P : Type 0} (attempt_costs : Tree → Text → (before : Failures) →
       × NextCosts attempt_costs tree_of text_of failures_of before first (Some (failures_of next.producer))
       × CallsCost next rs later behind × (cost ≡ first + later)
 
-  -- With a budget that is enough, the calls of a search cost together what the budget falls by, unless
-  -- an allocation fails. So with the least budget that is enough, they cost at most that.
+  -- If the budget suffices and no allocation fails, the calls together cost exactly what is taken
+  -- from the budget. So with the least sufficient budget, they cost at most that budget.
   abbrev pub CallCostsAreWorkSpent : Type 0
   CallCostsAreWorkSpent = (tree : Tree) (text : Text) (start per_unit work : ℕ) (it behind : WorkMatchesView P)
       (rs : List WorkLimitedNextResult)

@@ -1,12 +1,12 @@
 //! Regular expressions with the syntax and semantics of ECMAScript: the match engine of the crate
 //! `regress`.
 //!
-//! A [`Regex`] is compiled from a pattern, which is one of the profile unless [`Syntax`] says
-//! otherwise. Its searches yield exactly the list of matches that the
-//! pattern's tree defines: the leftmost match, of highest priority, and then the matches after it.
+//! A [`Regex`] is compiled from a pattern of the profile, or of the syntax that [`Syntax`] selects.
+//! Its searches yield exactly the list of matches that the pattern's tree defines: the leftmost
+//! match of highest priority, and then the matches after it.
 //!
-//! The modules below the public API are re-exported, so a caller who names their items needs no
-//! other crate.
+//! The modules below the public API are re-exported, so that a caller who names their items needs
+//! no other crate.
 #![tactic(auto)]
 
 pub mod api;

@@ -1,4 +1,4 @@
-//! The program `regress-tool`.
+//! The body of the program `regress-tool`.
 
 use crate::api::{Flags, Regex, Syntax};
 use regress_search::exec::Match;
@@ -18,10 +18,10 @@ const NOT_FOUND: u8 = 1;
 /// written.
 const REFUSED: u8 = 2;
 
-/// The word before the others that makes the pattern one of `Syntax::EcmaScript2018`.
+/// The option that selects `Syntax::EcmaScript2018`. It is the first of the words.
 const ES2018: &str = "--es2018";
 
-/// What the words ask for.
+/// The arguments of the program.
 #[derive(Clone, Copy)]
 struct Arguments<'a> {
     syntax: Syntax,
@@ -30,7 +30,8 @@ struct Arguments<'a> {
     text: &'a str,
 }
 
-/// Searches a text, and returns the exit status: 0 with a match, 1 without, 2 on a refusal.
+/// Searches a text, and returns the exit status: 0 if there is a match, 1 if there is none, 2 if
+/// the arguments, the pattern or the search are refused.
 ///
 /// `words` are the pattern, the flags and the text; a word that is not UTF-8 is `None`. If
 /// `--es2018` precedes these three words, the pattern is one of `Syntax::EcmaScript2018`, and
@@ -80,7 +81,7 @@ fn read_three<'a>(
     })
 }
 
-// Writes one line that says why there is no result.
+// Writes one line with the reason why there is no result.
 fn print_refusal<W: Write, E: Display>(err: &mut W, why: &E) -> u8 {
     let _ = writeln!(err, "{why}");
     REFUSED

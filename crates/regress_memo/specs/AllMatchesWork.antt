@@ -1,4 +1,4 @@
--- The work of all searches of a text for successive matches, with one memo table.
+-- The total work of all searches for the successive matches of a text, with one memo table.
 use Rattle.std.specs.Prelude.{◌≡◌, ◌≤◌, ◌<◌, ℕ, ◌+◌, ◌*◌, List, [], ◌∷◌, Some}
 use Rattle.std.specs.List.{sum_by}
 use Rattle.regex_meaning.specs.Text.{Text, Direction, rightwards}
@@ -12,18 +12,18 @@ use Rattle.regress_memo.specs.ThreadPotentials.{Shape, Distinguishes, place_keys
 
 module _ (program : Program) (text : Text) (a : Liveness) (keys : Keys) (price : Key → ℕ) (weight : List Thread → ℕ)
   where
-    -- Successive searches, up to a memo table. The next match is searched from offset `from` on,
-    -- `work` was done, and `ready` is the sum of the initial potentials.
+    -- The searches so far. The next match is searched for from offset `from` on, `work` units of
+    -- work were done, `ready` is the sum of the initial potentials, and `memory` is the memo table.
     pub data Searched : (from work ready : ℕ) (memory : List Key) → Type 0 where
       at_first : Searched 0 0 0 []
-      -- A search from a position at which no match begins.
+      -- A search at a position where no match begins.
       failed : (from work ready more : ℕ) (memory now : List Key) (ts : List Thread) (turns : ℕ) (f : Found)
           → Searched from work ready memory
           → search program text turns rightwards ts ≡ Some f
           → ReachesBySteps program text a keys rightwards price weight memory (thread_entries ts) more now []
           → Searched from (work + more) (ready + sum_by (entry_potential weight) (thread_entries ts)) now
-      -- A search whose current thread ends at an offset. Waiting threads and records are discarded.
-      -- The next search begins at that offset, or further on if this one began there.
+      -- A search that ends at an offset. Its waiting threads and records are discarded. The next
+      -- search begins at this offset, or further on if this search began there too.
       found : (from next work ready more : ℕ) (memory now : List Key) (t : Thread) (rest : List Entry) (ts : List Thread)
           (turns : ℕ) (f : Found) → Searched from work ready memory
           → search program text turns rightwards ts ≡ Some f → AreOnward from (thread_entries ts)
@@ -34,8 +34,8 @@ module _ (program : Program) (text : Text) (a : Liveness) (keys : Keys) (price :
 
 -- ---- Laws
 
--- A key is discarded twice at most. So all searches together do at most the sum of their initial
--- potentials plus three times the costs of all keys.
+-- A key is discarded at most twice. So all searches together do at most the sum of their initial
+-- potentials plus three times the cost of all keys.
 abbrev pub AllMatchesWorkIsBounded : Type 0
 AllMatchesWorkIsBounded = (program : Program) (text : Text) (a : Liveness) (keys : Keys) → IsLivenessFor program text a
     → AreKeys program text a keys
@@ -43,8 +43,8 @@ AllMatchesWorkIsBounded = (program : Program) (text : Text) (a : Liveness) (keys
     → Searched program text a keys price weight from work ready memory
     → work ≤ ready + 3 * sum_by price keys.all
 
--- The bound with the costs of the instructions that record, each times its codes, at each offset.
--- If positions alone decide, an instruction has one code.
+-- The same bound, where the cost of all keys is the sum over recording instructions of cost times
+-- codes, times the number of offsets. If positions alone decide, an instruction has one code.
 abbrev pub AllMatchesWorkIsLinear : Type 0
 AllMatchesWorkIsLinear = (program : Program) (text : Text) (a : Liveness) (way : ℕ → Direction) (ips : List ℕ)
     (code : State → ℕ) (codes : ℕ → ℕ) (rows : Key → List Shape) (taken : Key → ℕ)

@@ -1,5 +1,5 @@
--- A search with a memo table, step by step: each thread has a key where its instruction records,
--- and the work is covered.
+-- A search with a memo table, step by step. Each thread at a recording instruction has a key, and
+-- the work is covered by potentials and costs.
 use Rattle.std.specs.Prelude.{◌≡◌, ◌≤◌, ◌<◌, ◌^◌, ℕ, ◌+◌, List, ◌∷◌, ◌++◌, [], Some, None}
 use Rattle.regex_meaning.specs.Laws.{Each}
 use Rattle.regex_meaning.specs.Text.{Text, Direction, rightwards}
@@ -29,12 +29,13 @@ module _ (program : Program) (text : Text) (t : MemoAnalysis) (d : Direction) wh
     pub way : insn_direction t s.ip ≡ d
     pub no_body : IsNotLoopBody program s.ip
 
-  -- All threads are in such states, so each has a key where its instruction records.
+  -- All threads have such states, so each thread at a recording instruction has a key.
   abbrev pub AreKeyed : List Thread → Type 0
   AreKeyed ts = Each (λ u. IsKeyed (state_of_thread u)) ts
 
-  -- From a memory and a list of entries, a search reached other ones in `work` units of work. Each
-  -- unit is covered by the initial potential or by the cost of the keys that were opened.
+  -- A search that began with the entries `first` and the memo table `memory` reaches the entries
+  -- `row` and the memo table `now` in `work` units of work. Each unit is covered by the initial
+  -- potential or by the cost of a key whose record was made.
   pub record ReachesEntries (memory : List Key) (first : List Entry) (work : ℕ) (now : List Key)
       (row : List Entry) : Type 0 where
     pub comes : ReachesBySteps program text (analysis_as_liveness t) (analysis_keys program text t) d
@@ -43,31 +44,31 @@ module _ (program : Program) (text : Text) (t : MemoAnalysis) (d : Direction) wh
     pub keyed : AreKeyed (threads_in row)
 
   module _ (memory : List Key) (first : List Entry) (work : ℕ) (now : List Key) (rest : List Entry) where
-    -- One more unit of work.
+    -- The steps of a search. Each one does one more unit of work.
     pub record StepsReachEntries : Type 0 where
-      -- A thread executes a step and leaves no record, because it has no key.
+      -- A thread executes a step without a record, because it has no key.
       pub turned : (s : State) (ts : List Thread) → act program text d s ≡ goes ts → memo_key_at t s ≡ None
           → ReachesEntries memory first work now (one_thread (running s) ∷ rest)
           → ReachesEntries memory first (work + 1) now (thread_entries ts ++ rest)
-      -- A thread executes a step and leaves a record, because it has a key that is new.
+      -- A thread with a new key executes a step and leaves a record of it.
       pub recorded : (s : State) (ts : List Thread) (k : Key) → act program text d s ≡ goes ts
           → memo_key_at t s ≡ Some k
           → IsNew k now → ReachesEntries memory first work now (one_thread (running s) ∷ rest)
           → ReachesEntries memory first (work + 1) now (thread_entries ts ++ key_record k (running s ∷ []) ∷ rest)
-      -- A thread whose key is known to fail is dropped.
+      -- A thread is dropped because its key is known to fail.
       pub known : (s : State) (k : Key) → memo_key_at t s ≡ Some k → KeyFails program text t k
           → ReachesEntries memory first work now (one_thread (running s) ∷ rest)
           → ReachesEntries memory first (work + 1) now rest
-      -- A pending thread is resumed.
+      -- A waiting thread is resumed.
       pub taken_up : (s : State) → ReachesEntries memory first work now (one_thread (waiting s) ∷ rest)
           → ReachesEntries memory first (work + 1) now (one_thread (running s) ∷ rest)
-      -- A record is reached, and its key becomes known.
+      -- A record is reached, so its key becomes known.
       pub reached : (k : Key) (ts : List Thread) → ReachesEntries memory first work now (key_record k ts ∷ rest)
           → ReachesEntries memory first (work + 1) (k ∷ now) rest
 
 -- ---- Laws
 
--- Each attempt begins with the initial thread, and each unit of work is covered.
+-- Each attempt begins with the initial thread, and all of its work is covered.
 pub record WorkIsCoveredByKeyCosts : Type 0 where
   pub begins : (program : Program) (t : MemoAnalysis) → IsAnalysisOf program t
       → (text : Text) → HasRisingPlaceOffsets text → ReadsAsBytes program text → units text < 2 ^ 63

@@ -1,4 +1,4 @@
--- How the steps of a plan are covered: potentials and costs that are checked at each instruction.
+-- How potentials and costs that are checked at each instruction cover the work of each step.
 use Rattle.std.specs.Prelude.{◌≡◌, ◌≤◌, ℕ, ◌+◌, ◌-◌, Bool, true, false, List, [], ◌∷◌, ◌++◌}
 use Rattle.std.specs.List.{sum_by}
 use Rattle.regex_meaning.specs.Text.{Text, Direction, moved}
@@ -13,13 +13,13 @@ use Rattle.regress_memo.specs.CharLoopExitThreadLists.{greedy_loop_threads, pend
 use Rattle.regress_memo.specs.UnboundedCharLoops.{key_behind, placed}
 
 module _ (program : Program) (w : Potentials) (price : ℕ → ℕ) (ips : List ℕ) where
-  -- The potential of threads that wait together is that of the first one.
+  -- The potential of a group of threads that wait together is the potential of its first thread.
   abbrev pub potential_by : List Thread → ℕ
   potential_by [] = 0
   potential_by (t ∷ ts) = potential_of w t
 
-  -- The work on the entries `front`, and the potential of the entries that replace them, are
-  -- covered by the potential of `front` and by the costs of the keys whose records are made.
+  -- Some entries replace the entries `front`. The potential of `front`, plus the costs of the keys
+  -- of new records, covers the work of this step and the potential of the new entries.
   abbrev pub IsCostCovered : (work : ℕ) (front entries : List Entry) → Type 0
   IsCostCovered work front entries =
       work + sum_by (entry_potential potential_by) entries
@@ -27,20 +27,21 @@ module _ (program : Program) (w : Potentials) (price : ℕ → ℕ) (ips : List 
 
   -- ---- Checks of a table
 
-  -- The potential of what an instruction leaves is covered by its own potential and, if it records,
-  -- by its cost.
+  -- At each instruction, the potential of the threads that it leaves is covered by its own
+  -- potential and, if it records, by its cost.
   pub record AreCostsCovered : Type 0 where
     pub enough : AreCovering w program
     pub recorded : (ip : ℕ) → is_one_of ips ip ≡ true → w.left ip + 2 ≤ w.at ip + price ip
     pub passed : (ip : ℕ) → is_one_of ips ip ≡ false → w.left ip + 1 ≤ w.at ip
 
-  -- A char loop without a maximum covers the characters that it requires. Each position covers
-  -- itself and one character.
+  -- The potential of a greedy char loop without a maximum covers the required characters. The cost
+  -- of each key of the loop covers one position and one character.
   pub record GreedyLoopIsCovered (least ip : ℕ) : Type 0 where
     pub ready : least + 2 ≤ w.at ip
     pub places : w.at (ip + 2) + 3 ≤ price (ip + 1)
 
-  -- A lazy char loop also covers its first position, and the others together.
+  -- The potential of a lazy char loop also covers its first position, and the group of the other
+  -- positions.
   pub record LazyLoopIsCovered (least ip : ℕ) : Type 0 where
     pub ready : least + 2 + (w.at (ip + 2) + (w.at (ip + 2) + 1)) ≤ w.at ip
     pub places : w.at (ip + 2) + 3 ≤ price (ip + 1)
@@ -48,7 +49,8 @@ module _ (program : Program) (w : Potentials) (price : ℕ → ℕ) (ips : List 
   -- ---- Steps
 
   module _ (text : Text) (code : State → ℕ) (d : Direction) (s : State) where
-    -- The steps of a thread are covered: resuming it, and executing it without or with a record.
+    -- The steps of a thread are covered: when it is resumed, and when it is executed without or
+    -- with a record.
     pub record ThreadIsPaid : Type 0 where
       pub taken_up : IsCostCovered 1 (one_thread (waiting s) ∷ []) (one_thread (running s) ∷ [])
       pub turned : (ts : List Thread) → act program text d s ≡ goes ts → is_one_of ips s.ip ≡ false
@@ -59,16 +61,16 @@ module _ (program : Program) (w : Potentials) (price : ℕ → ℕ) (ips : List 
 
   module _ (text : Text) (a : Liveness) (questions : ℕ → List Question) (way : ℕ → Direction) (taken : Key → ℕ)
       (d : Direction) (test : ℕ → Bool) (s : State) (place least : ℕ) where
-    -- The waiting positions of the char loop, with their keys.
+    -- The waiting positions of a char loop, each with its key.
     abbrev pub places_from : (count : ℕ) → List (Thread × Key)
     places_from count = placed program text a questions way ips taken d test s place least count
 
-    -- The key of the char loop from `n` characters further on.
+    -- The key of the char loop at the position `n` characters further on.
     abbrev pub key_on : (n : ℕ) → Key
     key_on n = key_behind program text a questions way ips taken d test s place n
 
-    -- The step of a greedy char loop is covered: executing it, and reading each character up to one
-    -- that ends it.
+    -- The step of a greedy char loop is covered. It executes the instruction and tests each
+    -- character, including the one that ends the loop.
     pub record RunTurnsArePaid : Type 0 where
       pub known : (n : ℕ) → least ≤ n
           → IsCostCovered (n + 2) (one_thread (running s) ∷ [])
@@ -77,7 +79,8 @@ module _ (program : Program) (w : Potentials) (price : ℕ → ℕ) (ips : List 
           → IsCostCovered (n + 2) (one_thread (running s) ∷ [])
           (each_noted [] ((running (behind text d place s n), key_on n) ∷ places_from (n - least)))
 
-    -- A lazy char loop reads the characters that it requires, and then one character in each step.
+    -- The steps of a lazy char loop are covered. It reads the required characters at once, and then
+    -- one character in each step.
     pub record LazyTurnsArePaid : Type 0 where
       pub taken_up : IsCostCovered (least + 2) (one_thread (running s) ∷ [])
           (one_thread (running (behind text d place s least)) ∷ thread_group
@@ -88,7 +91,7 @@ module _ (program : Program) (w : Potentials) (price : ℕ → ℕ) (ips : List 
 
 -- ---- Laws
 
--- A table that passes the checks covers the steps of a plan.
+-- If a table passes the checks, it covers the steps of threads and char loops.
 pub record StepCostsAreCovered : Type 0 where
   pub threads : (program : Program) (w : Potentials) (price : ℕ → ℕ) (ips : List ℕ)
       → AreCostsCovered program w price ips

@@ -1,4 +1,4 @@
--- The contents of a memo analysis, in the terms of `regress_memo`.
+-- The contents of a memo analysis as liveness, questions, potentials and costs.
 use Rattle.std.specs.Prelude.{ℕ, ◌+◌, ◌*◌, Bool, true, false, if◌then◌else◌, ◌&&◌, ◌||◌, ◌==◌, List, [], ◌∷◌, length, unwrap_or, slice_get}
 use Rattle.std.specs.Prelude.{slice_range, nat_le, nat_lt}
 use Rattle.regex_meaning.specs.Text.{Direction, rightwards, leftwards}
@@ -14,7 +14,7 @@ use Rattle.regress_memo.specs.declared.analysis_result.LoopProgressFact.TheVaria
 
 -- ---- Instructions and enclosing loops
 
--- The analysis of an instruction that has none: no enclosing loop, and no cost.
+-- The default analysis of an instruction: no enclosing loop, and no cost.
 abbrev pub no_insn_analysis : InsnAnalysis
 no_insn_analysis = record {
   first = 0;
@@ -30,11 +30,11 @@ no_insn_analysis = record {
   base = 0;
 }
 
--- The analysis of an instruction.
+-- The analysis of an instruction. It is the default if the table has no entry.
 abbrev pub insn_analysis_of : MemoAnalysis → (ip : ℕ) → InsnAnalysis
 insn_analysis_of t ip = unwrap_or (slice_get t.lines.items ip) no_insn_analysis
 
--- The entries of an instruction's range, or none if the range is invalid.
+-- The entries in an instruction's range. Empty if the range is invalid.
 abbrev pub rows_in : List EnclosingLoop → InsnAnalysis → List EnclosingLoop
 rows_in rows line =
     if nat_le line.first line.end && nat_le line.end (length rows) then slice_range rows line.first line.end else []
@@ -43,19 +43,19 @@ rows_in rows line =
 abbrev pub enclosing_loops_of : MemoAnalysis → (ip : ℕ) → List EnclosingLoop
 enclosing_loops_of t ip = rows_in t.rows.items (insn_analysis_of t ip)
 
--- The entry states this fact of its loop.
+-- Whether the entry states this fact of its loop.
 abbrev pub enclosing_loop_has_fact : LoopProgressFact → EnclosingLoop → Bool
 enclosing_loop_has_fact Inside r = true
 enclosing_loop_has_fact Moved r = r.moved
 enclosing_loop_has_fact Empty r = r.empty
 
--- One of the entries states the fact of loop `l`.
+-- Whether one of the entries states this fact of loop `l`.
 abbrev pub states_loop_fact : LoopProgressFact → (l : ℕ) → List EnclosingLoop → Bool
 states_loop_fact said l [] = false
 states_loop_fact said l (r ∷ rows) = ((r.id == l) && enclosing_loop_has_fact said r) || states_loop_fact said l rows
 
--- It is known that a character was read in the loop's iteration, or the key distinguishes whether
--- one was.
+-- Whether it is known that the loop's iteration has read a character, or the key distinguishes
+-- whether it has.
 abbrev pub knows_iteration_reads : (l : ℕ) → List EnclosingLoop → Bool
 knows_iteration_reads l rows = states_loop_fact Empty l rows || states_loop_fact Moved l rows
 
@@ -88,11 +88,11 @@ analysis_as_liveness t = record {
 abbrev pub with_empty : EnclosingLoop → List Question → List Question
 with_empty r qs = if r.empty then is_empty r.id ∷ qs else qs
 
--- Adds the question of the loop's iteration count, if counts are distinguished.
+-- Adds the question about the loop's iteration count, if counts are distinguished.
 abbrev pub with_count : EnclosingLoop → (up_to : ℕ) → List Question → List Question
 with_count r up_to qs = if nat_lt 0 up_to then how_many r.id up_to ∷ qs else qs
 
--- The questions of these enclosing loops.
+-- The questions about the given enclosing loops.
 abbrev pub questions_on : (up_to : ℕ → ℕ) → List EnclosingLoop → List Question
 questions_on up_to [] = []
 questions_on up_to (r ∷ rows) = with_empty r (with_count r (up_to r.id) (questions_on up_to rows))
@@ -103,17 +103,18 @@ key_code_questions_of t ip = questions_on (λ l. (count_bound_of t l).up_to) (en
 
 -- ---- Recording instructions and costs
 
--- The recording instructions of a list that begins at index `first`.
+-- The indices of the recording instructions in a list that begins at index `first`.
 abbrev pub recorded_from : (first : ℕ) → List InsnAnalysis → List ℕ
 recorded_from first [] = []
 recorded_from first (x ∷ lines) =
     if x.records then first ∷ recorded_from (first + 1) lines else recorded_from (first + 1) lines
 
--- The recording instructions.
+-- The indices of the recording instructions.
 abbrev pub recorded : MemoAnalysis → List ℕ
 recorded t = recorded_from 0 t.lines.items
 
--- The potential of a thread at each instruction, and of the threads that it leaves.
+-- Two potentials for each instruction: that of a thread there, and that of the threads that the
+-- instruction leaves.
 abbrev pub potentials_of : MemoAnalysis → Potentials
 potentials_of t = record { at = λ ip. (insn_analysis_of t ip).ready; left = λ ip. (insn_analysis_of t ip).left }
 
@@ -125,17 +126,17 @@ key_cost_of t ip = (insn_analysis_of t ip).price
 abbrev pub insn_direction : MemoAnalysis → (ip : ℕ) → Direction
 insn_direction t ip = if (insn_analysis_of t ip).forward then rightwards else leftwards
 
--- Capture groups stay unchanged from this instruction on.
+-- Whether capture groups stay unchanged from this instruction on.
 abbrev pub groups_stay_unchanged_from : MemoAnalysis → (ip : ℕ) → Bool
 groups_stay_unchanged_from t ip = (insn_analysis_of t ip).silent
 
 -- ---- Bits
 
--- The number of codes at recording instructions before this one.
+-- The number of codes at all recording instructions before this one.
 abbrev pub memo_codes_before_insn : MemoAnalysis → (ip : ℕ) → ℕ
 memo_codes_before_insn t ip = if nat_lt ip (length t.lines.items) then (insn_analysis_of t ip).base else t.codes
 
--- The number of codes that have bits at an instruction.
+-- The number of codes at an instruction that have bits. 0 if it does not record.
 abbrev pub number_of_memo_codes_at_insn : MemoAnalysis → (ip : ℕ) → ℕ
 number_of_memo_codes_at_insn t ip = if (insn_analysis_of t ip).records then (insn_analysis_of t ip).codes else 0
 

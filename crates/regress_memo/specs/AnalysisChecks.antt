@@ -22,12 +22,12 @@ use Rattle.regress_memo.specs.AnalysisAsPotentials.{count_bound_of}
 use Rattle.regress_memo.specs.AnalysisAsPotentials.{analysis_as_liveness, key_code_questions_of, recorded, potentials_of, key_cost_of, insn_direction}
 use Rattle.regress_memo.specs.AnalysisAsPotentials.{groups_stay_unchanged_from, memo_codes_before_insn, number_of_memo_codes_at_insn}
 
--- The loop is the one that is entered, if one is.
+-- Whether `l` is the loop that is entered.
 abbrev pub is_entered : Option ℕ → (l : ℕ) → Bool
 is_entered None l = false
 is_entered (Some id) l = l == id
 
--- The maximum of a loop that has none.
+-- The maximum of a loop without a maximum.
 abbrev pub unlimited : ℕ
 unlimited = 18446744073709551615
 
@@ -36,9 +36,9 @@ abbrev pub max_codes_per_insn : ℕ
 max_codes_per_insn = 64
 
 module _ (t : MemoAnalysis) where
-  -- ---- From an instruction to a successor
+  -- ---- Edges from an instruction to a successor
 
-  -- What an entry of the successor states follows from the entries at `ip`.
+  -- The entry `row` at a successor follows from the entries at `ip`.
   pub record LoopFactsFlow (reads : Bool) (entered : Option ℕ) (ip : ℕ) (row : EnclosingLoop) : Type 0 where
     pub fresh : is_entered entered row.id ≡ true → row.moved ≡ false
     pub inside : is_entered entered row.id ≡ false → states_loop_fact Inside row.id (enclosing_loops_of t ip) ≡ true
@@ -47,13 +47,14 @@ module _ (t : MemoAnalysis) where
     pub empty : is_entered entered row.id ≡ false → reads ≡ false → row.empty ≡ true
         → knows_iteration_reads row.id (enclosing_loops_of t ip) ≡ true
 
-  -- All entries of the successor follow.
+  -- All entries at the successor follow from the entries at `ip`.
   abbrev pub AllLoopFactsFlow : (reads : Bool) (entered : Option ℕ) (ip next : ℕ) → Type 0
   AllLoopFactsFlow reads entered ip next = (k : ℕ) (row : EnclosingLoop)
       → slice_get (enclosing_loops_of t next) k ≡ Some row
       → LoopFactsFlow reads entered ip row
 
-  -- The facts are consistent along this edge, the direction stays, and unchanged groups stay so.
+  -- An edge is consistent: its facts follow, the direction stays the same, and if groups are known
+  -- to stay unchanged before it, they are after it.
   pub record IsConsistentFlow (reads : Bool) (entered : Option ℕ) (ip next : ℕ) : Type 0 where
     pub liveness : IsConsistentEdge (analysis_as_liveness t) reads (none (analysis_as_liveness t)) (is_entered entered)
         ip next
@@ -62,29 +63,30 @@ module _ (t : MemoAnalysis) where
 
   -- ---- Loops
 
-  -- The distinguished iteration counts decide how the loop continues, in each text.
+  -- For texts of fewer than 2^63 units, the distinguished iteration counts decide how the loop
+  -- continues.
   abbrev pub CountDecides : (f : layout.LoopFields) (moved : Bool) → Type 0
   CountDecides f moved = (top : ℕ) → top < 2 ^ 63 → Decides (analysis_as_liveness t) top f moved
 
-  -- An iteration may begin, or the loop may be left.
+  -- The edges to the loop's body and to its exit are consistent.
   pub record MayBeginIteration (f : layout.LoopFields) (ip begin : ℕ) : Type 0 where
     pub again : IsConsistentFlow false (Some f.loop_id) ip (begin + 1)
     pub leave : IsConsistentFlow false None ip f.exit
     pub writes : (insn_analysis_of t ip).from ≤ f.loop_id
     pub few : (count_bound_of t f.loop_id).counted ≡ true → f.max_iters ≤ (count_bound_of t f.loop_id).up_to + 1
 
-  -- An iteration may end, and all is known that decides how the loop continues.
+  -- An iteration may end here, and the facts decide how the loop continues.
   pub record MayEndIteration (f : layout.LoopFields) (ip : ℕ) : Type 0 where
     pub inside : states_loop_fact Inside f.loop_id (enclosing_loops_of t ip) ≡ true
     pub empty : knows_iteration_reads f.loop_id (enclosing_loops_of t ip) ≡ true
     pub decides : CountDecides f (states_loop_fact Moved f.loop_id (enclosing_loops_of t ip))
 
-  -- An iteration may end and another one may begin.
+  -- An iteration may end here, and another one may begin.
   pub record MayRepeatLoop (f : layout.LoopFields) (ip begin : ℕ) : Type 0 where
     pub begins : MayBeginIteration f ip begin
     pub loop_iteration_state : MayEndIteration f ip
 
-  -- `MayRepeatLoop` if the instruction is a loop head.
+  -- `MayRepeatLoop` for a loop head. Other instructions satisfy it.
   abbrev pub MayRepeatLoopAt : Option Insn → (ip begin : ℕ) → Type 0
   MayRepeatLoopAt (Some (EnterLoop f)) ip begin = MayRepeatLoop f ip begin
   MayRepeatLoopAt _ ip begin = Unit {0}
@@ -96,8 +98,8 @@ module _ (t : MemoAnalysis) where
   LoopsAreBefore ip from = (k : ℕ) (row : EnclosingLoop) → slice_get (enclosing_loops_of t ip) k ≡ Some row
       → row.id < from
 
-  -- The contents of a lookaround are isolated: they are in no loop around it and write none of
-  -- them.
+  -- The contents of a lookaround are isolated: no loop around them encloses them, and they write
+  -- the data of none.
   pub record IsolatesLookaround (l : look.LookaroundSuccessor) (ip : ℕ) : Type 0 where
     pub on : IsConsistentFlow false None ip l.past
     pub apart : enclosing_loops_of t (ip + 1) ≡ []
@@ -108,7 +110,7 @@ module _ (t : MemoAnalysis) where
 
   -- ---- Char loops
 
-  -- The potential covers a char loop without a maximum, and the keys of its exits cover them.
+  -- The potential covers a char loop without a maximum, and the costs of the keys cover its exits.
   pub record CoversUnboundedLoop (b : bounds.CharLoopMinMaxAndGreed) (ip : ℕ) : Type 0 where
     pub greedy : b.greedy ≡ true → b.least + 2 ≤ (insn_analysis_of t ip).ready
     pub lazy : b.greedy ≡ false
@@ -116,13 +118,13 @@ module _ (t : MemoAnalysis) where
         ≤ (insn_analysis_of t ip).ready
     pub places : (insn_analysis_of t (ip + 2)).ready + 3 ≤ (insn_analysis_of t (ip + 1)).price
 
-  -- The potential left covers each exit and each character of a char loop with a maximum.
+  -- The potential left by a char loop with a maximum covers each exit and each character.
   abbrev pub CoversBoundedLoop : bounds.CharLoopMinMaxAndGreed → (ip : ℕ) → Type 0
   CoversBoundedLoop b ip =
       b.most + 1 + (b.most + 1 - b.least) * ((insn_analysis_of t (ip + 2)).ready + 1) ≤ (insn_analysis_of t ip).left
 
-  -- The body of a char loop without a maximum has its keys. One with a maximum leaves a thread for
-  -- each exit.
+  -- If a char loop has no maximum, its body records and has the keys of the loop. If it has one, it
+  -- leaves a thread for each exit.
   pub record IsCharLoopChecked (program : Program) (b : bounds.CharLoopMinMaxAndGreed) (ip : ℕ) : Type 0 where
     pub way : insn_direction t (ip + 1) ≡ insn_direction t ip
     pub records : b.most ≡ unlimited → (insn_analysis_of t (ip + 1)).records ≡ true
@@ -135,14 +137,16 @@ module _ (t : MemoAnalysis) where
 
   -- ---- Each instruction
 
-  -- A recording instruction is covered by the cost of its key, any other one by its potential.
+  -- The cost of the key covers an instruction that records. The potential covers any other
+  -- instruction.
   pub record IsInsnCostCovered (ip : ℕ) : Type 0 where
     pub recorded : (insn_analysis_of t ip).records ≡ true
         → (insn_analysis_of t ip).left + 2 ≤ (insn_analysis_of t ip).ready + (insn_analysis_of t ip).price
     pub passed : (insn_analysis_of t ip).records ≡ false
         → (insn_analysis_of t ip).left + 1 ≤ (insn_analysis_of t ip).ready
 
-  -- The codes of an instruction are counted and few, and its bits are before those of the next one.
+  -- The number of codes of an instruction is right and small, and its bits come before those of the
+  -- next instruction.
   pub record HasDisjointCodesAt (ip : ℕ) : Type 0 where
     pub codes : plan_codes (key_code_questions_of t) ip ≡ (insn_analysis_of t ip).codes
     pub few : (insn_analysis_of t ip).codes ≤ max_codes_per_insn
@@ -161,7 +165,7 @@ module _ (t : MemoAnalysis) where
     IsConsistentAt (LookaroundSuccessor l) ip = IsolatesLookaround l ip
     IsConsistentAt Same ip = ⊥
 
-    -- The potential covers the successors of an instruction.
+    -- The potential left by an instruction covers the threads at its successors.
     abbrev pub IsCoveredAt : Successors → (ip : ℕ) → Type 0
     IsCoveredAt Ends ip = Unit {0}
     IsCoveredAt (One n) ip = CoversOne (potentials_of t) ip n.to

@@ -1,5 +1,5 @@
--- Other steps, and what covers them: of char loops with a maximum, of threads that are known to
--- fail, and of lookarounds.
+-- More steps and how they are covered: char loops with a maximum, threads that are known to fail,
+-- and lookarounds.
 use Rattle.std.specs.Prelude.{◌≡◌, ◌≤◌, ℕ, ◌+◌, ◌-◌, ◌*◌, true, false, List, [], ◌∷◌, ◌++◌, length}
 use Rattle.std.specs.List.{sum_by}
 use Rattle.regex_meaning.specs.Laws.{Each}
@@ -18,14 +18,13 @@ use Rattle.regress_memo.specs.MemoPlanChecksAndGuarantees.{IsPlan, RecordsNewKey
 -- ---- Char loops
 
 module _ (program : Program) (w : Potentials) (price : ℕ → ℕ) (ips : List ℕ) where
-  -- The potential of what a char loop with a maximum leaves is enough for each of its positions,
-  -- and for its characters.
+  -- The potential left by a char loop with a maximum covers all of its positions and characters.
   abbrev pub LimitedRunIsPaid : (least most ip : ℕ) → Type 0
   LimitedRunIsPaid least most ip = most + 1 + (most + 1 - least) * (w.at (ip + 2) + 1) ≤ w.left ip
 
-  -- The step of such a loop reads `n` characters, and leaves threads at some of its positions.
+  -- A step of such a loop, which reads `n` characters and leaves threads at some of its positions.
   module _ (code : State → ℕ) (s : State) (least most : ℕ) where
-    -- The step is covered, without a record and with one.
+    -- The step is covered, with or without a record.
     pub record ScanIsPaid : Type 0 where
       pub passed : (n : ℕ) (ss : List State) → n ≤ most → length ss ≤ most + 1 - least → Each (λ t. t.ip ≡ s.ip + 2) ss
           → is_one_of ips s.ip ≡ false → IsCostCovered program w price ips (n + 1) (one_thread (running s) ∷ [])
@@ -36,7 +35,8 @@ module _ (program : Program) (w : Potentials) (price : ℕ → ℕ) (ips : List 
           → IsCostCovered program w price ips (n + 1) (one_thread (running s) ∷ [])
           (thread_entries (first_running_and_others_waiting ss) ++ key_record (key_of code s) (running s ∷ []) ∷ [])
 
-  -- A thread that is known to fail takes a step, and so does a char loop with too few characters.
+  -- Steps that leave no thread: of a thread that is known to fail, and of a char loop with too few
+  -- characters.
   module _ (s : State) where
     -- The step of a thread that fails is covered.
     pub record EndIsPaid : Type 0 where
@@ -48,7 +48,7 @@ module _ (program : Program) (w : Potentials) (price : ℕ → ℕ) (ips : List 
 
 module _ (program : Program) (text : Text) (a : Liveness) (questions : ℕ → List Question) (way : ℕ → Direction)
     (ips : List ℕ) (taken : Key → ℕ) (d : Direction) (memory : List Key) (s : State) where
-  -- A char loop that leaves threads is executed, with or without a record.
+  -- A char loop with a maximum is executed, with or without a record.
   pub record ScanGives : Type 0 where
     pub turned : (n : ℕ) (ts : List Thread) → act program text d s ≡ scans n ts
         → GivesByPlan program text a questions way ips taken d memory (running s ∷ []) (thread_entries ts)
@@ -59,12 +59,14 @@ module _ (program : Program) (text : Text) (a : Liveness) (questions : ℕ → L
 
 -- ---- Lookarounds
 
--- A search of a lookaround's contents, from the threads `us`, did `more` work and learned keys that
--- cover it, except for the initial potential. The potential of the lookaround covers this, what the
--- lookaround leaves, and its step.
+-- The search of a lookaround's contents began with the threads `us`, did `more` units of work, and
+-- learned keys. The costs of these keys and the initial potential cover that work. The potential of
+-- the lookaround covers this initial potential, the threads that the lookaround leaves, and its
+-- step.
 module _ (program : Program) (text : Text) (a : Liveness) (keys : Keys) (d : Direction) (price : Key → ℕ)
     (weight : List Thread → ℕ) where
-  -- The search, its keys and the step of the lookaround satisfy this.
+  -- The search of the contents, its keys, and the step of the lookaround satisfy the conditions
+  -- above.
   pub record IsLooked (now learned : List Key) (front entries rest : List Entry) (us : List Thread) (more : ℕ) : Type 0
     where
       pub front_bare : IsBare front
@@ -76,7 +78,8 @@ module _ (program : Program) (text : Text) (a : Liveness) (keys : Keys) (d : Dir
       pub ready : 1 + sum_by (entry_potential weight) (thread_entries us) + sum_by (entry_potential weight)
           entries ≤ sum_by (entry_potential weight) front
 
-  -- Then the search and the step together are a part of the enclosing search.
+  -- The search of the contents and the step of the lookaround are together a part of the enclosing
+  -- search.
   abbrev pub LooksComeOn : Type 0
   LooksComeOn =
       (memory : List Key) (row : List Entry) (work : ℕ) (now learned : List Key) (front entries rest : List Entry)
@@ -88,7 +91,8 @@ module _ (program : Program) (text : Text) (a : Liveness) (keys : Keys) (d : Dir
 
 -- ---- Laws
 
--- A table that passes the checks covers these steps.
+-- If a table passes the checks, it covers the steps of char loops with a maximum and of failing
+-- threads.
 pub record BoundedLoopCostsAreCovered : Type 0 where
   pub scans : (program : Program) (w : Potentials) (price : ℕ → ℕ) (ips : List ℕ) → AreCostsCovered program w price ips
       → (code : State → ℕ) (s : State) (least most : ℕ) → LimitedRunIsPaid program w price ips least most s.ip
@@ -103,7 +107,7 @@ CharLoopScansAreMemoSteps =
     (ips : List ℕ) (taken : Key → ℕ) → IsPlan program text a questions way ips taken
     → (d : Direction) (memory : List Key) (s : State) → ScanGives program text a questions way ips taken d memory s
 
--- The steps of lookarounds are covered.
+-- The searches and steps of lookarounds are covered.
 abbrev pub LookaroundCostsAreCovered : Type 0
 LookaroundCostsAreCovered =
     (program : Program) (text : Text) (a : Liveness) (keys : Keys) (d : Direction) (price : Key → ℕ)

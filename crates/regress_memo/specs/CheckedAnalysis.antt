@@ -24,7 +24,8 @@ use Rattle.regress_memo.specs.AnalysisAsPotentials.{number_of_memo_codes_at_insn
 use Rattle.regress_memo.specs.AnalysisChecks.{IsCharLoopChecked, IsConsistentAt, max_codes_per_insn}
 use Rattle.regress_memo.specs.Successors.{successors_of_insn_if_any}
 
--- Codes are counted and few, and the bits of each instruction are before those of the next one.
+-- The numbers of codes are right and small, and the bits of each instruction come before those of
+-- the next one.
 pub record HasDisjointCodes (t : MemoAnalysis) : Type 0 where
   pub few : (ip : ℕ) → plan_codes (key_code_questions_of t) ip ≤ max_codes_per_insn
   pub counted : (ip : ℕ) → ip < length t.lines.items
@@ -38,8 +39,8 @@ pub record FirstInsnForwardOutsideLoops (t : MemoAnalysis) : Type 0 where
   pub forward : insn_direction t 0 ≡ rightwards
 
 module _ (program : Program) (t : MemoAnalysis) where
-  -- The analysis of the program is correct: its facts are sound, codes are few, and records cover
-  -- costs.
+  -- The analysis of the program is correct: its facts are sound, the numbers of codes are small,
+  -- and costs are covered.
   pub record IsAnalysisOf : Type 0 where
     pub starts : FirstInsnForwardOutsideLoops t
     pub steps : (ip : ℕ) → IsConsistentAt t program (successors_of_insn_if_any ip (slice_get program.insns ip)) ip
@@ -64,17 +65,18 @@ module _ (program : Program) (t : MemoAnalysis) where
 abbrev pub loop_iteration_state_as_spec : LoopCountAndIterationStart → LoopData
 loop_iteration_state_as_spec r = record { iters = r.iters; entry = r.entry }
 
--- The number of digits of an entry whose loop's counts are distinguished up to `up_to`.
+-- The number of values that the digit of an entry may have. Counts of the loop are distinguished up
+-- to `up_to`.
 abbrev pub radix_of_loop_digit : (up_to : ℕ) → EnclosingLoop → ℕ
 radix_of_loop_digit up_to r = (if r.empty then 2 else 1) * (up_to + 1)
 
--- The digit of an entry for a loop state; 0 if there is no state.
+-- The digit of an entry, given the data of its loop. 0 if the state has no such loop.
 abbrev pub digit_of : (up_to at : ℕ) → Option LoopData → EnclosingLoop → ℕ
 digit_of up_to at None r = 0
 digit_of up_to at (Some x) r = if r.empty then bool_as_digit (x.entry == at) + 2 * min x.iters up_to
     else min x.iters up_to
 
--- The key's instruction exists and records, and its offset and its code are in range.
+-- The instruction of the key exists and records, and the key's offset and code are in range.
 pub record IsRecordableMemoKey (t : MemoAnalysis) (places : ℕ) (k : Key) : Type 0 where
   pub there : k.ip < length t.lines.items
   pub records : (insn_analysis_of t k.ip).records ≡ true
@@ -83,7 +85,7 @@ pub record IsRecordableMemoKey (t : MemoAnalysis) (places : ℕ) (k : Key) : Typ
 
 -- ---- Laws
 
--- An analysis of a program is a memo plan of it in each text.
+-- A correct analysis is a memo plan of its program in each text.
 abbrev pub AnalysesAreMemoPlans : Type 0
 AnalysesAreMemoPlans = (program : Program) (t : MemoAnalysis) → IsAnalysisOf program t
     → (text : Text) → HasRisingPlaceOffsets text → ReadsAsBytes program text → units text < 2 ^ 63
@@ -94,7 +96,7 @@ abbrev pub ip_of : Thread → ℕ
 ip_of (running s) = s.ip
 ip_of (waiting s) = s.ip
 
--- A step leaves threads at instructions that are searched in the same direction.
+-- A step leaves threads only at instructions that are searched in the same direction.
 abbrev pub DirectionsAreKept : Type 0
 DirectionsAreKept = (program : Program) (t : MemoAnalysis) → IsAnalysisOf program t
     → (text : Text) (d : Direction) (s : State) (ts : List Thread)

@@ -1,4 +1,4 @@
--- The work that suffices for all searches of a text if nothing is memoized at first.
+-- The work that suffices for all searches of a text, if memoization begins only after some work.
 use Rattle.std.specs.Prelude.{◌≡◌, ◌≤◌, ℕ, ◌+◌, ◌*◌, List}
 use Rattle.std.specs.List.{sum_by}
 use Rattle.regex_meaning.specs.Text.{Text, Direction}
@@ -12,20 +12,22 @@ use Rattle.regress_memo.specs.UnboundedCharLoopMemoKeys.{plan_keys}
 use Rattle.regress_memo.specs.MemoPlanChecksAndGuarantees.{IsPlan}
 use Rattle.regress_memo.specs.SuccessiveMatches.{Attempted, ready_at}
 
--- The cost of the keys at one offset.
+-- The cost of all keys at one offset.
 abbrev pub price_at_one : (questions : ℕ → List Question) (ips : List ℕ) (price : ℕ → ℕ) → ℕ
 price_at_one questions ips price = sum_by (λ ip. price ip * plan_codes questions ip) ips
 
--- The work that suffices for each offset, if at first `at_first` is allowed for each.
+-- The work that suffices for each offset, if `at_first` is allowed for each offset before
+-- memoization begins.
 abbrev pub enough_for_one : (at_first ready price : ℕ) → ℕ
 enough_for_one at_first ready price = at_first + 1 + 3 * (ready + price)
 
 module _ (program : Program) (text : Text) (a : Liveness) (questions : ℕ → List Question)
     (way : ℕ → Direction) (ips : List ℕ) (taken : Key → ℕ) (price : ℕ → ℕ) (weight : List Thread → ℕ)
     (row : ℕ → List Thread) where
-  -- Searches in two stages. In the first one nothing is memoized. It is over once more work was
-  -- done than `at_first` for each offset, in a step that reads each unit at most once. The current
-  -- attempt is made again, and from there on failures are memoized.
+  -- A search in two stages. In the first stage, nothing is memoized. It ends with the first step
+  -- after which more than `at_first` units of work were done for each offset; a step reads each
+  -- unit at most once. Then the current attempt begins again, and from there on failures are
+  -- memoized.
   pub record AreInTwoStages (at_first work : ℕ) : Type 0 where
     pub early : ℕ
     pub late : ℕ
@@ -49,7 +51,7 @@ module _ (program : Program) (text : Text) (a : Liveness) (questions : ℕ → L
 
 -- ---- Laws
 
--- The work of both stages is within this budget for each offset.
+-- The work of both stages together is within this budget for each offset.
 abbrev pub WorkBudgetsSuffice : Type 0
 WorkBudgetsSuffice = (program : Program) (text : Text) (a : Liveness) (questions : ℕ → List Question)
     (way : ℕ → Direction) (ips : List ℕ) (taken : Key → ℕ) (price : ℕ → ℕ) (weight : List Thread → ℕ)

@@ -1,4 +1,5 @@
--- Instructions that leave groups unchanged, like those of a lookaround that contains none.
+-- Silent instructions: neither they nor the instructions after them change groups. Example: the
+-- contents of a lookaround without groups.
 use Rattle.std.specs.Prelude.{◌≡◌, ℕ, ◌+◌, Bool, true, [], ◌∷◌, length, Option, Some, None, slice_get}
 use Rattle.regex_meaning.specs.Text.{Text, Direction}
 use Rattle.regex_meaning.specs.CompilationRelation.{Program, Insn, Goal, JustFail, Alt, Jump, EnterLoop, LoopAgain, ResetCaptureGroup, Loop1CharBody}
@@ -6,12 +7,12 @@ use Rattle.regex_meaning.specs.CompilationRelation.{BeginCaptureGroup, EndCaptur
 use Rattle.regress_machine.specs.Machine.{State, running, Found, search}
 
 module _ (silent : ℕ → Bool) where
-  -- The body and the exit of the loop are silent.
+  -- If the instruction is a loop head, the loop's body and its exit are silent.
   abbrev pub IsSilentAgain : Option Insn → (begin : ℕ) → Type 0
   IsSilentAgain (Some (EnterLoop f)) begin = (silent (begin + 1) ≡ true) × (silent f.exit ≡ true)
   IsSilentAgain _ begin = Unit {0}
 
-  -- A silent instruction does nothing to groups, and its successors are silent too.
+  -- A silent instruction does not change groups, and its successors are silent.
   abbrev pub IsSilentAt : Program → Option Insn → (ip : ℕ) → Type 0
   IsSilentAt program None ip = Unit {0}
   IsSilentAt program (Some Goal) ip = Unit {0}
@@ -30,11 +31,12 @@ module _ (silent : ℕ → Bool) where
       × (silent continuation ≡ true)
   IsSilentAt program (Some x) ip = silent (ip + 1) ≡ true
 
-  -- The silent instructions of the program do nothing to groups, nor do their successors.
+  -- Each instruction that is marked as silent does not change groups, and its successors are marked
+  -- too.
   pub record AreGroupPreserving (program : Program) : Type 0 where
     pub silent_at : (ip : ℕ) → silent ip ≡ true → IsSilentAt program (slice_get program.insns ip) ip
 
--- The states have equal groups and starts of groups, and equal numbers of loops.
+-- The states have equal groups, equal starts of groups, and the same number of loops.
 pub record SameGroups (s t : State) : Type 0 where
   pub groups : s.groups ≡ t.groups
   pub starts : s.starts ≡ t.starts

@@ -1,4 +1,4 @@
--- Laws of memo tables: their contents as a list of keys in the terms of `regress_memo`.
+-- Laws of memo tables. The contents of a table are stated as a list of keys.
 use Rattle.std.specs.Prelude.{◌≡◌, ◌+◌, ℕ, Bool, true, false, List, [], ◌∷◌, None, Some}
 use Rattle.regex_meaning.specs.Text.{Text, Direction}
 use Rattle.regex_meaning.specs.CodeUnitOffsets.{offset, units}
@@ -18,23 +18,23 @@ use Rattle.regress_memo.specs.MemoContents.{memo_key_at, has_failure, has_succes
 
 -- ---- Definitions
 
--- The keys that may be remembered of a program in a text, by its memo analysis.
+-- The keys that may be memoized for a program in a text, given its memo analysis.
 abbrev pub analysis_keys : Program → Text → MemoAnalysis → Keys
 analysis_keys program text t =
     plan_keys program text (analysis_as_liveness t) (key_code_questions_of t) (insn_direction t) (recorded t)
     (plan_steps_below_record program)
 
 module _ (program : Program) (text : Text) where
-  -- The key fails: nothing that it stands for finds anything.
+  -- The key fails: all threads that it stands for find nothing.
   abbrev pub KeyFails : MemoAnalysis → Key → Type 0
   KeyFails t k = Fails program text (analysis_as_liveness t) (analysis_keys program text t) k
 
-  -- The key succeeds: everything that it stands for finds an end.
+  -- The key succeeds: all threads that it stands for find an end.
   abbrev pub KeySucceeds : MemoAnalysis → Key → Type 0
   KeySucceeds t k = Succeeds program text (analysis_as_liveness t) (analysis_keys program text t) k
 
-  -- The table belongs to an analysis of the program, covers each offset of the text, and knows only
-  -- what is true.
+  -- The table belongs to an analysis of the program, has an entry for each offset of the text, and
+  -- all that it records is true.
   pub record IsTrueOf (m : MemoView) : Type 0 where
     pub of : IsAnalysisOf program m.memo_analysis
     pub places : m.places ≡ units text + 1
@@ -48,16 +48,15 @@ pub record ListsExactlyKnownKeys (known : Key → Bool) (memory : List Key) : Ty
 
 -- ---- Laws
 
--- The known keys as a memory of `regress_memo`, with which the invariant of a search may
--- begin.
+-- The known keys as a list. The invariant of a search may begin with this list as its memory.
 pub record HasMemory (program : Program) (text : Text) (m : MemoView) (known : Key → Bool) : Type 0 where
   pub memory : List Key
   pub holds : ListsExactlyKnownKeys known memory
   pub is : IsMemory program text (analysis_as_liveness m.memo_analysis) (analysis_keys program text m.memo_analysis)
       memory
 
--- Recording a key adds it to the list of known keys. If successes are recorded, a search uses all
--- known keys as its memory, otherwise those known to fail.
+-- Recording a key adds it to the list of known keys. If the table records successes, all known keys
+-- are the memory of a search; otherwise the memory has only the keys that are known to fail.
 pub record RecordingAddsKnownKeys : Type 0 where
   pub begun : (t : MemoAnalysis) (places : ℕ) (records_successes : Bool) (m : MemoView)
       → IsEmptyMemo t places records_successes m
@@ -74,7 +73,8 @@ pub record RecordingAddsKnownKeys : Type 0 where
   pub known_end : (k : Key) (m n : MemoView) (memory : List Key) → RecordsSuccess k m n
       → ListsExactlyKnownKeys (knows m) memory → ListsExactlyKnownKeys (knows n) (k ∷ memory)
 
--- An empty table is true of the program and the text, and recording a true fact keeps it true.
+-- An empty table is right for the program and the text, and stays right if only true facts are
+-- recorded.
 pub record MemosAreSound : Type 0 where
   pub begun : (program : Program) (text : Text) (t : MemoAnalysis) (records_successes : Bool) (m : MemoView)
       → IsAnalysisOf program t → IsEmptyMemo t (units text + 1) records_successes m → IsTrueOf program text m
@@ -91,7 +91,7 @@ pub record MemosAreSound : Type 0 where
 
 -- The keys of a memo analysis are exactly those that have bits.
 pub record KeysAreThoseWithBits : Type 0 where
-  -- A key that stands for threads has a bit.
+  -- Each key that stands for threads has a bit.
   pub has_bit : (program : Program) (text : Text) (t : MemoAnalysis) → IsAnalysisOf program t
       → (d : Direction) (k : Key) (ts : List Thread)
       → KeyStandsFor program text (analysis_as_liveness t) (analysis_keys program text t) d k ts
@@ -105,7 +105,7 @@ pub record KeysAreThoseWithBits : Type 0 where
       → insn_direction t s.ip ≡ d → HasSlotsOfProgram program s
       → Agree (analysis_as_liveness t) (units text) outermost d s s
       → KeyStandsFor program text (analysis_as_liveness t) (analysis_keys program text t) d k (running s ∷ [])
-  -- The key of a char loop from a place on is the key of a state at the loop's body there.
+  -- The key of a char loop at a place is the key of a state at the loop's body at this place.
   pub run : (program : Program) (text : Text) (t : MemoAnalysis) (d : Direction) (test : ℕ → Bool) (greedy : Bool)
       (s : State)
       (place : ℕ) → CharLoopRecords program (analysis_as_liveness t) (key_code_questions_of t) (insn_direction t)

@@ -1,5 +1,5 @@
--- Liveness analyses of two patterns: of `(?:ab)*c`, for which positions alone decide, and of
--- `(?:a*){2,}b`, for which six codes do.
+-- Examples of liveness analyses: for `(?:ab)*c` positions alone decide, and for `(?:a*){2,}b`
+-- positions and six codes decide.
 use Rattle.std.specs.Prelude.{◌≡◌, ◌<◌, ℕ, zero, suc, ◌+◌, Bool, true, false, if◌then◌else◌, ◌&&◌, ◌==◌, List, [], ◌∷◌, nat_le}
 use Rattle.regex_meaning.specs.Tree.{Flags}
 use Rattle.regex_meaning.specs.Text.{Text, Direction, rightwards}
@@ -47,15 +47,15 @@ row_account = record {
   writes = λ ip l. true;
 }
 
--- The program of `(?:a*){2,}b`. An iteration may be empty and two are required, so both are live at
--- each instruction in the loop.
+-- The program of `(?:a*){2,}b`. An iteration may be empty, and two iterations are required, so both
+-- facts are live in the loop.
 abbrev pub twice_program : (most : ℕ) → Flags → StartPredicate → Program
 twice_program most =
     of_insns
     (EnterLoop (record { loop_id = 0; min_iters = 2; max_iters = most; greedy = true; exit = 4 })
     ∷ Loop1CharBody 0 most true ∷ Char 97 ∷ LoopAgain 0 ∷ Char 98 ∷ Goal ∷ [])
 
--- Whether an instruction is in the loop.
+-- Whether an instruction is inside the loop.
 abbrev pub in_loop : (ip : ℕ) → Bool
 in_loop ip = nat_le 1 ip && nat_le ip 3
 
@@ -76,15 +76,15 @@ twice_account = record {
 abbrev pub twice_questions : (ip : ℕ) → List Question
 twice_questions ip = if in_loop ip then is_empty 0 ∷ how_many 0 2 ∷ [] else []
 
--- The potential of a thread at each instruction, and (`twice_left`) of what this leaves. Positions
--- of the char loop and ends of iterations record.
+-- The potential of a thread at each instruction. The positions of the char loop and the ends of
+-- iterations record.
 abbrev pub twice_at : (ip : ℕ) → ℕ
 twice_at zero = 6
 twice_at (suc zero) = 2
 twice_at (suc (suc (suc (suc zero)))) = 2
 twice_at _ = 1
 
--- The potential of what each instruction leaves.
+-- The potential of the threads that each instruction leaves.
 abbrev pub twice_left : (ip : ℕ) → ℕ
 twice_left zero = 5
 twice_left (suc (suc zero)) = 1
@@ -92,11 +92,11 @@ twice_left (suc (suc (suc zero))) = 5
 twice_left (suc (suc (suc (suc zero)))) = 1
 twice_left _ = 0
 
--- These potentials.
+-- Both potentials as one value.
 abbrev pub twice_weights : Potentials
 twice_weights = record { at = twice_at; left = twice_left }
 
--- The analysis of `(?:a*){2,}b` is sound, and has codes, keys, a plan and costs.
+-- The analysis of `(?:a*){2,}b` is sound and complete: it has codes, keys, a plan and costs.
 pub record TwiceIsRight : Type 0 where
   pub right : (top most : ℕ) (flags : Flags) (start : StartPredicate) → top + 2 < most
       → IsSoundLiveness twice_account top (twice_program most flags start)
@@ -105,22 +105,22 @@ pub record TwiceIsRight : Type 0 where
   pub only : AsksOnly twice_questions twice_account
   pub codes : plan_codes twice_questions 3 ≡ 6
   pub one_code : plan_codes twice_questions 4 ≡ 1
-  -- Its char loop has keys.
+  -- The char loop of the pattern has keys.
   pub run : (most : ℕ) (flags : Flags) (start : StartPredicate)
       → CharLoopRecords (twice_program most flags start) twice_account twice_questions (λ ip. rightwards) (2 ∷ [])
       rightwards (λ c. 97 == c) true 1
-  -- So it has a plan in each text in which the maximum is out of reach.
+  -- The pattern has a plan in each text in which the maximum is out of reach.
   pub plan : (text : Text) (most : ℕ) (flags : Flags) (start : StartPredicate) → HasRisingPlaceOffsets text
       → units text + 2 < most
       → (way : ℕ → Direction) (ips : List ℕ) (taken : Key → ℕ)
       → IsPlan (twice_program most flags start) text twice_account twice_questions way ips taken
-  -- A cost of 6 is enough.
+  -- Costs of 6 for each key suffice.
   pub paid : (most : ℕ) (flags : Flags) (start : StartPredicate)
       → AreCostsCovered (twice_program most flags start) twice_weights (λ ip. 6) (2 ∷ 3 ∷ [])
   pub run_paid : (most : ℕ) (flags : Flags) (start : StartPredicate)
       → GreedyLoopIsCovered (twice_program most flags start) twice_weights (λ ip. 6) (2 ∷ 3 ∷ []) 0 1
 
--- Both analyses are sound, and by the first one positions alone decide.
+-- Both analyses are sound, and in the first one positions alone decide.
 pub record LivenessExamplesAreRight : Type 0 where
   pub right : (top most : ℕ) (flags : Flags) (start : StartPredicate) → top < most
       → IsSoundLiveness row_account top (row_program most flags start)

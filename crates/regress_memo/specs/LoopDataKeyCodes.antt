@@ -1,4 +1,4 @@
--- One number for all live data of the loops that contain an instruction.
+-- Key codes: one number for all live data of the loops that enclose an instruction.
 use Rattle.std.specs.Prelude.{◌≡◌, ◌<◌, ℕ, ◌+◌, ◌*◌, min, Bool, true, false, ◌==◌, List, [], ◌∷◌, length, option_map, unwrap_or, slice_get}
 use Rattle.regex_meaning.specs.Text.{Text, Direction}
 use Rattle.regex_meaning.specs.CodeUnitOffsets.{units}
@@ -23,7 +23,7 @@ abbrev pub number_of_possible_answers : Question → ℕ
 number_of_possible_answers (is_empty l) = 2
 number_of_possible_answers (how_many l most) = most + 1
 
--- A number of a loop's data, 0 if the state does not have that loop.
+-- A number computed from a loop's data. 0 if the state does not have that loop.
 abbrev pub loop_data_number : State → (l : ℕ) → (LoopData → ℕ) → ℕ
 loop_data_number s l number = unwrap_or (option_map number (slice_get s.loops l)) 0
 
@@ -37,8 +37,8 @@ abbrev pub answer_to_loop_question : Question → State → ℕ
 answer_to_loop_question (is_empty l) s = loop_data_number s l (λ x. bool_as_digit (x.entry == s.pos))
 answer_to_loop_question (how_many l most) s = loop_data_number s l (λ x. min x.iters most)
 
--- The code of a state: a number whose digits are the answers, each to the base of the number of
--- possible answers.
+-- The code of a state: a number whose digits are the answers to the questions. The base of each
+-- digit is the number of possible answers.
 abbrev pub code_of : List Question → State → ℕ
 code_of [] s = 0
 code_of (q ∷ qs) s = answer_to_loop_question q s + number_of_possible_answers q * code_of qs s
@@ -51,7 +51,7 @@ codes_of (q ∷ qs) = number_of_possible_answers q * codes_of qs
 -- ---- A plan: questions for each instruction
 
 module _ (questions : ℕ → List Question) where
-  -- The code of a state by the questions of its instruction.
+  -- The code of a state for the questions of its instruction.
   abbrev pub plan_code : State → ℕ
   plan_code s = code_of (questions s.ip) s
 
@@ -60,12 +60,12 @@ module _ (questions : ℕ → List Question) where
   plan_codes ip = codes_of (questions ip)
 
   module _ (a : Liveness) where
-    -- All live data of the loops that contain the instruction are among its questions.
+    -- The questions of the instruction include all live data of the loops that enclose it.
     pub record AsksAllAt (ip : ℕ) : Type 0 where
       pub empty : (l : ℕ) → a.inside ip l ≡ true → a.empty ip l ≡ true → IsIn (is_empty l) (questions ip)
       pub count : (l : ℕ) → a.inside ip l ≡ true → 0 < a.up_to l → IsIn (how_many l (a.up_to l)) (questions ip)
 
-    -- This holds at each instruction.
+    -- The questions of each instruction include all of these live data.
     pub record AsksAll : Type 0 where
       pub asks : (ip : ℕ) → AsksAllAt ip
 
@@ -75,7 +75,7 @@ module _ (questions : ℕ → List Question) where
 abbrev pub key_of : (code : State → ℕ) → State → Key
 key_of code s = record { ip = s.ip; at = s.pos; code = code s }
 
--- The shape of that key's thread, which is alone.
+-- The shape of the only thread that this key stands for.
 abbrev pub own_row : Key → List Shape
 own_row k = record { runs = true; ip = k.ip; pos = k.at; code = k.code } ∷ []
 
@@ -98,8 +98,8 @@ module _ (program : Program) (text : Text) (a : Liveness) where
 
 -- ---- Laws
 
--- The code of a plan whose questions include all live data distinguishes these. It is less than the
--- product of the numbers of answers to the questions of the instruction.
+-- If the questions include all live data, the code distinguishes them. The code is less than the
+-- product of the numbers of possible answers.
 pub record KeyCodesDistinguishLoopData : Type 0 where
   pub tells : (questions : ℕ → List Question) (a : Liveness) (top : ℕ) → AsksAll questions a
       → Distinguishes a top (plan_code questions)

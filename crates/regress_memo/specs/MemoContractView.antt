@@ -1,4 +1,4 @@
--- The contents of a memo table as contracts see them, and that they have a bit for each key.
+-- What contracts see of a memo table, and the invariant that it has a bit for each key.
 use Rattle.std.specs.Prelude.{◌≡◌, ◌≤◌, ◌<◌, ◌^◌, ℕ, ◌*◌, Bool, true, List, length}
 use Rattle.regress_memo.specs.declared.analysis_result.MemoAnalysis.{MemoAnalysis}
 use Rattle.regress_memo.specs.CheckedAnalysis.{HasDisjointCodes}

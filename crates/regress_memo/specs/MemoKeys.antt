@@ -1,4 +1,4 @@
--- What has to be memoized of a state that finds nothing, and when that is known.
+-- Memo keys: what has to be memoized about a state that finds nothing, and when a failure is known.
 use Rattle.std.specs.Prelude.{◌≡◌, ◌≤◌, ℕ, min, true, false, List, [], ◌∷◌, ◌++◌, length, Some, slice_get, ◌==◌}
 use Rattle.regex_meaning.specs.Text.{Text, Direction}
 use Rattle.regex_meaning.specs.CodeUnitOffsets.{units}
@@ -8,13 +8,13 @@ use Rattle.regress_machine.specs.ThreadSimulation.{Simulates, FindsNothing}
 use Rattle.regress_memo.specs.Liveness.{Liveness, IsLivenessFor, IsSound, Agree, outermost}
 
 module _ (a : Liveness) (top : ℕ) where
-  -- The data of the loops that contain the state's instruction are sound.
+  -- The data of the loops that enclose the state's instruction are sound.
   pub record IsSoundState (d : Direction) (s : State) : Type 0 where
     pub within : s.pos ≤ top
     pub loops : (l : ℕ) (x : LoopData) → a.inside s.ip l ≡ true → slice_get s.loops l ≡ Some x
         → IsSound a top d s.pos s.ip l x
 
--- The states have the same instruction and offset, in the same search.
+-- The states have the same instruction and offset, and equal numbers of groups and loops.
 pub record SamePlace (s t : State) : Type 0 where
   pub ip : s.ip ≡ t.ip
   pub pos : s.pos ≡ t.pos
@@ -23,8 +23,8 @@ pub record SamePlace (s t : State) : Type 0 where
   pub loops : length s.loops ≡ length t.loops
 
 module _ (a : Liveness) where
-  -- For each loop that contains the instruction the live questions have the same answers too:
-  -- whether a character was read, and how many iterations there were, up to the live number.
+  -- The states have the same place, and the live data of each enclosing loop are equal: whether the
+  -- iteration has read a character, and the iteration count up to the live number.
   pub record SameKey (s t : State) : Type 0 where
     pub place : SamePlace s t
     pub empty : (l : ℕ) (x y : LoopData) → a.inside s.ip l ≡ true → a.empty s.ip l ≡ true → slice_get s.loops l ≡ Some x
@@ -39,7 +39,7 @@ module _ (a : Liveness) where
     pub groups : a.groups ≡ false
     pub start : (ip id : ℕ) → a.start ip id ≡ false
 
-  -- The data of loops are not live either.
+  -- Neither groups nor data of loops are live.
   pub record OnlyPositionsAreLive : Type 0 where
     pub no_groups : NoGroupsAreLive
     pub empty : (ip l : ℕ) → a.empty ip l ≡ false
@@ -47,14 +47,14 @@ module _ (a : Liveness) where
 
 -- ---- Laws
 
--- States with the same key fail alike.
+-- If a state finds nothing, each state with the same key finds nothing.
 abbrev pub MemoKeysDecideFailure : Type 0
 MemoKeysDecideFailure = (program : Program) (text : Text) (a : Liveness) → IsLivenessFor program text a
     → NoGroupsAreLive a → (d : Direction) (s t : State)
     → IsSoundState a (units text) d s → IsSoundState a (units text) d t → SameKey a s t
     → FindsNothing program text d (running s) → FindsNothing program text d (running t)
 
--- If no loop data are live, an instruction and an offset are a key.
+-- If no data of loops are live, the instruction and the offset are a sufficient key.
 abbrev pub PositionsDecideFailure : Type 0
 PositionsDecideFailure = (program : Program) (text : Text) (a : Liveness) → IsLivenessFor program text a
     → OnlyPositionsAreLive a → (d : Direction) (s t : State)
@@ -62,28 +62,28 @@ PositionsDecideFailure = (program : Program) (text : Text) (a : Liveness) → Is
     → FindsNothing program text d (running s) → FindsNothing program text d (running t)
 
 module _ (program : Program) (text : Text) where
-  -- The threads above a record of a state are all that remains of its search.
+  -- The threads above a record are all that remains of the search of its state.
   pub record IsRecordedBelow (d : Direction) (above : List Thread) (s : State) : Type 0 where
     pub simulates : Simulates program text false d 1 above (running s ∷ [])
 
-  -- When a record is made, and what it says.
+  -- When records are made, and what they say.
   pub record RecordsOf : Type 0 where
-    -- A record is made below the threads that a step leaves.
+    -- A record may be made below the threads that a step leaves.
     pub made : (d : Direction) (s : State) (ts : List Thread) → act program text d s ≡ goes ts → IsRecordedBelow d ts s
     pub made_by_run : (d : Direction) (s : State) (tries : ℕ) (ts : List Thread) → act program text d s ≡ scans tries ts
         → IsRecordedBelow d ts s
-    -- It stays right if the first threads above it are replaced by threads that simulate these.
+    -- A record stays right if threads that simulate the first threads above it replace them.
     pub kept : (d : Direction) (n : ℕ) (us ts rest : List Thread) (s : State) → Simulates program text false d n us ts
         → IsRecordedBelow d (ts ++ rest) s → IsRecordedBelow d (us ++ rest) s
-    -- If no thread is left above it, the state finds nothing.
+    -- If no thread is left above a record, its state finds nothing.
     pub ended : (d : Direction) (s : State) → IsRecordedBelow d [] s → FindsNothing program text d (running s)
 
 -- Records are right in each program and text.
 abbrev pub RecordedFailuresAreRight : Type 0
 RecordedFailuresAreRight = (program : Program) (text : Text) → RecordsOf program text
 
--- No state recurs while a record of it is pending: its search would take as many steps as the
--- search of which it is a part.
+-- While a record is pending, its state does not recur: the new search would be a part of the
+-- pending one and take as many steps.
 abbrev pub NoStateRecursWhilePending : Type 0
 NoStateRecursWhilePending = (program : Program) (text : Text) (a : Liveness) → IsLivenessFor program text a
     → (d : Direction) (s t : State) (rest : List Thread) (turns : ℕ) (f : Found)

@@ -1,5 +1,5 @@
--- What is checked of a plan, and what follows: its keys, the steps of its threads, and the work of
--- all attempts.
+-- What is checked of a memo plan, and what follows: keys, steps of threads, and the work of all
+-- attempts.
 use Rattle.std.specs.Prelude.{◌≡◌, ◌≤◌, ℕ, ◌+◌, ◌*◌, Bool, true, false, List, [], ◌∷◌, ◌++◌, Option, Some, None, slice_get}
 use Rattle.std.specs.List.{sum_by}
 use Rattle.regex_meaning.specs.NumberListHelpers.{numbers_from}
@@ -20,7 +20,7 @@ use Rattle.regress_memo.specs.SkippedLookarounds.{LookaroundInsn, lookaround_at}
 
 module _ (program : Program) (text : Text) (a : Liveness) (questions : ℕ → List Question)
     (way : ℕ → Direction) (ips : List ℕ) (taken : Key → ℕ) where
-  -- The liveness analysis is sound and needs no groups, and all live data are among the questions.
+  -- The liveness analysis is sound, no groups are live, and the questions include all live data.
   pub record IsPlan : Type 0 where
     pub liveness : IsLivenessFor program text a
     pub no_groups : NoGroupsAreLive a
@@ -28,7 +28,7 @@ module _ (program : Program) (text : Text) (a : Liveness) (questions : ℕ → L
 
   -- ---- Steps of threads
 
-  -- A sound thread at an instruction that records and is not the body of a char loop. Its key is
+  -- A sound thread at a recording instruction that is not the body of a char loop, whose key is
   -- new.
   pub record RecordsNewKey (d : Direction) (memory : List Key) (s : State) : Type 0 where
     pub records : is_one_of ips s.ip ≡ true
@@ -45,7 +45,8 @@ module _ (program : Program) (text : Text) (a : Liveness) (questions : ℕ → L
     GivesByPlan ts entries =
         IsMemoStep program text a (plan_keys program text a questions way ips taken) d memory ts entries
 
-    -- A thread that waits is resumed. One that runs is executed, with or without a record.
+    -- The memo steps of a thread: it is resumed if it waits, and executed with or without a record
+    -- if it runs.
     pub record ThreadGives (s : State) : Type 0 where
       pub taken_up : GivesByPlan (waiting s ∷ []) (one_thread (running s) ∷ [])
       pub turned : (ts : List Thread) → act program text d s ≡ goes ts
@@ -54,8 +55,8 @@ module _ (program : Program) (text : Text) (a : Liveness) (questions : ℕ → L
           → GivesByPlan (running s ∷ []) (thread_entries ts ++ key_record (key_of (plan_code questions) s)
           (running s ∷ []) ∷ [])
 
-    -- A lookaround is decided by the result of a search of its contents, or by what is known of
-    -- them.
+    -- The memo steps of a lookaround: it is decided by a search of its contents, or by what is
+    -- known of them.
     pub record LookGives (s : State) (look : LookaroundInsn) : Type 0 where
       pub searched : (turns : ℕ) (f : Found) → search program text turns look.inner
           (running (state_at_next_ip s) ∷ []) ≡ Some f
@@ -69,11 +70,11 @@ module _ (program : Program) (text : Text) (a : Liveness) (questions : ℕ → L
 
   -- ---- Work
 
-  -- The cost of the keys of all instructions that record.
+  -- The cost of all keys of recording instructions.
   abbrev pub plan_price : (price : ℕ → ℕ) → ℕ
   plan_price price = sum_by (λ ip. price ip * plan_codes questions ip) ips * (units text + 1)
 
-  -- All attempts in a text together, up to the next start position, are linear in the text.
+  -- The work of all attempts in a text, up to the next start position, is linear in the text.
   abbrev pub AttemptsAreLinear : Type 0
   AttemptsAreLinear = (price : ℕ → ℕ) (weight : List Thread → ℕ) (row : ℕ → List Thread)
       (from next looks work : ℕ) (memory : List Key) (starts : List ℕ)
@@ -85,7 +86,7 @@ module _ (program : Program) (text : Text) (a : Liveness) (questions : ℕ → L
       (λ k. price k.ip) weight row at) (numbers_from 0 (last + 1)) + last)
       + 3 * plan_price price
 
-  -- What a plan provides.
+  -- What a checked plan guarantees.
   pub record PlanServes : Type 0 where
     pub keys : AreKeys program text a (plan_keys program text a questions way ips taken)
     pub gives : (d : Direction) (memory : List Key) (s : State) → ThreadGives d memory s
@@ -95,19 +96,18 @@ module _ (program : Program) (text : Text) (a : Liveness) (questions : ℕ → L
 
 -- ---- Steps below records
 
--- The steps below a record: 0 if it is of a greedy char loop, else 1.
+-- The number of steps below a record: 0 for a record of a greedy char loop, 1 for others.
 abbrev pub steps_below_record_of_loop : Option Bool → ℕ
 steps_below_record_of_loop (Some true) = 0
 steps_below_record_of_loop _ = 1
 
--- The value of `taken` that the laws on steps require: no step below the record of a greedy char
--- loop's position, and one below any other.
+-- The number of steps below a record of a key, as the laws on threads and char loops require.
 abbrev pub plan_steps_below_record : Program → Key → ℕ
 plan_steps_below_record program k = steps_below_record_of_loop (char_loop_greediness_at (insn_before program k.ip))
 
 -- ---- Laws
 
--- A plan takes these numbers of steps.
+-- These numbers of steps are right for threads and for char loops.
 pub record ZeroOrOneStepBelowRecord : Type 0 where
   pub threads : (program : Program) (k : Key) → char_loop_greediness_at (insn_before program k.ip) ≡ None
       → plan_steps_below_record program k ≡ 1
@@ -116,7 +116,7 @@ pub record ZeroOrOneStepBelowRecord : Type 0 where
   pub lazy : (program : Program) (ip at code : ℕ) → char_loop_greediness_at (slice_get program.insns ip) ≡ Some false
       → plan_steps_below_record program (record { ip = ip + 1; at = at; code = code }) ≡ 1
 
--- Each plan that passes its checks provides this.
+-- Each plan that passes its checks has these guarantees.
 abbrev pub CheckedMemoPlansAreSound : Type 0
 CheckedMemoPlansAreSound = (program : Program) (text : Text) (a : Liveness) (questions : ℕ → List Question)
     (way : ℕ → Direction) (ips : List ℕ) (taken : Key → ℕ) → IsPlan program text a questions way ips taken

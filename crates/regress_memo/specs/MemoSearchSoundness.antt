@@ -1,5 +1,5 @@
--- Soundness of memoized searches: what a search must satisfy to find the right result. It says
--- nothing of the count of steps, of how often a key is looked up, or of the offsets of threads.
+-- Soundness of memoized searches: what a search has to satisfy to find the right result. The number
+-- of steps, the number of look-ups of a key, and the offsets of threads do not matter.
 use Rattle.std.specs.Prelude.{◌≡◌, ◌≤◌, ℕ, false, List, [], ◌∷◌, ◌++◌, Some, IsSome}
 use Rattle.regex_meaning.specs.Laws.{Each}
 use Rattle.regex_meaning.specs.Text.{Text, Direction}
@@ -11,7 +11,7 @@ use Rattle.regress_memo.specs.MemoSearch.{Key, Keys, Entry, one_thread, thread_g
 use Rattle.regress_memo.specs.MemoSearch.{FindEnd, AreRightKeyRecords, AreAnswered, IsMemoStep}
 
 module _ (program : Program) (text : Text) (a : Liveness) (keys : Keys) (d : Direction) where
-  -- The entries find the result `f`, and the records in them are right.
+  -- The entries find the result `f`, and their records are right.
   pub record RemainsSound (row : List Entry) (f : Found) : Type 0 where
     pub turns : ℕ
     pub within : Within program text false turns d 0 (threads_in row) f
@@ -24,22 +24,22 @@ module _ (program : Program) (text : Text) (a : Liveness) (keys : Keys) (d : Dir
     pub spent : ℕ
     pub comes : Simulates program text false d spent (us ++ others) ts
 
-  -- This holds for the threads of each record.
+  -- The threads of each record, followed by others, simulate `ts`.
   abbrev pub AreComing : (ts : List Thread) → List Entry → Type 0
   AreComing ts [] = Unit {0}
   AreComing ts (one_thread t ∷ row) = AreComing ts row
   AreComing ts (thread_group us ∷ row) = AreComing ts row
   AreComing ts (key_record k us ∷ row) = IsComing ts us × AreComing ts row
 
-  -- The entries replace the first threads of a list: the threads in them simulate those, and so do
-  -- the threads of each record.
+  -- The entries replace the first threads of a list. The threads of the entries simulate these, and
+  -- so do the threads of each record.
   pub record ReplacesSoundly (ts : List Thread) (entries : List Entry) : Type 0 where
     pub spent : ℕ
     pub simulates : Simulates program text false d spent (threads_in entries) ts
     pub noted : AreRightKeyRecords program text a keys d [] entries
     pub coming : AreComing ts entries
 
-  -- A search remains sound in each step.
+  -- Each of these steps keeps a search sound.
   pub record SoundSearchSteps : Type 0 where
     pub begins : (ts : List Thread) (turns : ℕ) (f : Found) → search program text turns d ts ≡ Some f
         → RemainsSound (thread_entries ts) f
@@ -53,8 +53,8 @@ module _ (program : Program) (text : Text) (a : Liveness) (keys : Keys) (d : Dir
     pub shared : (front rest : List Entry) (f : Found) → IsBare front → FindEnd program text d (threads_in front)
         → RemainsSound (front ++ rest) f → IsSome f.end × Each (Succeeds program text a keys) (keys_in rest)
 
-  -- The steps that replace soundly: all that the laws provide, threads that are known to fail, and
-  -- others without a record or with one.
+  -- Steps that replace soundly: the memo steps of the laws, dropping threads that are known to
+  -- fail, and steps without or with a record.
   pub record SoundReplacementSteps : Type 0 where
     pub given : (memory : List Key) (ts : List Thread) (entries : List Entry)
         → IsMemoStep program text a keys d memory ts entries
@@ -69,7 +69,7 @@ module _ (program : Program) (text : Text) (a : Liveness) (keys : Keys) (d : Dir
 
 -- ---- Laws
 
--- Searches stay sound by these steps.
+-- These steps keep all searches sound.
 pub record SearchesStaySound : Type 0 where
   pub rests : (program : Program) (text : Text) (a : Liveness) (keys : Keys) → IsLivenessFor program text a
       → AreKeys program text a keys

@@ -1,4 +1,4 @@
--- A step leaves states with as many groups and loops as the program.
+-- A step leaves states that have as many groups and loops as the program.
 use Rattle.std.specs.Prelude.{◌≡◌, List}
 use Rattle.regex_meaning.specs.Laws.{Each}
 use Rattle.regex_meaning.specs.Text.{Text, Direction}
@@ -6,7 +6,7 @@ use Rattle.regex_meaning.specs.CompilationRelation.{Program}
 use Rattle.regress_machine.specs.Machine.{State, Thread, running, waiting, goes, act}
 use Rattle.regress_memo.specs.LoopDataKeyCodes.{HasSlotsOfProgram}
 
--- The state from which a thread continues.
+-- The state of a thread.
 abbrev pub state_of_thread : Thread → State
 state_of_thread (running s) = s
 state_of_thread (waiting s) = s

@@ -1,4 +1,4 @@
--- Soundness of loop states, for each enclosing loop.
+-- Soundness of a thread's loop data, for each enclosing loop.
 use Rattle.std.specs.Prelude.{◌≡◌, ◌≤◌, ℕ, ◌+◌, Bool, true, false, ◌==◌, if◌then◌else◌, Option, Some}
 use Rattle.regex_meaning.specs.Text.{Direction, rightwards, leftwards}
 use Rattle.regress_machine.specs.Machine.{LoopData}
@@ -12,8 +12,8 @@ use Rattle.regress_memo.specs.AnalysisAsPotentials.{count_bound_of}
 abbrev pub direction_from_forward : (forward : Bool) → Direction
 direction_from_forward forward = if forward then rightwards else leftwards
 
--- At most `up_to` iterations if all are counted; otherwise at most `up_to` more than code units
--- passed.
+-- If the count is never higher than `up_to`, the loop has at most `up_to` iterations. Otherwise it
+-- has at most `up_to` more than the code units that were passed.
 abbrev pub IsAtMost : Bool → (up_to : ℕ) (d : Direction) (top : ℕ) → LoopData → Type 0
 IsAtMost true up_to d top x = x.iters ≤ up_to
 IsAtMost false up_to d top x = x.iters + left_from top d x.entry ≤ top + up_to
@@ -22,7 +22,7 @@ IsAtMost false up_to d top x = x.iters + left_from top d x.entry ≤ top + up_to
 abbrev pub IsWithinCountBound : LoopCountsDistinguishedUpTo → (d : Direction) (top : ℕ) → LoopData → Type 0
 IsWithinCountBound count d top x = IsAtMost count.counted count.up_to d top x
 
--- The state of a loop is sound, by its count bound and by whether a character is known to have been
+-- The data of a loop are sound, given its count bound and whether a character is known to have been
 -- read.
 pub record LoopDataFitsLoopFacts (count : LoopCountsDistinguishedUpTo) (reads : Bool) (d : Direction) (top at : ℕ)
     (x : LoopData) : Type 0 where
@@ -30,7 +30,7 @@ pub record LoopDataFitsLoopFacts (count : LoopCountsDistinguishedUpTo) (reads : 
   pub moved : reads ≡ true → (x.entry == at) ≡ false
   pub few : IsWithinCountBound count d top x
 
--- The state of an entry's loop is sound, if there is one.
+-- The data of an entry's loop are sound, if the state has this loop.
 abbrev pub ThreadLoopStateFitsAnalysis : MemoAnalysis → (d : Direction) (top at : ℕ) → Option LoopData → EnclosingLoop
     → Type 0
 ThreadLoopStateFitsAnalysis t d top at held row = (x : LoopData) → held ≡ Some x

@@ -1,5 +1,5 @@
--- What continues after contents without groups. It agrees with the state before them, which is
--- available.
+-- What continues after a lookaround whose contents have no groups and are not searched. The state
+-- before the contents agrees with it.
 use Rattle.std.specs.Prelude.{◌≡◌, ◌≤◌, ℕ, ◌+◌, Bool, true, false, List, [], ◌∷◌, Option, Some, None, slice_get}
 use Rattle.regex_meaning.specs.Text.{Text, Direction, rightwards, leftwards}
 use Rattle.regex_meaning.specs.CodeUnitOffsets.{units}
@@ -21,7 +21,7 @@ pub record LookaroundInsn : Type 0 where
   pub negate : Bool
   pub continuation : ℕ
 
--- The lookaround that an instruction is, `None` for other instructions.
+-- The lookaround of an instruction. `None` for other instructions.
 abbrev pub lookaround_at : Option Insn → Option LookaroundInsn
 lookaround_at (Some (Lookahead negate start_group end_group continuation)) =
     Some (record { inner = rightwards; negate = negate; continuation = continuation })
@@ -30,14 +30,15 @@ lookaround_at (Some (Lookbehind negate start_group end_group continuation)) =
 lookaround_at _ = None
 
 module _ (program : Program) (text : Text) (a : Liveness) where
-  -- If the contents were not searched, the machine continues with a state that is not available. An
-  -- available state agrees with it.
+  -- The contents were not searched, so the machine's next state is not available. An available
+  -- state agrees with it.
   pub record GoesOn (w : World) (d : Direction) (at_hand s : State) : Type 0 where
     pub behind : State
     pub agrees : Agree a (units text) w d at_hand behind
     pub simulates : Simulates program text false d 1 (running behind ∷ []) (running s ∷ [])
 
-  -- A positive lookaround whose contents are known to find an end and have no groups.
+  -- `GoesOn` holds for a positive lookaround without groups whose contents are known to find an
+  -- end.
   abbrev pub SuccessGoesOn : Type 0
   SuccessGoesOn = IsLivenessFor program text a → (silent : ℕ → Bool) → AreGroupPreserving silent program
       → (w : World) (d : Direction) (s : State) (look : LookaroundInsn)
@@ -47,8 +48,8 @@ module _ (program : Program) (text : Text) (a : Liveness) where
       → (turns : ℕ) (vs : List Thread) (f : Found) → search program text turns d (running s ∷ vs) ≡ Some f
       → GoesOn w d (state_with_ip look.continuation s) s
 
-  -- What an available state leaves agrees with what the machine's state leaves. So an end has the
-  -- same offset and, if groups are live, the same groups.
+  -- A step from the available state leaves threads that agree with those of the machine. So an end
+  -- has the same offset and, if groups are live, the same groups.
   pub record TurnsAtHand (w : World) (d : Direction) (s t : State) : Type 0 where
     pub goes : (ts : List Thread) → act program text d s ≡ goes ts
         → (us : List Thread) × (act program text d t ≡ goes us) × AlikeThreads (Agree a (units text) w d) ts us
@@ -57,21 +58,21 @@ module _ (program : Program) (text : Text) (a : Liveness) where
     pub ends : (e : State) → act program text d s ≡ ends e
         → (f : State) × (act program text d t ≡ ends f) × (e.pos ≡ f.pos) × (a.groups ≡ true → e.groups ≡ f.groups)
 
--- The questions are about live data of loops that contain the instruction.
+-- The questions are only about live data of enclosing loops.
 module _ (questions : ℕ → List Question) (a : Liveness) where
-  -- This holds at an instruction.
+  -- The questions of an instruction are only about live data.
   pub record AsksOnlyAt (ip : ℕ) : Type 0 where
     pub empty : (l : ℕ) → IsIn (is_empty l) (questions ip) → (a.inside ip l ≡ true) × (a.empty ip l ≡ true)
     pub count : (l most : ℕ) → IsIn (how_many l most) (questions ip) → (a.inside ip l ≡ true) × (most ≤ a.up_to l)
 
-  -- This holds at each instruction.
+  -- The questions of all instructions are only about live data.
   pub record AsksOnly : Type 0 where
     pub only : (ip : ℕ) → AsksOnlyAt ip
 
 -- ---- Laws
 
--- So the available threads only have to agree with those of the machine. They do so after all
--- steps, and keys do not distinguish them.
+-- The available threads have to agree with the machine's threads, no more. They agree after all
+-- steps, and they have the same keys.
 pub record ThreadsStayEquivalent : Type 0 where
   pub behind : (program : Program) (text : Text) (a : Liveness) → SuccessGoesOn program text a
   pub turns : (program : Program) (text : Text) (a : Liveness) → IsLivenessFor program text a

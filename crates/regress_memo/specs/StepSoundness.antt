@@ -1,5 +1,5 @@
--- Soundness of steps: what a step must satisfy so that the search finds the right result. It says
--- nothing of the count of steps or of the offsets of threads.
+-- Soundness of steps: what a step has to satisfy so that the search finds the right result. The
+-- number of steps and the offsets of threads do not matter.
 use Rattle.std.specs.Prelude.{◌≡◌, ◌≤◌, ℕ, false, List, [], ◌∷◌, ◌++◌}
 use Rattle.regex_meaning.specs.Text.{Text, Direction}
 use Rattle.regex_meaning.specs.CompilationRelation.{Program}
@@ -11,7 +11,7 @@ use Rattle.regress_memo.specs.MemoSearch.{Key, Keys, Entry, key_record, threads_
 use Rattle.regress_memo.specs.MemoSearch.{HoldsInvariant}
 
 module _ (program : Program) (text : Text) (a : Liveness) (keys : Keys) (d : Direction) where
-  -- Like `IsMemoStep`, without `onward`.
+  -- Like `IsMemoStep`, but without its field `onward`.
   pub record IsSoundStep (memory : List Key) (ts : List Thread) (entries : List Entry) : Type 0 where
     pub spent : ℕ
     pub simulates : Simulates program text false d spent (threads_in entries) ts
@@ -20,11 +20,11 @@ module _ (program : Program) (text : Text) (a : Liveness) (keys : Keys) (d : Dir
     pub distinct : AreDistinct (keys_in entries)
 
   module _ (memory : List Key) where
-    -- The steps that are sound, and that they keep the invariant.
+    -- Which steps are sound, and that sound steps keep the invariant.
     pub record SoundStepsKeepInvariant : Type 0 where
       pub given : (ts : List Thread) (entries : List Entry) → IsMemoStep program text a keys d memory ts entries
           → IsSoundStep memory ts entries
-      -- Steps without a record, and with a record of what was current.
+      -- Steps without a record, and steps with a record of what was current, are sound.
       pub passed : (n : ℕ) (bare : List Entry) (ts : List Thread) → IsBare bare
           → Simulates program text false d n (threads_in bare) ts → IsSoundStep memory ts bare
       pub made : (n : ℕ) (bare : List Entry) (ts : List Thread) (k : Key) → IsBare bare
@@ -35,7 +35,7 @@ module _ (program : Program) (text : Text) (a : Liveness) (keys : Keys) (d : Dir
           → IsSoundStep memory (threads_in front) entries
           → HoldsInvariant program text a keys d memory (front ++ rest) f
           → HoldsInvariant program text a keys d memory (entries ++ rest) f
-      -- The same threads may be grouped differently.
+      -- The threads may be grouped differently.
       pub regrouped : (front bare rest : List Entry) (f : Found) → IsBare front → IsBare bare
           → threads_in bare ≡ threads_in front
           → HoldsInvariant program text a keys d memory (front ++ rest) f

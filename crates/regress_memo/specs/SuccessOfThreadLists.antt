@@ -1,4 +1,4 @@
--- Threads that are known to find an end, and records that are reached.
+-- Lists of threads that are known to find an end, and records that are reached.
 use Rattle.std.specs.Prelude.{◌≤◌, ℕ, Bool, true, false, List, [], ◌∷◌, ◌++◌}
 use Rattle.regex_meaning.specs.Text.{Text, Direction, moved}
 use Rattle.regex_meaning.specs.CompilationRelation.{Program}
@@ -15,14 +15,15 @@ module _ (program : Program) (text : Text) (d : Direction) where
   pub record RowsReach : Type 0 where
     -- A list of threads finds an end if a part of it does.
     pub part : (ts us vs : List Thread) → FindEnd program text d us → FindEnd program text d (ts ++ (us ++ vs))
-    -- Threads find an end if threads that simulate them do.
+    -- Threads find an end if threads that simulate them find one.
     pub simulated : (n : ℕ) (us ts : List Thread) → Simulates program text false d n us ts → FindEnd program text d us
         → FindEnd program text d ts
-    -- Threads of which the first one runs find an end if they do while it waits.
+    -- If a list of threads finds an end while its first thread waits, it does so too when this
+    -- thread runs.
     pub up : (s : State) (ts : List Thread) → FindEnd program text d (waiting s ∷ ts)
         → FindEnd program text d (running s ∷ ts)
 
--- A char loop without a maximum finds an end if it does from one of its places on.
+-- A char loop without a maximum finds an end if it finds one from one of its places.
 pub record RunsReach : Type 0 where
   pub greedy : (program : Program) (text : Text) (a : Liveness) (questions : ℕ → List Question) (way : ℕ → Direction)
       (ips : List ℕ) (taken : Key → ℕ) (d : Direction) (test : ℕ → Bool) (s : State) (place least most n : ℕ)

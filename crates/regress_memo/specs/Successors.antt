@@ -8,16 +8,16 @@ use Rattle.regress_program.specs.declared.instructions.Insn as declared
 use Rattle.regress_memo.specs.declared.successors.Successors.{Successors}
 use Rattle.regress_memo.specs.declared.successors.Successors.TheVariants.{Ends, One, Two, Enter, Again, Run, LookaroundSuccessor, Same}
 
--- The program has these instructions.
+-- The instructions of the program are these.
 abbrev pub AreInsnsOfProgram : Program → List declared.Insn → Type 0
 AreInsnsOfProgram program insns = program.insns ≡ map insn_as_spec_insn insns
 
--- The next instruction is the only successor.
+-- The next instruction as the only successor.
 abbrev pub fall_through : (ip : ℕ) → (reads silent : Bool) → Successors
 fall_through ip reads silent = One (record { to = ip + 1; reads = reads; silent = silent })
 
--- The successors of an instruction. The remaining ones read nothing and continue at the next
--- instruction.
+-- The successors of an instruction. The instructions of the last case read nothing and continue at
+-- the next one.
 abbrev pub successors_of : (ip : ℕ) → Insn → Successors
 successors_of ip Goal = Ends
 successors_of ip JustFail = Ends
@@ -52,7 +52,8 @@ successors_of ip (Lookbehind negate start_group end_group continuation) =
     LookaroundSuccessor (record { forward = false; negate = negate; past = continuation })
 successors_of ip _ = fall_through ip false true
 
--- The instruction has no bytes and is neither an end nor a jump, an alternation or a loop.
+-- Whether the instruction continues only at the next one: it reads no byte sequence and is no end,
+-- jump, alternation or loop.
 abbrev pub is_fall_through_insn : Insn → Bool
 is_fall_through_insn Goal = false
 is_fall_through_insn JustFail = false
@@ -64,7 +65,7 @@ is_fall_through_insn (LoopAgain begin) = false
 is_fall_through_insn (Loop1CharBody least most greedy) = false
 is_fall_through_insn _ = true
 
--- The successors of an instruction, or none if it does not exist.
+-- The successors of an instruction. None if the instruction does not exist.
 abbrev pub successors_of_insn_if_any : (ip : ℕ) → Option Insn → Successors
 successors_of_insn_if_any ip None = Ends
 successors_of_insn_if_any ip (Some x) = successors_of ip x

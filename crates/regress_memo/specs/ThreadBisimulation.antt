@@ -1,4 +1,4 @@
--- Searches of threads that are alike by any relation that each step preserves.
+-- Searches of threads that are alike: related by a relation that each step preserves.
 use Rattle.std.specs.Prelude.{◌≡◌, ℕ, Bool, List, [], ◌∷◌, Option, Some, None}
 use Rattle.regex_meaning.specs.Text.{Text, Direction}
 use Rattle.regex_meaning.specs.CompilationRelation.{Program}
@@ -15,7 +15,7 @@ module _ (R : Relation) where
   AlikeThread (waiting s) (waiting t) = R s t
   AlikeThread _ _ = ⊥
 
-  -- The threads of two lists are alike one by one.
+  -- Two lists have equal lengths, and their threads are alike in pairs.
   abbrev pub AlikeThreads : List Thread → List Thread → Type 0
   AlikeThreads [] [] = Unit {0}
   AlikeThreads (t ∷ ts) (u ∷ us) = AlikeThread t u × AlikeThreads ts us
@@ -27,22 +27,22 @@ module _ (R : Relation) where
   AlikeEnds (Some s) (Some t) = R s t
   AlikeEnds _ _ = ⊥
 
-  -- Two results have equal numbers of steps and ends that are alike.
+  -- Two results have the same number of steps, and their ends are alike.
   pub record AlikeFound (f g : Found) : Type 0 where
     pub steps : f.steps ≡ g.steps
     pub ends : AlikeEnds f.end g.end
 
-  -- Both searches have results, which are alike, or neither has one.
+  -- Both searches have results that are alike, or neither has a result.
   abbrev pub AlikeAnswers : Option Found → Option Found → Type 0
   AlikeAnswers None None = Unit {0}
   AlikeAnswers (Some f) (Some g) = AlikeFound f g
   AlikeAnswers _ _ = ⊥
 
--- The relation may be another one in the search of a lookaround's contents: there is one for each
--- world and direction.
+-- There is a relation for each world and direction, because the search of a lookaround's contents
+-- may need another relation.
 module _ {W : Type 0} (R : W → Direction → Relation) where
-  -- The contents are related in some world, and what continues after ends that are related there is
-  -- alike here.
+  -- The contents are related in some world. If their ends are related there, the states that
+  -- continue are related here.
   pub record AlikeAsked (w : W) (d inner : Direction) (negate : Bool) (u s u' s' : State) : Type 0 where
     pub world : W
     pub contents : R world inner u u'
@@ -66,8 +66,8 @@ module _ {W : Type 0} (R : W → Direction → Relation) where
 
 -- ---- Laws
 
--- Threads that are alike have searches that are alike: equal numbers of steps, and ends that are
--- alike or none in both.
+-- The searches of threads that are alike have the same number of steps, and either ends that are
+-- alike or no ends.
 abbrev pub AlikeThreadsEndAlike : Type 1
 AlikeThreadsEndAlike = (W : Type 0) (R : W → Direction → Relation) (program : Program) (text : Text)
     → IsBisimulation R program text

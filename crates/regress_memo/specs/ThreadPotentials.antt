@@ -1,5 +1,5 @@
--- The potential that threads require, by a table that is checked at each instruction, and the costs
--- of memo steps.
+-- Potentials of threads, given by a table that is checked at each instruction, and the costs of
+-- memo steps.
 use Rattle.std.specs.Prelude.{◌≡◌, ◌≤◌, ℕ, ◌+◌, ◌*◌, Bool, true, false, not, nat_le, nat_lt, ◌&&◌, ◌||◌, ◌==◌, List, [], ◌∷◌, ◌++◌, map, length}
 use Rattle.std.specs.Prelude.{flat_map, Option, Some, None, slice_get}
 use Rattle.std.specs.List.{sum_by}
@@ -18,31 +18,32 @@ use Rattle.regress_memo.specs.MemoSearch.{AreKeys, IsMemoStep}
 
 -- ---- Potentials
 
--- The potential of a thread that runs at an instruction, and of what the instruction leaves.
+-- Two tables by instruction: the potential of a running thread there, and of the threads that the
+-- instruction leaves.
 pub record Potentials : Type 0 where
   pub at : ℕ → ℕ
   pub left : ℕ → ℕ
 
 module _ (w : Potentials) where
-  -- The potential of a thread. Resuming one that waits costs one unit more.
+  -- The potential of a thread. A waiting thread needs one unit more, because it has to be resumed.
   abbrev pub potential_of : Thread → ℕ
   potential_of (running s) = w.at s.ip
   potential_of (waiting s) = w.at s.ip + 1
 
-  -- What the instruction leaves is enough for one thread.
+  -- The potential left by the instruction covers one thread.
   abbrev pub CoversOne : (ip next : ℕ) → Type 0
   CoversOne ip next = w.at next ≤ w.left ip
 
-  -- What the instruction leaves is enough for two threads, of which one waits.
+  -- The potential left by the instruction covers two threads, of which one waits.
   abbrev pub CoversTwo : (ip next other : ℕ) → Type 0
   CoversTwo ip next other = w.at next + w.at other + 1 ≤ w.left ip
 
-  -- What the end of an iteration leaves is enough for another iteration and for the exit.
+  -- The potential left by the end of an iteration covers another iteration and the exit.
   abbrev pub CoversRepeat : Option Insn → (ip begin : ℕ) → Type 0
   CoversRepeat (Some (EnterLoop f)) ip begin = CoversTwo ip (begin + 1) f.exit
   CoversRepeat _ ip begin = Unit {0}
 
-  -- What the instruction leaves is enough for the threads at its successors.
+  -- The potential left by the instruction covers the threads at its successors.
   abbrev pub CoversInsn : Program → Option Insn → (ip : ℕ) → Type 0
   CoversInsn program (Some Goal) ip = Unit {0}
   CoversInsn program (Some JustFail) ip = Unit {0}
@@ -56,7 +57,7 @@ module _ (w : Potentials) where
   CoversInsn program None ip = Unit {0}
   CoversInsn program (Some x) ip = CoversOne ip (ip + 1)
 
-  -- The table is enough for each instruction of the program.
+  -- The table covers each instruction of the program.
   pub record AreCovering (program : Program) : Type 0 where
     pub enough : (ip : ℕ) → CoversInsn program (slice_get program.insns ip) ip
 
@@ -73,12 +74,12 @@ abbrev pub is_one_of : List ℕ → ℕ → Bool
 is_one_of [] ip = false
 is_one_of (i ∷ ips) ip = (i == ip) || is_one_of ips ip
 
--- The keys of an instruction at each offset up to `top` with each of `codes` codes.
+-- The keys of an instruction: one for each offset up to `top` and each code below `codes`.
 abbrev pub places_at : (ip top codes : ℕ) → List Key
 places_at ip top codes = flat_map (λ code. map (λ at. record { ip = ip; at = at; code = code })
     (numbers_from 0 (top + 1))) (numbers_from 0 codes)
 
--- The keys of each of these instructions, which have their own numbers of codes.
+-- The keys of several instructions, each with its own number of codes.
 abbrev pub places_of : (ips : List ℕ) (top : ℕ) (codes : ℕ → ℕ) → List Key
 places_of ips top codes = flat_map (λ ip. places_at ip top (codes ip)) ips
 
@@ -90,29 +91,29 @@ pub record Shape : Type 0 where
   pub pos : ℕ
   pub code : ℕ
 
--- The code distinguishes all live loop data of sound states at one position.
+-- The code distinguishes all live data of the loops of sound states at one position.
 pub record Distinguishes (a : Liveness) (top : ℕ) (code : State → ℕ) : Type 0 where
   pub tells : (d : Direction) (s t : State) → IsSoundState a top d s → IsSoundState a top d t → SamePlace s t
       → code s ≡ code t → SameKey a s t
 
 module _ (program : Program) (code : State → ℕ) where
-  -- A state of this program has the shape.
+  -- Whether a state of this program has the shape.
   abbrev pub stands_there : Shape → State → Bool
   stands_there x s =
       (s.ip == x.ip) && ((s.pos == x.pos) && ((code s == x.code)
       && ((length s.groups == program.groups) && ((length s.starts == program.groups)
       && (length s.loops == program.loops)))))
 
-  -- The threads have these shapes, one by one.
+  -- Whether the threads have these shapes, in this order.
   abbrev pub has_shape : List Shape → List Thread → Bool
   has_shape [] [] = true
   has_shape (x ∷ xs) (running s ∷ ts) = x.runs && (stands_there x s && has_shape xs ts)
   has_shape (x ∷ xs) (waiting s ∷ ts) = not x.runs && (stands_there x s && has_shape xs ts)
   has_shape _ _ = false
 
-  -- Keys of instructions that record, each of which is searched in one direction. The threads of a
-  -- key are decided by their shapes: one that runs at the instruction and the offset, or all those
-  -- that a char loop leaves from the offset on.
+  -- The keys of recording instructions, each of which is searched in one direction. The shapes of
+  -- threads decide which threads a key stands for: one running thread at the key's instruction and
+  -- offset, or all threads that a char loop leaves from the offset on.
   module _ (way : ℕ → Direction) (ips : List ℕ) (top : ℕ) (codes : ℕ → ℕ) (rows : Key → List Shape) (taken : Key → ℕ)
     where
       -- Whether a key stands for these threads.
@@ -120,19 +121,20 @@ module _ (program : Program) (code : State → ℕ) where
       is_place d k ts = nat_lt k.code (codes k.ip) && (nat_le k.at
           top && (is_one_of ips k.ip && (is_same_direction (way k.ip) d && has_shape (rows k) ts)))
 
-      -- The keys of positions.
+      -- The keys of positions and codes.
       abbrev pub place_keys : Keys
       place_keys = record { all = places_of ips top codes; is_of = is_place; taken = taken }
 
 -- ---- Char loops
 
--- Each thread waits above a record of itself and of those before it.
+-- Each thread waits above a record of the threads up to and including it.
 abbrev pub each_noted : (above : List Thread) → List (Thread × Key) → List Entry
 each_noted above [] = []
 each_noted above (x ∷ xs) = one_thread x.0 ∷ key_record x.1 (above ++ x.0 ∷ []) ∷ each_noted (above ++ x.0 ∷ []) xs
 
 module _ (program : Program) (text : Text) (a : Liveness) (keys : Keys) (d : Direction) where
-  -- Each key is of the threads so far, is new, and requires no step below its record.
+  -- Each key is new, stands for the threads up to and including its own, and has no step below its
+  -- record.
   abbrev pub AreOfEach : (memory : List Key) (above : List Thread) → List (Thread × Key) → Type 0
   AreOfEach memory above [] = Unit {0}
   AreOfEach memory above (x ∷ xs) = (KeyStandsFor program text a keys d x.1 (above ++ x.0 ∷ []) × (keys.taken x.1 ≡ 0)
@@ -147,15 +149,15 @@ module _ (program : Program) (text : Text) (a : Liveness) (keys : Keys) (d : Dir
     pub passed : (n : ℕ) (bare : List Entry) (ts : List Thread) → IsBare bare
         → Simulates program text false d n (threads_in bare) ts → GoesOnward d ts bare
         → IsMemoStep program text a keys d memory ts bare
-    -- A step with a record of what was current: a thread, or positions of a lazy char loop that
-    -- wait together, of which the first one is taken.
+    -- A step with a record of what was current. That is a thread, or waiting positions of a lazy
+    -- char loop of which the first one is resumed.
     pub made : (n : ℕ) (bare : List Entry) (ts : List Thread) (k : Key) → IsBare bare
         → Simulates program text false d n (threads_in bare) ts → KeyStandsFor program text a keys d k ts
         → 1 ≤ keys.taken k → keys.taken k ≤ n → IsNew k memory
         → GoesOnward d ts (bare ++ key_record k ts ∷ [])
         → IsMemoStep program text a keys d memory ts (bare ++ key_record k ts ∷ [])
-    -- A char loop. Its first positions are known to fail, and each other one has a record of the
-    -- positions so far.
+    -- A char loop. Its first positions are known to fail. Each other position has a record of the
+    -- positions up to it.
     pub run : (n : ℕ) (ts known : List Thread) (xs : List (Thread × Key))
         → Simulates program text false d n (known ++ map (λ x. x.0) xs) ts → 1 ≤ n → AllFindNothing program text d known
         → AreOfEach program text a keys d memory known xs → AreDistinct (map (λ x. x.1) xs)
@@ -166,26 +168,26 @@ abbrev pub StepsAreMemoSteps : Type 0
 StepsAreMemoSteps = (program : Program) (text : Text) (a : Liveness) (keys : Keys) (d : Direction) (memory : List Key)
     → ExecutorMemoSteps program text a keys d memory
 
--- In a rightward search no instruction and no char loop moves to a smaller offset.
+-- In a rightward search, no instruction and no char loop leads to a smaller offset.
 pub record RightwardInsnsNeverMoveLeft : Type 0 where
   pub goes : (program : Program) (text : Text) → HasRisingPlaceOffsets text → (s : State) (ts : List Thread)
       → act program text rightwards s ≡ goes ts → AreOnward s.pos (thread_entries ts)
   pub scans : (program : Program) (text : Text) → HasRisingPlaceOffsets text → (s : State) (n : ℕ) (ts : List Thread)
       → act program text rightwards s ≡ scans n ts → AreOnward s.pos (thread_entries ts)
-  -- Nor does one with a record below.
+  -- Nor does a step with a record below its threads.
   pub noted : (from : ℕ) (ts us : List Thread) (k : Key) → AreOnward from (thread_entries ts) → k.at ≡ from
       → AreOnward from (thread_entries ts ++ key_record k us ∷ [])
 
--- The potential of the threads that an instruction leaves is at most that of the table.
+-- The potential of the threads that an instruction leaves is at most its entry in the table.
 pub record ThreadsLeftFitInsnPotentials : Type 0 where
   pub weighed : (program : Program) (text : Text) (w : Potentials) → AreCovering w program
       → (d : Direction) (s : State) (ts : List Thread) → act program text d s ≡ goes ts
       → sum_by (potential_of w) ts ≤ w.left s.ip
-  -- One table covers every program. With it, four units cover a key.
+  -- There is a table that covers all programs. With it, a cost of four units covers each key.
   pub each : (program : Program) → AreCovering (record { at = λ ip. 1; left = λ ip. 3 }) program
 
--- A char loop that records each of its positions is covered by its potential and by these keys:
--- each covers a character, a thread and a record.
+-- The potential of a char loop that records each position, plus the costs of these keys, covers its
+-- step. Each key covers a character, a thread and a record.
 abbrev pub KeysCoverRecordedExits : Type 0
 KeysCoverRecordedExits = (price : Key → ℕ) (weight : List Thread → ℕ) (known : List Thread) (xs : List (Thread × Key))
     (first ready more : ℕ) → first ≤ ready → more ≤ first + length xs
@@ -193,9 +195,9 @@ KeysCoverRecordedExits = (price : Key → ℕ) (weight : List Thread → ℕ) (k
     → more + sum_by (entry_potential weight) (each_noted known xs) ≤ ready + sum_by price
     (keys_in (each_noted known xs))
 
--- If a code distinguishes live loop data, instructions, offsets and codes are keys, also of lists
--- of threads. All of them cost as much as the instructions that record, each times its codes, at
--- each offset. If positions alone decide, one code is enough.
+-- If a code distinguishes the live data of loops, then instructions, offsets and codes are keys,
+-- also of lists of threads. The cost of all keys is the sum over recording instructions of cost
+-- times codes, times the number of offsets. If positions alone decide, one code is enough.
 pub record OffsetsAndCodesAreKeys : Type 0 where
   pub are : (program : Program) (text : Text) (a : Liveness) (way : ℕ → Direction) (ips : List ℕ) (code : State → ℕ)
       (codes : ℕ → ℕ) (rows : Key → List Shape) (taken : Key → ℕ) → IsLivenessFor program text a

@@ -1,5 +1,5 @@
--- The steps of char loops without a maximum. Each place has a record of what the loop leaves from
--- it on.
+-- The steps of char loops without a maximum. For each place there is a record of the threads that
+-- the loop leaves from there.
 use Rattle.std.specs.Prelude.{◌≡◌, ◌≤◌, ◌<◌, ℕ, ◌+◌, ◌-◌, Bool, true, false, List, [], ◌∷◌, map, reverse, Some, slice_get}
 use Rattle.regex_meaning.specs.NumberListHelpers.{numbers_from}
 use Rattle.regex_meaning.specs.Text.{Text, Direction, last_place, moved}
@@ -18,16 +18,17 @@ use Rattle.regress_memo.specs.UnboundedCharLoopMemoKeys.{CharLoopRecords, run_ke
 
 module _ (program : Program) (text : Text) (a : Liveness) (questions : ℕ → List Question)
     (way : ℕ → Direction) (ips : List ℕ) (taken : Key → ℕ) (d : Direction) (test : ℕ → Bool) (s : State) where
-  -- The key of the threads from `n` characters after a place on.
+  -- The key of the threads that the loop leaves `n` characters after a place.
   abbrev pub key_behind : (place n : ℕ) → Key
   key_behind place n = run_key program text a questions way ips taken d (moved text d n place) s
 
-  -- The threads that wait after `least` characters and more, with their keys, the furthest first.
+  -- The threads that wait after `least` or more characters, with their keys. The furthest one comes
+  -- first.
   abbrev pub placed : (place least count : ℕ) → List (Thread × Key)
   placed place least count =
       map (λ n. (waiting (behind text d place s n), key_behind place n)) (reverse (numbers_from least count))
 
-  -- The keys of the places after `least` to fewer than `end` characters are not in the memo table.
+  -- The memo table has no key of a place after at least `least` and fewer than `end` characters.
   abbrev pub ExitKeysAreNew : (memory : List Key) (place least end : ℕ) → Type 0
   ExitKeysAreNew memory place least end = (n : ℕ) → least ≤ n → n < end → IsNew (key_behind place n) memory
 
@@ -47,23 +48,23 @@ module _ (program : Program) (text : Text) (a : Liveness) (questions : ℕ → L
         IsMemoStep program text a (plan_keys program text a questions way ips taken) d memory ts entries
 
     module _ (place least : ℕ) where
-      -- The steps of a greedy char loop. Its records require no step below them.
+      -- The steps of a greedy char loop. There is no step below its records.
       pub record GreedyGives : Type 0 where
-        -- From some place on the loop is known to fail, so only nearer places are left.
+        -- The loop is known to fail from some place on, so only nearer places are left.
         pub known : (n : ℕ) → least ≤ n → n ≤ passing text test d place
             → AllFindNothing program text d (greedy_loop_threads text test d 0 (moved text d n place) s)
             → ExitKeysAreNew memory place least n
             → GivesRun (running s ∷ [])
             (each_noted (greedy_loop_threads text test d 0 (moved text d n place) s) (placed place least (n - least)))
-        -- From no place it is known to fail.
+        -- The loop is not known to fail from any place.
         pub all : (n : ℕ) → n ≡ passing text test d place → least ≤ n → ExitKeysAreNew memory place least (n + 1)
             → GivesRun (running s ∷ [])
             (each_noted [] ((running (behind text d place s n), key_behind place n) ∷ placed place least (n - least)))
-        -- There are too few characters.
+        -- There are too few characters, so no thread is left.
         pub none : passing text test d place < least → GivesRun (running s ∷ []) []
 
-      -- The steps of a lazy char loop. It takes its nearest place. The others wait together, and a
-      -- record is made when they are resumed.
+      -- The steps of a lazy char loop. It continues at its nearest place. The other places wait
+      -- together, and a record is made when they are resumed.
       pub record LazyGives : Type 0 where
         pub first : least ≤ passing text test d place
             → GivesRun (running s ∷ [])
@@ -73,7 +74,7 @@ module _ (program : Program) (text : Text) (a : Liveness) (questions : ℕ → L
 
 -- ---- Laws
 
--- The threads that wait from a place of a lazy char loop on, when they are resumed.
+-- What happens when the threads that wait from a place of a lazy char loop are resumed.
 abbrev pub LazyRunsComeBack : Type 0
 LazyRunsComeBack =
     (program : Program) (text : Text) (a : Liveness) (questions : ℕ → List Question) (way : ℕ → Direction)

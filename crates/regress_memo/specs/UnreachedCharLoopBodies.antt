@@ -1,4 +1,4 @@
--- No thread reaches the body of a char loop, which the loop executes itself.
+-- No thread reaches the body of a char loop, because the loop executes its body itself.
 use Rattle.std.specs.Prelude.{◌≡◌, ℕ, ◌+◌, Bool, true, false, List, Option, Some, None, slice_get}
 use Rattle.regex_meaning.specs.Laws.{Each}
 use Rattle.regex_meaning.specs.Text.{Text, Direction}
@@ -11,20 +11,20 @@ use Rattle.regress_memo.specs.declared.successors.Successors.TheVariants.{Ends, 
 use Rattle.regress_memo.specs.Successors.{successors_of_insn_if_any}
 use Rattle.regress_memo.specs.CheckedAnalysis.{IsAnalysisOf, ip_of}
 
--- These are the successors of a char loop.
+-- Whether these are the successors of a char loop.
 abbrev pub are_char_loop_successors : Successors → Bool
 are_char_loop_successors (Run b) = true
 are_char_loop_successors _ = false
 
 module _ (program : Program) where
-  -- The instruction does not follow a char loop.
+  -- The instruction before this one is not a char loop.
   abbrev pub IsNotLoopBody : (ip : ℕ) → Type 0
   IsNotLoopBody ip = char_loop_greediness_at (insn_before program ip) ≡ None
 
   -- ---- Successors
 
-  -- If the instruction is a loop head, neither the next instruction nor its exit is a char loop's
-  -- body.
+  -- If the instruction is a loop head, neither the start of the loop's body nor its exit is the
+  -- body of a char loop.
   abbrev pub EntersPastBodies : Option Insn → (begin : ℕ) → Type 0
   EntersPastBodies (Some (EnterLoop f)) begin = IsNotLoopBody (begin + 1) × IsNotLoopBody f.exit
   EntersPastBodies _ begin = Unit {0}
@@ -42,7 +42,7 @@ module _ (program : Program) where
 
 -- ---- Laws
 
--- If no instruction leads to a char loop's body, no step leaves a thread at one.
+-- If no instruction leads to the body of a char loop, then no step leaves a thread there.
 abbrev pub CharLoopBodiesAreUnreached : Type 0
 CharLoopBodiesAreUnreached = (program : Program) (t : MemoAnalysis) → IsAnalysisOf program t
     → ((ip : ℕ) → FlowsPastBodies program (successors_of_insn_if_any ip (slice_get program.insns ip)) ip)

@@ -1,4 +1,4 @@
--- The work bound of a memo analysis: the work of all searches of a text, per position.
+-- The work bound of a memo analysis: the work of all searches of a text, per position of the text.
 use Rattle.std.specs.Prelude.{◌≡◌, ◌≤◌, ◌<◌, ℕ, ◌+◌, ◌*◌, ◌^◌, true, false, if◌then◌else◌, List, [], ◌∷◌, Option, Some, slice_get}
 use Rattle.std.specs.List.{sum_by}
 use Rattle.regex_meaning.specs.Text.{Text}
@@ -23,7 +23,7 @@ use Rattle.regress_memo.specs.AnalysisAsPotentials.{insn_direction}
 use Rattle.regress_memo.specs.Successors.{successors_of_insn_if_any}
 use Rattle.regress_memo.specs.CheckedAnalysis.{IsAnalysisOf}
 
--- The cost of an instruction's keys at one position, if it records.
+-- The cost of an instruction's keys at one position. 0 if it does not record.
 abbrev pub insn_keys_cost_per_position : InsnAnalysis → ℕ
 insn_keys_cost_per_position x = if x.records then x.price * x.codes else 0
 
@@ -31,21 +31,21 @@ insn_keys_cost_per_position x = if x.records then x.price * x.codes else 0
 abbrev pub all_keys_cost_per_position : MemoAnalysis → ℕ
 all_keys_cost_per_position t = sum_by insn_keys_cost_per_position t.lines.items
 
--- The work per position if failures are remembered from the first attempt on.
+-- The work per position, if failures are memoized from the first attempt on.
 abbrev pub work_per_position : MemoAnalysis → ℕ
 work_per_position t = (all_keys_cost_per_position t + (insn_analysis_of t 0).ready) * 3
 
 -- ---- What a work bound requires in addition to a correct analysis
 
 module _ (t : MemoAnalysis) where
-  -- The potential left by a lookaround also covers its contents, and nothing in the lookaround
-  -- records, so no record is discarded when its contents match.
+  -- The potential left by a lookaround also covers its contents. Nothing in the lookaround records,
+  -- so no record is discarded when its contents match.
   pub record LookIsBounded (past ip : ℕ) : Type 0 where
     pub contents : (insn_analysis_of t (ip + 1)).ready + (insn_analysis_of t past).ready ≤ (insn_analysis_of t ip).left
     pub silent : (inner : ℕ) → ip ≤ inner → inner < past → (insn_analysis_of t inner).records ≡ false
 
-  -- Each exit of a lazy char loop without a maximum has a record, so the loop is searched to the
-  -- right.
+  -- The requirements for lookarounds and for lazy char loops. Each exit of a lazy char loop without
+  -- a maximum has a record, so the loop has to be searched to the right.
   pub record InsnIsBounded (x : Option Insn) (ip : ℕ) : Type 0 where
     pub look : (l : LookaroundInsn) → lookaround_at x ≡ Some l → LookIsBounded l.continuation ip
     pub lazy : (least : ℕ) → x ≡ Some (Loop1CharBody least unlimited false) → (insn_analysis_of t ip).forward ≡ true
@@ -58,8 +58,8 @@ module _ (t : MemoAnalysis) where
   IsStepWorkBounded (AsRun b) ip = b.greedy ≡ false → b.most ≡ unlimited → (insn_analysis_of t ip).forward ≡ true
   IsStepWorkBounded _ ip = Unit {0}
 
-  -- Each thread has some potential, and none reaches a char loop's body, where keys belong to the
-  -- loop.
+  -- Each thread has some potential. No thread reaches the body of a char loop, because its keys
+  -- belong to the loop.
   pub record IsWorkBounded (program : Program) : Type 0 where
     pub ready : (ip : ℕ) → 1 ≤ (insn_analysis_of t ip).ready
     pub past : (ip : ℕ) → FlowsPastBodies program (successors_of_insn_if_any ip (slice_get program.insns ip)) ip
@@ -71,8 +71,8 @@ module _ (t : MemoAnalysis) where
 abbrev pub initial_threads : Program → ℕ → List Thread
 initial_threads program at = running (state_before_first_insn program at) ∷ []
 
--- Searches covered by an analysis, in two stages, do no more work per position than it states, plus
--- the work allowed at first and one more step.
+-- Searches in two stages with a bounded analysis do at most the work per position that it states,
+-- plus the work allowed in the first stage and one more step.
 abbrev pub AnalysesBoundTotalWork : Type 0
 AnalysesBoundTotalWork = (program : Program) (t : MemoAnalysis) → IsAnalysisOf program t
     → (text : Text) → HasRisingPlaceOffsets text → ReadsAsBytes program text → units text < 2 ^ 63 → (at_first work : ℕ)

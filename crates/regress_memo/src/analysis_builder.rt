@@ -1,4 +1,5 @@
-//! Construction of a memo analysis. Nothing is proved of it, because its result is checked.
+//! Builds a memo analysis. Nothing is proved about the builder, because its result is checked
+//! (`analysis_check.rt`).
 
 ghost use Rattle.std.specs.Prelude.{◌<◌, ◌^◌, length, IfOk, IfSome};
 ghost use Rattle.regex_meaning.specs.CompilationRelation.{Program};
@@ -35,10 +36,10 @@ struct EnclosingScopeWithEnd {
     end: usize,
 }
 
-/// What the instructions before one may write.
+/// What the instructions before a given one may write.
 #[derive(Clone, Copy)]
 struct LoopsAndGroupsWritten {
-    /// A number that exceeds those of the loops that are entered.
+    /// All loops that may be entered have smaller numbers.
     loops: u32,
     /// The number of instructions that change a group.
     group_changes: usize,
@@ -70,7 +71,7 @@ impl MemoAnalysis {
         }
     }
 
-    // Builds an analysis, which is still to be checked.
+    // Builds an analysis. The caller checks it.
     fn build_unchecked_analysis(
         alloc: Global,
         insns: &[Insn],
@@ -95,7 +96,7 @@ impl MemoAnalysis {
 
     // ---- Enclosing scopes
 
-    // Adds the analysis of each instruction, with an entry for each enclosing loop.
+    // Adds the analysis of each instruction. It has an entry for each enclosing loop.
     fn open_all(&mut self, alloc: Global, insns: &[Insn]) -> Result<(), AllocError> {
         let mut levels = Vec::new(alloc);
         let before = writes_before_each(alloc, insns)?;
@@ -124,8 +125,8 @@ impl MemoAnalysis {
         Ok(())
     }
 
-    // Adds the analysis of an instruction in these scopes. Inside a lookaround, no entries are made
-    // for the loops around it.
+    // Adds the analysis of an instruction in these scopes. An instruction inside a lookaround has
+    // no entries for the loops around the lookaround.
     fn add_line(&mut self, levels: &[EnclosingScopeWithEnd]) -> Result<(), AllocError> {
         let first = self.rows.len();
         let mut line = InsnAnalysis {
@@ -155,7 +156,7 @@ impl MemoAnalysis {
 
     // ---- Facts about iterations
 
-    // Clears `moved` in entries where it does not follow from the preceding instructions.
+    // Clears `moved` in all entries where it does not follow from the preceding instructions.
     fn say_moved(&mut self, insns: &[Insn]) {
         for _pass in 0..PASSES {
             let mut changed = false;
@@ -170,7 +171,7 @@ impl MemoAnalysis {
         }
     }
 
-    // Clears `moved` in the entries at the target of an edge where it does not follow; returns
+    // Clears `moved` in the entries at the target of an edge where it does not follow. Returns
     // whether anything changed.
     fn spread(&mut self, edge: Option<FlowEdge>) -> bool {
         let Some(edge) = edge else {
@@ -188,7 +189,7 @@ impl MemoAnalysis {
         changed
     }
 
-    // Checks whether a character has been read in a loop's iteration after this edge is taken.
+    // Checks whether an iteration of the loop has read a character once this edge is taken.
     fn is_moved_along(&self, edge: FlowEdge, id: LoopID) -> bool {
         !edge_enters_loop(edge, id)
             && (edge.reads || self.states_loop_fact(edge.ip, LoopProgressFact::Moved, id))
@@ -206,7 +207,8 @@ impl MemoAnalysis {
         }
     }
 
-    // Sets `empty` where an iteration ends and at instructions before, where `moved` is not known.
+    // Sets `empty` where an iteration ends, and at the instructions before it where `moved` is not
+    // known.
     fn ask_empty(&mut self, insns: &[Insn]) {
         for _pass in 0..PASSES {
             let mut changed = false;
@@ -222,7 +224,7 @@ impl MemoAnalysis {
         }
     }
 
-    // Sets `empty` for the loop whose iteration ends here; returns whether anything changed.
+    // Sets `empty` for the loop whose iteration ends here. Returns whether anything changed.
     fn ask_at_end(&mut self, insns: &[Insn], ip: usize) -> bool {
         match loop_ending_at(insns, ip) {
             Some(fields) => self.distinguish_empty_iterations(ip, fields.loop_id),
@@ -230,7 +232,7 @@ impl MemoAnalysis {
         }
     }
 
-    // Propagates `empty` backward along an edge; returns whether anything changed.
+    // Propagates `empty` backward along an edge. Returns whether anything changed.
     fn ask_before(&mut self, edge: Option<FlowEdge>) -> bool {
         let Some(edge) = edge else {
             return false;
@@ -246,8 +248,8 @@ impl MemoAnalysis {
         changed
     }
 
-    // Sets `empty` for a loop at an instruction where `moved` is not known; returns whether it was
-    // clear.
+    // Sets `empty` for a loop at an instruction where `moved` is not known. Returns whether
+    // anything changed.
     fn distinguish_empty_iterations(&mut self, ip: usize, id: LoopID) -> bool {
         let line = self.insn_analysis_at(ip);
         for number in line.first..line.end.min(self.rows.len()) {
@@ -275,7 +277,7 @@ impl MemoAnalysis {
 
     // ---- Codes
 
-    // Counts the codes of each instruction, and numbers those of the recording ones.
+    // Counts the codes of each instruction, and assigns the first code of each recording one.
     fn number_codes(&mut self) {
         let mut base = 0usize;
         for ip in 0..self.lines.len() {
@@ -291,7 +293,7 @@ impl MemoAnalysis {
     }
 }
 
-// Returns what the instructions before each one write.
+// Returns, for each instruction, what the instructions before it write.
 fn writes_before_each(
     alloc: Global,
     insns: &[Insn],
@@ -316,8 +318,8 @@ fn writes_before_each(
     Ok(before)
 }
 
-// Sets what the contents of a lookaround may write, by what is written before them and before what
-// follows them.
+// Sets what the contents of a lookaround may write, given what is written before the contents and
+// before the instruction that follows them.
 fn set_contents_writes(
     line: &mut InsnAnalysis,
     before: Option<&LoopsAndGroupsWritten>,
@@ -348,7 +350,7 @@ fn close_ended_scopes(levels: &mut Vec<EnclosingScopeWithEnd>, ip: usize) {
     }
 }
 
-// Computes the count bound of a loop; `moved` states whether each iteration has read a character at
+// Computes the count bound of a loop. `moved` says whether each iteration has read a character at
 // its end.
 fn count_for(fields: &LoopFields, moved: bool) -> LoopCountsDistinguishedUpTo {
     let counted = fields.max_iters != usize::MAX;

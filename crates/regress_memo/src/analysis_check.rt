@@ -21,7 +21,7 @@ use regex_pattern_front::types::LoopID;
 use regress_program::instructions::{Insn, LoopFields};
 
 impl MemoAnalysis {
-    // Checks whether this is an analysis of the program with these instructions.
+    // Checks whether the analysis is correct for the program with these instructions.
     pub(crate) fn is_analysis_of_program(&self, insns: &[Insn]) -> bool
         ensures of { result ≡ true → (program : Program) → AreInsnsOfProgram program insns.now → IsAnalysisOf
             program self.now }
@@ -33,7 +33,7 @@ impl MemoAnalysis {
         self.lines.len() == insns.len() && self.is_written(insns)
     }
 
-    // Checks that the first instruction has no enclosing loop and is not searched to the left.
+    // Checks that the first instruction has no enclosing loop and is searched to the right.
     fn starts_outside(&self) -> bool
         ensures { result ≡ true → FirstInsnForwardOutsideLoops self.now }
     {
@@ -92,7 +92,7 @@ impl MemoAnalysis {
         }
     }
 
-    // Checks consistency with the only successor.
+    // Checks consistency with the only successor of an instruction.
     fn agrees_with_only_successor(&self, ip: usize, next: PlainSuccessor) -> bool
         ensures next { result ≡ true → IsConsistentFlow self.now next.reads None ip next.to }
         ensures silent { result ≡ true → groups_stay_unchanged_from self.now ip ≡ true → next.silent ≡ true }
@@ -127,7 +127,7 @@ impl MemoAnalysis {
         is_onward(here, next) && self.rows_lead(edge)
     }
 
-    // Checks that all entries at the target follow.
+    // Checks that all entries at the target of an edge follow from those at its source.
     fn rows_lead(&self, edge: FlowEdge) -> bool
         ensures { result ≡ true → AllLoopFactsFlow self.now edge.reads edge.entered edge.ip edge.to }
     {
@@ -140,7 +140,7 @@ impl MemoAnalysis {
         true
     }
 
-    // Checks that one entry at the target follows.
+    // Checks that one entry at the target of an edge follows from those at its source.
     fn row_leads(&self, edge: FlowEdge, row: &EnclosingLoop) -> bool
         ensures { result ≡ true → LoopFactsFlow self.now edge.reads edge.entered edge.ip row.now }
     {
@@ -162,8 +162,8 @@ impl MemoAnalysis {
             && (!row.empty || self.knows_iteration_reads(ip, row.id))
     }
 
-    // Checks whether a character is known to have been read in a loop's iteration, or the memo key
-    // distinguishes whether one was.
+    // Checks whether it is known that the loop's iteration has read a character, or the memo key
+    // distinguishes whether it has.
     fn knows_iteration_reads(&self, ip: usize, id: LoopID) -> bool
         ensures { result ≡ true → knows_iteration_reads id (enclosing_loops_of self.now ip) ≡ true }
     {
@@ -210,8 +210,8 @@ impl MemoAnalysis {
         self.begins(fields, ip, begin) && self.may_end_iteration(fields, ip)
     }
 
-    // Checks that an iteration of a loop may end at an instruction, where all is known that decides
-    // how it continues.
+    // Checks that an iteration of a loop may end at an instruction, and that the facts decide how
+    // the loop continues.
     fn may_end_iteration(&self, fields: &LoopFields, ip: usize) -> bool
         ensures { result ≡ true → MayEndIteration self.now (loop_fields_as_spec fields.now) ip }
     {
@@ -268,8 +268,8 @@ impl MemoAnalysis {
     }
 }
 
-// Checks that `next` has the direction of `here`, and permits no loop writes and no group changes
-// that `here` excludes.
+// Checks that `next` has the same direction as `here`, and permits no writes of loops and no
+// changes of groups that `here` excludes.
 fn is_onward(here: InsnAnalysis, next: InsnAnalysis) -> bool
     ensures from { result ≡ true → here.from ≤ next.from }
     ensures forward { result ≡ true → here.forward ≡ next.forward }

@@ -3,8 +3,8 @@
 ghost use Rattle.regress_memo.specs.{UnreachedCharLoopBodies.{CharLoopBodiesAreUnreached}, WorkBound.{AnalysesBoundTotalWork}};
 ghost use Rattle.regress_memo.specs.CheckedAnalysis.{AnalysesAreMemoPlans, DirectionsAreKept, KeysHaveDistinctBits};
 
-/// An analysis of a program is a memo plan in each text: its keys decide, its steps are steps with
-/// records, and the work of all attempts together is linear in the length of the text.
+/// An analysis of a program is a memo plan in each text: its keys decide failure, its steps are
+/// memo steps, and the work of all attempts together is linear in the length of the text.
 pub fn analyses_are_memo_plans()
     ensures { AnalysesAreMemoPlans }
 {}
@@ -19,7 +19,7 @@ pub fn directions_are_kept()
     ensures { DirectionsAreKept }
 {}
 
-/// If no instruction leads to the body of a char loop, a step leaves no thread there.
+/// If no instruction leads to the body of a char loop, then no step leaves a thread there.
 pub fn bodies_are_unreached()
     ensures { CharLoopBodiesAreUnreached }
 {}

@@ -1,4 +1,4 @@
-//! The memo analysis of a program: what it states of each instruction and each loop.
+//! The memo analysis of a program: what it states about each instruction and each loop.
 
 ghost use Rattle.std.specs.Prelude.{◌≡◌, true};
 ghost use Rattle.regress_memo.specs.AnalysisAsPotentials.{no_insn_analysis, insn_analysis_of, enclosing_loops_of, undistinguished_count_bound};
@@ -7,7 +7,7 @@ ghost use Rattle.regress_memo.specs.AnalysisAsPotentials.{enclosing_loop_has_fac
 
 use regex_pattern_front::types::LoopID;
 
-/// A loop that encloses an instruction, and what the analysis states of its current iteration.
+/// A loop that encloses an instruction, and what the analysis states about its current iteration.
 #[derive(Clone, Copy)]
 pub struct EnclosingLoop {
     pub id: LoopID,
@@ -39,12 +39,13 @@ pub struct InsnAnalysis {
     pub silent: bool,
     /// Whether a thread at this instruction is recorded.
     pub records: bool,
-    /// The potential of a thread here, the potential of the threads that the instruction leaves,
-    /// and the cost of a key that a record covers.
+    /// Three amounts of work: the potential of a thread here, the potential of the threads that the
+    /// instruction leaves, and the cost of a key, which its record covers.
     pub ready: u32,
     pub left: u32,
     pub price: u32,
-    /// The number of codes, and the number of codes at recording instructions before this one.
+    /// The number of codes here, and the number of codes at all recording instructions before this
+    /// one.
     pub codes: usize,
     pub base: usize,
 }
@@ -58,11 +59,11 @@ pub struct MemoAnalysis {
     pub rows: Vec<EnclosingLoop>,
     /// Indexed by loop number.
     pub counts: Vec<LoopCountsDistinguishedUpTo>,
-    /// The number of codes at all recording instructions together.
+    /// The total number of codes at recording instructions.
     pub codes: usize,
 }
 
-/// A fact that an entry may state of its loop.
+/// A fact that an entry may state about its loop.
 #[derive(Clone, Copy)]
 pub(crate) enum LoopProgressFact {
     Inside,
@@ -71,7 +72,8 @@ pub(crate) enum LoopProgressFact {
 }
 
 impl MemoAnalysis {
-    /// Returns the analysis of an instruction, or the default `default_insn_analysis()` if it has none.
+    /// Returns the analysis of an instruction. If the table has no entry, it is
+    /// `default_insn_analysis()`.
     #[inline(always)]
     pub fn insn_analysis_at(&self, ip: usize) -> InsnAnalysis
         ensures { result ≡ insn_analysis_of self.now ip }
@@ -94,7 +96,8 @@ impl MemoAnalysis {
         }
     }
 
-    // Returns the count bound of a loop, or `undistinguished_loop_bound()` if it has none.
+    // Returns the count bound of a loop. If the table has no entry, it is
+    // `undistinguished_loop_bound()`.
     pub(crate) fn count_bound_of_loop(&self, id: LoopID) -> LoopCountsDistinguishedUpTo
         ensures { result ≡ count_bound_of self.now id }
     {
@@ -104,7 +107,7 @@ impl MemoAnalysis {
         }
     }
 
-    // Checks whether an entry of the instruction states this fact of a loop.
+    // Checks whether an entry at the instruction states this fact about a loop.
     pub(crate) fn states_loop_fact(&self, ip: usize, said: LoopProgressFact, id: LoopID) -> bool
         ensures { result ≡ true → states_loop_fact said id (enclosing_loops_of self.now ip) ≡ true }
     {
@@ -118,7 +121,7 @@ impl MemoAnalysis {
     }
 }
 
-// Returns the analysis of an instruction that has none.
+// Returns the analysis of an instruction without an entry.
 #[inline(always)]
 pub(crate) fn default_insn_analysis() -> InsnAnalysis
     ensures { result ≡ no_insn_analysis }
@@ -148,7 +151,7 @@ pub(crate) fn undistinguished_loop_bound() -> LoopCountsDistinguishedUpTo
     }
 }
 
-// Checks whether an entry states this fact of its loop.
+// Checks whether an entry states this fact about its loop.
 fn says_of(said: LoopProgressFact, row: &EnclosingLoop) -> bool
     ensures { result ≡ enclosing_loop_has_fact said row.now }
 {

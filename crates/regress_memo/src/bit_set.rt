@@ -5,14 +5,14 @@ ghost use Rattle.regress_memo.specs.BitSet.{is_set};
 
 use std::alloc::{AllocError, Global};
 
-/// A bit set with 64 bits to a word, the lowest bit first.
+/// A bit set with 64 bits in each word. The lowest bit comes first.
 #[derive(Drop)]
 pub(crate) struct Bits {
     pub(crate) words: Vec<u64>,
 }
 
 impl Bits {
-    // Allocates a set of at least `count` bits, all clear.
+    // Allocates a set with at least `count` bits, all of which are clear.
     pub(crate) fn new(alloc: Global, count: usize) -> Result<Bits, AllocError>
         ensures room { IfOk result (λ bits. count < 64 * length bits.words.items) }
         ensures none { IfOk result (λ bits. (n : ℕ) → is_set bits.words.items n ≡ false) }

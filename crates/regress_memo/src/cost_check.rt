@@ -11,7 +11,7 @@ use crate::analysis_result::MemoAnalysis;
 use crate::successors::{CharLoopMinMaxAndGreed, Successors, successors_at};
 use regress_program::instructions::Insn;
 
-/// The maximum of a bounded char loop has to be below this number.
+/// The maximum of a char loop with a maximum has to be less than this number.
 const MOST_CHARACTERS: usize = 0x1_0000;
 
 impl MemoAnalysis {
@@ -33,14 +33,14 @@ impl MemoAnalysis {
         }
     }
 
-    // Checks that it covers one thread.
+    // Checks that the potential left by an instruction covers one thread.
     fn has_one(&self, ip: usize, next: usize) -> bool
         ensures { result ≡ true → CoversOne (potentials_of self.now) ip next }
     {
         self.insn_analysis_at(next).ready <= self.insn_analysis_at(ip).left
     }
 
-    // Checks that it covers two threads, of which one is pending.
+    // Checks that the potential left by an instruction covers two threads, of which one is pending.
     fn has_two(&self, ip: usize, next: usize, other: usize) -> bool
         ensures { result ≡ true → CoversTwo (potentials_of self.now) ip next other }
     {
@@ -49,7 +49,8 @@ impl MemoAnalysis {
         ready + 1 <= u64::from(self.insn_analysis_at(ip).left)
     }
 
-    // Checks that it covers the threads after the end of an iteration.
+    // Checks that the potential left by an instruction covers the threads after the end of an
+    // iteration.
     fn has_repeated(&self, insns: &[Insn], ip: usize, begin: usize) -> bool
         ensures { result ≡ true → (program : Program) → AreInsnsOfProgram program insns.now
             → CoversRepeat (potentials_of self.now) (slice_get program.insns begin) ip begin }
@@ -62,7 +63,7 @@ impl MemoAnalysis {
         }
     }
 
-    // Checks that the cost of an instruction is covered: by the cost of its key if it records,
+    // Checks that the cost of an instruction is covered: by the cost of its key if it records, and
     // otherwise by its potential.
     pub(crate) fn insn_cost_is_covered(&self, ip: usize) -> bool
         ensures { result ≡ true → IsInsnCostCovered self.now ip }
@@ -77,7 +78,7 @@ impl MemoAnalysis {
         }
     }
 
-    // Checks that the body of a char loop has its keys, and that the loop is covered.
+    // Checks that the body of a char loop has the keys of the loop, and that the loop is covered.
     fn run_is_written(&self, bounds: CharLoopMinMaxAndGreed, ip: usize) -> bool
         requires { ip + 2 < 2 ^ 64 }
         ensures { result ≡ true → (program : Program) → IsCharLoopChecked self.now program bounds ip }
@@ -102,8 +103,8 @@ impl MemoAnalysis {
         here.first == next.first && here.end == next.end
     }
 
-    // Checks that the potential covers a char loop without a maximum, and that the keys of its
-    // exits cover them.
+    // Checks that the potential covers a char loop without a maximum, and that the costs of the
+    // keys cover its exits.
     fn run_is_enough(&self, bounds: CharLoopMinMaxAndGreed, ip: usize) -> bool
         requires { ip + 2 < 2 ^ 64 }
         ensures { result ≡ true → CoversUnboundedLoop self.now bounds ip }
@@ -116,7 +117,8 @@ impl MemoAnalysis {
             && bounds.least as u64 <= ready - first
     }
 
-    // Checks that the potential covers each exit and each character of a char loop with a maximum.
+    // Checks that the potential left by a char loop with a maximum covers each exit and each
+    // character.
     fn limited_is_enough(&self, bounds: CharLoopMinMaxAndGreed, ip: usize) -> bool
         requires { ip + 2 < 2 ^ 64 }
         ensures { result ≡ true → CoversBoundedLoop self.now bounds ip }

@@ -7,7 +7,8 @@ use crate::successors::{Successors, successors_at};
 use regex_pattern_front::types::LoopID;
 use regress_program::instructions::{Insn, LoopFields};
 
-/// An edge between instructions: whether a character is read, and which loop is entered.
+/// An edge between two instructions. It also says whether a character is read, and which loop is
+/// entered.
 #[derive(Clone, Copy)]
 pub(crate) struct FlowEdge {
     pub(crate) ip: usize,
@@ -26,7 +27,7 @@ pub(crate) fn edge_enters_loop(edge: FlowEdge, id: LoopID) -> bool
     }
 }
 
-/// Returns the edges from an instruction, except that to the contents of a lookaround.
+/// Returns the edges from an instruction, without the edge to the contents of a lookaround.
 pub(crate) fn edges_past_lookarounds(insns: &[Insn], ip: usize) -> [Option<FlowEdge>; 2]
     requires { ip < length insns.now }
 {
@@ -64,7 +65,7 @@ fn plain(ip: usize, to: usize, reads: bool) -> Option<FlowEdge> {
     })
 }
 
-// Returns the edges into a loop's body and to its exit.
+// Returns the edges from a loop head to the loop's body and to its exit.
 fn of_loop(ip: usize, begin: usize, fields: &LoopFields) -> [Option<FlowEdge>; 2] {
     let again = FlowEdge {
         ip,

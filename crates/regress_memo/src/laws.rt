@@ -7,20 +7,20 @@ pub fn recording_adds_known_keys()
     ensures { RecordingAddsKnownKeys }
 {}
 
-/// If only true facts are recorded, all that a memo table knows is true. As a list of keys it is
-/// then a memory in the terms of `regress_memo`.
+/// If only true facts are recorded, all that a memo table knows is true. Then its list of keys is a
+/// right memory in the sense of `MemoSearch`.
 pub fn memos_are_sound()
     ensures { MemosAreSound }
 {}
 
-/// Each memo key has a bit, and the keys that have bits are exactly those that may be remembered. A
-/// thread at an instruction that records has such a key.
+/// Each memo key has a bit, and the keys that have bits are exactly those that may be memoized. A
+/// thread at a recording instruction has such a key.
 pub fn bits_are_keys()
     ensures { KeysAreThoseWithBits }
 {}
 
-/// If the memo analysis is bounded, each thread of a search has a key where its instruction
-/// records. The cost of each step, each backtrack and each record that is reached is covered.
+/// If the memo analysis is bounded, each thread of a search has a key at recording instructions.
+/// The cost of each step, each backtrack and each record that is reached is covered.
 pub fn search_costs_are_covered()
     ensures { WorkIsCoveredByKeyCosts }
 {}

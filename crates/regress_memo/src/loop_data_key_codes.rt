@@ -1,5 +1,4 @@
-//! Key codes: the loop states of a thread, as far as the memo key distinguishes them, encoded as
-//! one number.
+//! Key codes: one number for the loop states of a thread, as far as memo keys distinguish them.
 
 ghost use Rattle.std.specs.Prelude.{◌≡◌, ◌≤◌, ◌<◌, ◌+◌, ◌*◌, ◌^◌, true, List, option_map, map, length, slice_get, IfSome};
 ghost use Rattle.regress_machine.specs.Machine.{State, LoopData};
@@ -40,7 +39,7 @@ impl IterationStatesOfAllLoops for Vec<LoopCountAndIterationStart> {
     }
 }
 
-// The first digits of a code, and the number of codes with that many digits.
+// The first digits of a code, and the number of different prefixes of that length.
 #[derive(Clone, Copy)]
 struct KeyCodePrefix {
     code: usize,
@@ -87,7 +86,7 @@ impl MemoAnalysis {
         }
     }
 
-    // Returns the number of digits that an entry may have.
+    // Returns the number of values that the digit of an entry may have.
     fn number_of_digit_values(&self, row: &EnclosingLoop) -> usize
         ensures answers { result ≡ radix_of_loop_digit (count_bound_of self.now row.now.id).up_to row.now }
         ensures few { result ≤ 2 ^ 17 }
@@ -96,7 +95,8 @@ impl MemoAnalysis {
         if row.empty { 2 * counts } else { counts }
     }
 
-    // Returns the number of codes at an instruction, or `None` if there are more than `MOST_CODES`.
+    // Returns the number of codes at an instruction. Returns `None` if it is more than
+    // `MOST_CODES`.
     pub(crate) fn code_count_at(&self, ip: usize) -> Option<usize>
         ensures codes { IfSome result (λ codes. plan_codes (key_code_questions_of self.now) ip ≡ codes) }
         ensures few { IfSome result (λ codes. codes ≤ max_codes_per_insn) }
@@ -113,8 +113,8 @@ impl MemoAnalysis {
         Some(codes)
     }
 
-    // Checks that the codes of an instruction are counted, and that its bits are before those of
-    // the next instruction.
+    // Checks that the number of codes of an instruction is right, and that its bits come before
+    // those of the next instruction.
     pub(crate) fn has_disjoint_codes_at(&self, ip: usize) -> bool
         requires { ip + 1 < 2 ^ 64 }
         ensures { result ≡ true → HasDisjointCodesAt self.now ip }
@@ -123,7 +123,7 @@ impl MemoAnalysis {
         self.code_count_at(ip) == Some(codes) && self.is_apart(ip)
     }
 
-    // Checks that the bits of an instruction are before those of the next one.
+    // Checks that the bits of an instruction come before those of the next one.
     fn is_apart(&self, ip: usize) -> bool
         requires { ip + 1 < 2 ^ 64 }
         ensures { result ≡ true → memo_codes_before_insn self.now ip + number_of_memo_codes_at_insn self.now
@@ -135,7 +135,7 @@ impl MemoAnalysis {
         base <= next && width <= next - base
     }
 
-    // Returns the number of codes at recording instructions before this one.
+    // Returns the number of codes at all recording instructions before this one.
     fn base(&self, ip: usize) -> usize
         ensures { result ≡ memo_codes_before_insn self.now ip }
     {
@@ -161,7 +161,7 @@ impl MemoAnalysis {
 }
 
 impl KeyCodePrefix {
-    // Appends a digit with this base.
+    // Appends a digit with the given base.
     fn append_digit(self, digit: usize, base: usize) -> KeyCodePrefix
         requires code { self.code < self.codes }
         requires digit { digit < base }

@@ -1,4 +1,4 @@
-//! The memo table of failures, and of keys that reach an end.
+//! The memo table: which keys are known to fail, and which to reach an end.
 
 ghost use Rattle.std.specs.Prelude.{◌≡◌, ◌≤◌, ◌<◌, ◌*◌, ◌^◌, ◌↔◌, true, option_map, IfOk, IfSome, IsTrue, MatchOption};
 ghost use Rattle.std.specs.Arc.{arc_value};
@@ -23,8 +23,8 @@ pub struct ThreadMemoKey {
     pub code: usize,
 }
 
-/// The memo table of a program in a text: what is known of the keys of the program's memo analysis
-/// at `places` offsets.
+/// The memo table of a program in a text. It holds what is known of each key of the program's memo
+/// analysis at `places` offsets.
 #[derive(Drop)]
 pub struct MemoTable {
     memo_analysis: Arc<MemoAnalysis, Global>,
@@ -50,12 +50,12 @@ impl Model for MemoTable {
 }
 
 impl MemoTable {
-    /// Creates an empty memo table, or returns `None` if the number of keys overflows. Without
-    /// `records_successes`, successes are not recorded.
+    /// Creates an empty memo table. Returns `None` if the number of keys overflows. Successes are
+    /// recorded only if `records_successes` is set.
     ///
     /// # Errors
     ///
-    /// `AllocError` if memory cannot be allocated.
+    /// Returns `AllocError` if an allocation fails.
     pub fn new(
         alloc: Global,
         memo_analysis: MemoAnalysis,
@@ -74,7 +74,7 @@ impl MemoTable {
     ///
     /// # Errors
     ///
-    /// `AllocError` if memory cannot be allocated.
+    /// Returns `AllocError` if an allocation fails.
     pub fn new_with_shared_analysis(
         alloc: Global,
         memo_analysis: Arc<MemoAnalysis, Global>,
@@ -107,7 +107,7 @@ impl MemoTable {
         &self.memo_analysis
     }
 
-    /// Returns whether successes are recorded too.
+    /// Checks whether successes are recorded too.
     #[inline(always)]
     pub fn records_successes(&self) -> bool
         ensures { result ≡ self.now.records_successes }
@@ -115,7 +115,7 @@ impl MemoTable {
         self.records_successes
     }
 
-    /// Returns the key of a thread at an instruction and an offset with these loop states, or
+    /// Returns the key of a thread at an instruction and an offset with these loop states. Returns
     /// `None` if the instruction does not record.
     #[inline(always)]
     pub fn key_at<R: IterationStatesOfAllLoops>(

@@ -1,4 +1,4 @@
-//! The choice of recording instructions, and of potentials and costs of keys.
+//! Chooses the recording instructions, their potentials, and the costs of their keys.
 
 ghost use Rattle.std.specs.Prelude.{◌<◌, ◌+◌, ◌^◌, length};
 
@@ -13,9 +13,9 @@ use std::alloc::{AllocError, Global};
 const MOST_READY: u64 = 0x7FFF_FFFF;
 
 impl MemoAnalysis {
-    // Makes instructions with more than one incoming edge record, and the bodies of char loops
-    // without a maximum. Thus each cycle has a recording instruction. In place of a lookaround, the
-    // instruction after it records.
+    // Makes these instructions record: those with more than one incoming edge, and the bodies of
+    // char loops without a maximum. So each cycle has a recording instruction. If a lookaround has
+    // several incoming edges, the instruction after it records instead.
     pub(crate) fn choose_memo_points(
         &mut self,
         alloc: Global,
@@ -58,7 +58,7 @@ impl MemoAnalysis {
         }
     }
 
-    // Assigns those of one instruction; returns whether anything changed.
+    // Assigns the potential and the cost of one instruction. Returns whether anything changed.
     fn weigh(&mut self, insns: &[Insn], ip: usize) -> bool
         requires { ip < length insns.now }
     {
@@ -81,7 +81,7 @@ impl MemoAnalysis {
         u64::from(self.insn_analysis_at(ip).ready)
     }
 
-    // Returns the potential needed for a thread and a pending one.
+    // Returns the potential needed for a running thread and a pending one.
     fn ready_for_two(&self, next: usize, other: usize) -> u64 {
         self.ready(next) + self.ready(other) + 1
     }
@@ -108,8 +108,8 @@ impl MemoAnalysis {
         }
     }
 
-    // Returns the potential needed for the characters and the exits of a char loop with a maximum;
-    // 0 without one.
+    // Returns the potential needed for the characters and the exits of a char loop with a maximum.
+    // Returns 0 for a loop without a maximum.
     fn left_by_run(&self, bounds: CharLoopMinMaxAndGreed, ip: usize) -> u64
         requires { ip + 2 < 2 ^ 64 }
     {

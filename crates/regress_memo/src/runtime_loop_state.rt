@@ -1,4 +1,4 @@
-//! Checks that loop states are sound, that is, of the kind that a search may reach.
+//! Checks that loop states are sound: that a search may reach them.
 
 ghost use Rattle.std.specs.Prelude.{◌≡◌, ◌<◌, ◌+◌, ◌^◌, ◌↔◌, true, option_map, IsTrue};
 ghost use Rattle.regress_memo.specs.{Liveness.{IsNotAheadInDirection}, MemoKeys.{IsSoundState}};
@@ -19,12 +19,12 @@ struct TextOffsetAndSearchDirection {
 }
 
 impl MemoAnalysis {
-    /// Checks whether a search may reach a thread at this instruction and offset of a text of
-    /// `units` code units with these loop states.
+    /// Checks whether a search may reach a thread at this instruction and offset, with these loop
+    /// states, in a text of `units` code units.
     ///
-    /// The current iterations began at offsets that were passed, and read a character where the
-    /// analysis states so. A loop has no more iterations than code units, apart from those that the
-    /// analysis counts.
+    /// Each current iteration has to begin at an offset that was passed, and must have read a
+    /// character if the analysis says so. A loop must not have more iterations than code units were
+    /// passed, apart from those that the analysis allows for.
     pub fn is_reachable_loop_state<R: IterationStatesOfAllLoops>(
         &self,
         ip: usize,
@@ -51,7 +51,7 @@ impl MemoAnalysis {
         true
     }
 
-    // Checks that the state of an entry's loop is sound; a missing state is.
+    // Checks that the state of an entry's loop is sound. A missing state is sound.
     fn is_sound_row(
         &self,
         row: &EnclosingLoop,
@@ -74,7 +74,7 @@ impl MemoAnalysis {
     }
 }
 
-// Checks this by what the analysis states of the loop.
+// Checks that a loop state is sound, given what the analysis states about the loop.
 fn is_sound_by(
     count: LoopCountsDistinguishedUpTo,
     moved: bool,
@@ -90,7 +90,7 @@ fn is_sound_by(
         && are_few(count, place, loop_iteration_state)
 }
 
-// Checks that an offset was passed or is the current one.
+// Checks that an offset is not ahead of the current one in the direction.
 fn is_passed(place: TextOffsetAndSearchDirection, entry: usize) -> bool
     ensures { IsTrue result ↔ IsNotAheadInDirection (direction_from_forward place.forward) entry place.at }
 {
@@ -101,7 +101,7 @@ fn is_passed(place: TextOffsetAndSearchDirection, entry: usize) -> bool
     }
 }
 
-// Checks that there were no more iterations than possible.
+// Checks that the number of iterations is possible.
 fn are_few(
     count: LoopCountsDistinguishedUpTo,
     place: TextOffsetAndSearchDirection,

@@ -6,8 +6,8 @@ ghost use Rattle.regress_memo.specs.Successors.{successors_of, successors_of_ins
 
 use regress_program::instructions::{Insn, LoopFields};
 
-/// A single successor; whether the instruction reads a character, and whether it leaves groups
-/// unchanged.
+/// A single successor. `reads` says whether the instruction reads a character, and `silent` whether
+/// it leaves groups unchanged.
 #[derive(Clone, Copy)]
 pub struct PlainSuccessor {
     pub to: usize,
@@ -42,7 +42,7 @@ pub enum Successors {
     Two(usize),
     /// The instruction after this loop head, or the loop's exit.
     Enter(LoopFields),
-    /// Those of the loop head at this index.
+    /// The successors of the loop head at this index.
     Again(usize),
     /// The instruction after a char loop.
     Run(CharLoopMinMaxAndGreed),
@@ -52,7 +52,7 @@ pub enum Successors {
     Same,
 }
 
-/// Returns the successors of an instruction; an index past the end has none.
+/// Returns the successors of an instruction. An index past the end has none.
 pub(crate) fn successors_at(insns: &[Insn], ip: usize) -> Successors
     ensures { result ≡ successors_of_insn_if_any ip (slice_get (map insn_as_spec_insn insns.now) ip) }
 {
@@ -73,7 +73,7 @@ fn of_insn(insn: &Insn, ip: usize) -> Successors
     }
 }
 
-// Returns those of an instruction without bytes.
+// Returns the successors of an instruction that reads no byte sequence.
 fn other_step(insn: &Insn, ip: usize) -> Successors
     requires { ip + 2 < 2 ^ 64 }
     ensures { literal_bytes_of_insn (insn_as_spec_insn insn.now) ≡ None → result ≡ successors_of ip
@@ -102,8 +102,8 @@ fn other_step(insn: &Insn, ip: usize) -> Successors
     }
 }
 
-// Returns those of an instruction that continues at the next one only, of a lookaround or of a
-// backreference.
+// Returns the successors of a lookaround, of a backreference, or of an instruction that only
+// continues at the next one.
 fn plain_step(insn: &Insn, ip: usize) -> Successors
     requires { ip + 2 < 2 ^ 64 }
     ensures { is_fall_through_insn (insn_as_spec_insn insn.now) ≡ true → result ≡ successors_of ip

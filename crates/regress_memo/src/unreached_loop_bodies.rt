@@ -8,7 +8,7 @@ ghost use Rattle.regress_memo.specs.Successors.{AreInsnsOfProgram, successors_of
 use crate::successors::{Successors, successors_at};
 use regress_program::instructions::Insn;
 
-// Checks that no instruction leads to the body of a char loop, which the loop executes itself.
+// Checks that no instruction leads to the body of a char loop. The loop executes its body itself.
 pub(crate) fn no_char_loop_body_is_reached(insns: &[Insn]) -> bool
     ensures { result ≡ true → (program : Program) → AreInsnsOfProgram program insns.now → (ip : ℕ)
         → FlowsPastBodies program (successors_of_insn_if_any ip (slice_get program.insns ip)) ip }
@@ -21,7 +21,7 @@ pub(crate) fn no_char_loop_body_is_reached(insns: &[Insn]) -> bool
     true
 }
 
-// Checks this of one instruction.
+// Checks that the instruction `ip` does not lead to the body of a char loop.
 fn leads_past(insns: &[Insn], ip: usize) -> bool
     requires { ip < length insns.now }
     ensures { result ≡ true → (program : Program) → AreInsnsOfProgram program insns.now
@@ -38,7 +38,8 @@ fn leads_past(insns: &[Insn], ip: usize) -> bool
     }
 }
 
-// Checks this of a jump to the head of a loop, if one is at `begin`.
+// If the instruction `begin` is the head of a loop, checks that it does not lead to the body of a
+// char loop.
 fn enters_past(insns: &[Insn], begin: usize) -> bool
     ensures { result ≡ true → (program : Program) → AreInsnsOfProgram program insns.now
         → EntersPastBodies program (slice_get program.insns begin) begin }
@@ -60,7 +61,7 @@ fn are_no_bodies(insns: &[Insn], ip: usize, other: usize) -> bool
     is_no_body(insns, ip) && is_no_body(insns, other)
 }
 
-// Checks that an instruction does not follow a char loop, whose body it would be.
+// Checks that the instruction before this one is not a char loop.
 fn is_no_body(insns: &[Insn], ip: usize) -> bool
     ensures { result ≡ true → (program : Program) → AreInsnsOfProgram program insns.now → IsNotLoopBody program ip }
 {

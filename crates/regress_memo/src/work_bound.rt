@@ -1,4 +1,4 @@
-//! The maximum work of all searches of a text, per position.
+//! The work bound of a memo analysis: the maximum work of all searches of a text, per position.
 
 ghost use Rattle.std.specs.Prelude.{◌≡◌, ◌≤◌, ◌<◌, ◌+◌, ◌^◌, ℕ, IfSome, IsSome, true, false, length, map, slice_get};
 ghost use Rattle.regress_program.specs.InsnsAsSpec.{insn_as_spec_insn};
@@ -13,8 +13,8 @@ use crate::unreached_loop_bodies::no_char_loop_body_is_reached;
 use regress_program::instructions::Insn;
 
 impl MemoAnalysis {
-    /// Returns the maximum work per position if failures are remembered from the first attempt on,
-    /// or `None` if no bound is known.
+    /// Returns the maximum work per position, if failures are memoized from the first attempt on.
+    /// Returns `None` if no bound is known.
     pub fn work_per_position(&self, insns: &[Insn]) -> Option<u64>
         ensures work { IfSome result (λ work. work ≡ work_per_position self.now) }
         ensures bounded { IsSome result → (program : Program) → AreInsnsOfProgram program insns.now
@@ -28,8 +28,7 @@ impl MemoAnalysis {
         prices.checked_add(ready)?.checked_mul(3)
     }
 
-    // Returns the cost of the keys of all recording instructions at one position, or `None` on
-    // overflow.
+    // Returns the cost of all keys at one position. Returns `None` on overflow.
     fn all_keys_cost_per_position(&self) -> Option<u64>
         ensures { IfSome result (λ price. price ≡ all_keys_cost_per_position self.now) }
     {
@@ -42,9 +41,9 @@ impl MemoAnalysis {
         Some(all)
     }
 
-    // Checks that all work is covered: no record is discarded when a lookaround's contents match,
-    // no lazy char loop without a maximum is searched to the left, and no thread reaches the body
-    // of a char loop.
+    // Checks three conditions under which all work is covered: nothing in a lookaround records, so
+    // no record is discarded when its contents match; no lazy char loop without a maximum is
+    // searched to the left; and no thread reaches the body of a char loop.
     fn all_is_paid(&self, insns: &[Insn]) -> bool
         ensures { result ≡ true → (program : Program) → AreInsnsOfProgram program insns.now → IsWorkBounded
             self.now program }
@@ -70,7 +69,7 @@ impl MemoAnalysis {
         true
     }
 
-    // Checks the lookaround or the char loop at one instruction.
+    // Checks the conditions for one instruction that is a lookaround or a char loop.
     fn is_paid_at(&self, insns: &[Insn], ip: usize) -> bool
         requires { ip < length insns.now }
         ensures { result ≡ true → IsStepWorkBounded self.now
@@ -97,7 +96,7 @@ impl MemoAnalysis {
         ready <= u64::from(self.insn_analysis_at(ip).left)
     }
 
-    // Checks whether a lookaround or an instruction of its contents records.
+    // Checks whether a lookaround or an instruction inside it records.
     fn records_within(&self, look: LookaroundSuccessor, ip: usize) -> bool
         ensures { result ≡ false → (inner : ℕ) → ip ≤ inner → inner < look.past
             → (insn_analysis_of self.now inner).records ≡ false }
@@ -111,8 +110,8 @@ impl MemoAnalysis {
     }
 }
 
-// Returns the cost of an instruction's keys at one position if it records, otherwise 0. Returns
-// `None` on overflow.
+// Returns the cost of an instruction's keys at one position. It is 0 if the instruction does not
+// record. Returns `None` on overflow.
 fn price_of(line: &InsnAnalysis) -> Option<u64>
     ensures { IfSome result (λ price. price ≡ insn_keys_cost_per_position line.now) }
 {

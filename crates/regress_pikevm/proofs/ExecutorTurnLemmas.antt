@@ -34,11 +34,11 @@ pub waiting-append : {P : Type 0} (offset : P → ℕ) (xs ys : List (State P)) 
 waiting-append offset xs ys =
     ap (λ l. map (λ s. waiting (state_of offset s)) l) (reverse-append xs ys) ∙ map-append (λ s. waiting (state_of offset s)) (reverse ys) (reverse xs)
 
--- a stack with nothing to pop
+-- If nothing can be popped, the stack is empty.
 pub popped-none : {X : Type 0} (xs ys : List X) (n : ℕ) → xs ≡ ys ++ [] → n ≡ 0 → ys ≡ take (n - 1) xs → xs ≡ []
 popped-none xs ys n e z r = e ∙ append-nil ys ∙ r ∙ ap (λ m. take (m - 1) xs) z
 
--- the states of a scan, of which the last one is taken up
+-- The last state of a scan runs, and the others wait above the stack in order of priority.
 pub scan-threads : {P : Type 0} (offset : P → ℕ) (states rest stack : List (State P)) (s : State P) → states ≡ rest ++ s ∷ []
     → running (state_of offset s) ∷ waiting_threads offset (stack ++ rest) ≡ first_running_and_others_waiting (states_by_priority offset states) ++ waiting_threads offset stack
 scan-threads offset states rest stack s e =
@@ -63,12 +63,12 @@ initial-is P offset program s groups loops i g st ls eg el =
 
 -- ---- Turns of the executor
 
--- what the code of a tree reads as bytes stands in a text of bytes
+-- The text has UTF-8 offsets if the code of a tree has instructions that match byte sequences.
 pub reads-literals : (tree : Tree) (text : Text) {are_bytes : Bool} → (IsTrue (tree_contains_byte_nodes tree.root) → IsByteText text are_bytes)
     → (i : ℕ) (insn : Insn) → slice_get (compiled tree).insns i ≡ Some insn → IsTrue (is_byte_sequence_insn insn) → HasUtf8CharactersAndOffsets text
 reads-literals tree text bytes i insn q l = (bytes (literal-reads tree i insn q l)).reads
 
--- The state that was taken up runs, and these wait behind it.
+-- The state that was popped runs, and the states left on the stack wait behind it.
 pub record TakenUp {P : Type 0} (offset : P → ℕ) (program : Program) (text : Text) (turns : ℕ) (d : Direction) (top : ℕ) (end : Option machine.State) (ts : List Thread) (s : State P) (rest : List (State P)) : Type 0 where
   is : HasRisingPlaceOffsets text
   reads : (i : ℕ) (insn : Insn) → slice_get program.insns i ≡ Some insn → IsTrue (is_byte_sequence_insn insn) → HasUtf8CharactersAndOffsets text
@@ -76,7 +76,7 @@ pub record TakenUp {P : Type 0} (offset : P → ℕ) (program : Program) (text :
   remains : Remains program text turns d top end (running (state_of offset s) ∷ waiting_threads offset rest)
   no_more : steps_left program text turns d (running (state_of offset s) ∷ waiting_threads offset rest) ≤ steps_left program text turns d ts
 
--- What these lemmas speak of is what their first premise does.
+-- The first premise of each lemma determines these implicit arguments.
 module _ {program : Program} {text : Text} {turns : ℕ} {d : Direction} {top : ℕ} {end : Option machine.State} {ts : List Thread} where
   pub taken-up : {P : Type 0} (offset : P → ℕ) → Remains program text turns d top end ts → HasRisingPlaceOffsets text
       → ((i : ℕ) (insn : Insn) → slice_get program.insns i ≡ Some insn → IsTrue (is_byte_sequence_insn insn) → HasUtf8CharactersAndOffsets text)
@@ -115,7 +115,7 @@ module _ {program : Program} {text : Text} {turns : ℕ} {d : Direction} {top : 
         then-left after (subst (Left program text turns d top end taken) (sym a)
         (left-goes program text turns d top end up.is up.reads (state_of offset s) ss (waiting_threads offset rest) up.remains (sym (g ∙ e))))
 
-    -- what a turn of the executor is: it failed, goes on, or goes on twice
+    -- A turn of the executor fails, continues with one state or forks into two.
     module _ (turn : NextStates P) (is : effect_of_next_states offset turn ≡ act program text d (state_of offset s)) where
       pub turn-dead : turn ≡ Dead → Left program text turns d top end ts (waiting_threads offset rest)
       turn-dead was = turn-goes [] is (ap (effect_of_next_states offset) (sym was)) refl
@@ -138,7 +138,7 @@ module _ {program : Program} {text : Text} {turns : ℕ} {d : Direction} {top : 
     pub turn-ends : {n : Next} (t : machine.State) → n ≡ act program text d (state_of offset s) → ends t ≡ n → Some t ≡ end
     turn-ends t e g = remains-ends program text turns d top end (state_of offset s) t (waiting_threads offset rest) up.remains (sym (g ∙ e))
 
-    -- a search that is asked for
+    -- A lookaround's search has an answer and takes fewer steps than the bound.
     pub record AskedOf (inner : Direction) (negate : Bool) (u w : machine.State) : Type 0 where
       pub answers : IsSome (search program text turns inner (running u ∷ []))
       pub inside : u.pos ≤ units text
@@ -164,7 +164,7 @@ module _ {program : Program} {text : Text} {turns : ℕ} {d : Direction} {top : 
         → l ≡ after_lookaround negate w (end_of_search (search program text turns inner (running u ∷ []))) → Left program text turns d top end ts (l ++ waiting_threads offset rest)
     asked-left a e = subst (λ l. Left program text turns d top end ts (l ++ waiting_threads offset rest)) (sym e) a.behind
 
-    -- and what goes on behind it
+    -- After a lookaround the search continues with the threads that its result leaves.
     pub turn-resumed : (turn : NextStates P) → effect_of_next_states offset turn ≡ act program text d (state_of offset s) → (forward negate : Bool) (inner after : State P) → turn ≡ Lookaround forward negate inner after
         → {l : List Thread} → l ≡ after_lookaround negate (state_of offset after) (end_of_search (search program text turns (direction_of_forward_flag forward) (running (state_of offset inner) ∷ [])))
         → Left program text turns d top end ts (l ++ waiting_threads offset rest)

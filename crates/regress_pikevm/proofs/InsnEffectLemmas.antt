@@ -41,7 +41,7 @@ module _ {P : Type 0} (offset : P → ℕ) (s : State P) where
   enters id begin k =
       ap (λ ls. record (state_of offset s) { ip = begin + 1; loops = ls }) (sym (map-set (loop_of offset) s.loops.items id (record { iters = k; entry = s.pos })))
 
--- what stands at an index
+-- The element at an index of a mapped list is the function's value at the element of the list.
 fetched : {X Y : Type 0} (f : X → Y) (xs : List X) (i : ℕ) (x : X) (y : Y) → x ≡ get_or xs i x → slice_get (map f xs) i ≡ Some y → y ≡ f x
 fetched f [] i x y e h = cc
 fetched f (z ∷ xs) zero x y e h = let same : f z ≡ y = cc in sym same ∙ ap f (sym e)

@@ -12,7 +12,7 @@ use Rattle.regress_machine.specs.InsnEffects.{IsNotStuck}
 use Rattle.regress_machine.proofs.InsnFetchLemmas.{act-some, test-some, fetched-some, fetched-below}
 
 module _ (re : Regex) (insns : List Insn) (code : map insn_as_spec_insn insns ≡ (compiled (tree_of re)).insns) where
-  -- what stands at a number, where something does
+  -- If an instruction exists at an address, the compiled instruction there specifies it.
   insn-at : (ip : ℕ) (insn : Insn) → insn ≡ get_or insns ip insn → IsTrue (is_some (slice_get (compiled (tree_of re)).insns ip))
       → slice_get (compiled (tree_of re)).insns ip ≡ Some (insn_as_spec_insn insn)
   insn-at ip insn is there = fetched-some insn_as_spec_insn insns (compiled (tree_of re)).insns ip insn is code there
@@ -20,7 +20,7 @@ module _ (re : Regex) (insns : List Insn) (code : map insn_as_spec_insn insns �
   fits : (ip : ℕ) → IsTrue (is_some (slice_get (compiled (tree_of re)).insns ip)) → length insns < 2 ^ 64 → ip + 1 < 2 ^ 64
   fits ip there short = let below = fetched-below insn_as_spec_insn insns (compiled (tree_of re)).insns ip code there in omega (arith, below, short)
 
-  -- at a state that can go on
+  -- If the state is not stuck, an instruction exists at its address.
   module _ (text : Text) (d : Direction) (s : State) (can : IsNotStuck (act (compiled (tree_of re)) text d s)) where
     abbrev there : IsTrue (is_some (slice_get (compiled (tree_of re)).insns s.ip))
     there = act-some (compiled (tree_of re)) text d (slice_get (compiled (tree_of re)).insns s.ip) s can
@@ -31,7 +31,7 @@ module _ (re : Regex) (insns : List Insn) (code : map insn_as_spec_insn insns �
     pub fits-here : length insns < 2 ^ 64 → s.ip + 1 < 2 ^ 64
     fits-here short = fits s.ip there short
 
-  -- behind a loop over one character that can
+  -- If a loop over one character is not stuck, the instruction of its body exists.
   module _ (ip : ℕ) (f : (ℕ → Bool) → Next) (can : IsNotStuck (with_some (test_of (compiled (tree_of re)) (slice_get (compiled (tree_of re)).insns ip)) f)) where
     abbrev body-there : IsTrue (is_some (slice_get (compiled (tree_of re)).insns ip))
     body-there = test-some (compiled (tree_of re)) (slice_get (compiled (tree_of re)).insns ip) f can

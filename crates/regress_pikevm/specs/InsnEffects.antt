@@ -1,4 +1,4 @@
--- The effects of instructions on states of the executor, in terms of the abstract machine.
+-- The effects of instructions on states of the executor, as effects of the abstract machine.
 use Rattle.std.specs.Prelude.{◌≡◌, ℕ, ◌++◌, ◌∷◌, [], Bool, List, map, Option, Some, option_map, slice_get, if◌then◌else◌}
 use Rattle.regex_meaning.specs.Tree.{Sameness}
 use Rattle.regex_meaning.specs.Text.{Text}
@@ -26,38 +26,39 @@ module _ {P : Type 0} (offset : P → ℕ) where
   states_of states = map (λ s. state_of offset s) states
 
   module _ (re : Regex) (text : Text) (forward : Bool) where
-    -- The effect of the instruction at a state.
+    -- The effect of executing the instruction at a state.
     abbrev pub effect_at : State P → Next
     effect_at s = act (compiled (tree_of re)) text (direction_of_forward_flag forward) (state_of offset s)
 
-    -- The effect of an instruction.
+    -- The effect of executing a given instruction in a state.
     abbrev pub effect_of_insn : Insn → State P → Next
     effect_of_insn insn s = act_on (compiled (tree_of re)) text (direction_of_forward_flag forward)
         (Some (insn_as_spec_insn insn)) (state_of offset s)
 
-    -- The effect of a char loop over the characters that an instruction reads.
+    -- The effect of a char loop whose body is the given instruction.
     abbrev pub effect_of_char_loop : CharLoopBoundsAndGreed → Insn → State P → Next
     effect_of_char_loop run insn s =
         with_some (char_test_of_insn re insn) (λ test. with_some (place_at text (offset s.pos)) (λ p.
         scan text run.min_iters run.max_iters run.greedy test (direction_of_forward_flag forward) p
         (state_of offset s)))
 
-    -- The loop tries this number of characters, and has these states at its exits.
+    -- The loop tests `tries` characters, and `states` are the states at its exits.
     abbrev pub ReachesExits : CharLoopBoundsAndGreed → Insn → State P → (tries : ℕ) → List (State P) → Type 0
     ReachesExits run insn s tries states =
         (test : ℕ → Bool) (p : ℕ) → char_test_of_insn re insn ≡ Some test → place_at text (offset s.pos) ≡ Some p
         → IsReached text test (direction_of_forward_flag forward) run.min_iters run.max_iters p (state_of offset s)
         tries (states_of states)
 
-    -- The search from a state, as part of an attempt at the offset `at`.
+    -- The result of a search from a state, as part of an attempt at the offset `at`.
     abbrev pub search_from_state : (at : ℕ) → State P → Option Found
     search_from_state at s = search_from (tree_of re) text at (direction_of_forward_flag forward) (state_of offset s)
 
-    -- The state is the end that the search finds, or there is none.
+    -- `end` is the state with which the search from `s` ends. `None` if the search finds no end.
     abbrev pub HasRun : (at : ℕ) → State P → Option (State P) → Type 0
     HasRun at s end = option_map (λ e. state_of offset e) end ≡ end_of_search (search_from_state at s)
 
-  -- The end and the groups of the state that a search ended with, if any.
+  -- The end offset and the groups of the state with which a search ended. `None` if it found no
+  -- end.
   abbrev pub end_and_groups : Option (State P) → Option (ℕ × Groups)
   end_and_groups end = option_map (λ e. end_of (state_of offset e)) end
 
@@ -72,7 +73,8 @@ module _ {P : Type 0} (offset : P → ℕ) where
     effect_of_backref group s = with_some (slice_get (groups_of offset s.groups.items) group)
         (λ range. read_group text same (direction_of_forward_flag forward) range (state_of offset s))
 
-  -- One more exit state of a char loop is pushed, if it is wanted.
+  -- If `wanted`, the exit state of the char loop at position `at` is pushed onto `old`. Otherwise
+  -- nothing is pushed.
   abbrev pub PushesExit : (wanted : Bool) → (at : P) → State P → (old new : List (State P)) → Type 0
   PushesExit wanted at s old new =
       states_of new ≡ (if wanted then states_of old ++ state_after_char_loop_to_offset (offset at)

@@ -1,4 +1,4 @@
-//! Searching a text with a program: the iterator over matches, and the executor that copies its
+//! Searches a text with a program: the iterator over matches, and the executor that copies its
 //! states.
 #![tactic(auto)]
 

@@ -1,5 +1,5 @@
-//! The executor that copies its states. It is as plain as possible: each pending thread has a state
-//! of its own.
+//! The executor that copies its states. It is kept simple: each pending thread has a state of its
+//! own.
 
 ghost use Rattle.std.specs.Prelude.{◌≡◌, ◌<◌, ◌≤◌, ◌++◌, map, IsTrue, IsAscii, IsSome, IfOk, option_map, ⊤};
 ghost use Rattle.regex_meaning.specs.{Text.{ascii_text, ucs2_text, utf16_text, utf8_text}, CodeUnitOffsets.{IsBoundary, units}};
@@ -27,18 +27,18 @@ use regress_search::program_and_input::ProgramAndInput;
 use regress_search::search_loop::{SingleAttemptExecutor, group_at};
 use std::alloc::{AllocError, Global};
 
-/// An executor that runs a program over a text and copies whole states.
+/// An executor that runs a program on a text and copies whole states.
 #[derive(Drop)]
 pub struct PikeVMExecutor<'r, Input: InputIndexer> {
     searched: ProgramAndInput<'r, Input>,
-    // The pending threads, the next one last.
+    // The states of the pending threads. The next one is last.
     stack: Vec<State<Input::Position>>,
     // The groups of the last attempt that found an end.
     groups: Vec<Option<(Input::Position, Input::Position)>>,
 }
 
 impl<'r, Input: InputIndexer> PikeVMExecutor<'r, Input> {
-    // Makes an executor that has not tried anything. It allocates no memory.
+    // Creates an executor that has made no attempt. This allocates no memory.
     fn new_executor(searched: ProgramAndInput<'r, Input>) -> Self
         ensures { result.searched ≡ searched.entry }
     {
@@ -73,7 +73,7 @@ fn execute_in_direction<Input: InputIndexer>(
     }
 }
 
-// Returns the current state, or otherwise pops the last one of the stack.
+// Returns the current state if there is one. Otherwise pops the last state of the stack.
 #[inline(always)]
 fn next_thread<P: PositionType>(
     next: Option<State<P>>,
@@ -87,7 +87,7 @@ fn next_thread<P: PositionType>(
     }
 }
 
-// Returns the preferred one of these states, and pushes the others.
+// Returns the preferred state, and pushes the others.
 fn push_loop_exits<P: PositionType>(
     mut states: Vec<State<P>>,
     stack: &mut Vec<State<P>>,
@@ -103,8 +103,8 @@ fn push_loop_exits<P: PositionType>(
     Ok(Some(next))
 }
 
-// Returns the preferred end state that is reached from a state, or `None` if none is reached. The
-// search is part of an attempt at the position `at`.
+// Returns the preferred end state that can be reached from a state. Returns `None` if there is
+// none. The search is part of an attempt at the position `at`.
 fn run<Input: InputIndexer>(
     searched: &ProgramAndInput<'_, Input>,
     at: Input::Position,
@@ -148,7 +148,8 @@ fn run<Input: InputIndexer>(
     }
 }
 
-// Returns the state at the end of the preferred match from a position, or `None` if there is none.
+// Returns the state at the end of the preferred match that begins at a position. Returns `None` if
+// there is none.
 fn preferred_final_state<Input: InputIndexer>(
     searched: &ProgramAndInput<'_, Input>,
     stack: &mut Vec<State<Input::Position>>,
@@ -229,7 +230,7 @@ impl<'r, 't> Executor<'r, 't> for PikeVMExecutor<'r, Utf8Input<'t>> {
 impl<'r, 't> ProducerFromProgramAndText<'r> for PikeVMExecutor<'r, AsciiInput<'t>> {
     type Text = &'t str;
 
-    // `is_ascii` is the test
+    // `is_ascii` checks this.
     ghost can_search = { λ text. IsAscii text.now };
 
     ghost text_of = { λ text. ascii_text text.now };
@@ -248,7 +249,7 @@ impl<'r, 't> PikeVMExecutor<'r, Utf16Input<'t>> {
     ///
     /// # Errors
     ///
-    /// None so far: it allocates no memory.
+    /// Never returns `Err` at present, because it allocates no memory.
     pub fn new_utf16(
         re: &'r CompiledRegexFor16BitUnits,
         text: &'t [u16],
@@ -265,7 +266,7 @@ impl<'r, 't> PikeVMExecutor<'r, Ucs2Input<'t>> {
     ///
     /// # Errors
     ///
-    /// None so far: it allocates no memory.
+    /// Never returns `Err` at present, because it allocates no memory.
     pub fn new_ucs2(re: &'r CompiledRegexFor16BitUnits, text: &'t [u16]) -> Result<Self, AllocError>
         ensures { IfOk result (IsNewExecutor ⟦<PikeVMExecutor<'r, Ucs2Input<'t>> as MatchProducer>⟧ (tree_of re.now)
             (ucs2_text text.now)) }
@@ -274,7 +275,7 @@ impl<'r, 't> PikeVMExecutor<'r, Ucs2Input<'t>> {
     }
 }
 
-// The executors over UTF-8 and over ASCII, and the executor that each names for ASCII texts.
+// The executors for UTF-8 and for ASCII texts. Each names the executor for ASCII texts.
 type OverUtf8 = PikeVMExecutor<'static, Utf8Input<'static>>;
 
 type OverAscii = PikeVMExecutor<'static, AsciiInput<'static>>;
@@ -283,15 +284,15 @@ type OfUtf8 = <OverUtf8 as Executor<'static, 'static>>::AsAscii;
 
 type OfAscii = <OverAscii as Executor<'static, 'static>>::AsAscii;
 
-/// States that the `AsAscii` of the executor over UTF-8 takes each ASCII text, and reads each of
-/// its bytes as a character.
+/// A law: the `AsAscii` of the executor for UTF-8 can search each ASCII text, and reads each byte
+/// as a character.
 pub fn ascii_is_read_in_bytes()
     ensures takes { CanSearchAllAsciiTexts ⟦<OfUtf8 as ProducerFromProgramAndText<'static>>⟧.can_search }
     ensures reads { ReadsBytesAsAscii ⟦<OfUtf8 as ProducerFromProgramAndText<'static>>⟧.text_of }
 {}
 
-/// States that the `AsAscii` of the executor over ASCII takes each ASCII text, and reads each of
-/// its bytes as a character.
+/// A law: the `AsAscii` of the executor for ASCII can search each ASCII text, and reads each byte
+/// as a character.
 pub fn ascii_stays_in_bytes()
     ensures takes { CanSearchAllAsciiTexts ⟦<OfAscii as ProducerFromProgramAndText<'static>>⟧.can_search }
     ensures reads { ReadsBytesAsAscii ⟦<OfAscii as ProducerFromProgramAndText<'static>>⟧.text_of }

@@ -15,7 +15,7 @@ use Rattle.regex_meaning.specs.CompilationRelation.{is_uninverted_ascii_class, c
 
 -- ---- Counts
 
--- The number of instructions of a set of strings, of which each but the last has a branch before it
+-- The number of instructions of a set of strings. Each string but the last has a branch before it
 -- and a jump after it.
 abbrev pub strings_size : List (List ℕ) → ℕ
 strings_size [] = 1
@@ -59,7 +59,7 @@ loop_count (loop q start_group end_group loopee) = loop_count loopee + 1
 loop_count (loop_1_char_body q loopee) = loop_count loopee
 loop_count _ = 0
 
--- The brackets of a node that are in the list of brackets, and not in the instruction.
+-- The brackets of a node that are stored in the list of brackets, and not in an instruction.
 unfoldable pub brackets_of : Node → List BracketContents
 brackets_of (bracket contents) = if is_uninverted_ascii_class contents then [] else contents ∷ []
 brackets_of (cat first rest) = brackets_of first ++ brackets_of rest
@@ -86,12 +86,12 @@ strings_code unicode icase behind (s ∷ t ∷ more) at =
     Alt second ∷ (string_code unicode icase behind s
     ++ Jump (second + strings_size (t ∷ more)) ∷ strings_code unicode icase behind (t ∷ more) second)
 
--- The instructions that reset the groups from `start_group` up to `end_group`, without the latter.
+-- The instructions that reset the groups from `start_group` up to `end_group`, exclusive.
 abbrev pub group_reset_insns : (start_group end_group : ℕ) → List Insn
 group_reset_insns start_group end_group = map ResetCaptureGroup (numbers_from start_group (end_group - start_group))
 
--- The code of a node whose first instruction is at index `at`, and whose loops and brackets are
--- numbered from `loops` and `brackets`.
+-- The code of a node. Its first instruction is at index `at`, and its loops and brackets are
+-- numbered from `loops` and `brackets` on.
 unfoldable pub code_of : (unicode behind : Bool) → Node → (at loops brackets : ℕ) → List Insn
 code_of unicode behind empty at loops brackets = []
 code_of unicode behind goal at loops brackets = Goal ∷ []

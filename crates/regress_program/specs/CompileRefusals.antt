@@ -1,4 +1,4 @@
--- Which trees are not compiled, and why.
+-- The trees that are not compiled, and the reasons.
 use Rattle.std.specs.Prelude.{◌≡◌, Bool, ◌<◌, ◌≤◌, ◌^◌, false, length, IsTrue}
 use Rattle.regex_meaning.specs.Tree.{Tree, group_ids}
 use Rattle.regex_meaning.specs.WellFormedTrees.{IsWellFormed}
@@ -20,22 +20,22 @@ pub record HasTooManyGroups (tree : Tree) : Type 0 where
   pub well_formed : IsWellFormed tree.root
   pub groups : 2 ^ 16 ≤ length (group_ids tree.root)
 
--- The tree has too many loops, and is otherwise within the earlier limits.
+-- The tree has too many loops, and passes the earlier checks.
 pub record HasTooManyLoops (tree : Tree) : Type 0 where
   pub well_formed : IsWellFormed tree.root
   pub groups : length (group_ids tree.root) < 2 ^ 16
   pub loops : 2 ^ 16 ≤ loop_count tree.root
 
--- The tree has too many instructions, and is otherwise within the earlier limits.
+-- The tree has too many instructions, and passes the earlier checks.
 pub record HasTooManyInstructions (tree : Tree) : Type 0 where
   pub well_formed : IsWellFormed tree.root
   pub groups : length (group_ids tree.root) < 2 ^ 16
   pub loops : loop_count tree.root < 2 ^ 16
   pub insns : 2 ^ 32 ≤ node_insn_count tree.root
 
--- The cause of each error, where no earlier cause holds; allocation failure comes last, for a tree
--- that is compiled; `bytes_in_units` says that a tree for 16-bit code units has a node that reads
--- bytes.
+-- The cause of each error. A tree has a cause only if no earlier one applies. `Memory` is the last:
+-- it is returned only for a tree that passes all checks. `bytes_in_units` says that the tree is for
+-- 16-bit code units and has a node that reads bytes.
 abbrev pub IsCompileErrorCause : (bytes_in_units : Bool) → EmitError → Tree → Type 0
 IsCompileErrorCause bytes_in_units NotWellFormed tree = ¬ (IsWellFormed tree.root)
 IsCompileErrorCause bytes_in_units BytesInUnits tree = IsWellFormed tree.root × IsTrue bytes_in_units

@@ -1,4 +1,4 @@
--- A program that is being built.
+-- The state of an emitter, and the code that it appends.
 use Rattle.std.specs.Prelude.{◌≡◌, ℕ, ◌+◌, ◌<◌, ◌^◌, Bool, ◌&&◌, if◌then◌else◌, List, [], ◌∷◌, ◌++◌, map, length, slice_set, Vec}
 use Rattle.regex_meaning.specs.Tree.{BracketContents, Lookaround, Node, cat, alt, capture_group, lookaround, loop, loop_1_char_body, Tree}
 use Rattle.regex_meaning.specs.CompilationRelation.{Insn}

@@ -1,4 +1,4 @@
--- Group ids, as the check of trees reads them.
+-- Group ids, as the check of trees sees them.
 use Rattle.std.specs.Prelude.{◌≡◌, ℕ, ◌+◌, ◌-◌, ◌^◌, ◌/◌, ◌%◌, Bool, true, not, ◌&&◌, ◌||◌, List, [], ◌∷◌, length, min, max, ◌==◌, nat_le}
 use Rattle.std.specs.Prelude.{slice_index}
 use Rattle.std.specs.Int.{bit_at}
@@ -7,11 +7,12 @@ use Rattle.regex_meaning.specs.Tree.{Node, group_ids, every_node_passes}
 use Rattle.regex_meaning.specs.WellFormedTrees.{has_exact_group_range, encloses, refers_to_a_group, has_order_in_quantifier, has_one_character_body}
 use Rattle.regex_meaning.specs.WellFormedTrees.{has_text_in_sequence, set_sizes_and_characters_fit_instructions}
 
--- The bitmap has no bit for the id; 1,024 words have a bit for each possible id.
+-- The bitmap has no bit for the id. A bitmap of 1,024 words has a bit for each possible id.
 abbrev pub is_outside_bitmap : (words : ℕ) → ℕ → Bool
 is_outside_bitmap words id = not (words == 1024) && nat_le words (id / 64)
 
--- The bit of the id is set, or the bitmap has none; a word has 64 ids, the lowest bit first.
+-- The bit of the id is set, or the bitmap has no bit for it. A word holds 64 ids, the lowest bit
+-- first.
 abbrev pub is_group_id_seen : List ℕ → ℕ → Bool
 is_group_id_seen bits id = is_outside_bitmap (length bits) id || bit_at (slice_index bits (id / 64)) (id % 64) == 1
 
@@ -24,35 +25,35 @@ unfoldable pub are_distinct_unseen : (seen : ℕ → Bool) → List ℕ → Bool
 are_distinct_unseen seen [] = true
 are_distinct_unseen seen (id ∷ ids) = not (seen id) && are_distinct_unseen (λ k. seen k || k == id) ids
 
--- The least id, and 2^16 if there is none.
+-- The least id, or 2^16 if there is none.
 unfoldable pub least_group_id : List ℕ → ℕ
 least_group_id [] = 2 ^ 16
 least_group_id (id ∷ ids) = min id (least_group_id ids)
 
--- One past the greatest id, and 0 if there is none.
+-- One more than the greatest id, or 0 if there is none.
 unfoldable pub id_end : List ℕ → ℕ
 id_end [] = 0
 id_end (id ∷ ids) = max (id + 1) (id_end ids)
 
--- No id inside the node is seen or occurs twice, and loops and lookarounds name the groups inside
--- them.
+-- Each id inside the node is unseen and occurs once, and the ranges of loops and lookarounds
+-- contain exactly the groups inside them.
 abbrev pub has_exact_group_ids : (seen : ℕ → Bool) → Node → Bool
 has_exact_group_ids seen node =
     are_distinct_unseen seen (group_ids node) && every_node_passes has_exact_group_range node
 
--- `has_exact_group_ids` for a node inside a loop or a lookaround that names the groups from `start` up to
--- `end`
+-- `has_exact_group_ids` for a node inside a loop or a lookaround whose range is from `start` up to
+-- `end`, exclusive.
 abbrev pub node_fills_id_range : (seen : ℕ → Bool) (start end : ℕ) → Node → Bool
 node_fills_id_range seen start end node = are_distinct_unseen seen
     (group_ids node) && (encloses start end node && every_node_passes has_exact_group_range node)
 
--- The number of ids, the least of them, and one past the greatest.
+-- The number of ids, the least of them, and one more than the greatest.
 pub record GroupIdCountAndSpanNumbers : Type 0 where
   pub count : ℕ
   pub low : ℕ
   pub high : ℕ
 
--- The number of ids, which saturates at 2^64 - 1, the least of them, and one past the greatest.
+-- The number of ids, limited to 2^64 - 1, the least of them, and one more than the greatest.
 abbrev pub count_and_span_of_group_ids : List ℕ → GroupIdCountAndSpanNumbers
 count_and_span_of_group_ids ids =
     record { count = min (length ids) (2 ^ 64 - 1); low = least_group_id ids; high = id_end ids }

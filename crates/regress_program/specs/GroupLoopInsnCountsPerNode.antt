@@ -1,4 +1,4 @@
--- What a node adds to the size of a program.
+-- What a node adds to the size of a program: groups, loops and instructions.
 use Rattle.std.specs.Prelude.{ℕ, ◌+◌, ◌-◌, ◌^◌, min}
 use Rattle.regex_meaning.specs.Tree.{Node, cat, end_of_cat, capture_group, loop}
 use Rattle.regress_program.specs.CompilationOfTreesAsFunction.{own_size}
@@ -8,7 +8,7 @@ use Rattle.regress_program.specs.declared.emit.program_size.ProgramSize.{Program
 abbrev pub saturating_sum : (count more : ℕ) → ℕ
 saturating_sum count more = min (count + more) (2 ^ 64 - 1)
 
--- The counts after a node by itself was added.
+-- The counts after the node itself, without its children, was added.
 abbrev pub count_node : Node → ProgramSize → ProgramSize
 count_node (cat first rest) it = it
 count_node end_of_cat it = it

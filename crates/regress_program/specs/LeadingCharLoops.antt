@@ -1,4 +1,4 @@
--- Openings of groups before the char loop with which each match begins.
+-- The groups that are opened before the char loop with which each match begins.
 use Rattle.std.specs.Prelude.{◌≡◌, ◌<◌, ℕ, Bool, true, false, List, slice_get}
 use Rattle.std.specs.Option.{option_map_or}
 use Rattle.regress_program.specs.declared.ops.Op.{Op}
@@ -15,14 +15,16 @@ abbrev pub is_backreference_op : Op → Bool
 is_backreference_op (MatchBackref again) = true
 is_backreference_op _ = false
 
+-- Whether the operation at `ip` opens a group.
 abbrev pub opens_group_at : List Op → (ip : ℕ) → Bool
 opens_group_at ops ip = option_map_or opens_group (slice_get ops ip) false
 
+-- Whether the operation at `ip` is a backreference.
 abbrev pub refers_back_at : List Op → (ip : ℕ) → Bool
 refers_back_at ops ip = option_map_or is_backreference_op (slice_get ops ip) false
 
 -- The first `opens` operations open groups. If there are any, no operation is a backreference, so
--- no match depends on where the groups begin.
+-- that no match depends on where these groups begin.
 pub record OnlyOpensGroups (plan : Plan) (opens : ℕ) : Type 0 where
   pub opened : (ip : ℕ) → ip < opens → opens_group_at plan.ops.items ip ≡ true
   pub unasked : 0 < opens → (ip : ℕ) → refers_back_at plan.ops.items ip ≡ false

@@ -15,7 +15,7 @@ is_leaf (tree.loop q start_group end_group loopee) = false
 is_leaf (tree.loop_1_char_body q loopee) = false
 is_leaf _ = true
 
--- The node is a loop that optimizing makes a char loop.
+-- The node is a loop that the optimizer turns into a char loop.
 abbrev pub becomes_char_loop : tree.Node → Bool
 becomes_char_loop (tree.loop q start_group end_group loopee) = reads_one_character loopee
 becomes_char_loop _ = false

@@ -1,4 +1,4 @@
--- Certificates of leaps: a set of instructions from which every way leads to the goal.
+-- Certificates of leaps: a set of instructions (`way`) from which every path leads to the goal.
 use Rattle.std.specs.Prelude.{◌≡◌, ◌⊎◌, ℕ, ◌+◌, Bool, true, false, List, Option, Some, None, slice_get}
 use Rattle.std.specs.List.{list_all}
 use Rattle.regex_meaning.specs.CodeUnits.{Encoding, utf8, spelled_in}
@@ -12,11 +12,11 @@ use Rattle.regress_program.specs.PrefixesAndPrefilters.{PrefixAt}
 use Rattle.regress_program.specs.TableKeysOfUnits.{key, is_16_bit_encoding}
 
 module _ (e : Encoding) (key : ℕ → ℕ) (program : Program) (over way : ℕ → Bool) where
-  -- All units have keys in `over`.
+  -- The keys of all these units are in `over`.
   abbrev pub are_over : List ℕ → Bool
   are_over units = list_all (λ unit. over (key unit)) units
 
-  -- The units of each character that the test accepts have keys in `over`, if there is a test.
+  -- If there is a test, the keys of the units of each character that it accepts are in `over`.
   abbrev pub AcceptsOnlyPassedUnits : Option (ℕ → Bool) → Type 0
   AcceptsOnlyPassedUnits None = Unit {0}
   AcceptsOnlyPassedUnits (Some test) = (c : ℕ) → is_character_in_encoding e c ≡ true → test c ≡ true
@@ -27,7 +27,7 @@ module _ (e : Encoding) (key : ℕ → ℕ) (program : Program) (over way : ℕ 
     pub accepts : AcceptsOnlyPassedUnits (test_of program (Some insn))
     pub leads : way (ip + 1) ≡ true
 
-  -- A byte sequence is read in UTF-8.
+  -- An instruction that reads a byte sequence, which occurs only in UTF-8.
   abbrev pub ReadsBytesOver : Encoding → List ℕ → (ip : ℕ) → Type 0
   ReadsBytesOver utf8 bytes ip = (are_over bytes ≡ true) × (way (ip + 1) ≡ true)
   ReadsBytesOver _ bytes ip = ⊥
@@ -47,12 +47,12 @@ module _ (e : Encoding) (key : ℕ → ℕ) (program : Program) (over way : ℕ 
   RepeatsLoop (Some (EnterLoop f)) begin = (way (begin + 1) ≡ true) × (way f.exit ≡ true)
   RepeatsLoop _ begin = Unit {0}
 
-  -- A lookahead is passed over. The contents of a positive one may lead to the goal instead.
+  -- A lookahead continues after it. The contents of a positive one may lead to the goal instead.
   abbrev pub LookaheadReachesGoal : (negate : Bool) (ip continuation : ℕ) → Type 0
   LookaheadReachesGoal negate ip continuation = (way continuation ≡ true) ⊎ ((negate ≡ false) × (way (ip + 1) ≡ true))
 
-  -- The instruction leads only to members, and reads only units with keys in `over`. The successor
-  -- of the remaining instructions is the next one.
+  -- The instruction leads only to members, and reads only units with keys in `over`. The
+  -- instructions that are not listed continue at the next one.
   abbrev pub InsnReachesGoal : Option Insn → (ip : ℕ) → Type 0
   InsnReachesGoal None ip = Unit {0}
   InsnReachesGoal (Some Goal) ip = ⊥
@@ -77,7 +77,7 @@ module _ (e : Encoding) (key : ℕ → ℕ) (program : Program) (over way : ℕ 
   InsnReachesGoal (Some _) ip = way (ip + 1) ≡ true
 
 module _ (wide : Bool) (program : Program) (leap : LeapToGoal) (way : ℕ → Bool) where
-  -- Each member requires the goal, or leads only to members.
+  -- Each member must read the goal first, or leads only to members.
   abbrev pub MembersLeadToGoal : Type 0
   MembersLeadToGoal = (ip : ℕ) → way ip ≡ true
       → PrefixAt wide program ip 1 (λ ahead. leap.goal)

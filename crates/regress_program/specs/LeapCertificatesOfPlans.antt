@@ -1,4 +1,4 @@
--- How leaps are checked against the operations.
+-- How leaps are checked against the operations of a plan.
 use Rattle.std.specs.Prelude.{◌≡◌, ◌≢◌, ◌⊎◌, ◌<◌, ℕ, ◌+◌, Bool, true, false, List, Some, min, slice_get, slice_index_or, IsSomeAnd, ⊤}
 use Rattle.std.specs.List.{list_all}
 use Rattle.regex_meaning.specs.CompilationRelation.{Program}
@@ -17,29 +17,29 @@ use Rattle.regress_program.specs.PrefixesAndPrefilters.{PrefixAt}
 use Rattle.regress_program.specs.Plans.{op_as_char_loop, span_bytes}
 use Rattle.regress_program.specs.RequiredPrefixAnalysis.{AreOpsOfProgram}
 
--- The keys of the table are all the goal's.
+-- Each key of the table is a key of the goal.
 abbrev pub AreAllGoalKeys : Leap → AllowedNextKeys → Type 0
 AreAllGoalKeys leap table = (k : ℕ) → k < 256 → table.keys k ≡ true → is_goal_key leap k ≡ true
 
--- All of these bytes may be passed.
+-- A match may read each of these bytes before the goal.
 abbrev pub PassesUnits : Leap → List ℕ → Type 0
 PassesUnits leap bytes = list_all (is_passed_key leap) bytes ≡ true
 
--- Each key whose step does not reject its characters may be passed.
+-- Before the goal, a match may read units of each key whose step does not reject its characters.
 abbrev pub PassesReadLengths : Leap → List ℕ → Type 0
 PassesReadLengths leap steps = (k : ℕ) → k < 256 → slice_index_or steps k 0 ≢ 0 → is_passed_key leap k ≡ true
 
--- All characters of the class with this number may be passed.
+-- A match may read each character of the class with this number before the goal.
 abbrev pub PassesClass : Plan → Leap → (number : ℕ) → Type 0
 PassesClass plan leap number = (class : Class) → slice_get plan.classes.items number ≡ Some class
     → PassesReadLengths leap class.steps
 
--- All bytes of the byte sequence with this number may be passed.
+-- A match may read each byte of the byte sequence with this number before the goal.
 abbrev pub PassesByteSeq : Plan → Leap → (number : ℕ) → Type 0
 PassesByteSeq plan leap number = (part : SpanOfPlanBytes) → slice_get plan.parts.items number ≡ Some part
     → PassesUnits leap (span_bytes plan part)
 
--- Whether an operation is on the way, in a list by operation.
+-- Whether an operation is on the way, according to a list with an entry for each operation.
 abbrev pub is_on_way : List Bool → (ip : ℕ) → Bool
 is_on_way on_way ip = slice_index_or on_way ip false
 
@@ -49,18 +49,20 @@ ArrivesAtGoal plan leap ip =
     (wide : Bool) (program : Program) → AreOpsOfProgram wide program plan
     → PrefixAt wide program ip 1 (λ ahead. (leap_to_goal leap).goal)
 
--- The body of a loop is on the way and, if `least` is 0, its exit.
+-- The body of a loop is on the way and, if `least` is 0, its exit is too.
 abbrev pub LoopStaysOnWay : Plan → (way : ℕ → Bool) → (number : ℕ) → (least : CountedLoop → ℕ) → Type 0
 LoopStaysOnWay plan way number least =
     (c : CountedLoop) → slice_get plan.counted.items number ≡ Some c → (way (c.begin + 1) ≡ true)
     × (least c ≡ 0 → way c.exit ≡ true)
 
--- The operation after a lookaround is on the way or, of a positive lookahead, its contents are.
+-- The operation after a lookaround is on the way. For a positive lookahead, the first operation of
+-- its contents may be instead.
 abbrev pub LookaroundStaysOnWay : (way : ℕ → Bool) → look.LookaroundAndNextOp → (ip : ℕ) → Type 0
 LookaroundStaysOnWay way l ip = (way l.past ≡ true) ⊎ ((l.forward ≡ true) × (l.negate ≡ false) × (way (ip + 1) ≡ true))
 
 module _ (wide : Bool) (plan : Plan) (leap : Leap) (way : ℕ → Bool) where
-  -- The operation reads only units that may be passed, and leads only to operations on the way.
+  -- The operation reads only units that may precede the goal, and leads only to operations on the
+  -- way.
   abbrev pub OpReachesGoal : Op → (ip : ℕ) → Type 0
   OpReachesGoal Goal ip = ⊥
   OpReachesGoal Fail ip = ⊤
@@ -82,10 +84,11 @@ module _ (wide : Bool) (plan : Plan) (leap : Leap) (way : ℕ → Bool) where
   OpReachesGoal (Look l) ip = LookaroundStaysOnWay way l ip
   OpReachesGoal op ip = IsSomeAnd (op_as_char_loop op) (λ r. PassesClass plan leap r.class × (way (ip + 2) ≡ true))
 
-  -- If the operation is on the way, it reads the goal first, or leads only to operations on the way.
+  -- If the operation is on the way, it reads the goal first, or leads only to operations on the
+  -- way.
   abbrev pub OpOnWayReachesGoal : Op → (ip : ℕ) → Type 0
   OpOnWayReachesGoal op ip = way ip ≡ true → ArrivesAtGoal plan leap ip ⊎ OpReachesGoal op ip
 
-  -- Each operation on the way reads the goal first, or leads only to such.
+  -- Each operation on the way reads the goal first, or leads only to operations on the way.
   abbrev pub OpsOnWayReachGoal : Type 0
   OpsOnWayReachGoal = (ip : ℕ) (op : Op) → slice_get plan.ops.items ip ≡ Some op → OpOnWayReachesGoal op ip

@@ -11,7 +11,8 @@ use Rattle.regress_program.specs.TableKeysOfUnits.{key, is_16_bit_encoding}
 use Rattle.regex_meaning.specs.NumberListHelpers.{contains}
 use Rattle.regress_program.specs.declared.leap.Leap.{Leap}
 
--- A leap: each match reaches the goal, a unit with a key in `goal`, over units with keys in `over`.
+-- A leap: each match reaches the goal, a unit with a key in `goal`, and reads only units with keys
+-- in `over` before it.
 pub record LeapToGoal : Type 0 where
   pub over : ℕ → Bool
   pub goal : ℕ → Bool
@@ -25,21 +26,21 @@ module _ (leap : LeapToGoal) (e : Encoding) (text : Text) where
   abbrev pub goal_occurs_at : (at : ℕ) → Bool
   goal_occurs_at at = is_some_and (unit_key_at e (key (is_16_bit_encoding e)) text at) leap.goal
 
-  -- From one offset a state may reach the goal at another one.
+  -- A match that continues at the offset `from` may reach a goal at the offset `goal`.
   pub record ReachesGoalAt (from goal : ℕ) : Type 0 where
     pub ahead : from ≤ goal
     pub over : (at : ℕ) → from ≤ at → at < goal → may_read_before_goal at ≡ true
     pub occurs : goal_occurs_at goal ≡ true
 
-  -- From this offset no goal is reached.
+  -- No goal can be reached from this offset.
   abbrev pub ReachesNoGoal : (from : ℕ) → Type 0
   ReachesNoGoal from = (goal : ℕ) → ReachesGoalAt from goal → ⊥
 
-  -- The goal does not occur from `from` on and before `to`.
+  -- The goal does not occur at an offset that is `from` or more and less than `to`.
   abbrev pub GoalIsAbsentBetween : (from to : ℕ) → Type 0
   GoalIsAbsentBetween from to = (at : ℕ) → from ≤ at → at < to → goal_occurs_at at ≡ false
 
-  -- The goal occurs nowhere from this offset on.
+  -- The goal does not occur at this offset or later.
   abbrev pub GoalIsAbsentFrom : (from : ℕ) → Type 0
   GoalIsAbsentFrom from = (at : ℕ) → from ≤ at → goal_occurs_at at ≡ false
 
@@ -50,7 +51,7 @@ module _ (leap : LeapToGoal) (e : Encoding) (text : Text) where
     pub before : at < to
     pub barred : may_read_before_goal at ≡ false
 
--- The leap is sound: no match begins where no goal is reached.
+-- The leap is sound: no match begins at an offset from which no goal can be reached.
 pub record IsSoundLeap (wide : Bool) (program : Program) (leap : LeapToGoal) : Type 0 where
   pub excludes : (e : Encoding) → is_16_bit_encoding e ≡ wide → (text : Text) → HasUnitsForTables e text → (s : State)
       → s.ip ≡ 0
@@ -66,11 +67,11 @@ is_goal_key leap k = contains (take leap.len leap.units) k
 abbrev pub is_passed_key : Leap → (k : ℕ) → Bool
 is_passed_key leap k = slice_index_or leap.over k false
 
--- The leap of a plan as one to a goal. No unit has a key from 256 on.
+-- The leap of a plan, with the goal as a test of keys. No unit has a key of 256 or more.
 abbrev pub leap_to_goal : Leap → LeapToGoal
 leap_to_goal leap = record { over = is_passed_key leap; goal = λ k. is_goal_key leap k || nat_le 256 k }
 
--- The keys from 128 on are passed alike.
+-- The keys from 128 on are all in `over`, or all not.
 abbrev pub AreHighKeysAlike : Leap → Type 0
 AreHighKeysAlike leap = (k : ℕ) → 128 ≤ k → k < 256 → is_passed_key leap k ≡ is_passed_key leap 128
 
@@ -79,7 +80,7 @@ pub record AreGoalsFewAscii (leap : Leap) : Type 0 where
   pub few : leap.len ≤ 3
   pub low : (k : ℕ) → k < leap.len → slice_index_or leap.units k 0 < 128
 
--- The leap is right for the program.
+-- The leap of a plan is sound for the program, and has the form that searches rely on.
 pub record IsLeap (wide : Bool) (program : Program) (leap : Leap) : Type 0 where
   pub alike : AreHighKeysAlike leap
   pub ascii : AreGoalsFewAscii leap

@@ -1,4 +1,4 @@
--- Lookbehind filters: which characters must precede a match.
+-- Lookbehind filters: a match may begin only after one of a few characters.
 use Rattle.std.specs.Prelude.{◌≡◌, ◌<◌, ℕ, Bool, true, false, take, Option, option_map, slice_index_or}
 use Rattle.std.specs.Option.{option_map_or}
 use Rattle.regex_meaning.specs.NumberListHelpers.{contains}
@@ -22,17 +22,17 @@ abbrev pub unit_at_has_filter_key : Encoding → PrecedingCharFilter → Text �
 unit_at_has_filter_key e before text at =
     is_some_and (unit_key_at e (key (is_16_bit_encoding e)) text at) (contains (take before.len before.keys))
 
--- Whether the filter lets a match begin at an offset.
+-- Whether the filter allows a match to begin at an offset.
 abbrev pub allows_start : Encoding → PrecedingCharFilter → Text → (at : ℕ) → Bool
 allows_start e before text at =
     option_map_or (unit_at_has_filter_key e before text) (offset_of_previous_char text at) before.edge
 
--- In bytes, all keys of the filter are lead bytes.
+-- For texts in bytes, all keys of the filter are lead bytes.
 abbrev pub FilterKeysAreLeadBytes : (wide : Bool) → PrecedingCharFilter → Type 0
 FilterKeysAreLeadBytes wide before = wide ≡ false → (i : ℕ) → i < before.len
     → begins_utf8_character (slice_index_or before.keys i 0) ≡ true
 
--- No match begins where the filter does not allow it.
+-- No match begins at an offset that the filter does not allow.
 pub record IsLookbehindFilter (wide : Bool) (program : Program) (before : PrecedingCharFilter) : Type 0 where
   pub leads : FilterKeysAreLeadBytes wide before
   pub excludes : (e : Encoding) → is_16_bit_encoding e ≡ wide → (text : Text) → HasUnitsForTables e text → (s : State)

@@ -1,4 +1,4 @@
--- The tree to run.
+-- The tree to run: the tree whose program is executed.
 use Rattle.std.specs.Prelude.{Bool, true, false, if◌then◌else◌}
 use Rattle.regex_meaning.specs.Tree.{Tree}
 use Rattle.regex_pattern_front.specs.OptimizedTrees.{optimized}
@@ -11,7 +11,7 @@ optimized_tree_unless_no_opt tree = record {
   flags = tree.flags;
 }
 
--- The tree from whose code a plan is made: the tree itself for a program for bytes, and the tree to
+-- The tree whose code is planned. It is the tree itself for a program for bytes, and the tree to
 -- run for a program for 16-bit code units.
 abbrev pub planned_tree : (wide : Bool) → Tree → Tree
 planned_tree false tree = tree

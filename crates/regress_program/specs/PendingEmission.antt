@@ -1,4 +1,4 @@
--- Pending parts of the code, which the emitter has still to emit.
+-- Pending parts: the parts of the code that are still to be emitted.
 use Rattle.std.specs.Prelude.{◌≡◌, ℕ, ◌+◌, ◌*◌, ◌<◌, ◌^◌, Bool, true, ◌&&◌, List, [], ◌∷◌, length, nat_lt, Vec}
 use Rattle.std.specs.List.{list_all}
 use Rattle.regex_meaning.specs.Tree.{Lookaround, Node as TreeNode, every_node_passes}
@@ -18,29 +18,31 @@ use Rattle.regress_program.specs.declared.emit.nested_nodes.UnemittedCodePart.Th
 
 -- ---- The effect of each part
 
--- The jump at an index gets the current end of the code as its target.
+-- Sets the target of the jump at an index to the current end of the code.
 abbrev pub with_jump : (place : ℕ) → EmitterState → EmitterState
 with_jump place s = with_insn_at place (Jump (length s.insns)) s
 
--- An alternative ends with a jump, and the branch before it gets the next alternative as its target.
+-- Ends an alternative with a jump, and sets the target of the branch before it to the next
+-- alternative.
 abbrev pub with_arm_end : (branch : ℕ) → EmitterState → EmitterState
 with_arm_end branch s =
     let t = with_insn_appended (Jump 0) s in
     with_insn_at branch (Alt (length t.insns)) t
 
--- The other alternatives are emitted, and the jump before them gets their end as its target.
+-- Emits the other alternatives, and sets the target of the jump before them to their end.
 abbrev pub with_alternatives_emitted : (unicode behind : Bool) → (branch : ℕ) → (others : TreeNode) → EmitterState
     → EmitterState
 with_alternatives_emitted unicode behind branch others s =
     with_jump (length s.insns) (with_code unicode behind others (with_arm_end branch s))
 
--- A lookaround ends with `Goal`, and its first instruction gets the current end as its continuation.
+-- Ends a lookaround with `Goal`, and sets the continuation in its first instruction to the current
+-- end.
 abbrev pub with_lookaround_end : Lookaround → (head : ℕ) → EmitterState → EmitterState
 with_lookaround_end l head s =
     let t = with_insn_appended Goal s in
     with_insn_at head (lookaround_insn l (length t.insns)) t
 
--- A loop ends with `LoopAgain`, and its first instruction gets the current end as its exit.
+-- Ends a loop with `LoopAgain`, and sets the exit in its first instruction to the current end.
 abbrev pub with_loop_end : LoopFields → (begin : ℕ) → EmitterState → EmitterState
 with_loop_end f begin s =
     let t = with_insn_appended (LoopAgain begin) s in
@@ -66,14 +68,14 @@ with_pending (GroupEnd id) s = with_insn_appended (EndCaptureGroup id) s
 with_pending (LookaroundEnd look head) s = with_lookaround_end (lookaround_as_spec look) head s
 with_pending (LoopEnd fields begin) s = with_loop_end fields begin s
 
--- The state after all pending parts were emitted, the last one first.
+-- The state after all pending parts were emitted, beginning with the last one.
 abbrev pub with_all_pending : List UnemittedCodePart → EmitterState → EmitterState
 with_all_pending [] s = s
 with_all_pending (r ∷ rest) s = with_pending r (with_all_pending rest s)
 
 -- ---- The precondition of each part
 
--- The sets of the part's nodes fit instructions, and its indexes are less than `end`.
+-- The sets in the part's nodes fit instructions, and its indices are less than `end`.
 unfoldable pub is_emittable : (end : ℕ) → UnemittedCodePart → Bool
 is_emittable end (Node mode node) = every_node_passes set_sizes_and_characters_fit_instructions (node_of node.now)
 is_emittable end (Row mode nodes) = every_node_passes set_sizes_and_characters_fit_instructions (cat_of nodes.now)
@@ -125,30 +127,30 @@ pub record EmitWork : Type 0 where
   pub state : EmitterState
   pub rest : List UnemittedCodePart
 
--- Something was begun: what remains of it was put before the rest, and emitting all of it has the
--- given effect. The measure grew by less than `cost`.
+-- The emission of something began: the parts that remain of it were put before the rest, and
+-- emitting all of them has the given effect. The measure grew by less than `cost`.
 pub record ExpandsPending (effect : EmitterState → EmitterState) (cost : ℕ) (before after : EmitWork) : Type 0 where
   pub code : with_all_pending after.rest after.state ≡ with_all_pending before.rest (effect before.state)
   pub ready : are_emittable (length before.state.insns) before.rest ≡ true
       → are_emittable (length after.state.insns) after.rest ≡ true
   pub less : total_measure after.rest < total_measure before.rest + cost
 
--- A pending part was emitted or begun.
+-- A pending part was emitted, or its emission began.
 abbrev pub PendingPartIsEmittedOrBegun : UnemittedCodePart → (before after : EmitWork) → Type 0
 PendingPartIsEmittedOrBegun r before after = ExpandsPending (with_pending r) (pending_measure r) before after
 
--- The code of a node was begun.
+-- The emission of a node began.
 abbrev pub BeginsEmittingNode : EmitMode → TreeNode → (before after : EmitWork) → Type 0
 BeginsEmittingNode mode node before after =
     ExpandsPending (with_code mode.unicode mode.behind node) (node_measure node) before after
 
--- The alternatives after the first were begun.
+-- The emission of the alternatives after the first began.
 abbrev pub BeginsEmittingAlternatives : EmitMode → (branch : ℕ) → TreeNode → (before after : EmitWork) → Type 0
 BeginsEmittingAlternatives mode branch others before after =
     ExpandsPending (with_alternatives_emitted mode.unicode mode.behind branch others) (node_measure others + 2) before
     after
 
--- The nodes of a list were begun.
+-- The emission of a list of nodes began.
 abbrev pub BeginsEmittingNodeList : EmitMode → List ir.Node → (before after : EmitWork) → Type 0
 BeginsEmittingNodeList mode nodes before after =
     let row = node_with_char_loops_if_enabled mode.narrow (cat_of nodes) in

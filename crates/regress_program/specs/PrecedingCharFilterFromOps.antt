@@ -11,7 +11,8 @@ use Rattle.regress_program.specs.TableKeysOfUnits.{unit_table_of_set}
 use Rattle.regress_program.specs.ClosedFirstSets.{IncludesFirstSet}
 use Rattle.regress_program.specs.LookbehindFilter.{FilterKeysAreLeadBytes}
 
--- The filter has all keys of the set and this `edge`. In bytes, all its keys are lead bytes.
+-- The filter contains all keys of the set, and has this `edge`. For texts in bytes, its keys are
+-- lead bytes.
 pub record FilterIncludesAllKeysOfSet (wide : Bool) (set : FirstSet) (edge : Bool) (before : PrecedingCharFilter) : Type
     0 where
   pub edge_is : before.edge ≡ edge

@@ -1,4 +1,4 @@
--- Required prefixes: which units may occur where a match begins, and what is searched for first.
+-- Required prefixes: the units that may occur where a match begins, and the prefilters of a search.
 use Rattle.std.specs.Prelude.{◌≡◌, ◌<◌, ◌≤◌, ℕ, ◌==◌, ◌%◌, Bool, true, false, ◌&&◌, List, length, Some, bit_and, slice_get, slice_index, ◌+◌, zero, suc}
 use Rattle.std.specs.Prelude.{IfSome}
 use Rattle.std.specs.Int.{bit_at}
@@ -18,7 +18,7 @@ use Rattle.regress_program.specs.TableKeysOfUnits.{key, is_16_bit_encoding}
 abbrev pub units_allowed_by_prefix : Prefix → AllowedUnitsAhead
 units_allowed_by_prefix prefix ahead k = bit_at (slice_index prefix.masks k) ahead == 0
 
--- At `ip`, a thread finds nothing unless each of the next `len` units is allowed.
+-- A thread at `ip` finds nothing unless each of the next `len` units is allowed.
 abbrev pub PrefixAt : (wide : Bool) → Program → (ip len : ℕ) → AllowedUnitsAhead → Type 0
 PrefixAt wide program ip len allowed = (e : Encoding) → is_16_bit_encoding e ≡ wide
     → IsRequiredPrefix e (key wide) program ip len allowed
@@ -43,7 +43,7 @@ pub record IsOnlyUnitAllowedAtPosition (prefix : Prefix) (rare : RequiredUnitAnd
   pub stands : units_allowed_by_prefix prefix rare.ahead rare.unit ≡ true
   pub only : (k : ℕ) → k < 256 → units_allowed_by_prefix prefix rare.ahead k ≡ true → k ≡ rare.unit
 
--- Each unit of the literal is the only one that is allowed at its position.
+-- Each unit of the literal is the only one that is allowed at its position in the prefix.
 pub record IsLiteralForcedByPrefix (prefix : Prefix) (literal : Literal) : Type 0 where
   pub some : 0 < literal.len
   pub inside : literal.ahead + literal.len ≤ prefix.len
@@ -57,23 +57,23 @@ pub record IsLiteralForcedByPrefix (prefix : Prefix) (literal : Literal) : Type 
 abbrev pub AllowsOnlyAsciiAt : Prefix → (ahead : ℕ) → Type 0
 AllowsOnlyAsciiAt prefix ahead = (k : ℕ) → k < 256 → units_allowed_by_prefix prefix ahead k ≡ true → k < 128
 
--- Only units below 128 are allowed first.
+-- Only units below 128 are allowed at the start.
 abbrev pub PrefixAllowsOnlyAsciiFirst : Prefix → Type 0
 PrefixAllowsOnlyAsciiFirst prefix = AllowsOnlyAsciiAt prefix 0
 
--- ---- What is searched for first
+-- ---- Prefilters
 
--- Whether a unit has the bits of a probe.
+-- Whether a unit passes the probe: it has the bits that the probe requires.
 abbrev pub unit_passes_probe : MaskedUnitProbe → (unit : ℕ) → Bool
 unit_passes_probe probe unit = bit_and (unit % 256) probe.mask == probe.bits
 
--- Only units below 128 that pass the probe are allowed at its position.
+-- At the position of the probe, only units below 128 that pass it are allowed.
 pub record ProbePassesPrefix (prefix : Prefix) (probe : MaskedUnitProbe) : Type 0 where
   pub inside : probe.ahead < prefix.len
   pub low : AllowsOnlyAsciiAt prefix probe.ahead
   pub only : (k : ℕ) → k < 256 → units_allowed_by_prefix prefix probe.ahead k ≡ true → unit_passes_probe probe k ≡ true
 
--- There are four probes, and each of them is right for the prefix.
+-- There are four probes, each of which is right for the prefix.
 pub record ProbesPassPrefix (prefix : Prefix) (probes : List MaskedUnitProbe) : Type 0 where
   pub four : length probes ≡ 4
   pub each : (i : ℕ) (probe : MaskedUnitProbe) → slice_get probes i ≡ Some probe → ProbePassesPrefix prefix probe
@@ -84,7 +84,7 @@ pub record IsLiteralPrefilterOfPrefix (prefix : Prefix) (known : LiteralPrefilte
   pub rare : IfSome known.rare (IsOnlyUnitAllowedAtPosition prefix)
   pub probes : IfSome known.probes (ProbesPassPrefix prefix)
 
--- The prefilter is right for the prefix. Without one, or with a literal, units are bytes.
+-- The prefilter is right for the prefix. `Absent` and a literal occur only for texts in bytes.
 abbrev pub IsPrefilterOfPrefix : (wide : Bool) → Prefix → RequiredPrefixPrefilter → Type 0
 IsPrefilterOfPrefix wide prefix filter.Absent = wide ≡ false
 IsPrefilterOfPrefix wide prefix (filter.ByLiteral known) = (wide ≡ false) × IsLiteralPrefilterOfPrefix prefix known

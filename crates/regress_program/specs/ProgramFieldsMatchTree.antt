@@ -1,4 +1,4 @@
--- What the fields of programs hold.
+-- What the fields of compiled programs contain.
 use Rattle.std.specs.Prelude.{◌≡◌, map, Bool, true, false, IsTrue}
 use Rattle.std.specs.Arc.{arc_value}
 use Rattle.regex_meaning.specs.Tree.{Tree}
@@ -23,7 +23,7 @@ pub record IsCodeOfTree (tree : Tree) (code : EmittedCode) : Type 0 where
   pub brackets : map class_as_spec code.brackets.items ≡ (compiled tree).brackets
   pub loops : code.loops ≡ (compiled tree).loops
 
--- The fields are those of the tree's program, and the tree is well formed.
+-- The fields are those of the program of the tree, and the tree is well formed.
 pub record IsCompiledProgram (p : Inside) : Type 0 where
   pub code : IsCodeOfTree (tree_of p.tree.value) (arc_value p.code)
   pub groups : p.groups ≡ (compiled (tree_of p.tree.value)).groups
@@ -31,17 +31,17 @@ pub record IsCompiledProgram (p : Inside) : Type 0 where
   pub group_names : p.group_names ≡ (compiled (tree_of p.tree.value)).group_names
   pub well_formed : IsTrue (is_well_formed (tree_of p.tree.value).root)
 
--- The plan is that of the tree's program for bytes or, for 16-bit code units, of the program of the
--- tree to run.
+-- The plan is right for the program of the tree itself (bytes), or for the program of the tree to
+-- run (16-bit code units).
 abbrev pub IsPlanForUnitWidth : (wide : Bool) → Regex → Plan → Type 0
 IsPlanForUnitWidth wide re plan = IsPlanOf wide (compiled (planned_tree wide (tree_of re))) plan
 
--- The second plan is a plan of each program that the first is a plan of.
+-- The second plan is right for each program for which the first one is.
 abbrev pub IsPlanOfSamePrograms : Plan → Plan → Type 0
 IsPlanOfSamePrograms plan other = (wide : Bool) (program : Program) → IsPlanOf wide program plan
     → IsPlanOf wide program other
 
--- What programs for bytes hold in addition.
+-- What a program for bytes contains in addition.
 pub record IsByteProgram (re : Regex) (start : StartPredicate) (plan : Plan) : Type 0 where
   pub starts : IsStartOf start re
   pub planned : IsPlanForUnitWidth false re plan
@@ -51,7 +51,7 @@ pub record Is16BitPlanAndCodeOf (re : Regex) (run : PlanAndCodeFor16BitUnits) : 
   pub planned : IsPlanForUnitWidth true re run.plan.value
   pub code : IsCodeOfTree (optimized_tree_unless_no_opt (tree_of re)) (arc_value run.code)
 
--- What programs for 16-bit code units hold in addition.
+-- What a program for 16-bit code units contains in addition.
 pub record IsUnitProgram (re : Regex) (anchored : Bool) (run : PlanAndCodeFor16BitUnits) : Type 0 where
   pub anchors : anchored ≡ is_anchored_tree (tree_of re)
   pub no_bytes : tree_contains_byte_nodes (tree_of re).root ≡ false

@@ -1,4 +1,4 @@
--- How the required prefix of a program follows from its operations.
+-- How the required prefix of a program is computed from its operations.
 use Rattle.std.specs.Prelude.{◌≡◌, ◌==◌, ◌≤◌, ◌<◌, ℕ, ◌+◌, ◌-◌, ◌*◌, ◌%◌, ◌^◌, min, bit_and, bit_or, Bool, true, false, Option, Some, None, length}
 use Rattle.std.specs.Prelude.{if◌then◌else◌, nat_lt, slice_get, ⊤}
 use Rattle.regex_meaning.specs.CompilationRelation.{Program, Insn}
@@ -22,7 +22,8 @@ use Rattle.regress_program.specs.Plans.{IsOpOf, IsClass, IsCharLoopOf}
 abbrev pub joined_masks : (first count behind : ℕ) → ℕ
 joined_masks first count behind = bit_or (bit_and first (2 ^ count - 1)) (behind * 2 ^ count % 2 ^ 16)
 
--- What `first` allows for the first `count` units, and `after` for the units after them.
+-- Allows what `first` allows for the first `count` units, and what `after` allows for the units
+-- after them.
 abbrev pub then_allowed : (count : ℕ) → AllowedUnitsAhead → AllowedUnitsAhead → AllowedUnitsAhead
 then_allowed count first after ahead k = if nat_lt ahead count then first ahead k else after (ahead - count) k
 
@@ -34,7 +35,8 @@ allows_only_key key ahead k = k == key
 abbrev pub units_allowed_by_first_set : FirstSet → AllowedUnitsAhead
 units_allowed_by_first_set set ahead k = (unit_table_of_set set).keys k
 
--- The prefix allows `before`, then `more` units that `allowed` allows, cut off at 15 units.
+-- The prefix allows what `before` allows, followed by `more` units that `allowed` allows. It is cut
+-- off after 15 units.
 pub record ExtendsPrefix (before : Prefix) (more : ℕ) (allowed : AllowedUnitsAhead) (prefix : Prefix) : Type 0 where
   pub len : prefix.len ≡ min (before.len + more) 15
   pub within : (ahead k : ℕ) → ahead < prefix.len → then_allowed before.len (units_allowed_by_prefix before) allowed
@@ -59,19 +61,19 @@ pub record AreOpsOfProgram (wide : Bool) (program : Program) (plan : Plan) : Typ
   pub classes : (number : ℕ) (class : Class) → slice_get plan.classes.items number ≡ Some class
       → IsClass wide program class
 
--- The prefix is required at an instruction; without an instruction it is empty.
+-- The prefix is required at an instruction. If there is no instruction, the prefix is empty.
 abbrev pub PrefixAfter : (wide : Bool) → Program → Option ℕ → (len : ℕ) → AllowedUnitsAhead → Type 0
 PrefixAfter wide program None len allowed = len ≡ 0
 PrefixAfter wide program (Some ip) len allowed = PrefixAt wide program ip len allowed
 
--- `count` of these units are required at `ip`, and after them what is required at `to`.
+-- `count` of these units are required at `ip`, followed by what is required at `to`.
 abbrev pub PrefixBeginsWith : (wide : Bool) → Program → (ip : ℕ) → (units : AllowedUnitsAhead) → (count : ℕ) → Option ℕ
     → Type 0
 PrefixBeginsWith wide program ip units count to =
     (len : ℕ) (allowed : AllowedUnitsAhead) → PrefixAfter wide program to len allowed
     → PrefixAt wide program ip (count + len) (then_allowed count units allowed)
 
--- The required prefix at `ip` follows in this way from those at its successors.
+-- The required prefix at `ip` is computed in this way from those of its successors.
 abbrev pub FollowsFromSuccessors : (wide : Bool) → Program → (ip : ℕ) → OpPrefixContribution → Type 0
 FollowsFromSuccessors wide program ip Unknown = ⊤
 FollowsFromSuccessors wide program ip (SameAs to) = (len : ℕ) (allowed : AllowedUnitsAhead)
@@ -84,13 +86,13 @@ FollowsFromSuccessors wide program ip (OneUnit key to) =
 FollowsFromSuccessors wide program ip (Units set count to) =
     PrefixBeginsWith wide program ip (units_allowed_by_first_set set) count to
 
--- The prefix is required at `from`. If it has room for more, the prefix at `ip` comes after it.
+-- The prefix is required at `from`. Unless it is full, the required prefix at `ip` follows it.
 pub record IsPrefixSoFar (wide : Bool) (program : Program) (from : ℕ) (prefix : Prefix) (ip : ℕ) : Type 0 where
   pub so_far : PrefixAt wide program from prefix.len (units_allowed_by_prefix prefix)
   pub on : prefix.len < 15 → (len : ℕ) (allowed : AllowedUnitsAhead) → PrefixAt wide program ip len allowed
       → PrefixAt wide program from (prefix.len + len) (then_allowed prefix.len (units_allowed_by_prefix prefix) allowed)
 
--- Whether the operation reads nothing, and continues at the next one or fails.
+-- Whether the operation reads nothing, and either continues at the next one or fails.
 abbrev pub falls_through : Op → Bool
 falls_through (op.LineStart multiline) = true
 falls_through (op.WordEdge edge) = true
@@ -99,7 +101,7 @@ falls_through (op.CloseGroup slot) = true
 falls_through (op.ResetGroup slot) = true
 falls_through _ = false
 
--- What an operation of the plan contributes to the required prefix, if it is at `ip`.
+-- What the operation of the plan contributes to the required prefix, if it is at `ip`.
 abbrev pub IsOpPrefixContributionOf : Plan → Op → (ip : ℕ) → OpPrefixContribution → Type 0
 IsOpPrefixContributionOf plan op ip ahead =
     (wide : Bool) (program : Program) → AreOpsOfProgram wide program plan → slice_get plan.ops.items ip ≡ Some op

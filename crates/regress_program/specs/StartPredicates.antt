@@ -1,4 +1,4 @@
--- Start predicates as programs hold them, and when making one allocates memory.
+-- The start predicates of programs, and when computing one allocates memory.
 use Rattle.std.specs.Prelude.{◌≡◌, ◌<◌, Bool, true, false, not, ◌&&◌, ◌||◌, length, nat_lt, ⊤}
 use Rattle.regex_meaning.specs.Tree.{Node, byte_sequence, cat, alt, bracket, capture_group, loop, loop_1_char_body, Tree}
 use Rattle.regex_meaning.specs.StartPredicate as predicate
@@ -26,27 +26,27 @@ pub record IsStartOf (p : StartPredicate) (tree : Regex) : Type 0 where
   pub predicate : start_predicate_as_spec p ≡ (compiled (tree_of tree)).start_pred
   pub short : HasOverThreeBytes p
 
--- The predicate is that of trees that match only at the left end.
+-- The predicate says that the tree matches only at the left end.
 abbrev pub is_anchored_predicate : predicate.StartPredicate → Bool
 is_anchored_predicate start_anchored = true
 is_anchored_predicate _ = false
 
--- Every alternative of the tree begins with `^`, outside loops and lookarounds, without the flag `m`; so it
--- matches only at the left end.
+-- Every alternative of the tree begins with `^`, outside loops and lookarounds, and the flag `m` is
+-- not set. So the tree matches only at the left end.
 abbrev pub is_anchored_tree : Tree → Bool
 is_anchored_tree tree = not tree.flags.multiline && is_anchored tree.root
 
--- The node reads nothing.
+-- The predicate says that the node reads nothing.
 abbrev pub predicate_says_reads_nothing : AbstractStartPredicate → Bool
 predicate_says_reads_nothing open_ended = true
 predicate_says_reads_nothing _ = false
 
--- The node begins with a byte sequence.
+-- The predicate says that the node begins with a byte sequence.
 abbrev pub predicate_is_byte_sequence : AbstractStartPredicate → Bool
 predicate_is_byte_sequence (sequence bytes) = true
 predicate_is_byte_sequence _ = false
 
--- A byte sequence or an inverted class is reached before it is decided what the node begins with.
+-- A byte sequence or an inverted class may be reached before it is known what the node begins with.
 unfoldable pub making_node_start_predicate_may_allocate : Node → Bool
 making_node_start_predicate_may_allocate (byte_sequence bytes) = true
 making_node_start_predicate_may_allocate (bracket contents) = contents.invert
@@ -63,6 +63,6 @@ making_node_start_predicate_may_allocate (loop_1_char_body q loopee) =
     nat_lt 0 q.min && making_node_start_predicate_may_allocate loopee
 making_node_start_predicate_may_allocate _ = false
 
--- Making the tree's start predicate may allocate memory.
+-- Computing the tree's start predicate may allocate memory.
 abbrev pub start_predicate_may_allocate : Tree → Bool
 start_predicate_may_allocate tree = not (is_anchored_tree tree) && making_node_start_predicate_may_allocate tree.root

@@ -10,7 +10,7 @@ use Rattle.regress_program.specs.InnerNodeCountMeasure.{inner_node_count}
 use Rattle.regress_program.specs.declared.emit.storing_group_names_by_id.NodeOrListWithUnstoredNames.{NodeOrListWithUnstoredNames}
 use Rattle.regress_program.specs.declared.emit.storing_group_names_by_id.NodeOrListWithUnstoredNames.TheVariants.{Node, Row}
 
--- The node is no group with a name.
+-- The node is not a group with a name.
 abbrev pub is_nameless : TreeNode → Bool
 is_nameless node = list_all (λ p. length p.1 == 0) (own_name node)
 
@@ -34,7 +34,7 @@ unfoldable pub names_in_pending_part : NodeOrListWithUnstoredNames → List (ℕ
 names_in_pending_part (Node node) = capturing_group_ids_and_names (node_of node.now)
 names_in_pending_part (Row nodes) = capturing_group_ids_and_names (cat_of nodes.now)
 
--- The names after all pending parts were stored, the last one first.
+-- The names after all pending parts were stored, beginning with the last one.
 abbrev pub pending_names_stored : List NodeOrListWithUnstoredNames → (names : List (List ℕ)) → List (List ℕ)
 pending_names_stored [] names = names
 pending_names_stored (next ∷ rest) names =
@@ -58,20 +58,20 @@ abbrev pub total_naming_measure : List NodeOrListWithUnstoredNames → ℕ
 total_naming_measure [] = 0
 total_naming_measure (next ∷ rest) = naming_measure_of_part next + total_naming_measure rest
 
--- Some of these names were stored, and the parts with the others were put before the rest. The
--- measure grew by less than `cost`.
+-- Some of these names were stored, and the parts that contain the others were put before the rest.
+-- The measure grew by less than `cost`.
 pub record StoresNamesOrPushesNodes (named : List (ℕ × List ℕ)) (cost : ℕ) (old new : List (List ℕ))
     (before after : List NodeOrListWithUnstoredNames) : Type 0 where
   pub names : pending_names_stored after new ≡ pending_names_stored before (with_names_stored_by_id named old)
   pub less : total_naming_measure after < total_naming_measure before + cost
 
--- `StoresNamesOrPushesNodes` for strings
+-- `StoresNamesOrPushesNodes` for strings.
 abbrev pub StoresOrPushesNodes : {R : Type 0} → List (ℕ × List ℕ) → (cost : ℕ) → (old new : List (String R))
     → (before after : List NodeOrListWithUnstoredNames) → Type 0
 StoresOrPushesNodes named cost old new before after =
     StoresNamesOrPushesNodes named cost (map string_bytes old) (map string_bytes new) before after
 
--- The nodes of a list were put before the rest, except for leading ones without names.
+-- The nodes of a list were put before the rest, except for leading nodes that contain no names.
 abbrev pub PushesNamedNodes : List ir.Node → (before after : List NodeOrListWithUnstoredNames) → Type 0
 PushesNamedNodes nodes before after = (names : List (List ℕ))
     → StoresNamesOrPushesNodes (capturing_group_ids_and_names (cat_of nodes)) (naming_measure_of_nodes nodes) names names

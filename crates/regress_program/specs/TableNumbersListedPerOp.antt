@@ -1,4 +1,5 @@
--- Entries of operations: the number of each operation is an index into a list of entries.
+-- Tables with entries for some operations: a list of numbers, one for each operation, gives the
+-- index of the entry.
 use Rattle.std.specs.Prelude.{◌≡◌, ℕ, List, Some, slice_get}
 
 -- The operation `ip` has a number, and the entry with that number is `row`.

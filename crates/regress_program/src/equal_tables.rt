@@ -1,4 +1,4 @@
-//! Memory of tables: equal ones are stored once, and lists of them have little room to spare.
+//! Memory of tables: equal tables are stored once, and lists of tables have little spare room.
 
 ghost use Rattle.std.specs.Prelude.{◌≡◌, ◌≤◌, length};
 
@@ -13,8 +13,8 @@ pub(crate) trait ComparedTable {
     fn is_equal_to(&self, other: &Self) -> bool;
 }
 
-/// Returns the number of a table that is equal to this one. If none of the first tables is, that is
-/// the number of tables.
+/// Returns the number of a table that is equal to this one. If none of the first `MOST_COMPARED`
+/// tables is, returns the number of tables.
 pub(crate) fn number_of_equal_table<T: ComparedTable>(tables: &[T], table: &T) -> usize
     ensures { result ≤ length tables.now }
 {

@@ -1,4 +1,5 @@
-//! The char loop with which each match begins, if there is one.
+//! Char loops, word boundaries and repeated characters with which each match begins, and which let
+//! a search skip starts after a failed attempt.
 
 ghost use Rattle.std.specs.Prelude.{◌≡◌, ◌<◌, ℕ, true, false};
 ghost use Rattle.regress_program.specs.LeadingCharLoops.{OnlyOpensGroups, opens_group, opens_group_at, refers_back_at};
@@ -9,12 +10,14 @@ use crate::plan::Plan;
 // The maximum number of code units of a character.
 const MOST_UNITS: usize = 4;
 
-// The maximum number of operations that are searched for a backreference, since each search of a
-// text does this once.
+// The maximum number of operations that are searched for a backreference. This search is done once
+// for each search of a text.
 const MOST_OPS: usize = 256;
 
-/// The char loop with which each match begins, if it has no maximum, so that scanning it again after
-/// a failed attempt is worthwhile.
+/// The char loop with which each match begins, if it has no maximum, so that scanning it again
+/// after a failed attempt is worthwhile. Two other kinds of matches are treated alike: those that
+/// begin with a word boundary (the word is scanned), and those that begin with a group of one
+/// character that a backreference repeats (the units up to the next repeated one are scanned).
 #[derive(Clone, Copy)]
 pub struct LeadingCharLoop {
     /// The maximum number of code units of a character after which the loop is scanned again; 0 if
@@ -45,7 +48,7 @@ impl LeadingCharLoop {
             };
         }
         LeadingCharLoop {
-            max_char_units: 0,
+            max_char_units: max_units_before_repetition(&plan.ops),
             opens: 0,
         }
     }
@@ -85,15 +88,37 @@ fn may_refer_back(ops: &[Op]) -> bool
     false
 }
 
-// Returns the maximum number of code units of a character after which the char loop at `ip` is
-// scanned again; 0 if there is no char loop without a maximum.
+// Returns the maximum number of code units of a character after which the char loop at `ip`, or the
+// word after a boundary at `ip`, is scanned again. Returns 0 if there is neither, or if the loop
+// has a maximum.
 fn max_char_units_at(plan: &Plan, ip: usize) -> usize {
     if ip >= plan.ops.len() {
         return 0;
     }
+    if ip == 0 && is_word_boundary(&plan.ops[ip]) {
+        return 1;
+    }
     match plan.ops[ip].as_char_loop() {
         Some(run) if is_unlimited(plan, run) => max_char_units_of(plan, run),
         _ => 0,
+    }
+}
+
+// Checks whether an operation matches at word boundaries.
+fn is_word_boundary(op: &Op) -> bool {
+    match op {
+        Op::WordEdge(edge) => !edge.invert,
+        _ => false,
+    }
+}
+
+// Returns the same number for a program that may begin with a group of one character that a
+// backreference repeats. Such a character has one unit. Returns 0 for all others.
+fn max_units_before_repetition(ops: &[Op]) -> usize {
+    if ops.len() > 3 && is_group_opening(&ops[0]) && ops[3].is_backreference() {
+        1
+    } else {
+        0
     }
 }
 
@@ -103,8 +128,9 @@ fn is_unlimited(plan: &Plan, run: CharLoop) -> bool {
     number < plan.bounds.len() && plan.bounds[number].max == usize::MAX
 }
 
-// Returns that number for a char loop. If neither single units nor a few stop bytes end it, its
-// characters of several units are not scanned again, since that takes about as long as trying them.
+// Returns the same number for a char loop. If the loop ends neither by single units nor by a few
+// stop bytes, its characters of several units are not scanned again, because that takes about as
+// long as trying them.
 fn max_char_units_of(plan: &Plan, run: CharLoop) -> usize {
     let number = run.class as usize;
     if number >= plan.classes.len() {

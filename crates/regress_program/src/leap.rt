@@ -1,4 +1,5 @@
-//! Leaps: what each match comes to, if that is rarer than where a match may begin.
+//! Leaps: a unit that each match must reach, if it is rarer than the starts at which a match may
+//! begin.
 //!
 //! A walk over the operations from the first one proposes a leap. One pass over the operations of
 //! the walk then checks it, so the walk may propose anything.
@@ -20,13 +21,13 @@ use crate::required_prefix_prefilters::{RequiredPrefixPrefilter, frequency};
 use crate::table_keys_of_units::{KEYS, UnitWidth};
 use std::alloc::{AllocError, Global};
 
-/// What each match comes to: one of a few units, its goal. The goal may occur before the end of a
-/// match or, by a lookahead, after it. All units from the start of the match to the goal are in
-/// `over`.
+/// A unit that each match reaches: one of a few units, its goal. The goal may occur before the end
+/// of a match or, by a lookahead, after it. All units from the start of the match to the goal are
+/// in `over`.
 #[derive(Clone, Copy)]
 pub struct Leap {
-    /// For each key, whether a match may read such a unit before its goal. Keys from 128 on are all
-    /// alike.
+    /// For each key, whether a match may read such a unit before its goal. The entries of all keys
+    /// from 128 on are equal.
     pub over: [bool; 256],
     /// The first `len` of these units are the goal. All are below 128.
     pub units: [u8; 3],
@@ -47,7 +48,7 @@ impl Leap {
         }
     }
 
-    // Checks whether a key is the goal's, if a set has it.
+    // Checks whether a key is a key of the goal, if the set contains it.
     fn is_goal_if_in(&self, set: &FirstSet, key: usize) -> bool
         requires { key < 256 }
         ensures { result ≡ true → (unit_table_of_set set.now).keys key ≡ true → is_goal_key self.now key ≡ true }
@@ -55,7 +56,7 @@ impl Leap {
         !set.keys[key] || self.is_goal(key)
     }
 
-    // Checks whether the keys of a set are all the goal's.
+    // Checks whether each key of a set is a key of the goal.
     fn has_as_goals(&self, set: &FirstSet) -> bool
         ensures { result ≡ true → AreAllGoalKeys self.now (unit_table_of_set set.now) }
     {
@@ -67,7 +68,7 @@ impl Leap {
         true
     }
 
-    // Checks whether a unit with this key may be passed.
+    // Checks whether a match may read a unit with this key before its goal.
     #[inline(always)]
     fn passes_key(&self, key: usize) -> bool
         requires { key < 256 }
@@ -76,7 +77,7 @@ impl Leap {
         self.over[key]
     }
 
-    // Checks whether all of these bytes may be passed.
+    // Checks whether a match may read each of these bytes before its goal.
     fn passes_bytes(&self, bytes: &[u8]) -> bool
         ensures { result ≡ true → PassesUnits self.now bytes.now }
     {
@@ -88,7 +89,8 @@ impl Leap {
         true
     }
 
-    // Checks whether the characters of a class that begin with a key may be passed.
+    // Checks whether a match may read the characters of a class that begin with a key before its
+    // goal.
     fn passes_class_at(&self, class: &Class, key: usize) -> bool
         requires { key < 256 }
         ensures { result ≡ true → slice_index_or class.now.steps key 0 ≢ 0 → is_passed_key self.now key ≡ true }
@@ -96,7 +98,7 @@ impl Leap {
         class.steps[key] == 0 || self.passes_key(key)
     }
 
-    // Checks whether all characters of a class may be passed.
+    // Checks whether a match may read each character of a class before its goal.
     fn passes_class(&self, class: &Class) -> bool
         ensures { result ≡ true → PassesReadLengths self.now class.now.steps }
     {
@@ -108,7 +110,7 @@ impl Leap {
         true
     }
 
-    // Checks whether a key is passed as the key 128 is.
+    // Checks whether the entry of a key is equal to that of the key 128.
     fn is_like_first_high_key(&self, key: usize) -> bool
         requires { key < 256 }
         ensures { result ≡ true → is_passed_key self.now key ≡ is_passed_key self.now 128 }
@@ -116,7 +118,7 @@ impl Leap {
         self.passes_key(key) == self.passes_key(128)
     }
 
-    // Checks whether the keys from 128 on are alike.
+    // Checks whether the entries of the keys from 128 on are equal.
     fn treats_high_keys_alike(&self) -> bool
         ensures { result ≡ true → AreHighKeysAlike self.now }
     {
@@ -137,8 +139,8 @@ impl Leap {
     }
 }
 
-/// A leap of a plan, and for each operation whether it is on the way to the goal: it has been
-/// reached, and the goal has not.
+/// A leap of a plan, and for each operation whether it is on the way to the goal: a match may reach
+/// the operation before it reaches the goal.
 #[derive(Clone, Copy)]
 struct LeapCheck<'p> {
     plan: &'p Plan,
@@ -171,7 +173,7 @@ impl LeapCheck<'_> {
         }
     }
 
-    // Checks whether all bytes of a byte sequence may be passed.
+    // Checks whether a match may read each byte of a byte sequence before its goal.
     fn passes_bytes(self, number: u32) -> bool
         ensures { result ≡ true → PassesByteSeq self.entry.plan.now self.entry.leap.now number }
     {
@@ -188,8 +190,8 @@ impl LeapCheck<'_> {
         }
     }
 
-    // Checks whether units are bytes and all bytes of a byte sequence may be passed. Programs for
-    // 16-bit units have no byte sequences.
+    // Checks whether units are bytes and a match may read each byte of a byte sequence before its
+    // goal. Programs for 16-bit units have no byte sequences.
     fn passes_byte_seq(self, number: u32) -> bool
         ensures { result ≡ true → (is_16_bit_width self.entry.units ≡ false)
             × PassesByteSeq self.entry.plan.now self.entry.leap.now number }
@@ -200,7 +202,7 @@ impl LeapCheck<'_> {
         }
     }
 
-    // Checks whether all characters of a class may be passed.
+    // Checks whether a match may read each character of a class before its goal.
     fn passes_class(self, number: u32) -> bool
         ensures { result ≡ true → PassesClass self.entry.plan.now self.entry.leap.now number }
     {
@@ -226,8 +228,8 @@ impl LeapCheck<'_> {
         }
     }
 
-    // Checks whether the operation after a lookaround is on the way or, of a positive lookahead,
-    // the first one of its contents.
+    // Checks whether the operation after a lookaround is on the way. For a positive lookahead, the
+    // first operation of its contents may be instead.
     fn lookaround_leads(self, look: LookaroundAndNextOp, ip: usize) -> bool
         requires { ip + 1 < 2 ^ 64 }
         ensures { result ≡ true → LookaroundStaysOnWay (is_on_way self.entry.on_way.now) look ip }
@@ -235,8 +237,8 @@ impl LeapCheck<'_> {
         self.has(look.past as usize) || look.forward && !look.negate && self.has(ip + 1)
     }
 
-    // Checks whether an operation reads only units that may be passed, and leads only to operations
-    // on the way.
+    // Checks whether an operation reads only units that may precede the goal, and leads only to
+    // operations on the way.
     fn leads(self, ip: usize) -> bool
         requires { ip < length self.plan.now.ops.items }
         ensures { (op : Op) → slice_get self.entry.plan.now.ops.items ip ≡ Some op → result ≡ true
@@ -269,7 +271,7 @@ impl LeapCheck<'_> {
         }
     }
 
-    // Checks whether an operation, if it is on the way, reads the goal first, or leads only to
+    // If an operation is on the way, checks whether it reads the goal first, or leads only to
     // operations on the way.
     fn leads_if_on_way(self, ip: usize) -> bool
         requires { ip < length self.plan.now.ops.items }
@@ -280,7 +282,8 @@ impl LeapCheck<'_> {
         !self.has(ip) || self.leads(ip) || self.arrives(ip)
     }
 
-    // Checks whether each operation on the way reads the goal first, or leads only to such.
+    // Checks whether each operation on the way reads the goal first, or leads only to operations on
+    // the way.
     fn every_op_on_way_reaches_goal(self) -> bool
         ensures { result ≡ true → OpsOnWayReachGoal (is_16_bit_width self.entry.units) self.entry.plan.now
             self.entry.leap.now (is_on_way self.entry.on_way.now) }
@@ -293,7 +296,7 @@ impl LeapCheck<'_> {
         true
     }
 
-    // Checks whether each match comes to the goal.
+    // Checks whether each match reaches the goal.
     fn is_leap(self) -> bool
         ensures { let wide = is_16_bit_width self.entry.units in result ≡ true → (program : Program)
             → AreOpsOfProgram wide program self.entry.plan.now → IsLeap wide program self.entry.leap.now }
@@ -329,11 +332,11 @@ fn is_rare(key: usize) -> bool {
 #[derive(Drop)]
 struct Walk<'p> {
     plan: &'p Plan,
-    // Whether the contents of positive lookaheads are walked over, not what comes after.
+    // Whether the walk enters the contents of positive lookaheads, and omits what comes after them.
     into_lookaheads: bool,
     leap: Leap,
     on_way: Vec<bool>,
-    // The operations on the way that are not walked over yet.
+    // The operations on the way that have not been walked over yet.
     ahead: Vec<usize>,
 }
 
@@ -355,7 +358,7 @@ impl<'p> Walk<'p> {
         Ok(walk)
     }
 
-    // Puts an operation on the way.
+    // Records that an operation is on the way.
     fn reach(&mut self, ip: usize) -> Result<(), AllocError> {
         if let Some(on_way) = self.on_way.get_mut(ip) {
             if !*on_way {
@@ -366,7 +369,7 @@ impl<'p> Walk<'p> {
         Ok(())
     }
 
-    // Lets units with this key be passed.
+    // Allows units with this key before the goal.
     fn pass_key(&mut self, key: usize) {
         if key < 128 {
             self.leap.over[key] = true;
@@ -375,7 +378,7 @@ impl<'p> Walk<'p> {
         }
     }
 
-    // Adds a unit to the goal, if that has room.
+    // Adds a unit to the goal, if the goal has room.
     fn add_to_goal(&mut self, unit: u8) -> bool {
         if self.leap.is_goal(usize::from(unit)) {
             return true;
@@ -388,7 +391,8 @@ impl<'p> Walk<'p> {
         true
     }
 
-    // Returns whether a character is made a part of the goal. Else it may be passed.
+    // Makes a character part of the goal, or else allows it before the goal. Returns whether it is
+    // part of the goal.
     fn arrives_by_char(&mut self, c: u32) -> bool {
         let key = c.min(128) as usize;
         if is_rare(key) && self.add_to_goal(key as u8) {
@@ -398,8 +402,8 @@ impl<'p> Walk<'p> {
         false
     }
 
-    // Returns whether the characters of a class are made a part of the goal, if they may be. Else
-    // they may be passed.
+    // Makes the characters of a class part of the goal if they may be, or else allows them before
+    // the goal. Returns whether they are part of the goal.
     fn arrives_by_class(&mut self, number: u32, may_be_goal: bool) -> bool {
         let Some(class) = self.plan.classes.get(number as usize) else {
             return false;
@@ -416,7 +420,7 @@ impl<'p> Walk<'p> {
         arrives
     }
 
-    // Lets the bytes of a byte sequence be passed.
+    // Allows the bytes of a byte sequence before the goal.
     fn pass_bytes(&mut self, number: u32) {
         if let Some(part) = self.plan.parts.get(number as usize) {
             for i in part.at..part.at.saturating_add(part.len) {
@@ -451,7 +455,7 @@ impl<'p> Walk<'p> {
         Ok(())
     }
 
-    // Walks over a lookaround, or into it.
+    // Walks over a lookaround, or into its contents.
     fn step_over_lookaround(
         &mut self,
         look: LookaroundAndNextOp,
@@ -464,7 +468,7 @@ impl<'p> Walk<'p> {
         }
     }
 
-    // Walks over one operation. Returns whether a match may still come to the goal.
+    // Walks over one operation. Returns whether each match may still reach a goal.
     fn step_over(&mut self, ip: usize) -> Result<bool, AllocError> {
         let Some(op) = self.plan.ops.get(ip).copied() else {
             return Ok(false);
@@ -503,8 +507,8 @@ impl<'p> Walk<'p> {
         Ok(true)
     }
 
-    // Walks over all operations. Returns whether each match comes to a goal, as far as the walk
-    // tells.
+    // Walks over all operations. Returns whether each match reaches a goal, as far as the walk can
+    // tell.
     fn walk(&mut self) -> Result<bool, AllocError> {
         for _step in 0..MOST_STEPS {
             let Some(ip) = self.ahead.pop() else {
@@ -541,7 +545,7 @@ fn frequency_of(units: &[u8; 3], len: usize) -> u32 {
     sum
 }
 
-// Checks whether a start is searched for by vectors, as a goal is.
+// Checks whether a start is searched for with vector instructions, as a goal is.
 fn is_start_fast(start: &CandidateStarts) -> bool {
     match start {
         CandidateStarts::FewUnits { .. } => true,
@@ -581,7 +585,7 @@ fn has_positive_lookahead(plan: &Plan) -> bool {
     false
 }
 
-// Returns a leap that a walk proposes, if it is one.
+// Returns the leap that a walk proposes, if the check accepts it.
 fn leap_of_walk(
     alloc: Global,
     plan: &Plan,
@@ -612,8 +616,8 @@ fn leap_of_walk(
     }
 }
 
-/// Returns the leap of a plan for texts of these units, unless the plan's start is searched for as
-/// fast.
+/// Returns the leap of a plan for texts of these units. `None` if there is none, or if the plan's
+/// start is searched for as fast.
 ///
 /// # Errors
 ///

@@ -1,8 +1,8 @@
 //! Computes the required prefix of a program, unit by unit.
 //!
-//! The prefix is read off the operations at the beginning of the program. An operation that reads
-//! no character is passed, and one that reads a character with a known unit adds that unit. The
-//! prefix ends where an operation does not decide.
+//! The prefix is computed from the operations at the beginning of the program. An operation that
+//! reads no character is passed, and one that reads a character with a known unit adds that unit.
+//! The prefix ends at an operation that does not determine a unit.
 
 ghost use Rattle.std.specs.Prelude.{Bool, ℕ, ◌≡◌, ◌==◌, ◌<◌, ◌≤◌, ◌+◌, ◌^◌, true, false, length};
 ghost use Rattle.std.specs.Int.{bit_at};
@@ -24,20 +24,21 @@ use crate::table_keys_of_units::KEYS;
 /// The maximum number of operations that are examined.
 const STEPS: usize = 64;
 
-/// What an operation says about the units from its position on.
+/// What an operation contributes to the prefix, from its position on.
 #[derive(Clone, Copy)]
 pub(crate) enum OpPrefixContribution {
     Unknown,
-    /// What the operation with this index says.
+    /// The contribution of the operation with this index.
     SameAs(usize),
-    /// The union of what both operations say.
+    /// The union of the contributions of both operations.
     UnionOf(usize, usize),
-    /// A unit with this key, and then what the operation `to` says.
+    /// A unit with this key, followed by the contribution of the operation `to`.
     OneUnit {
         key: u8,
         to: usize,
     },
-    /// `count` units of the set, and then what the operation `to` says, if there is one.
+    /// `count` units of the set, followed by the contribution of the operation `to`, if there is
+    /// one.
     Units {
         set: FirstSet,
         count: usize,
@@ -206,8 +207,8 @@ fn prefix_at(plan: &Plan, from: usize, steps: usize) -> Prefix
     prefix
 }
 
-/// Returns what the operation at `ip` says. Inlined into its callers, since the result has room for
-/// a set, which each call would clear and copy.
+/// Returns the contribution of the operation at `ip`. Inlined into its callers, because the result
+/// has room for a set, which each call would clear and copy.
 #[inline(always)]
 pub(crate) fn prefix_step_at(plan: &Plan, ip: usize) -> OpPrefixContribution
     ensures { (wide : Bool) (program : Program)
@@ -219,7 +220,7 @@ pub(crate) fn prefix_step_at(plan: &Plan, ip: usize) -> OpPrefixContribution
     }
 }
 
-// Returns what this operation at `ip` says.
+// Returns the contribution of this operation, which is at `ip`.
 #[inline(always)]
 fn prefix_step_of_op(plan: &Plan, op: Op, ip: usize) -> OpPrefixContribution
     requires { ip < length plan.now.ops.items }
@@ -256,7 +257,7 @@ fn falls_through_silently(op: Op) -> bool
     )
 }
 
-// Returns what a one-unit character says.
+// Returns the contribution of a one-unit character.
 fn said_of_unit(c: u32, ip: usize) -> OpPrefixContribution
     requires { ip + 1 < 2 ^ 64 }
     ensures { (plan : Plan) → IsOpPrefixContributionOf plan (UnitChar c) ip result }
@@ -270,7 +271,7 @@ fn said_of_unit(c: u32, ip: usize) -> OpPrefixContribution
     }
 }
 
-// Returns what a class says.
+// Returns the contribution of a class.
 fn said_of_class(plan: &Plan, number: u32, ip: usize) -> OpPrefixContribution
     requires { ip + 1 < 2 ^ 64 }
     ensures { IsOpPrefixContributionOf plan.now (One number) ip result }
@@ -285,8 +286,8 @@ fn said_of_class(plan: &Plan, number: u32, ip: usize) -> OpPrefixContribution
     }
 }
 
-// Returns what a char loop says: its minimum number of characters and, if that is its maximum too,
-// what comes after it.
+// Returns the contribution of a char loop: its minimum number of characters and, if that is also
+// its maximum, the contribution of what follows.
 fn prefix_step_of_run(plan: &Plan, run: CharLoop, ip: usize) -> OpPrefixContribution
     requires { ip + 2 < 2 ^ 64 }
     ensures { IsPrefixOfCharLoop plan.now run ip result }
@@ -308,7 +309,7 @@ fn prefix_step_of_run(plan: &Plan, run: CharLoop, ip: usize) -> OpPrefixContribu
     }
 }
 
-// Returns what the head of a loop says, if the loop cannot be exited at once.
+// Returns the contribution of the head of a loop, if the loop cannot be exited at once.
 fn prefix_step_of_entry(plan: &Plan, number: u32, ip: usize) -> OpPrefixContribution
     requires { ip + 1 < 2 ^ 64 }
     ensures { IsOpPrefixContributionOf plan.now (Enter number) ip result }

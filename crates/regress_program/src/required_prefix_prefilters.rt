@@ -113,9 +113,9 @@ impl CommonBitsOfUnits {
 }
 
 impl Prefix {
-    /// Chooses the prefilter: in bytes a literal, if there is one; otherwise probes, if few
-    /// positions pass them. Not inlined, since most patterns have no prefilter, and its buffers
-    /// would be cleared in the caller.
+    /// Chooses the prefilter: for texts in bytes a literal, if there is one, and otherwise probes,
+    /// if few positions pass them. Not inlined, because most patterns have no prefilter, and its
+    /// buffers would be cleared in the caller.
     #[inline(never)]
     pub(crate) fn choose_prefilter(&self, units: UnitWidth) -> Option<RequiredPrefixPrefilter>
         ensures { IfSome result (IsPrefilterOfPrefix (is_16_bit_width units) self.now) }

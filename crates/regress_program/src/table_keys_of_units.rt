@@ -1,4 +1,4 @@
-//! Keys of units, by which tables of what comes next are indexed.
+//! Keys of units, which are the indices of tables of what comes next.
 //!
 //! A table has one entry for each key. A byte is its own key, and so is a 16-bit unit below 128.
 //! The other 16-bit units have one key for each 512 of them.
@@ -110,7 +110,8 @@ fn single_units_of(key: u8) -> CharRangeOfKey
     CharRangeOfKey { range, width: 1 }
 }
 
-/// Returns the key of the first unit of a character; for a number that is no character, some key.
+/// Returns the key of the first unit of a character. If the number is not a character, the key is
+/// unspecified.
 pub fn key_of_first_unit(c: u32, units: UnitWidth) -> usize
     ensures is { (e : Encoding) → is_16_bit_encoding e ≡ is_16_bit_width units → is_character_in_encoding e c ≡ true
         → first_key_in e (key_of (is_16_bit_width units)) c ≡ Some result }
@@ -142,7 +143,8 @@ pub(crate) fn non_ascii_keys_of_interval(interval: Interval, units: UnitWidth) -
     }
 }
 
-// Returns the key of a 16-bit unit from 128 on; for a larger number, the key of the last unit.
+// Returns the key of a 16-bit unit of 128 or more. For a larger number, returns the key of the last
+// unit.
 fn high_key(c: u32) -> usize
     ensures { result ≡ 128 + min c 0xFFFF / 512 }
 {

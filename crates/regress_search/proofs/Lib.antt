@@ -46,5 +46,7 @@ pub mod SharedBracketTests
 pub mod MustIterateUnitLemmas
 pub mod MarkedOffsetLemmas
 pub mod UnitRunLemmas
+mod WordLemmas
+mod RepeatedChars
 pub mod WideUnitLemmas
 pub mod LeapLemmas

@@ -1,4 +1,4 @@
--- The result of one attempt, and the offsets to try.
+-- The result of one attempt at an offset, and the order in which offsets are tried.
 use Rattle.std.specs.Prelude.{◌≡◌, ◌<◌, ◌≤◌, ◌+◌, ℕ, Bool, List, [], ◌∷◌, Option, Some, None, option_map, option_and_then, nat_lt}
 use Rattle.std.specs.Prelude.{if◌then◌else◌}
 use Rattle.std.specs.Option.{option_map_or}
@@ -12,14 +12,15 @@ use Rattle.regress_program.specs.CompilationOfTreesAsFunction.{compiled}
 use Rattle.regress_machine.specs.Machine.{State, running, Found, search}
 use Rattle.regress_machine.specs.SearchFindsFirstOutcomeAtPlace.{first_pair, end_in_offsets, sufficient_turns_at}
 
--- The end and the groups of the first outcome at an offset, in offsets, if there is one.
+-- The end (an offset) and the groups of the first outcome at an offset. `None` if there is no
+-- outcome.
 abbrev pub match_end_and_groups_at : Tree → Text → (at : ℕ) → Option (ℕ × Groups)
 match_end_and_groups_at tree text at =
     option_and_then (λ place. option_map (end_in_offsets text) (first_pair (items_at tree text place)))
     (place_at text at)
 
--- The offset at which the list continues after a match: its end, or one character further if it is
--- empty.
+-- The offset at which the list of matches continues after a match. It is the end of the match, or
+-- one character further if the match is empty.
 abbrev pub next_search_offset : Text → (start end : ℕ) → Option ℕ
 next_search_offset text start end = if nat_lt start end then Some end
     else option_map (λ r. r.1) (read text rightwards end)
@@ -35,13 +36,13 @@ search_from tree text at direction s =
 
 -- ---- The offsets to try
 
--- The offset to try after one without a match: none if matches are only at the left end, and
--- otherwise one character further.
+-- The next offset to try after an attempt without a match: one character further. `None` if matches
+-- begin only at the left end of the text.
 abbrev pub offset_after_failed_attempt : (anchored : Bool) → Text → (at : ℕ) → Option ℕ
 offset_after_failed_attempt anchored text at = if anchored then None
     else option_map (λ r. r.1) (read text rightwards at)
 
--- An end together with its groups, if there is an end.
+-- An end as an offset, together with the groups. `None` if there is no end.
 abbrev pub end_with_groups : {P : Type 0} → (offset : P → ℕ) → Option P → Groups → Option (ℕ × Groups)
 end_with_groups offset end groups = option_map (λ e. (offset e, groups)) end
 
@@ -49,40 +50,40 @@ end_with_groups offset end groups = option_map (λ e. (offset e, groups)) end
 abbrev pub NoMatchAt : Tree → Text → (at : ℕ) → Type 0
 NoMatchAt tree text at = match_end_and_groups_at tree text at ≡ None
 
--- No match begins at `from` or later and before `to`.
+-- No match begins at an offset that is `from` or more and less than `to`.
 abbrev pub NoMatchStartsBetween : Tree → Text → (from to : ℕ) → Type 0
 NoMatchStartsBetween tree text from to = (at : ℕ) → IsBoundary text at → from ≤ at → at < to → NoMatchAt tree text at
 
--- The next offset to try from `from` on, before which no match begins; none if none begins from
--- there on.
+-- `next` is the next offset to try, at `from` or later, and no match begins between `from` and
+-- `next`. If `next` is `None`, no match begins at `from` or later.
 abbrev pub NextStartSkipsNoMatch : Tree → Text → (from : ℕ) → (next : Option ℕ) → Type 0
 NextStartSkipsNoMatch tree text from None = NoMatchStartsBetween tree text from (units text + 1)
 NextStartSkipsNoMatch tree text from (Some to) = IsBoundary text to × (from ≤ to)
     × NoMatchStartsBetween tree text from to
 
--- ---- Counted steps
+-- ---- Where steps are counted
 
--- The number of ticks of the ticked list at an offset, up to its first outcome.
+-- The number of ticks that the attempt at an offset takes before its first outcome.
 abbrev pub ticks_of_attempt_at : Tree → Text → (at : ℕ) → ℕ
 ticks_of_attempt_at tree text at =
     option_map_or (λ place. ticks_to_first (items_at tree text place)) (place_at text at) 0
 
--- The offset of the first of these places.
+-- The offset of the first place in a list.
 abbrev pub first_of_places : Text → List ℕ → Option ℕ
 first_of_places text [] = None
 first_of_places text (place ∷ places) = Some (offset text place)
 
--- The first offset from `at` on that is tried, where steps are counted.
+-- The first offset at `at` or later that a search with counted steps tries.
 abbrev pub first_filtered_start : Tree → Text → (at : ℕ) → Option ℕ
 first_filtered_start tree text at = option_and_then
     (λ place. first_of_places text (tried_places tree text (start_predicate tree) place)) (place_at text at)
 
--- The offset that is tried after one without a match, where steps are counted.
+-- The next offset that a search with counted steps tries after an attempt without a match.
 abbrev pub filtered_start_after : StartPredicate → Tree → Text → (at : ℕ) → Option ℕ
 filtered_start_after start_anchored tree text at = None
 filtered_start_after _ tree text at =
     option_and_then (λ r. first_filtered_start tree text r.1) (read text rightwards at)
 
--- `filtered_start_after` with the start predicate of the tree
+-- `filtered_start_after` with the start predicate of the tree.
 abbrev pub next_filtered_start : Tree → Text → (at : ℕ) → Option ℕ
 next_filtered_start tree text at = filtered_start_after (start_predicate tree) tree text at

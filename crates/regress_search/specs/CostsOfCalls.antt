@@ -1,4 +1,4 @@
--- What the calls of an iterator within a limit of work return and cost.
+-- What a call of an iterator with a work limit returns and costs.
 use Rattle.std.specs.Prelude.{◌≡◌, ◌≤◌, ℕ, Bool, Option, Some, None, Result, Ok, Err}
 use Rattle.regex_meaning.specs.Tree.{Tree}
 use Rattle.regex_meaning.specs.Text.{Text}
@@ -9,9 +9,9 @@ use Rattle.regress_search.specs.RemainingAnswers.{RemainingView}
 use Rattle.regress_search.specs.MatchesWithinWork.{RemainingAnswersAndWork, NextYieldsWithinWork}
 use Rattle.regress_search.specs.CostsOfSearches.{ContinuesAfterCall, CostsMoreThanLeft, Failures, SearchCosts, TakesExactCost}
 
--- What contracts see of an iterator: the answers still to come, the amount of work that may still be
--- done, and whether the work limit is enough for all of them. The cost of the next call depends on the
--- producer and on the offset at which the list continues.
+-- What contracts see of an iterator: the answers still to come, how much work may still be done,
+-- and whether that is enough for all of them. The cost of the next call depends on the producer and
+-- on the offset at which the list continues.
 pub record WorkMatchesView (P : Type 0) : Type 0 where
   pub remaining : RemainingView
   pub left : ℕ
@@ -19,13 +19,13 @@ pub record WorkMatchesView (P : Type 0) : Type 0 where
   pub producer : P
   pub position : Option ℕ
 
--- The view without the producer and the offset.
+-- The part of the view that does not determine the cost of the next call.
 abbrev pub without_costs : {P : Type 0} → WorkMatchesView P → RemainingAnswersAndWork
 without_costs v = record { remaining = v.remaining; left = v.left; enough = v.enough }
 
--- The work of one call, whose search costs `costs`. It takes exactly the cost of the search from the
--- work that was left. It returns `WorkLimit` only if a part of the search costs more than was left.
--- After an allocation failure, no more work is left than before.
+-- The work that one call does, if its search has the cost `costs`. A complete search takes exactly
+-- its cost from the work that was left. `WorkLimit` is returned only if a part of the search costs
+-- more than was left. An allocation failure never increases the work that is left.
 abbrev pub CostsInWork : (costs : (cost : ℕ) → (after : Option Failures) → Type 0) → (left : ℕ)
     → Option (Result Match WorkError) → (left' : ℕ) (after : Failures) → Type 0
 CostsInWork costs left None left' after = TakesExactCost costs left left' after
@@ -35,11 +35,11 @@ CostsInWork costs left (Some (Err WorkLimit)) left' after = CostsMoreThanLeft co
 
 module _ {P : Type 0} (attempt_costs : Tree → Text → (before : Failures) → (at cost : ℕ) → (after : Option Failures)
     → Type 0) (tree : P → Tree) (text : P → Text) (failures : P → Failures) where
-  -- What the next call costs: the search from the offset on at which the list continues.
+  -- The cost of the next call: a search from the offset at which the list continues.
   abbrev pub NextCosts : WorkMatchesView P → (cost : ℕ) → (after : Option Failures) → Type 0
   NextCosts s = SearchCosts attempt_costs (tree s.producer) (text s.producer) (failures s.producer) s.position
 
-  -- The effect of one call, its work, and where the list continues.
+  -- The effect of one call: what it returns, what it costs, and where the list continues.
   abbrev pub NextYieldsAtCost : WorkMatchesView P → Option (Result Match WorkError) → WorkMatchesView P → Type 0
   NextYieldsAtCost s result t =
       NextYieldsWithinWork (without_costs s) result (without_costs t)

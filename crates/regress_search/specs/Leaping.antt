@@ -1,4 +1,4 @@
--- Where leaps lead.
+-- Where a leap leads: how far a search may advance because each match has to reach a goal.
 use Rattle.std.specs.Prelude.{◌≡◌, ◌≤◌, ◌<◌, ℕ, ◌-◌, Bool, true, false, Option, Some, None}
 use Rattle.regex_meaning.specs.CodeUnitOffsets.{IsBoundary}
 use Rattle.regress_program.specs.declared.leap.Leap.{Leap}
@@ -8,32 +8,34 @@ use Rattle.regress_search.specs.TreePlanAndText.{SearchInput}
 use Rattle.regress_search.specs.declared.leaping.LeapTarget.{LeapTarget}
 
 module _ (w : SearchInput) (leap : Leap) where
-  -- Whether the unit at an offset may be passed.
+  -- Whether a match may read the unit at an offset before it reaches the goal.
   abbrev pub is_passed_at : (at : ℕ) → Bool
   is_passed_at at = may_read_before_goal (leap_to_goal leap) w.encoding w.text at
 
 module _ (w : SearchInput) (leap : Leap) (from goal : ℕ) where
-  -- The first offset from `from` on such that the units from there up to the goal may be passed.
+  -- `at` is the first offset at `from` or later such that a match may read all units between `at`
+  -- and the goal.
   pub record IsFirstOfPassedUnits (at : ℕ) : Type 0 where
     pub ahead : from ≤ at
     pub before : at ≤ goal
     pub passed : at < goal → is_passed_at w leap at ≡ true
     pub barred : from < at → is_passed_at w leap (at - 1) ≡ false
 
-  -- Between each offset from `from` on and before `to`, and the goal, there is a barrier.
+  -- Between each offset from `from` up to `to` and the goal, there is a barrier: a unit that a
+  -- match may not read before the goal.
   pub record IsPastBarrier (to : ℕ) : Type 0 where
     pub boundary : IsBoundary w.text to
     pub ahead : from ≤ to
     pub barred : (at : ℕ) → from ≤ at → at < to → HasBarrierBetween (leap_to_goal leap) w.encoding w.text at goal
 
 module _ (w : SearchInput) (leap : Leap) (from : ℕ) where
-  -- The next goal from `from` on, and an offset behind a barrier.
+  -- The target has the next goal at `from` or later, and an offset past the last barrier before it.
   pub record LeadsTo (target : LeapTarget) : Type 0 where
     pub occurs : goal_occurs_at (leap_to_goal leap) w.encoding w.text target.goal ≡ true
     pub absent : GoalIsAbsentBetween (leap_to_goal leap) w.encoding w.text from target.goal
     pub behind : IsPastBarrier w leap from target.goal target.to
 
-  -- Where a leap leads; there is no goal from `from` on without a target.
+  -- The target of a leap. `None` if there is no goal at `from` or later.
   abbrev pub LeapLeads : Option LeapTarget → Type 0
   LeapLeads None = GoalIsAbsentFrom (leap_to_goal leap) w.encoding w.text from
   LeapLeads (Some target) = LeadsTo target

@@ -1,16 +1,17 @@
--- What a caller sees of executors.
+-- What contracts say about new executors and about ASCII texts.
 use Rattle.std.specs.Borrow.{Bor}
 use Rattle.std.specs.Prelude.{◌≡◌, ℕ, Bool, List, None, IsAscii}
 use Rattle.regex_meaning.specs.Text.{Text, ascii_text}
 use Rattle.regex_meaning.specs.Tree.{Tree}
 use Rattle.regress_search.specs.declared.exec.MatchProducer.{Ghosts}
 
--- A new executor searches the tree in the text, read by the tree's flags, without a limit of steps.
+-- A new executor searches for the tree in the text, has no step limit, and reads the text as the
+-- flag `unicode` of the tree says.
 abbrev pub IsNewExecutor : {E P : Type 0} → Ghosts E P → Tree → (text_of : (unicode : Bool) → Text) → E → Type 0
 IsNewExecutor ghosts tree text_of e =
     (ghosts.tree e ≡ tree) × (ghosts.text e ≡ text_of tree.flags.unicode) × (ghosts.budget e ≡ None)
 
--- The executor takes each ASCII text.
+-- The executor can search each ASCII text.
 abbrev pub CanSearchAllAsciiTexts : (can_search : Bor (List ℕ) → Type 0) → Type 0
 CanSearchAllAsciiTexts can_search = (text : Bor (List ℕ)) → IsAscii text.now → can_search text
 

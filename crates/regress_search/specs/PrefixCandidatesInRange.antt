@@ -5,10 +5,10 @@ use Rattle.regress_search.specs.TreePlanAndText.{SearchInput}
 use Rattle.regress_search.specs.StartSearch.{prefix_fits_at}
 use Rattle.regress_search.specs.MarkedOffsets.{NonePasses, IsFirstPassing}
 
--- The prefix may not occur at any offset from `from` on and before `to`.
+-- The prefix may occur at no offset that is `from` or more and less than `to`.
 abbrev pub NoPrefixFitsBetween : SearchInput → Prefix → (from to : ℕ) → Type 0
 NoPrefixFitsBetween w prefix from to = NonePasses (prefix_fits_at w prefix) from to
 
--- The first of these offsets where the prefix may occur; `None` if there is none.
+-- The first offset in `from..to` where the prefix may occur. `None` if there is none.
 abbrev pub IsFirstPrefixFitInRange : SearchInput → Prefix → (from to : ℕ) → Option ℕ → Type 0
 IsFirstPrefixFitInRange w prefix from to next = IsFirstPassing (prefix_fits_at w prefix) from to next

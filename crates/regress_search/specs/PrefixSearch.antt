@@ -4,7 +4,7 @@ use Rattle.regex_pattern_front.specs.FirstPassingIndex.{FindsFirstPassingIndex}
 use Rattle.regress_program.specs.declared.required_prefix_types.Prefix.{Prefix}
 use Rattle.regress_program.specs.PrefixesAndPrefilters.{units_allowed_by_prefix, prefix_allows_units_at}
 
--- The first index where all units of the prefix may occur; `None` if there is none.
+-- The first index at which each unit of the prefix may occur. `None` if there is none.
 abbrev pub FindsPrefix : Prefix → (bytes : List ℕ) → Option ℕ → Type 0
 FindsPrefix prefix bytes found = FindsFirstPassingIndex
     (λ at. prefix_allows_units_at (units_allowed_by_prefix prefix) bytes at prefix.len) (length bytes) found

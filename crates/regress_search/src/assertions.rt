@@ -10,7 +10,7 @@ use crate::search_context::position_of_offset;
 use regress_input::indexing::InputIndexer;
 use regress_program::ops::WordBoundaryKind;
 
-/// Checks whether a line starts at `at`. Without `multiline`, only the start of the text counts.
+/// Checks whether a line starts at `at`. Without `multiline`, this is only the start of the text.
 #[inline(always)]
 pub fn is_line_start_at_offset<Input: InputIndexer>(
     input: &Input,
@@ -23,7 +23,7 @@ pub fn is_line_start_at_offset<Input: InputIndexer>(
     at_line_start(input, multiline, position_of_offset(input, at))
 }
 
-/// Checks whether a line ends at `at`. Without `multiline`, only the end of the text counts.
+/// Checks whether a line ends at `at`. Without `multiline`, this is only the end of the text.
 #[inline(always)]
 pub fn is_line_end_at_offset<Input: InputIndexer>(input: &Input, multiline: bool, at: usize) -> bool
     requires { IsBoundary (Input.text input.now) at }
@@ -32,7 +32,7 @@ pub fn is_line_end_at_offset<Input: InputIndexer>(input: &Input, multiline: bool
     at_line_end(input, multiline, position_of_offset(input, at))
 }
 
-/// Checks whether a word boundary is at `at`, or with `edge.invert`, that none is.
+/// Checks whether there is a word boundary at `at`. With `edge.invert`, checks that there is none.
 #[inline(always)]
 pub fn is_word_boundary_at_offset<Input: InputIndexer>(
     input: &Input,

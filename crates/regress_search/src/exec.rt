@@ -1,4 +1,4 @@
-//! Finding matches one after another.
+//! Matches, the iterator over them, and the traits of executors.
 
 ghost use Rattle.std.specs.Prelude.{◌≡◌, ◌≤◌, ℕ, ⊤, Bool, true, false, Option, map, option_map, IfOk, IfErr, OnErr, OnSome, IfNone, if◌then◌else◌, not};
 ghost use Rattle.std.specs.Prelude.{Some, None, string_bytes};
@@ -32,7 +32,7 @@ pub enum SearchError {
     /// An allocation failed.
     #[error("out of memory")]
     Memory,
-    /// The step limit is reached. This never occurs without a limit.
+    /// The step limit was reached. This occurs only if there is a limit.
     #[error("the step limit is reached")]
     StepLimit,
 }
@@ -47,12 +47,12 @@ impl From<AllocError> for SearchError {
     }
 }
 
-/// A match: its range in the text and the ranges of its groups, in code units.
+/// A match: its range and the ranges of its groups, in code units of the text.
 #[derive(Debug, Drop)]
 pub struct Match {
     /// The range of the whole match.
     pub range: Range<usize>,
-    /// The ranges of the groups by id, `None` for a group that did not match.
+    /// The ranges of the groups by id. The range is `None` if the group did not match.
     pub captures: Vec<Option<Range<usize>>>,
     names: GroupNames,
 }
@@ -60,8 +60,8 @@ pub struct Match {
 impl Match {
     ghost use Rattle.regress_search.specs.MatchesAsSpecAnswers.{answer_of, range_as_pair};
 
-    /// Makes a match from its range, the ranges of its groups and the names by id, as they are
-    /// given.
+    /// Creates a match from its range, the ranges of its groups and the names by id. They are not
+    /// checked.
     pub fn from_parts(
         range: Range<usize>,
         captures: Vec<Option<Range<usize>>>,
@@ -76,7 +76,7 @@ impl Match {
         Match::from_parts_with_shared_names(range, captures, GroupNames::from_owned_names(names))
     }
 
-    // Makes a match from its parts, with names that others may share.
+    // Creates a match whose names are shared with other matches.
     pub(crate) fn from_parts_with_shared_names(
         range: Range<usize>,
         captures: Vec<Option<Range<usize>>>,
@@ -96,9 +96,9 @@ impl Match {
     }
 }
 
-/// A searcher for the matches of a pattern in a text, one at a time. Contracts see the pattern's
-/// tree, the text, the steps that it may still take (none if there is no limit), and whether its
-/// last search reached the step limit.
+/// A searcher that finds the matches of a pattern in a text, one at a time. Contracts see the
+/// pattern's tree, the text, the steps that are left (`None` without a limit), and whether the last
+/// search reached the step limit.
 pub trait MatchProducer {
     ghost use Rattle.regress_search.specs.MatchesAsSpecAnswers.{answer_of};
 
@@ -113,40 +113,41 @@ pub trait MatchProducer {
 
     ghost out_of_steps: { Self → Bool } = { λ _. false };
 
-    // The work limit is enough for attempts in ascending order of offsets, each at `ahead` or later.
+    // Whether the work limit suffices for attempts in ascending order of offsets, each at `ahead`
+    // or later.
     ghost enough: { Self → Bool } = { λ _. true };
 
     ghost ahead: { Self → ℕ } = { λ _. 0 };
 
     ghost out_of_work: { Self → Bool } = { λ _. false };
 
-    // The amount of work that may still be done, where work is counted.
+    // The work that is left, if work is counted.
     ghost left: { Self → ℕ } = { λ _. 0 };
 
     // Whether work is counted.
     ghost counts_work: { Bool } = { false };
 
-    // The failures that are known, on which the costs of attempts depend.
+    // The failures that are known. The costs of attempts depend on them.
     ghost failures: { Self → Failures } = { λ _ _ _ _. false };
 
-    // What an attempt costs (`CostsOfSearches`), where work is counted.
+    // What an attempt costs, if work is counted (see `CostsOfSearches`).
     ghost attempt_costs: { Tree → Text → Failures → (at cost : ℕ) → Option Failures → Type 0 } = { λ _ _ _ _ _ _. ⊤ };
 
-    /// Returns the position of an offset in code units, which is a boundary or past the end.
-    /// Returns `None` if it is past the end.
+    /// Returns the position of an offset in code units. The offset is a boundary, or past the end
+    /// of the text; then the result is `None`.
     fn initial_position(&self, offset: usize) -> Option<Self::Position>
         requires { IsBoundaryOrPastEnd (text self.now) offset }
         ensures { option_map Self.Position.offset result
             ≡ offset_within (text self.now) offset };
 
-    /// Finds the first match from a position on. `next_start` becomes the position at which the
-    /// list of matches continues, or `None` if it ends. It is unchanged if there is no match or an
-    /// error occurs.
+    /// Finds the first match at a position or later. `next_start` becomes the position at which the
+    /// list of matches continues, or `None` if the list ends. It is unchanged if there is no match
+    /// or an error occurs.
     ///
     /// # Errors
     ///
-    /// Returns `StepLimit` if more steps are needed than are left, and then none are left. Returns
-    /// `Memory` if an allocation fails, and the steps taken until then stay spent.
+    /// Returns `StepLimit` if the search needs more steps than are left; then no steps are left.
+    /// Returns `Memory` if an allocation fails; the steps taken before that are spent.
     fn next_match(
         &mut self,
         pos: Self::Position,
@@ -174,21 +175,21 @@ pub trait MatchProducer {
     ghost is_text: { (it : Self) → HasRisingPlaceOffsets (text it) };
 }
 
-/// A producer of matches that is made of a program and a text. `can_search` says which texts it
-/// takes. `text_of` gives the characters that it reads in a text, depending on the flag `unicode`.
+/// A producer of matches that is created from a program and a text. `can_search` says which texts
+/// it can search. `text_of` gives the characters that it reads, depending on the flag `unicode`.
 pub trait ProducerFromProgramAndText<'r>: MatchProducer {
-    /// The text as it is given, with its lifetime.
+    /// The type of texts that it searches.
     type Text;
 
     ghost can_search: { Self.Text → Type 0 };
 
     ghost text_of: { Self.Text → (unicode : Bool) → Text };
 
-    /// Searches `text` with the program `re`.
+    /// Creates a producer that searches `text` with the program `re`.
     ///
     /// # Errors
     ///
-    /// Returns `Err` if the allocation of what the producer holds from the start fails.
+    /// Returns `Err` if an allocation fails.
     fn new(re: &'r CompiledRegex, text: Self::Text) -> Result<Self, AllocError>
     where
         Self: Sized,
@@ -198,15 +199,15 @@ pub trait ProducerFromProgramAndText<'r>: MatchProducer {
         ensures unlimited { IfOk result (λ e. Self.budget e ≡ None) };
 }
 
-/// An executor that runs a program for bytes over a `str`. `new` of `ProducerFromProgramAndText` makes one.
+/// An executor that runs a program for bytes on a `str`. It is created by `new` of
+/// `ProducerFromProgramAndText`.
 pub trait Executor<'r, 't>: ProducerFromProgramAndText<'r, Text = &'t str> {
-    /// The executor of this kind over ASCII texts. A function that needs it to be an executor says
-    /// so in its bounds.
+    /// The same executor for ASCII texts. A function that uses it as an executor states this in its
+    /// bounds.
     type AsAscii;
 }
 
-/// An iterator over the matches of a pattern in a text from a start on. Contracts see the answers
-/// still to come.
+/// An iterator over the matches of a pattern in a text. Contracts see the answers still to come.
 #[derive(Drop)]
 pub struct Matches<P: MatchProducer> {
     producer: P,
@@ -223,8 +224,8 @@ impl<P: MatchProducer> Model for Matches<P> {
 }
 
 impl<P: MatchProducer> Matches<P> {
-    /// Iterates over the matches from an offset in code units on, which is a boundary or past the
-    /// end. Past the end there are none.
+    /// Creates an iterator over the matches at `start` or later. `start` is an offset in code
+    /// units. It is a boundary, or past the end of the text, where there are no matches.
     pub fn new(producer: P, start: usize) -> Self
         requires { IsBoundaryOrPastEnd (P.text producer) start }
         ensures answers { result.answers
@@ -246,15 +247,14 @@ impl<P: MatchProducer + Drop> Iterator for Matches<P> {
 
     ghost remaining = { λ s. at_most (max_items_left s) };
 
-    /// Returns the next match. Once there is no other match, or after an error, it always returns
-    /// `None`.
+    /// Returns the next match. After the last match and after an error, it returns `None`.
     fn next(&mut self) -> Option<Result<Match, SearchError>> {
         advance_matches(&mut self.producer, &mut self.position)
     }
 }
 
-// Returns the next match from a position on, if there is one. The position becomes the one at which
-// the list continues, or `None` if it ends.
+// Returns the first match at a position or later. The position becomes the one at which the list of
+// matches continues, or `None` if the list ends.
 fn advance_matches<P: MatchProducer>(
     producer: &mut P,
     position: &mut Option<P::Position>,
@@ -296,8 +296,7 @@ fn advance_matches<P: MatchProducer>(
     }
 }
 
-/// After a match at the end of the text, which is empty, nothing more is searched: the next call
-/// returns `None` and allocates no memory.
+/// After a match at the end of the text, which is empty, the next call returns `None`.
 pub fn match_at_text_end_is_last()
     ensures { EndsAtTextEnd }
 {}

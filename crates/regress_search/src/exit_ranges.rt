@@ -7,14 +7,15 @@ ghost use Rattle.regress_input.specs.CharAndByteReadsFromOffset.{past, direction
 use crate::search_context::{SearchContext, offset_in_searched_text, position_in_searched_text};
 use regress_input::indexing::InputIndexer;
 
-/// The nearest and the furthest exit of a char loop, after the fewest and the most characters.
+/// The nearest exit of a char loop, after the minimum number of characters, and the furthest one,
+/// after the maximum number.
 #[derive(Clone, Copy)]
 pub struct NearestAndFurthestExit {
     pub near: usize,
     pub far: usize,
 }
 
-/// A range of offsets, the preferred one first.
+/// A range of offsets that begins with the preferred one.
 #[derive(Clone, Copy)]
 pub struct OffsetRangeInPreferenceOrder {
     pub first: usize,

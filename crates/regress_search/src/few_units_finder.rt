@@ -1,4 +1,4 @@
-//! Search for one of a few code units.
+//! Searches for one of a few code units.
 
 ghost use Rattle.std.specs.Prelude.{◌≡◌, take, length};
 ghost use Rattle.regex_meaning.specs.NumberListHelpers.{contains};
@@ -7,7 +7,7 @@ ghost use Rattle.regex_pattern_front.specs.FirstPassingIndex.{FindsFirstPassingI
 use memchr::{memchr, memchr2, memchr3};
 use regress_input::front::ByteSearcher;
 
-/// The first `len` of these code units.
+/// A set of code units: the first `len` of the array.
 #[derive(Clone, Copy)]
 pub(crate) struct FewUnitsFinder {
     pub(crate) units: [u8; 3],
@@ -15,7 +15,7 @@ pub(crate) struct FewUnitsFinder {
 }
 
 impl FewUnitsFinder {
-    /// Checks whether a code unit is one of them.
+    /// Checks whether the set has a code unit.
     #[inline(always)]
     pub(crate) fn has(&self, unit: usize) -> bool
         ensures { result ≡ contains (take self.now.len self.now.units) unit }
@@ -48,7 +48,7 @@ impl ByteSearcher for FewUnitsFinder {
     }
 }
 
-// Returns the index of the first of three bytes.
+// Returns the first index at which one of three bytes occurs.
 #[inline(always)]
 fn first_of_three(units: [u8; 3], bytes: &[u8]) -> Option<usize>
     ensures { FindsFirstPassingIndex (is_member_byte_at_index units bytes.now) (length bytes.now) result }

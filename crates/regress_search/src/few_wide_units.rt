@@ -1,4 +1,4 @@
-//! Search for one of a few 16-bit code units.
+//! Searches for one of a few 16-bit code units.
 
 ghost use Rattle.std.specs.Prelude.{◌≡◌, ◌≢◌, ◌≤◌, ◌||◌, max, true, false};
 ghost use Rattle.std.specs.List.{list_all};
@@ -15,7 +15,7 @@ use crate::few_units_finder::FewUnitsFinder;
 use crate::search_by_marks::{OffsetTest, first_by_marks, units_with_bits};
 use crate::search_context::{SearchContext, text_end};
 
-/// The units that have, of the bits in `mask`, exactly those in `bits`.
+/// The units whose bits under `mask` are exactly `bits`.
 #[derive(Clone, Copy)]
 struct UnitBits {
     mask: u16,
@@ -38,7 +38,7 @@ impl<W: SearchContext> OffsetTest<W> for UnitBits {
     }
 }
 
-/// The unit with this number. A mask that is known at compile time takes fewer instructions.
+/// The test for one unit. Its mask is known at compile time, which takes fewer instructions.
 #[derive(Clone, Copy)]
 struct OneUnit {
     unit: u16,
@@ -60,7 +60,7 @@ impl<W: SearchContext> OffsetTest<W> for OneUnit {
     }
 }
 
-/// A test that passes where one of two tests passes.
+/// The test that passes where one of two tests passes.
 #[derive(Clone, Copy)]
 struct Either<A, B> {
     a: A,
@@ -89,7 +89,8 @@ const PAIRS: UnitBits = UnitBits {
     bits: 0xD800,
 };
 
-// Returns the 16-bit units with a key other than 128. Bits do not tell the units from 128 to 511.
+// Returns the bits of the 16-bit units with a key other than 128. No bits identify the units with
+// key 128, from 128 to 511.
 #[inline(always)]
 fn units_of_key(key: u8) -> UnitBits
     ensures { key ≢ 128 → BitsIdentifyUnitsOfKey result key }
@@ -107,7 +108,8 @@ fn units_of_key(key: u8) -> UnitBits
     }
 }
 
-/// Checks whether bits tell the 16-bit units with these keys, and none of the units ends a pair.
+/// Checks whether bits identify the 16-bit units with each of these keys, and none of these units
+/// ends a surrogate pair.
 #[inline(always)]
 pub(crate) fn are_told_by_bits(few: FewUnitsFinder) -> bool
     ensures { result ≡ list_all is_told few.units }
@@ -116,7 +118,7 @@ pub(crate) fn are_told_by_bits(few: FewUnitsFinder) -> bool
     bits_identify_key(a) && bits_identify_key(b) && bits_identify_key(c)
 }
 
-// Checks whether bits tell the 16-bit units with a key, and none of them ends a pair.
+// Checks whether bits identify the 16-bit units with a key, and none of them ends a surrogate pair.
 #[inline(always)]
 fn bits_identify_key(key: u8) -> bool
     ensures { result ≡ is_told key }
@@ -124,7 +126,7 @@ fn bits_identify_key(key: u8) -> bool
     key != 128 && key != 238 && key != 239
 }
 
-// Returns the first of the offsets `from..to` of a unit with these bits.
+// Returns the offset of the first unit in `from..to` with these bits.
 #[inline(always)]
 fn first_with_bits<W: SearchContext>(
     context: &W,
@@ -144,7 +146,7 @@ fn first_with_bits<W: SearchContext>(
     }
 }
 
-/// Returns the first offset from `from` on of a 16-bit unit with one of these keys.
+/// Returns the offset of the first 16-bit unit at `from` or later that has one of these keys.
 #[inline(always)]
 pub(crate) fn next_wide<W: SearchContext>(
     context: &W,
@@ -177,7 +179,7 @@ pub(crate) fn next_wide<W: SearchContext>(
     }
 }
 
-/// Returns the first offset from `from` on of a 16-bit unit with one of these keys, or of one that may
+/// Returns the offset of the first 16-bit unit at `from` or later that has one of these keys or may
 /// begin a surrogate pair.
 #[inline(always)]
 pub(crate) fn next_wide_or_pair<W: SearchContext>(

@@ -20,7 +20,7 @@ use regress_program::insn::{Insn, Program};
 
 // ---- One character
 
-/// Returns the bytes of an instruction that has some.
+/// Returns the bytes of an instruction that reads a byte sequence.
 #[inline(always)]
 pub fn bytes_of_literal_insn(insn: &Insn) -> &[u8]
     requires { IsTrue (is_byte_sequence_insn (insn_as_spec_insn insn.now)) }
@@ -32,7 +32,7 @@ pub fn bytes_of_literal_insn(insn: &Insn) -> &[u8]
     }
 }
 
-// Checks whether these are the UTF-8 bytes of the character.
+// Checks whether `bytes` are the UTF-8 encoding of the character.
 fn spells(c: u32, bytes: &[u8]) -> bool
     requires { IsTrue (is_scalar c) }
     ensures { result ≡ pointwise nat_eq (encode_utf8_all (c ∷ [])) bytes.now }
@@ -55,7 +55,7 @@ fn bracket_has<Input: InputIndexer>(program: &Program, index: usize, c: Input::E
     Input::CharProps::bracket(&program.brackets()[index], c)
 }
 
-/// Checks whether the instruction, which reads one character, accepts `c`.
+/// Checks whether an instruction that reads one character accepts `c`.
 #[inline(always)]
 pub fn accepts<Input: InputIndexer>(insn: Insn, program: &Program, c: Input::Element) -> bool
     requires test { IsSome (char_test_of_insn program.now insn) }
@@ -82,7 +82,8 @@ pub fn accepts<Input: InputIndexer>(insn: Insn, program: &Program, c: Input::Ele
 
 // ---- Assertions
 
-// Checks whether there is no character on this side or, with `multiline`, a line terminator.
+// Checks whether `beside`, the character next to a position, is missing or, with `multiline`, a
+// line terminator.
 #[inline(always)]
 fn is_line_edge<Input: InputIndexer>(beside: Option<Input::Element>, multiline: bool) -> bool
     ensures { result ≡ is_line_boundary (option_map (λ e. Input.Element.number e) beside) multiline }
@@ -93,7 +94,7 @@ fn is_line_edge<Input: InputIndexer>(beside: Option<Input::Element>, multiline: 
     }
 }
 
-// Checks whether there is a word character on this side.
+// Checks whether `beside`, the character next to a position, is a word character.
 #[inline(always)]
 fn is_word<Input: InputIndexer>(beside: Option<Input::Element>, unicode_icase: bool) -> bool
     ensures { result ≡ is_some_and (option_map (λ e. Input.Element.number e) beside) (is_word_char unicode_icase) }
@@ -136,7 +137,7 @@ pub fn at_line_end<Input: InputIndexer>(
     is_line_edge::<Input>(input.peek_right(pos), multiline)
 }
 
-/// Checks whether the position is a word boundary, or with `invert`, that it is none.
+/// Checks whether the position is a word boundary. With `invert`, checks that it is not one.
 #[inline(always)]
 pub fn passes_word_boundary<Input: InputIndexer>(
     input: &Input,
@@ -156,8 +157,8 @@ pub fn passes_word_boundary<Input: InputIndexer>(
 // ---- More than one character
 
 /// Checks whether the characters between two boundaries occur again in the direction. If so, the
-/// position is moved past them, and otherwise it is unspecified. There are no characters if `end`
-/// is at `start` or before it.
+/// position is moved past them; otherwise it is unspecified. If `end` is not after `start`, there
+/// are no characters.
 #[inline(always)]
 pub fn backref_matches<Input: InputIndexer, Dir: Direction>(
     start: Input::Position,

@@ -1,21 +1,28 @@
-//! The end of the char loop with which each match begins, if there is one.
+//! Skips the char loop or the word characters with which each match begins, or the units before a
+//! repeated character with which each match begins.
 
-ghost use Rattle.std.specs.Prelude.{◌≡◌, true, Some, option_and_then, slice_get};
+ghost use Rattle.std.specs.Prelude.{◌≡◌, ◌≤◌, ◌<◌, ◌+◌, ℕ, true, false, Some, IfSome, option_and_then, option_map, slice_get};
 ghost use Rattle.regex_meaning.specs.CodeUnitOffsets.{IsBoundary, units};
 ghost use Rattle.regress_machine.specs.SearchFindsFirstOutcomeAtPlace.{TreeProgramCanSearchText};
 ghost use Rattle.regress_program.specs.{Plans.{op_as_char_loop}, LeadingCharLoops.{OnlyOpensGroups}};
-ghost use Rattle.regress_search.specs.{DeadThreads.{MatchFailureExtendsUntil}, CharLoopExits.{HasAdvancedTo, ClassFitsText}, TreePlanAndText.{program_of}};
+ghost use Rattle.regress_search.specs.{DeadThreads.{MatchFailureExtendsUntil, BeginsWithRepeatedChar, IsUnrepeated}, CharLoopExits.{HasAdvancedTo, ClassFitsText}, TreePlanAndText.{program_of}};
 
+use crate::class_char_and_table_lookups::unit_at_offset;
 use crate::class_scan::{scan_chars_of_class_end, scan_single_unit_chars};
 use crate::search_context::{SearchContext, text_end};
+use crate::unit_runs::{KeyTest, count_passing};
 use regress_input::cursor::Forward;
+use regress_input::front::Sameness;
+use regress_input::indexing::{CodeUnitEncoding, HasUnitType};
 use regress_program::char_class_tables::Class;
-use regress_program::ops::CharLoop;
+use regress_program::ops::{CharLoop, Op, WordBoundaryKind};
 
-/// Returns the end of the char loop with which each match begins, scanned from `from`, where
-/// `opens` groups are opened before it. If no match begins at `from`, none begins before that end,
-/// because it would continue where one from `from` continues. Returns `from` itself if matches begin
-/// with no char loop, or if its maximum is less than the length of the text.
+/// Each match begins with the char loop after `opens` instructions that open groups, or with a word
+/// boundary. Returns the offset at which this loop, or a run of word characters, ends if it begins
+/// at `from`. If no match begins at `from`, no match begins before the returned offset: it would
+/// continue where a match from `from` continues. If each match begins with a repeated character of
+/// one byte, returns the next offset at which a unit is repeated. Returns `from` if matches begin
+/// otherwise, or if the loop's maximum is less than the length of the text.
 #[inline(always)]
 pub fn skip_leading_char_loop<W: SearchContext>(context: &W, opens: usize, from: usize) -> usize
     requires opens { OnlyOpensGroups (W.searching context.now).plan opens }
@@ -27,13 +34,157 @@ pub fn skip_leading_char_loop<W: SearchContext>(context: &W, opens: usize, from:
     let Some(op) = context.op_at(opens) else {
         return from;
     };
+    if let Op::WordEdge(edge) = *op {
+        return past_word(context, opens, edge, from);
+    }
+    if let Op::OpenGroup(_) = *op {
+        return past_unrepeated(context, from);
+    }
     match op.as_char_loop() {
         Some(run) => past_run(context, opens, run, from),
         None => from,
     }
 }
 
-// Returns that end for an existing char loop.
+/// The keys of word characters, which are units below 128.
+struct WordKeys;
+
+impl KeyTest for WordKeys {
+    ghost use Rattle.regex_meaning.specs.Text.{is_word_char};
+
+    ghost key_passes = { λ _ key. is_word_char false key };
+
+    #[inline(always)]
+    fn passes_key(&self, key: usize) -> bool {
+        0x61 <= key && key <= 0x7A
+            || 0x41 <= key && key <= 0x5A
+            || 0x30 <= key && key <= 0x39
+            || key == 0x5F
+    }
+}
+
+// Returns the end of the word characters from `from` on, if each match begins with a word boundary,
+// and no group is opened before it. No word boundary is between two of the characters.
+#[inline(always)]
+fn past_word<W: SearchContext>(
+    context: &W,
+    opens: usize,
+    edge: WordBoundaryKind,
+    from: usize,
+) -> usize
+    requires edge { slice_get (W.searching context.now).plan.ops.items opens ≡ Some (Op.WordEdge edge) }
+    requires at { IsBoundary (W.searching context.now).text from }
+    requires executable { let w = W.searching context.now in TreeProgramCanSearchText (program_of w) w.tree w.text }
+    ensures at { IsBoundary (W.searching context.now).text result }
+    ensures no_match { MatchFailureExtendsUntil (W.searching context.now) from result }
+{
+    if opens != 0 {
+        return from;
+    }
+    if edge.invert {
+        return from;
+    }
+    context.lemma_plan_fits_program();
+    let left = text_end(context) - from;
+    from + count_passing(context, &WordKeys, from, left)
+}
+
+// Returns the first offset from `from` on of a unit that the next one repeats, or the end of the
+// text, if each match begins with a group of a character of one byte that a backreference repeats.
+#[inline(always)]
+fn past_unrepeated<W: SearchContext>(context: &W, from: usize) -> usize
+    requires at { IsBoundary (W.searching context.now).text from }
+    requires executable { let w = W.searching context.now in TreeProgramCanSearchText (program_of w) w.tree w.text }
+    ensures at { IsBoundary (W.searching context.now).text result }
+    ensures no_match { MatchFailureExtendsUntil (W.searching context.now) from result }
+{
+    if !<<W::Input as HasUnitType>::Units as CodeUnitEncoding>::ARE_BYTES {
+        return from;
+    }
+    let Some(number) = repeated_class(context) else {
+        return from;
+    };
+    let Some(class) = class_at(context, number) else {
+        return from;
+    };
+    if !class.single_unit {
+        return from;
+    }
+    context.lemma_plan_fits_program();
+    next_repeated_unit(context, from)
+}
+
+// Returns the class with this number, or `None` if there is none.
+#[inline(always)]
+fn class_at<W: SearchContext>(context: &W, number: u32) -> Option<&Class>
+    ensures { let classes = (W.searching context.now).plan.classes.items in
+        option_map (λ class. class.now) result ≡ slice_get classes number }
+{
+    context.plan().classes.get(number as usize)
+}
+
+// Returns the number of the class of one character in a group with which each match begins, and
+// which a backreference repeats; `None` if matches begin otherwise.
+#[inline(always)]
+fn repeated_class<W: SearchContext>(context: &W) -> Option<u32>
+    ensures { IfSome result (BeginsWithRepeatedChar (W.searching context.now).plan) }
+{
+    let Some(Op::OpenGroup(group)) = context.op_at(0) else {
+        return None;
+    };
+    let Some(Op::One(number)) = context.op_at(1) else {
+        return None;
+    };
+    let Some(Op::CloseGroup(closed)) = context.op_at(2) else {
+        return None;
+    };
+    let Some(Op::MatchBackref(again)) = context.op_at(3) else {
+        return None;
+    };
+    let Sameness::Exact = again.same else {
+        return None;
+    };
+    if *closed == *group && again.slot == *group {
+        Some(*number)
+    } else {
+        None
+    }
+}
+
+// Returns the first offset from `from` on of a unit below 128 that the next one repeats, or the end
+// of the text.
+#[inline(always)]
+fn next_repeated_unit<W: SearchContext>(context: &W, from: usize) -> usize
+    requires { IsBoundary (W.searching context.now).text from }
+    ensures at { IsBoundary (W.searching context.now).text result }
+    ensures alone { (at : ℕ) → from ≤ at → at < result → IsUnrepeated (W.searching context.now) at }
+{
+    let end = text_end(context);
+    let mut at = from;
+    'units: while end - at > 1 {
+        if is_repeated(context, at) {
+            return at;
+        }
+        at += 1;
+    }
+    end
+}
+
+// Checks whether the unit at an offset is below 128, and the next one repeats it.
+#[inline(always)]
+fn is_repeated<W: SearchContext>(context: &W, at: usize) -> bool
+    requires { at + 1 < units (W.searching context.now).text }
+    ensures boundary { result ≡ true → IsBoundary (W.searching context.now).text at }
+    ensures alone { result ≡ false → IsUnrepeated (W.searching context.now) at }
+{
+    let unit = unit_at_offset(context, at);
+    if unit >= 128 {
+        return false;
+    }
+    unit == unit_at_offset(context, at + 1)
+}
+
+// Does the same for a char loop that exists.
 #[inline(always)]
 fn past_run<W: SearchContext>(context: &W, opens: usize, run: CharLoop, from: usize) -> usize
     requires opens { OnlyOpensGroups (W.searching context.now).plan opens }
@@ -54,7 +205,7 @@ fn past_run<W: SearchContext>(context: &W, opens: usize, run: CharLoop, from: us
     far_end(context, class, from)
 }
 
-// Scans over all characters of a class to the right.
+// Returns the offset after all characters of a class to the right.
 #[inline(always)]
 fn far_end<W: SearchContext>(context: &W, class: &Class, from: usize) -> usize
     requires class { ClassFitsText (W.searching context.now) class.now }

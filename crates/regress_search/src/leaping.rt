@@ -1,4 +1,4 @@
-//! Leaps: how far a search may go on without an attempt, by what each match comes to.
+//! Leaps: how far a search may advance without an attempt, because each match has to reach a goal.
 
 ghost use Rattle.std.specs.Prelude.{◌≤◌, ◌≡◌, ◌<◌, true};
 ghost use Rattle.regex_meaning.specs.CodeUnitOffsets.{IsBoundary, units};
@@ -14,16 +14,17 @@ use crate::start_search::next_of_few_units;
 use regress_input::indexing::{CodeUnitEncoding, HasUnitType};
 use regress_program::leap::Leap;
 
-/// Where a leap leads: to the first offset from which a match may come to the next goal.
+/// Where a leap leads: to the first offset from which a match may reach the next goal.
 #[derive(Clone, Copy)]
 pub struct LeapTarget {
-    /// The offset to which the leap leads. No match begins before it.
+    /// No match begins before this offset.
     pub to: usize,
-    /// The offset of the next goal. A match that begins from `to` on, up to there, may come to it.
+    /// The offset of the next goal. A match that begins between `to` and `goal` may reach it.
     pub goal: usize,
 }
 
-/// Returns where a leap leads from an offset on, or `None` if there is no goal.
+/// Returns where a leap from an offset leads. Returns `None` if there is no goal at that offset or
+/// later.
 #[inline(never)]
 pub fn leap_from<W: SearchContext>(context: &W, leap: &Leap, from: usize) -> Option<LeapTarget>
     requires at { IsBoundary (W.searching context.now).text from }
@@ -40,7 +41,7 @@ pub fn leap_from<W: SearchContext>(context: &W, leap: &Leap, from: usize) -> Opt
     }
 }
 
-// Returns the first offset from `from` on of a unit of the goal.
+// Returns the first offset at `from` or later of a unit that is a goal.
 #[inline(always)]
 fn next_goal<W: SearchContext>(context: &W, leap: &Leap, from: usize) -> Option<usize>
     requires at { IsBoundary (W.searching context.now).text from }
@@ -59,8 +60,9 @@ fn next_goal<W: SearchContext>(context: &W, leap: &Leap, from: usize) -> Option<
     }
 }
 
-// Returns an offset from `from` on. No match comes from an offset before it to `goal`, because of a
-// unit that it may not read on the way: the barrier, which is at that offset or before it.
+// Returns an offset at `from` or later. A match that begins at `from` or later and before it does
+// not reach `goal`, because it would have to read a barrier: a unit that it may not read on its way
+// to the goal. The barrier is at the returned offset or just before it.
 #[inline(always)]
 fn behind_barrier<W: SearchContext>(context: &W, leap: &Leap, from: usize, goal: usize) -> usize
     requires from { IsBoundary (W.searching context.now).text from }
@@ -78,8 +80,8 @@ fn behind_barrier<W: SearchContext>(context: &W, leap: &Leap, from: usize, goal:
     if key < 128 { at - 1 } else { at }
 }
 
-// Returns the first offset from `from` on such that all units from there up to `goal` may be
-// passed.
+// Returns the first offset at `from` or later such that a match may read all units between it and
+// `goal`.
 #[inline(always)]
 fn first_passed<W: SearchContext>(context: &W, leap: &Leap, from: usize, goal: usize) -> usize
     requires ahead { from ≤ goal }
@@ -97,7 +99,8 @@ fn first_passed<W: SearchContext>(context: &W, leap: &Leap, from: usize, goal: u
     at
 }
 
-// Checks whether the unit at an offset may be passed. All 16-bit units from 128 on are as 128 is.
+// Checks whether a match may read the unit at an offset on its way to the goal. For 16-bit units,
+// the entry of 128 stands for all units from 128 on.
 #[inline(always)]
 fn is_passed<W: SearchContext>(context: &W, leap: &Leap, at: usize) -> bool
     requires inside { at < units (W.searching context.now).text }

@@ -1,5 +1,5 @@
-//! What all executors share: matches and the iterators over them, executor traits, the search loop
-//! over start positions, the search for candidate starts, and the reading of texts by plans.
+//! What all executors share: matches and iterators over them, the traits of executors, the search
+//! loop over start positions, the search for candidate starts, and reading a text by a plan.
 #![tactic(auto)]
 
 pub mod assertions;

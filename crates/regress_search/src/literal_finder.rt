@@ -1,4 +1,4 @@
-//! The finder of a literal, cached while a text is searched.
+//! The finder of a literal. It is built once and used while a text is searched.
 
 ghost use Rattle.memchr.specs.Find.{FindsNeedle};
 
@@ -6,18 +6,18 @@ use memchr::memmem::{self, Finder};
 use regress_program::plan::CandidateStarts;
 use regress_program::required_prefix_prefilters::RequiredPrefixPrefilter;
 
-/// The maximum length, in code units, of a text in which no literal is searched for. Building the
-/// finder takes as long as scanning such a text.
+/// Up to this length of the text, in code units, no literal is searched for: building the finder
+/// would take as long as scanning the text.
 pub(crate) const LONG: usize = 1024;
 
-/// A finder of the bytes known at the start of each match. It is built once for a long text.
+/// A finder of the bytes with which each match begins. It is built once if the text is long.
 #[derive(Drop)]
 pub struct StartLiteralFinder<'p> {
     finder: Option<Finder<'p>>,
 }
 
 impl<'p> StartLiteralFinder<'p> {
-    /// Creates the finder of a search with this start in a text of `units` code units.
+    /// Creates the finder for the start condition `start` in a text of `units` code units.
     pub fn new(start: &'p CandidateStarts, units: usize) -> Self {
         if units <= LONG {
             return StartLiteralFinder { finder: None };
@@ -29,8 +29,8 @@ impl<'p> StartLiteralFinder<'p> {
         StartLiteralFinder { finder }
     }
 
-    /// Returns the first index where the literal `row` occurs. Uses the cached finder if it
-    /// searches for `row`.
+    /// Returns the first index at which the literal `row` occurs. It uses the cached finder if that
+    /// finder is one of `row`.
     #[inline(always)]
     pub fn find(&self, row: &[u8], bytes: &[u8]) -> Option<usize>
         ensures { FindsNeedle bytes.now row.now 0 result }
@@ -44,7 +44,7 @@ impl<'p> StartLiteralFinder<'p> {
     }
 }
 
-// Returns the literal known at the start of each match, if there is one.
+// Returns the literal with which each match begins, if there is one.
 fn known_start_literal(start: &CandidateStarts) -> Option<&[u8]> {
     match start {
         CandidateStarts::Prefix {
@@ -55,7 +55,7 @@ fn known_start_literal(start: &CandidateStarts) -> Option<&[u8]> {
     }
 }
 
-// Returns the first index where a literal occurs, without a cached finder.
+// Returns the first index at which a literal occurs, without a cached finder.
 #[cold]
 #[inline(never)]
 fn find_anew(row: &[u8], bytes: &[u8]) -> Option<usize>

@@ -8,11 +8,11 @@ ghost use Rattle.regress_search.specs.TreePlanAndText.{program_of, insn_at};
 use crate::search_context::SearchContext;
 use regress_program::ops::Op;
 
-/// The maximum length of a body that is checked, in operations. It limits the work of the check.
+/// The maximum length of a body, in operations, that is checked. It limits the time of the check.
 const MOST: usize = 64;
 
-/// Checks whether a loop's body, between its head and its end, is short and reads nothing. The body
-/// either has one path and changes groups, or it has several paths and changes none.
+/// Checks whether the body of a loop, from `head` to `end`, is short and reads nothing. A body that
+/// changes groups has to have a single path.
 #[inline(never)]
 pub fn loop_body_reads_nothing<W: SearchContext>(context: &W, head: usize, end: usize) -> bool
     ensures behind { result ≡ true → head < end }
@@ -25,8 +25,8 @@ pub fn loop_body_reads_nothing<W: SearchContext>(context: &W, head: usize, end: 
     all_lead_on(context, false, head + 1, end) || all_lead_on(context, true, head + 1, end)
 }
 
-// Checks whether all operations from `from` and before `end` read nothing and continue nearer to
-// `end`.
+// Checks whether each operation in `from..end` reads nothing and continues at a later operation, up
+// to `end`.
 fn all_lead_on<W: SearchContext>(context: &W, forks: bool, from: usize, end: usize) -> bool
     ensures { result ≡ true → ReadsNothingUntil forks (program_of (W.searching context.now)) from end }
 {
@@ -38,7 +38,7 @@ fn all_lead_on<W: SearchContext>(context: &W, forks: bool, from: usize, end: usi
     true
 }
 
-// Checks whether an operation reads nothing and continues nearer to `end`.
+// Checks whether an operation reads nothing and continues at a later operation, up to `end`.
 fn reads_nothing_toward_end<W: SearchContext>(
     context: &W,
     forks: bool,

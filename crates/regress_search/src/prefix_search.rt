@@ -1,4 +1,4 @@
-//! Search for offsets where each unit of a prefix may occur.
+//! Searches bytes for indices at which each unit of a prefix may occur.
 
 ghost use Rattle.std.specs.Prelude.{◌≡◌, ◌≤◌, ◌<◌, ◌+◌, true, length, take, IfSome};
 ghost use Rattle.std.proofs.Props.{props};
@@ -13,7 +13,7 @@ use regress_program::required_prefix_types::{
     Literal, Prefix, RequiredUnitAndOffset, is_mask_bit_clear,
 };
 
-/// A prefix of matches, and a unit of it that may be required.
+/// A prefix of all matches, and a unit that it may require at a fixed offset.
 #[derive(Clone, Copy)]
 pub(crate) struct PrefixAndItsRequiredUnit<'p> {
     pub(crate) prefix: &'p Prefix,
@@ -37,7 +37,7 @@ impl ByteSearcher for PrefixAndItsRequiredUnit<'_> {
     }
 }
 
-/// A prefix of matches with a required literal, and the cached finder of the literal.
+/// A prefix of all matches with a required literal, and the finder of the literal.
 #[derive(Drop)]
 pub(crate) struct PrefixAndLiteralFinder<'k, 'p> {
     pub(crate) kept: &'k StartLiteralFinder<'k>,
@@ -59,8 +59,9 @@ impl ByteSearcher for PrefixAndLiteralFinder<'_, '_> {
     }
 }
 
-// Returns the first index where all units of the prefix may occur (Shift-Or). Bit `j` of the state
-// is clear if the last `j` units may be the first `j` of a match.
+// Returns the first index at which each unit of the prefix may occur. This is the Shift-Or
+// algorithm: bit `j` of the state is clear if the last `j` units may be the first `j` units of a
+// match.
 #[inline(always)]
 fn find_fitting(prefix: &Prefix, bytes: &[u8]) -> Option<usize>
     requires { 0 < prefix.now.len }
@@ -80,7 +81,7 @@ fn find_fitting(prefix: &Prefix, bytes: &[u8]) -> Option<usize>
     None
 }
 
-// Returns that index, searching for the required unit.
+// Returns the same index by a search for the required unit.
 #[inline(always)]
 fn find_rare(prefix: &Prefix, rare: RequiredUnitAndOffset, bytes: &[u8]) -> Option<usize>
     requires { IsOnlyUnitAllowedAtPosition prefix.now rare }
@@ -100,7 +101,7 @@ fn find_rare(prefix: &Prefix, rare: RequiredUnitAndOffset, bytes: &[u8]) -> Opti
     None
 }
 
-// Returns that index, searching for the required literal.
+// Returns the same index by a search for the required literal.
 #[inline(always)]
 fn find_literal(
     kept: &StartLiteralFinder<'_>,
@@ -127,8 +128,8 @@ fn find_literal(
     None
 }
 
-// Checks whether the prefix may occur at an index where its literal occurs; the units of the
-// literal are not tested again.
+// Checks whether the prefix may occur at an index. The literal occurs in it, so the literal's units
+// are not tested again.
 #[inline(always)]
 fn fits_beside(prefix: &Prefix, literal: &Literal, bytes: &[u8], at: usize) -> bool
     requires literal { IsLiteralForcedByPrefix prefix.now literal.now }
@@ -141,8 +142,8 @@ fn fits_beside(prefix: &Prefix, literal: &Literal, bytes: &[u8], at: usize) -> b
     fits_between(prefix, bytes, at, literal.ahead + literal.len, prefix.len)
 }
 
-// Checks whether the first `to` units may occur at an index; the first `from` of them are not
-// tested again.
+// Checks whether the first `to` units of the prefix may occur at an index. The first `from` of them
+// are known, and are not tested again.
 #[inline(always)]
 fn fits_between(prefix: &Prefix, bytes: &[u8], at: usize, from: usize, to: usize) -> bool
     requires at { at ≤ length bytes.now }

@@ -1,4 +1,4 @@
-//! A program together with the text that it searches.
+//! A program, paired with the text that it searches.
 
 ghost use Rattle.std.specs.Prelude.{◌≡◌, ◌+◌, IsAscii, IsTrue, option_map};
 ghost use Rattle.regex_meaning.specs.{Text.{ascii_text, ucs2_text, utf16_text, utf8_text}, WellFormedTrees.{is_well_formed}, CodeUnitOffsets.{IsBoundary}};
@@ -12,11 +12,12 @@ use regress_input::indexing::{AsciiInput, InputIndexer, Ucs2Input, Utf8Input, Ut
 use regress_program::insn::{CompiledRegex, CompiledRegexFor16BitUnits, Program};
 
 /// A program, and a text that it can search. Characters are folded as the program's flags say. If
-/// the program reads bytes, the text is one of bytes.
+/// the program reads bytes, the text is a byte text.
 #[derive(Drop)]
 pub struct ProgramAndInput<'r, Input: InputIndexer> {
     pub program: &'r Program,
-    /// Whether every alternative of the pattern begins with `^`, without the flag `m` (`is_anchored_tree`).
+    /// Whether every alternative of the pattern begins with `^`, without the flag `m`
+    /// (`is_anchored_tree`).
     pub anchored: bool,
     pub input: Input,
     ghost unicode: { (Input.text input).unicode ≡ (tree_of program.now).flags.unicode },
@@ -27,8 +28,8 @@ pub struct ProgramAndInput<'r, Input: InputIndexer> {
 }
 
 impl<'r, Input: InputIndexer> ProgramAndInput<'r, Input> {
-    /// Checks whether it is known that the pattern matches only at the left end, so that after a
-    /// position without a match there is none.
+    /// Checks whether the pattern is known to match only at the left end. If so, no match begins at
+    /// a later position.
     #[inline(always)]
     pub fn is_anchored(&self) -> bool
         ensures { result ≡ is_anchored_tree (tree_of self.now.program.now) }
@@ -36,9 +37,8 @@ impl<'r, Input: InputIndexer> ProgramAndInput<'r, Input> {
         self.anchored
     }
 
-    /// Returns the position to try after one where no match begins. Returns `None` if it is known
-    /// that the pattern matches only at the left end, and otherwise the position is one character
-    /// further.
+    /// Returns the position to try after one at which no match begins: one character further.
+    /// Returns `None` at the end, or if the pattern is known to match only at the left end.
     #[inline(always)]
     pub fn position_after_failure(&self, tried: Input::Position) -> Option<Input::Position>
         requires { IsBoundary (Input.text self.now.input) (Input.Position.offset tried) }
@@ -52,7 +52,7 @@ impl<'r, Input: InputIndexer> ProgramAndInput<'r, Input> {
     }
 }
 
-// Returns the position to try after one where no match begins.
+// Returns the position to try after one at which no match begins.
 #[inline(always)]
 fn position_after_failed<Input: InputIndexer>(
     input: &Input,
@@ -71,7 +71,7 @@ fn position_after_failed<Input: InputIndexer>(
 }
 
 impl<'r, Input: InputIndexer> ProgramAndInput<'r, Input> {
-    // Pairs a program for bytes with an input of bytes.
+    // Pairs a program for bytes with an input whose code units are bytes.
     fn pair_with_bytes(re: &'r CompiledRegex, input: Input) -> Self
         requires unicode { (Input.text input).unicode ≡ (tree_of re.now).flags.unicode }
         requires bytes { IsByteText (Input.text input) Input.Units.ARE_BYTES }
@@ -103,7 +103,7 @@ impl<'r, 't> ProgramAndInput<'r, Utf8Input<'t>> {
 }
 
 impl<'r, 't> ProgramAndInput<'r, AsciiInput<'t>> {
-    /// Pairs a program with an ASCII text (`is_ascii` is the test).
+    /// Pairs a program with an ASCII text (see `is_ascii`).
     pub fn pair_with_ascii_text(re: &'r CompiledRegex, text: &'t str) -> Self
         requires { IsAscii text.now }
         ensures same { result.program.now ≡ re.now }
@@ -118,7 +118,7 @@ impl<'r, 't> ProgramAndInput<'r, AsciiInput<'t>> {
 }
 
 impl<'r, Input: InputIndexer> ProgramAndInput<'r, Input> {
-    // Pairs a program for 16-bit code units with an input of any kind.
+    // Pairs a program for 16-bit code units with an input.
     fn pair_with_units(re: &'r CompiledRegexFor16BitUnits, input: Input) -> Self
         requires { (Input.text input).unicode ≡ (tree_of re.now).flags.unicode }
         ensures same { result.program.now ≡ re.now }

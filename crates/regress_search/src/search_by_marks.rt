@@ -1,4 +1,4 @@
-//! Search for offsets by vectors, which test 32 offsets at a time.
+//! Searches for offsets with SIMD vectors, which test 32 offsets at a time.
 
 ghost use Rattle.std.specs.Prelude.{◌≡◌, ◌≢◌, ◌≤◌, ◌<◌, ◌+◌, ℕ, Bool, true};
 ghost use Rattle.std.specs.Int.{bit_at};
@@ -12,19 +12,19 @@ use crate::search_context::SearchContext;
 use regress_input::indexing::{CodeUnit, CodeUnitEncoding, HasUnitType, InputIndexer, LANES};
 
 /// A test of offsets. Contracts see at which offsets it passes, and how many units it reads from an
-/// offset on.
+/// offset.
 pub(crate) trait OffsetTest<W: SearchContext> {
     ghost passes_at: { Self → SearchInput → (at : ℕ) → Bool };
 
     ghost reach: { Self → ℕ };
 
-    /// Tests 32 offsets from `at` on. The test fails at `at + i` if bit `i` is clear; it may fail where
-    /// a bit is set.
+    /// Tests the 32 offsets `at..at + 32`. If bit `i` is clear, the test fails at `at + i`. If it
+    /// is set, the test may pass or fail.
     fn marks(&self, context: &W, at: usize) -> u64
         requires { at + 31 + reach self.now ≤ units (W.searching context.now).text }
         ensures { MarksAllPassing (passes_at self.now (W.searching context.now)) at result };
 
-    /// Like `marks`, for a block in which `marks` has a set bit: fewer bits may be set.
+    /// Like `marks`, but may set fewer bits. It is called for blocks in which `marks` sets a bit.
     #[inline(always)]
     fn strict_marks(&self, context: &W, at: usize) -> u64
         requires { at + 31 + reach self.now ≤ units (W.searching context.now).text }
@@ -33,8 +33,8 @@ pub(crate) trait OffsetTest<W: SearchContext> {
         self.marks(context, at)
     }
 
-    /// Checks whether the test fails at all 32 offsets from `at` on. It is called for a block in which
-    /// `marks` has a set bit, and decides nothing if `false`.
+    /// Returns `true` only if the test fails at all 32 offsets from `at` on; `false` decides
+    /// nothing. It is called for blocks in which `marks` sets a bit.
     #[inline(always)]
     fn rejects(&self, context: &W, at: usize) -> bool
         requires { at + 31 + reach self.now ≤ units (W.searching context.now).text }
@@ -49,8 +49,8 @@ pub(crate) trait OffsetTest<W: SearchContext> {
         ensures { result ≡ passes_at self.now (W.searching context.now) at };
 }
 
-/// Tests the 32 code units from an offset on: bit `i` of the result is set if unit `at + i` has, of the
-/// bits in `mask`, exactly those in `bits`.
+/// Tests the 32 code units from `at` on. Bit `i` of the result is set if the bits of unit `at + i`
+/// under `mask` are exactly `bits`.
 #[inline(always)]
 pub(crate) fn units_with_bits<W: SearchContext>(context: &W, at: usize, mask: u16, bits: u16) -> u64
     requires { at + 32 ≤ units (W.searching context.now).text }
@@ -63,8 +63,8 @@ pub(crate) fn units_with_bits<W: SearchContext>(context: &W, at: usize, mask: u1
     )
 }
 
-/// Returns the first of the offsets `from..to` at which the test passes. It is often near, so the first
-/// block is tested at once.
+/// Returns the first offset in `from..to` at which the test passes. It tests the first block at
+/// once, because that offset is often near.
 #[inline(always)]
 pub(crate) fn first_by_marks<W: SearchContext, Test: OffsetTest<W>>(
     context: &W,
@@ -86,8 +86,8 @@ pub(crate) fn first_by_marks<W: SearchContext, Test: OffsetTest<W>>(
     first_one_by_one(context, test, at, to)
 }
 
-// Goes past the blocks without marks. It is not inlined, so that the vectors stay in registers: no
-// caller's loop, which makes calls, is around it.
+// Skips blocks without marks. It is not inlined, so that no loop with calls surrounds it, and the
+// vectors stay in registers.
 #[inline(never)]
 fn past_blocks_without_marks<W: SearchContext, Test: OffsetTest<W>>(
     context: &W,
@@ -108,7 +108,7 @@ fn past_blocks_without_marks<W: SearchContext, Test: OffsetTest<W>>(
     at
 }
 
-// Checks whether a block may be left out: if so, the test fails at all of its offsets.
+// Checks whether a block may be skipped, because the test fails at all of its offsets.
 #[inline(always)]
 fn is_quiet<W: SearchContext, Test: OffsetTest<W>>(context: &W, test: &Test, at: usize) -> bool
     requires { at + 31 + Test.reach test.now ≤ units (W.searching context.now).text }
@@ -120,8 +120,8 @@ fn is_quiet<W: SearchContext, Test: OffsetTest<W>>(context: &W, test: &Test, at:
     test.rejects(context, at)
 }
 
-// Returns the first offset of a block at which the test passes. It is not inlined, because a compiler
-// that sees the vectors in two branches takes them apart.
+// Returns the first offset of a block at which the test passes. It is not inlined: if the compiler
+// sees the vectors in two branches, it splits them.
 #[inline(never)]
 fn first_in_block<W: SearchContext, Test: OffsetTest<W>>(
     context: &W,
@@ -142,7 +142,7 @@ fn first_in_block<W: SearchContext, Test: OffsetTest<W>>(
     None
 }
 
-// Returns that offset, testing one offset after another.
+// Returns the first offset of a range at which the test passes, without vectors.
 #[inline(always)]
 fn first_one_by_one<W: SearchContext, Test: OffsetTest<W>>(
     context: &W,
@@ -175,7 +175,7 @@ fn lowest_bit(marks: u64) -> usize
     marks.trailing_zeros() as usize
 }
 
-// Returns the marks without a bit that is set.
+// Returns the marks with bit `bit`, which is set, cleared.
 #[inline(always)]
 fn without_bit(marks: u64, bit: usize) -> u64
     requires bound { bit < 64 }

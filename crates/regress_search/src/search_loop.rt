@@ -22,15 +22,15 @@ use std::alloc::AllocError;
 use std::ops::Range;
 
 /// An executor that tries one start position at a time. Contracts see the tree whose program it
-/// runs, the text, the steps that it may still take where they are counted, and whether the last
-/// attempt reached the step limit. They also see whether the last attempt had begun, which also
-/// allocates memory, and the groups of the last attempt that found an end. Where work is counted,
-/// they see how much is left, what an attempt costs, whether the work left is enough for attempts in
+/// runs, the text, the steps that are left if they are counted, and whether the last attempt
+/// reached the step limit. They also see whether the last attempt had begun (which also allocates
+/// memory), and the groups of the last attempt that found an end. If work is counted, they see the
+/// work that is left, what an attempt costs, whether the work left suffices for attempts in
 /// ascending order of offsets, the least offset of the next such attempt, and whether the last
 /// attempt reached the work limit.
 ///
-/// Where steps are counted, the positions that are tried are those that the start predicate admits.
-/// Where work is counted, each position is tried.
+/// If steps are counted, only the positions that the start predicate admits are tried. If work is
+/// counted, each position is tried.
 pub trait SingleAttemptExecutor {
     /// The text that is searched.
     type Input: InputIndexer;
@@ -45,23 +45,24 @@ pub trait SingleAttemptExecutor {
 
     ghost has_begun: { Self → Type 0 } = { λ _. ⊤ };
 
-    // The work limit is enough for attempts in ascending order of offsets, each at `ahead` or later.
+    // Whether the work limit suffices for attempts in ascending order of offsets, each at `ahead`
+    // or later.
     ghost enough: { Self → Bool } = { λ _. true };
 
     ghost ahead: { Self → ℕ } = { λ _. 0 };
 
     ghost out_of_work: { Self → Bool } = { λ _. false };
 
-    // The amount of work that may still be done, where work is counted.
+    // The work that is left, if work is counted.
     ghost left: { Self → ℕ } = { λ _. 0 };
 
     // Whether work is counted.
     ghost counts_work: { Bool } = { false };
 
-    // The failures that are known, on which the costs of attempts depend.
+    // The failures that are known. The costs of attempts depend on them.
     ghost failures: { Self → Failures } = { λ _ _ _ _. false };
 
-    // What an attempt costs (`CostsOfSearches`), where work is counted.
+    // What an attempt costs, if work is counted (see `CostsOfSearches`).
     ghost attempt_costs: { Tree → Text → Failures → (at cost : ℕ) → Option Failures → Type 0 } = { λ _ _ _ _ _ _. ⊤ };
 
     ghost groups: { Self → Groups };
@@ -74,14 +75,14 @@ pub trait SingleAttemptExecutor {
     fn input(&self) -> &Self::Input
         ensures { Self.Input.text result.now ≡ text self.now };
 
-    /// Returns the end of the match of highest priority that begins at a position. Its groups can
-    /// be read afterwards.
+    /// Returns the end of the match of highest priority that begins at `pos`. After that, `group`
+    /// returns its groups.
     ///
     /// # Errors
     ///
-    /// Returns `StepLimit` if more steps are needed than are left, and then none are left. Returns
-    /// `Memory` if an allocation fails, and the steps taken until then stay spent: at least one if
-    /// the attempt had begun.
+    /// Returns `StepLimit` if the attempt needs more steps than are left; then no steps are left.
+    /// Returns `Memory` if an allocation fails; the steps taken before that are spent, at least one
+    /// if the attempt had begun.
     fn attempt(
         &mut self,
         pos: <Self::Input as InputIndexer>::Position,
@@ -122,8 +123,8 @@ pub trait SingleAttemptExecutor {
         ensures { option_map (offset_range_of_positions Self.Input.Position.offset) result
             ≡ group_range (groups self.now) id };
 
-    /// Returns the first position to try from one on. No match begins before it. Returns `None` if
-    /// no match begins from there on.
+    /// Returns the first position to try at a given position or later. No match begins before it.
+    /// Returns `None` if no match begins at the given position or later.
     fn first_start_to_try_from(
         &self,
         pos: <Self::Input as InputIndexer>::Position,
@@ -136,8 +137,8 @@ pub trait SingleAttemptExecutor {
         ensures at_work { let at = Self.Input.Position.offset in
             IfWorkIsCounted counts_work (option_map at result ≡ Some (at pos)) };
 
-    /// Returns the first position to try after one where no match begins. No match begins between
-    /// them. Returns `None` if no match begins after it.
+    /// Returns the next position to try after one at which no match begins. No match begins in
+    /// between. Returns `None` if no match begins later.
     fn next_start_after_failure(
         &self,
         tried: <Self::Input as InputIndexer>::Position,
@@ -154,7 +155,7 @@ pub trait SingleAttemptExecutor {
     ghost is_text: { (it : Self) → HasRisingPlaceOffsets (text it) };
 }
 
-/// Returns the range of a group by id, or `None` if it did not match or there is no such group.
+/// Returns the range of a group by id. Returns `None` if the group did not match or does not exist.
 #[inline(always)]
 pub fn group_at<P: PositionType>(groups: &[Option<(P, P)>], id: usize) -> Option<(P, P)>
     ensures { option_map (offset_range_of_positions P.offset) result
@@ -211,8 +212,8 @@ fn successful_match<A: SingleAttemptExecutor>(
     Ok(Match::from_parts_with_shared_names(range, captures, names))
 }
 
-// Returns the position at which the list continues after a match: its end, or one character further
-// if the match is empty.
+// Returns the position at which the list of matches continues after a match. It is the end of the
+// match, or one character further if the match is empty.
 fn next_search_pos<Input: InputIndexer>(
     input: &Input,
     start: Input::Position,
@@ -279,14 +280,14 @@ impl<A: SingleAttemptExecutor> MatchProducer for A {
     }
 }
 
-/// Returns the match of highest priority that begins at an offset in code units, which is a
-/// boundary or past the end. Returns `None` if no match begins there. No other position is tried,
-/// so it takes the steps of one attempt.
+/// Returns the match of highest priority that begins at an offset in code units. The offset is a
+/// boundary, or past the end of the text. Returns `None` if no match begins there. It tries no
+/// other offset, so it takes the steps of one attempt.
 ///
 /// # Errors
 ///
-/// Returns `StepLimit` if more steps are needed than are left, and then none are left. Returns
-/// `Memory` if an allocation fails, and the steps taken until then stay spent.
+/// Returns `StepLimit` if the attempt needs more steps than are left; then no steps are left.
+/// Returns `Memory` if an allocation fails; the steps taken before that are spent.
 pub fn match_at<A: SingleAttemptExecutor>(
     executor: &mut A,
     at: usize,

@@ -1,4 +1,4 @@
-//! Search for candidate starts: no match begins at any other offset.
+//! Searches for candidate starts. No match begins at any other offset.
 
 ghost use Rattle.std.specs.Prelude.{◌≡◌, ◌<◌, true, false, IfSome};
 ghost use Rattle.regex_meaning.specs.CodeUnitOffsets.{IsBoundary, units};
@@ -29,7 +29,7 @@ use regress_program::plan::CandidateStarts;
 use regress_program::required_prefix_prefilters::{LiteralPrefilter, RequiredPrefixPrefilter};
 use regress_program::required_prefix_types::{Literal, Prefix, RequiredUnitAndOffset};
 
-/// A set of code units with which a match may start. Contracts see its table.
+/// The set of code units with which a match may begin. Contracts see its table.
 pub(crate) trait StartSet {
     ghost table: { Self → AllowedNextKeys };
 
@@ -91,7 +91,7 @@ fn past_unit<W: SearchContext>(context: &W, at: usize) -> usize
     }
 }
 
-// Returns the first offset from `from` on that the set allows.
+// Returns the first offset at `from` or later that the set allows.
 #[inline(always)]
 fn first_allowed_offset<W: SearchContext, Set: StartSet>(
     context: &W,
@@ -113,7 +113,7 @@ fn first_allowed_offset<W: SearchContext, Set: StartSet>(
     if set.has_end() { Some(at) } else { None }
 }
 
-// Returns the first offset from `from` on that the set with this number allows.
+// Returns the first offset at `from` or later that the set with this number allows.
 #[inline(always)]
 fn next_in_set<W: SearchContext>(context: &W, number: u32, from: usize) -> Option<usize>
     requires { IsBoundary (W.searching context.now).text from }
@@ -127,7 +127,7 @@ fn next_in_set<W: SearchContext>(context: &W, number: u32, from: usize) -> Optio
     }
 }
 
-// Returns the first offset from `from` on where the searcher finds something in bytes.
+// Returns the first offset at `from` or later at which the searcher finds its bytes.
 #[inline(always)]
 fn find<W: SearchContext, Search: ByteSearcher>(
     context: &W,
@@ -144,7 +144,7 @@ fn find<W: SearchContext, Search: ByteSearcher>(
     }
 }
 
-/// Returns the first offset from `from` on of one of a few code units.
+/// Returns the offset of the first unit at `from` or later that is one of a few code units.
 #[inline(never)]
 pub(crate) fn next_of_few_units<W: SearchContext>(
     context: &W,
@@ -163,7 +163,7 @@ pub(crate) fn next_of_few_units<W: SearchContext>(
     }
 }
 
-// Returns that offset in 16-bit units, by vectors if bits tell the units.
+// Does the same in 16-bit units. It uses vectors if bits identify the units.
 #[inline(always)]
 fn next_of_few_wide_units<W: SearchContext>(
     context: &W,
@@ -181,10 +181,10 @@ fn next_of_few_wide_units<W: SearchContext>(
     }
 }
 
-// ---- By a prefix
+// ---- By the prefix of matches
 
-// Returns the first offset from `from` on where the prefix may occur in bytes, by a rare required
-// unit, or else by the masks of its units.
+// Returns the first offset at `from` or later at which the prefix may occur in bytes. It searches
+// for a rare unit if the prefix requires one, and otherwise uses the masks of all units.
 #[inline(never)]
 fn next_prefix_match<W: SearchContext>(
     context: &W,
@@ -202,7 +202,7 @@ fn next_prefix_match<W: SearchContext>(
     find(context, &fitting, from)
 }
 
-// Returns that offset by the required literal.
+// Does the same by a search for the required literal.
 #[inline(never)]
 fn next_literal<W: SearchContext>(
     context: &W,
@@ -224,7 +224,7 @@ fn next_literal<W: SearchContext>(
     find(context, &in_row, from)
 }
 
-// Returns that offset by known units: in a long text by the literal.
+// Does the same for a prefix whose units are known. In a long text, it searches for the literal.
 #[inline(always)]
 fn next_known<W: SearchContext>(
     context: &W,
@@ -250,7 +250,8 @@ fn next_known<W: SearchContext>(
     next_in_short_text(context, prefix, known, from)
 }
 
-// Returns that offset in a short text: by a rare unit, otherwise by bit probes if there are any.
+// Does the same in a short text. It searches for a rare unit if there is one, or uses bit probes if
+// there are any.
 #[inline(always)]
 fn next_in_short_text<W: SearchContext>(
     context: &W,
@@ -273,7 +274,7 @@ fn next_in_short_text<W: SearchContext>(
     next_prefix_match(context, prefix, known.rare, from)
 }
 
-// Returns that offset by the prefilter.
+// Does the same by the prefilter of the plan.
 #[inline(always)]
 fn first_filtered<W: SearchContext>(
     context: &W,
@@ -299,10 +300,10 @@ fn first_filtered<W: SearchContext>(
     }
 }
 
-// ---- By the character before
+// ---- By the character before a match
 
-// Returns the offset past the first character from `from` on that begins with one of a few code
-// units.
+// Returns the offset after the first character at `from` or later that begins with one of a few
+// code units.
 #[inline(always)]
 fn next_after_unit<W: SearchContext>(context: &W, few: FewUnitsFinder, from: usize) -> Option<usize>
     requires at { IsBoundary (W.searching context.now).text from }
@@ -319,7 +320,8 @@ fn next_after_unit<W: SearchContext>(context: &W, few: FewUnitsFinder, from: usi
     ))
 }
 
-// Returns the first offset from `from` on where the character before lets a match begin.
+// Returns the first offset at `from` or later where a match may begin, given the character before
+// it.
 #[inline(never)]
 fn next_by_lookbehind<W: SearchContext>(
     context: &W,
@@ -348,9 +350,9 @@ fn next_by_lookbehind<W: SearchContext>(
     }
 }
 
-// ---- By the plan
+// ---- By any start condition
 
-/// Checks whether an offset is a candidate start, by the plan.
+/// Checks whether an offset is a candidate start of the plan.
 #[inline(always)]
 pub fn is_candidate<W: SearchContext>(context: &W, at: usize) -> bool
     requires { IsBoundary (W.searching context.now).text at }
@@ -374,7 +376,7 @@ pub fn is_candidate<W: SearchContext>(context: &W, at: usize) -> bool
     }
 }
 
-// Checks whether the character before an offset lets a match begin there.
+// Checks whether a match may begin at an offset, given the character before it.
 #[inline(never)]
 fn is_behind<W: SearchContext>(context: &W, before: PrecedingCharFilter, at: usize) -> bool
     requires { IsBoundary (W.searching context.now).text at }
@@ -394,7 +396,7 @@ fn is_behind<W: SearchContext>(context: &W, before: PrecedingCharFilter, at: usi
     }
 }
 
-/// Returns the first candidate start from `from` on, by the plan.
+/// Returns the first candidate start of the plan at `from` or later.
 #[inline(always)]
 pub fn first_candidate<W: SearchContext>(context: &W, from: usize) -> Option<usize>
     requires { IsBoundary (W.searching context.now).text from }

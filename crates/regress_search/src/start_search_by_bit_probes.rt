@@ -1,5 +1,4 @@
-//! Start search by bit probes: finds offsets where a prefix may occur by testing bits of some of
-//! its units.
+//! Searches for offsets where a prefix may occur, by testing some bits of some of its units.
 
 ghost use Rattle.std.specs.Prelude.{◌≡◌, ◌≤◌, ◌<◌, ◌+◌, ◌-◌, ◌^◌};
 ghost use Rattle.std.proofs.Props.{props};
@@ -15,7 +14,7 @@ use crate::search_context::{SearchContext, text_end};
 use regress_program::required_prefix_prefilters::MaskedUnitProbe;
 use regress_program::required_prefix_types::Prefix;
 
-/// A prefix of matches, and probes that test bits of some of its units.
+/// A prefix of all matches, and probes that test bits of some of its units.
 #[derive(Clone, Copy)]
 pub(crate) struct PrefixAndBitProbes<'p> {
     pub(crate) prefix: &'p Prefix,
@@ -50,7 +49,7 @@ pub(crate) fn prefix_fits<W: SearchContext>(context: &W, prefix: &Prefix, at: us
     text_end(context) - at >= prefix.len && fits_here(context, prefix, at)
 }
 
-// Marks the 32 offsets from `at` on where a probe passes.
+// Returns the marks of the 32 offsets from `at` on at which a probe passes.
 #[inline(always)]
 fn marks_of_probe<W: SearchContext>(context: &W, at: usize, probe: MaskedUnitProbe) -> u64
     requires { at + probe.ahead + 32 ≤ units (W.searching context.now).text }
@@ -70,7 +69,7 @@ impl<W: SearchContext> OffsetTest<W> for PrefixAndBitProbes<'_> {
 
     ghost reach = { λ probed. probed.prefix.now.len };
 
-    // Tests the rarest two probes.
+    // Tests the two rarest probes.
     #[inline(always)]
     fn marks(&self, context: &W, at: usize) -> u64 {
         let [a, b, _, _] = *self.probes;
@@ -91,21 +90,23 @@ impl<W: SearchContext> OffsetTest<W> for PrefixAndBitProbes<'_> {
     }
 }
 
-/// A test by the same probes, in which the rarest one is asked first, and the others where it passes.
+/// A test with the same probes. A block that the two rarest probes mark is tested by the others
+/// before the search leaves its loop.
 #[derive(Clone, Copy)]
-struct RarestProbeFirst<'p> {
+struct TwoStageProbes<'p> {
     probed: PrefixAndBitProbes<'p>,
 }
 
-impl<W: SearchContext> OffsetTest<W> for RarestProbeFirst<'_> {
-    ghost passes_at = { λ first w at. prefix_fits_at w first.probed.prefix.now at };
+impl<W: SearchContext> OffsetTest<W> for TwoStageProbes<'_> {
+    ghost passes_at = { λ staged w at. prefix_fits_at w staged.probed.prefix.now at };
 
-    ghost reach = { λ first. first.probed.prefix.now.len };
+    ghost reach = { λ staged. staged.probed.prefix.now.len };
 
+    // A branch on the rarest probe alone would be mispredicted in many blocks, and take longer than the
+    // second probe.
     #[inline(always)]
     fn marks(&self, context: &W, at: usize) -> u64 {
-        let [a, _, _, _] = *self.probed.probes;
-        marks_of_probe(context, at, a)
+        self.probed.marks(context, at)
     }
 
     #[inline(always)]
@@ -113,8 +114,8 @@ impl<W: SearchContext> OffsetTest<W> for RarestProbeFirst<'_> {
         self.probed.strict_marks(context, at)
     }
 
-    // The marks of the rarest probe are not asked for, so that no vector is kept from one block of
-    // instructions to the next.
+    // The marks of the rarest probe are not used here, so that no vector has to be kept between
+    // blocks of instructions.
     #[inline(always)]
     fn rejects(&self, context: &W, at: usize) -> bool {
         let [_, b, c, d] = *self.probed.probes;
@@ -128,8 +129,10 @@ impl<W: SearchContext> OffsetTest<W> for RarestProbeFirst<'_> {
     }
 }
 
-// Checks whether a probe passes for a rare letter alone: a capital letter, or in both cases one of
-// those that are rare in words. Few blocks have one. Other rare units are frequent in logs and programs.
+// Checks whether a probe passes only for a rare letter: a capital letter, or a letter in both cases
+// that is rare in words. Few blocks have one. Most blocks that it and a second letter mark contain no
+// match, because letters occur together in words. Other rare units are frequent in logs and in source
+// code.
 fn is_of_rare_letter(probe: MaskedUnitProbe) -> bool {
     let is_rare = matches!(probe.bits | 0x20, b'j' | b'k' | b'q' | b'v' | b'x' | b'z');
     match probe.mask {
@@ -139,7 +142,7 @@ fn is_of_rare_letter(probe: MaskedUnitProbe) -> bool {
     }
 }
 
-// Returns the number of offsets from `at` on that are followed by at least `len` units.
+// Returns the number of offsets at `at` or later that at least `len` units follow.
 #[inline(always)]
 fn places_left(units: usize, at: usize, len: usize) -> usize
     requires { units + 1 < 2 ^ 64 }
@@ -148,7 +151,7 @@ fn places_left(units: usize, at: usize, len: usize) -> usize
     (units + 1).saturating_sub(at).saturating_sub(len)
 }
 
-/// Returns the first offset from `from` on where the prefix may occur, by bit probes.
+/// Returns the first offset at `from` or later where the prefix may occur, by bit probes.
 #[inline(never)]
 pub(crate) fn next_by_bit_probes<W: SearchContext>(
     context: &W,
@@ -161,7 +164,7 @@ pub(crate) fn next_by_bit_probes<W: SearchContext>(
 {
     let to = from + places_left(text_end(context), from, probed.prefix.len);
     if is_of_rare_letter(probed.probes[0]) {
-        first_by_marks(context, &RarestProbeFirst { probed }, from, to)
+        first_by_marks(context, &TwoStageProbes { probed }, from, to)
     } else {
         first_by_marks(context, &probed, from, to)
     }

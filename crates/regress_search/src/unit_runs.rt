@@ -1,4 +1,4 @@
-//! Runs of code units that pass a test by their keys.
+//! Runs of code units whose keys pass a test.
 
 ghost use Rattle.std.specs.Prelude.{◌≡◌, ◌≤◌, ◌<◌, ◌+◌, ℕ, Bool, false};
 ghost use Rattle.regex_meaning.specs.CodeUnitOffsets.{units};
@@ -18,7 +18,7 @@ pub(crate) trait KeyTest {
         ensures { result ≡ key_passes self.now key };
 }
 
-/// Counts the consecutive code units from an offset on that pass, at most `most`.
+/// Counts the consecutive code units from an offset on that pass the test, up to `most`.
 #[inline(always)]
 pub(crate) fn count_passing<W: SearchContext, Test: KeyTest>(
     context: &W,
@@ -41,8 +41,8 @@ pub(crate) fn count_passing<W: SearchContext, Test: KeyTest>(
     count
 }
 
-// Counts like `count_passing`. In 16-bit units it may stop at one that is not below 128: the others are
-// their own keys.
+// Like `count_passing`, but in 16-bit units it may stop at a unit of 128 or more. Units below 128
+// are their own keys.
 #[inline(always)]
 fn count_passing_ascii<W: SearchContext, Test: KeyTest>(
     context: &W,

@@ -7,7 +7,7 @@ use std::env;
 use std::io::{ErrorKind, Write};
 use std::process::ExitCode;
 
-// Returns the arguments after the program's name. If one of them is not UTF-8, a `None` says so.
+// Returns the arguments after the program's name. An argument that is not UTF-8 is `None`.
 fn gather(rt: &HostRuntime, alloc: Global) -> Result<Vec<Option<String>>, AllocError> {
     let mut words = Vec::new(alloc);
     match env::args(rt) {

@@ -1,4 +1,5 @@
-//! What calls answer, as numbers: places count characters from the left end, and offsets are in units.
+//! The answers of calls as numbers. Places count characters from the left end, and offsets are in
+//! units.
 
 ghost use Rattle.std.specs.Prelude.{◌≡◌, ◌≤◌, IfSome};
 ghost use Rattle.regex_meaning.specs.CodeUnitOffsets.{IsBoundary, units};
@@ -10,7 +11,7 @@ use regress_input::matchers::{backref, backref_alike, backref_icase};
 use regress_input::position::PositionType;
 use regress_input::scm::SingleCharMatcher;
 
-// So many characters to the right, or at the right end.
+// Moves the given number of characters to the right, or to the right end.
 fn further<Input: InputIndexer>(
     input: &Input,
     pos: Input::Position,
@@ -36,7 +37,7 @@ fn position<Input: InputIndexer>(input: &Input, place: usize) -> Input::Position
     further(input, input.left_end(), place)
 }
 
-// The character beside a place, and the offset past it.
+// Returns the character next to a place, and the offset past it.
 pub(crate) fn character<Input: InputIndexer, Dir: Direction>(
     input: &Input,
     dir: Dir,
@@ -47,7 +48,7 @@ pub(crate) fn character<Input: InputIndexer, Dir: Direction>(
     Some((c.as_u32(), input.pos_to_offset(pos)))
 }
 
-// The same by the calls that answer one of the two.
+// Does the same with the calls that return only one of the two.
 pub(crate) fn seen_right<Input: InputIndexer>(input: &Input, place: usize) -> Option<(u32, usize)> {
     let pos = position(input, place);
     let c = input.peek_right(pos)?;
@@ -62,7 +63,8 @@ pub(crate) fn seen_left<Input: InputIndexer>(input: &Input, place: usize) -> Opt
     Some((c.as_u32(), input.pos_to_offset(past)))
 }
 
-// The same by the calls that ask for a character: its number to the right, and the offset on either side.
+// Does the same with the calls that test for a character: returns its number to the right, and the
+// offset on either side.
 pub(crate) fn here<Input: InputIndexer, Dir: Direction>(
     input: &Input,
     _dir: Dir,
@@ -79,14 +81,14 @@ pub(crate) fn here<Input: InputIndexer, Dir: Direction>(
     }
 }
 
-// The position of an offset in units.
+// Returns the position of an offset in units.
 fn unit_position<Input: InputIndexer>(input: &Input, offset: usize) -> Option<Input::Position>
     ensures { IfSome result (λ p. Input.Position.offset p ≤ units (Input.text input.now)) }
 {
     input.try_move_right(input.left_end(), offset)
 }
 
-// The unit at an offset.
+// Returns the unit at an offset.
 pub(crate) fn unit<Input: InputIndexer>(input: &Input, offset: usize) -> Option<u32> {
     let pos = unit_position(input, offset)?;
     if input.pos_to_offset(pos) < input.unit_count() {
@@ -96,18 +98,19 @@ pub(crate) fn unit<Input: InputIndexer>(input: &Input, offset: usize) -> Option<
     }
 }
 
-// How many bytes there are.
+// Returns the number of bytes.
 pub(crate) fn byte_count<Input: InputIndexer>(input: &Input) -> Option<usize> {
     Some(input.as_bytes()?.len())
 }
 
-// The offset so many units before the right end.
+// Returns the offset that is `amt` units before the right end.
 pub(crate) fn before_the_end<Input: InputIndexer>(input: &Input, amt: usize) -> Option<usize> {
     let pos = input.try_move_left(input.right_end(), amt)?;
     Some(input.pos_to_offset(pos))
 }
 
-// The offset so many units on from any offset, also from one that the text has not.
+// Returns the offset after moving a number of units from any offset, also from one outside of the
+// text.
 pub(crate) fn moved<Input: InputIndexer, Dir: Direction>(
     input: &Input,
     _dir: Dir,
@@ -123,7 +126,7 @@ pub(crate) fn moved<Input: InputIndexer, Dir: Direction>(
     Some(input.pos_to_offset(to))
 }
 
-// The byte beside an offset, and the offset past it.
+// Returns the byte next to an offset, and the offset past it.
 pub(crate) fn byte<Input: InputIndexer, Dir: Direction>(
     input: &Input,
     dir: Dir,
@@ -134,7 +137,7 @@ pub(crate) fn byte<Input: InputIndexer, Dir: Direction>(
     Some((u32::from(byte), input.pos_to_offset(pos)))
 }
 
-// The offset past these bytes.
+// Returns the offset past these bytes.
 pub(crate) fn past_bytes<const N: usize, Input: InputIndexer, Dir: Direction>(
     input: &Input,
     dir: Dir,
@@ -149,7 +152,7 @@ pub(crate) fn past_bytes<const N: usize, Input: InputIndexer, Dir: Direction>(
     }
 }
 
-// The offset at which the bytes stand that are looked for.
+// Returns the offset at which the searcher finds its bytes.
 pub(crate) fn found<Input: InputIndexer, Search: ByteSearcher>(
     input: &Input,
     offset: usize,
@@ -160,7 +163,7 @@ pub(crate) fn found<Input: InputIndexer, Search: ByteSearcher>(
     Some(input.pos_to_offset(at))
 }
 
-// The first character of the text of a range, and its length.
+// Returns the first character in a range of the text, and the length of the range.
 pub(crate) fn part<Input: InputIndexer>(
     input: &Input,
     place: usize,
@@ -175,7 +178,7 @@ pub(crate) fn part<Input: InputIndexer>(
     )
 }
 
-// The offset past the characters of a range, beside another place.
+// Returns the offset past the characters of a range, if they occur at another place.
 pub(crate) fn past_range<Input: InputIndexer, Dir: Direction>(
     input: &Input,
     dir: Dir,
@@ -197,7 +200,7 @@ pub(crate) fn past_range<Input: InputIndexer, Dir: Direction>(
     }
 }
 
-// The offset past the character that the matcher takes.
+// Returns the offset past the character that the matcher accepts.
 pub(crate) fn past_match<Input: InputIndexer, Dir: Direction, M: SingleCharMatcher<Input, Dir>>(
     input: &Input,
     dir: Dir,
@@ -214,7 +217,7 @@ pub(crate) fn past_match<Input: InputIndexer, Dir: Direction, M: SingleCharMatch
     }
 }
 
-// The fold of a character, and 1 where it is that of another.
+// Returns the fold of a character, and 1 if another character has the same fold.
 pub(crate) fn folded<Input: InputIndexer>(
     input: &Input,
     c: u32,
@@ -225,17 +228,18 @@ pub(crate) fn folded<Input: InputIndexer>(
     Some((input.fold(c).as_u32(), input.fold_equals(c, other) as usize))
 }
 
-// The fold of a character that no input has.
+// Returns the fold of a character, without an input.
 pub(crate) fn folded_alone<Props: CharProperties>(code: u32, unicode: bool) -> Option<u32> {
     Some(Props::fold(Props::Element::try_from(code)?, unicode).as_u32())
 }
 
-// The number of the element that has this number.
+// Returns the number of the element with this number.
 pub(crate) fn number<E: ElementType>(code: u32) -> Option<u32> {
     Some(E::try_from(code)?.as_u32())
 }
 
-// 4 for a word character, 2 for one where case does not count, and 1 for what ends a line.
+// Returns the sum of 4 for a word character, 2 for a word character if case is ignored, and 1 for a
+// line terminator.
 pub(crate) fn classes<Props: CharProperties>(code: u32) -> Option<usize> {
     let c = Props::Element::try_from(code)?;
     let word = if Props::is_word_char(c) { 4 } else { 0 };

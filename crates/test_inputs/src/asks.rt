@@ -1,4 +1,4 @@
-//! What is asked of an input, and its answers.
+//! The questions to an input, and their answers.
 
 use crate::answers::{
     before_the_end, byte, byte_count, character, classes, folded, folded_alone, found, here, moved,
@@ -12,18 +12,18 @@ use std::alloc::AllocError;
 
 #[derive(Clone, Copy)]
 pub(crate) struct Ask<'a> {
-    // The direction, empty where the question has none.
+    // The direction. Empty if the question has none.
     pub(crate) way: &'a str,
     pub(crate) name: &'a str,
     pub(crate) numbers: [u32; 4],
-    // The class that the matchers of one character are tried with.
+    // The class with which the matchers of one character are tested.
     pub(crate) class: &'a BracketContents,
 }
 
-// A number of a character, if there is one, and an offset or a number.
+// The number of a character (if there is one), and an offset or another number.
 pub(crate) type Answer = Option<(u32, usize)>;
 
-// What no row wants.
+// The answer to an unknown question, which no row expects.
 const NO_QUESTION: Answer = Some((u32::MAX, usize::MAX));
 
 fn at(offset: Option<usize>) -> Answer {
@@ -57,7 +57,7 @@ fn beside<Input: InputIndexer, Dir: Direction>(input: &Input, dir: Dir, ask: &As
     }
 }
 
-// How characters are compared by a question for a range.
+// Returns how a question about a range compares characters.
 fn sameness(name: &str) -> Option<Sameness> {
     match name {
         "range" => Some(Sameness::Exact),
@@ -84,7 +84,7 @@ fn of_text<Input: InputIndexer>(input: &Input, ask: &Ask<'_>) -> Answer {
     }
 }
 
-// What is asked of no text.
+// Answers a question that is not about a text.
 fn of_encoding<Input: InputIndexer>(input: &Input, ask: &Ask<'_>) -> Answer {
     let [code, other, _, _] = ask.numbers;
     match ask.name {
@@ -142,7 +142,7 @@ fn write_numbers(line: &mut String, answer: Answer) -> Result<(), AllocError> {
     }
 }
 
-// Writes the answer of an input, each number behind a blank.
+// Writes the answer of an input. Each number follows a blank.
 pub(crate) fn write_answer<Input: InputIndexer>(
     line: &mut String,
     input: &Input,

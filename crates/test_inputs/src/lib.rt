@@ -1,4 +1,4 @@
-//! Rows of the inputs: each public call at concrete types, on texts of which the answers are known.
+//! Tests of the inputs by rows: each public call at concrete types, on texts with known answers.
 #![tactic(auto)]
 
 #[cfg(test)]

@@ -1,4 +1,4 @@
-//! The matchers of one character.
+//! Matchers of one character.
 
 ghost use Rattle.std.specs.Prelude.{◌<◌, All};
 ghost use Rattle.regex_pattern_front.specs.ByteSetMembers.{member_bytes_of_ascii_bitmap};
@@ -13,7 +13,7 @@ use regress_input::scm::{
 };
 use std::alloc::{AllocError, Global};
 
-// The set of one byte of ASCII.
+// Returns the set of one ASCII byte.
 fn ascii_set(byte: u8) -> AsciiBitmap
     ensures { All (λ b. b < 128) (member_bytes_of_ascii_bitmap result) }
 {
@@ -22,7 +22,7 @@ fn ascii_set(byte: u8) -> AsciiBitmap
     set
 }
 
-// The class of all characters but `a` to `m`.
+// Returns the class of all characters except `a` to `m`.
 pub(crate) fn class(alloc: Global) -> Result<BracketContents, AllocError> {
     let letters = [Interval {
         first: 0x61,
@@ -34,7 +34,8 @@ pub(crate) fn class(alloc: Global) -> Result<BracketContents, AllocError> {
     })
 }
 
-// The offsets past the character beside a place that the eight matchers of `z` take, and that of the bytes of `€`.
+// Returns the offset past the character next to a position for each of the eight matchers of `z`,
+// and for the bytes of `€`.
 pub(crate) fn matching<Input: InputIndexer, Dir: Direction>(
     input: &Input,
     dir: Dir,
@@ -68,7 +69,7 @@ pub(crate) fn matching<Input: InputIndexer, Dir: Direction>(
     ])
 }
 
-// The offset past the character with this number.
+// Returns the offset past the character with this number.
 pub(crate) fn past_char<Input: InputIndexer, Dir: Direction>(
     input: &Input,
     dir: Dir,

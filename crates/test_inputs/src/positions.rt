@@ -1,10 +1,10 @@
-//! Positions, and directions.
+//! Tests of positions and directions.
 
 ghost use Rattle.std.specs.Prelude.{◌≡◌, ◌+◌, ◌-◌, ◌<◌, ◌≤◌, ◌^◌, ℕ};
 
 use regress_input::position::{Backward, Direction, Forward, IndexPosition, PositionType};
 
-// A position of any type, moved on and back.
+// Moves a position of any type forward and back.
 fn there_and_back<P: PositionType>(p: P, units: usize) -> P
     requires { P.offset p + units < 2 ^ 64 }
     ensures { P.offset result ≡ P.offset p }
@@ -15,12 +15,13 @@ fn there_and_back<P: PositionType>(p: P, units: usize) -> P
     q - units
 }
 
-// Whether one position is before the other, and whether they are equal.
+// Returns whether one position is before the other, and whether they are equal.
 fn compared<P: PositionType>(p: P, q: P) -> (bool, bool) {
     (p < q, p == q)
 }
 
-// A position is not the one that stands for none, which is itself.
+// Returns whether a position differs from the one that stands for none, and whether that one equals
+// itself.
 fn told_from_none<P: PositionType>(units: usize) -> (bool, bool) {
     (
         P::from_offset(units) == P::no_position(),

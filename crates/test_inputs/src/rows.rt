@@ -1,4 +1,4 @@
-//! What inputs answer, row by row.
+//! Reads the rows of the inputs, and writes the answers.
 
 use crate::asks::{Ask, write_answer};
 use crate::matches::class;
@@ -9,7 +9,7 @@ use std::alloc::{AllocError, Global};
 use std::process::Abort;
 use std::test::Fail;
 
-// A number in hexadecimal, 0 where there is none.
+// Reads a hexadecimal number. Returns 0 if there is none.
 fn number(text: Option<&str>) -> u32 {
     u32::from_str_radix(text.unwrap_or("0"), 16).unwrap_or(0)
 }
@@ -24,7 +24,7 @@ fn numbers_of(text: &str) -> [u32; 4] {
     ]
 }
 
-// The units of a text that is written as numbers.
+// Reads the units of a text that is given as numbers.
 fn units_of(alloc: Global, text: &str) -> Result<Vec<u16>, AllocError> {
     let mut units = Vec::new(alloc);
     for unit in text.split(',') {
@@ -95,7 +95,7 @@ fn write_of_units(
     }
 }
 
-// Writes what is answered for the five fields of a row.
+// Writes the answer to the five fields of a row.
 fn write_row(
     alloc: Global,
     line: &mut String,

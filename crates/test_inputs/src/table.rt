@@ -1,17 +1,20 @@
 //! The table of rows.
 
-// Rows of five fields, with `~` between them, and the answer behind an arrow. The fields are an input, where `u` is the
-// flag; its text, or its units; the direction, if the question has one; the question; and the numbers that it has. Places
-// count characters from the left end, and offsets are in units. All numbers are hexadecimal.
+// Each row has five fields, separated by `~`, an arrow, and the answer. The fields are an input
+// (`u` stands for the flag); its text or its units; the direction, if the question has one; the
+// question; and the question's numbers. Places count characters from the left end, and offsets are
+// in units. All numbers are hexadecimal.
 //
-// An answer is the number of a character, or 0, and behind it an offset, or 0. That of `fold` is the fold of the first
-// number, and whether both numbers have one fold; that of `classes` is the sum of 4 for a word character, 2 for one where
-// case does not count, and 1 for what ends a line; that of `matchers` is the offset for each of the nine. Both numbers of
-// `moved_far` count back from the greatest.
+// An answer is the number of a character, or 0, followed by an offset, or 0. The answer to `fold`
+// is the fold of the first number, and whether both numbers have the same fold. The answer to
+// `classes` is the sum of 4 for a word character, 2 for a word character if case is ignored, and 1
+// for a line terminator. The answer to `matchers` is the offset for each of the nine matchers. Both
+// numbers of `moved_far` count back from the greatest number.
 //
-// What the rows show: literals are read from left to right in both directions, and a range is not reversed. A low
-// surrogate before a high one is no pair, and half a pair is no character of UTF-16, at either end of a comparison. A unit
-// is not its low byte. The Kelvin sign, U+212A, has the fold of `k` with the flag `u` alone, and takes three bytes.
+// The rows show that literals are read from left to right in both directions, and that a range is
+// not reversed. A low surrogate before a high one is not a pair, and half a pair is not a character
+// of UTF-16, at either end of a comparison. A unit is not its low byte. The Kelvin sign, U+212A,
+// has the fold of `k` only with the flag `u`, and takes three bytes.
 pub(crate) const ROWS: &str = "\
 utf8~aé€😀~right~character~0 → 61 1;
 utf8~aé€😀~right~character~1 → E9 3;

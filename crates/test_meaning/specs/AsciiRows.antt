@@ -26,7 +26,7 @@ behind : matches (cat (cat (lookaround (look false true 0 0) (cat (char 120) end
 unfolding matches
 behind = refl
 
--- `(?<=x)y`: what stands before the start is seen
+-- `(?<=x)y`: the text before the start is part of the text.
 behind_from : matches (cat (cat (lookaround (look false true 0 0) (cat (char 120) end_of_cat))
     (cat (char 121) end_of_cat)) (cat goal end_of_cat)) (ascii_text (codes "xyxy") false)
     1 ≡ (found 1 2 [] ∷ found 3 4 [] ∷ [])

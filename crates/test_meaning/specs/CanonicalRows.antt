@@ -7,21 +7,22 @@ use Rattle.ucd_case.specs.CaseFolding.{simple_folding}
 use Rattle.ucd_case.specs.SimpleFoldingRows.{simple_folding_rows}
 use Rattle.regex_meaning.specs.Canonical.{canonicalize}
 
--- A character, and what it becomes.
+-- A character, and its canonical character.
 abbrev Rows : Type 0
 Rows = List (ℕ × ℕ)
 
 abbrev are_rows_of : Bool → Rows → Type 0
 are_rows_of unicode rows = map (λ r. canonicalize unicode r.0) rows ≡ map (λ r. r.1) rows
 
--- Without `u`, the uppercase is one code unit: `é`, `ÿ`, `я`, both small sigmas, the micro sign, `ɐ`
--- and the combining iota subscript (U+0345).
+-- Without `u`, the uppercase is one code unit: `é`, `ÿ`, `я`, both small sigmas, the micro sign,
+-- `ɐ` and the combining iota subscript (U+0345).
 one_code_unit : are_rows_of false ((0xE9, 0xC9) ∷ (0xFF, 0x0178) ∷ (0x044F, 0x042F) ∷ (0x03C3, 0x03A3)
     ∷ (0x03C2, 0x03A3) ∷ (0xB5, 0x039C) ∷ (0x0250, 0x2C6F) ∷ (0x0345, 0x0399) ∷ [])
 unfolding canonicalize to_uppercase uppercase_runs uppercase_strings by_runs by_strings
 one_code_unit = refl
 
--- Without `u`, the digraphs `DŽ`, `Dž` and `dž`, and `DZ`, `Dz` and `dz`, become the first of the three.
+-- Without `u`, the digraphs `DŽ`, `Dž` and `dž`, and `DZ`, `Dz` and `dz`, become the first of the
+-- three.
 digraphs : are_rows_of false ((0x01C4, 0x01C4) ∷ (0x01C5, 0x01C4) ∷ (0x01C6, 0x01C4) ∷ (0x01F1, 0x01F1)
     ∷ (0x01F2, 0x01F1) ∷ (0x01F3, 0x01F1) ∷ [])
 unfolding canonicalize to_uppercase uppercase_runs uppercase_strings by_runs by_strings
@@ -44,8 +45,8 @@ uppercase : are_rows_of false ((0x0130, 0x0130) ∷ (0x1E9E, 0x1E9E) ∷ (0x2126
 unfolding canonicalize to_uppercase uppercase_runs uppercase_strings by_runs by_strings
 uppercase = refl
 
--- Small letters of Cherokee, and Georgian ones, have uppercase letters; one half of a surrogate pair
--- and a letter of Deseret, which is two of them, have none.
+-- Small letters of Cherokee and of Georgian have uppercase letters. Half of a surrogate pair has
+-- none, and neither has a letter of Deseret, which is a pair.
 cherokee : are_rows_of false ((0xAB70, 0x13A0) ∷ (0x13F8, 0x13F0) ∷ (0x13A0, 0x13A0) ∷ (0x10D0, 0x1C90)
     ∷ (0xD801, 0xD801) ∷ (0x10428, 0x10428) ∷ [])
 unfolding canonicalize to_uppercase uppercase_runs uppercase_strings by_runs by_strings
@@ -69,7 +70,7 @@ digraphs_with_unicode : are_rows_of true ((0x01C4, 0x01C6) ∷ (0x01C5, 0x01C6) 
 unfolding canonicalize simple_folding simple_folding_rows value_in
 digraphs_with_unicode = refl
 
--- `İ` has only a full folding, and `ı` none: the Turkic mappings are left out
+-- `İ` has only a full folding, and `ı` has none, because the Turkic mappings are excluded.
 dotted_with_unicode : are_rows_of true ((0x0130, 0x0130) ∷ (0x0131, 0x0131) ∷ [])
 unfolding canonicalize simple_folding simple_folding_rows value_in
 dotted_with_unicode = refl

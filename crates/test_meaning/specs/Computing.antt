@@ -1,4 +1,4 @@
--- Matches in offsets, as a test computes them.
+-- Matches in offsets, in a form that tests can compute.
 use Rattle.std.specs.Prelude.{ℕ, List, [], ◌∷◌, map, take, length, ◌+◌, Option, option_map, true, false, Bool, not, ◌||◌}
 use Rattle.std.specs.List.{list_all}
 use Rattle.regex_meaning.specs.NumberListHelpers.{numbers_from}
@@ -45,12 +45,12 @@ unfoldable pub at_offset : Node → Text → ℕ → Option Found
 unfolding outcomes bounded_repeat fold_code_point expand_code_point chars
 at_offset root text at = option_map as_found (answer_at root text at)
 
--- Where the list goes on behind the first match from an offset.
+-- Where the list of matches continues after the first match from an offset on.
 unfoldable pub goes_on_at : Node → Text → ℕ → Option ℕ
 unfolding first_match_among outcomes bounded_repeat fold_code_point expand_code_point chars
 goes_on_at root text start = next_start root text start
 
--- The ranges of a name in all matches from the start.
+-- The ranges of the groups with a name, in all matches from the start on.
 unfoldable pub named : Node → Text → (name : List ℕ) → List (Option (ℕ × ℕ))
 unfolding answers_from match_list first_match_among matches_from outcomes bounded_repeat fold_code_point
     expand_code_point chars
@@ -81,7 +81,7 @@ abbrev has_outcome : List Outcome → Bool
 has_outcome [] = false
 has_outcome (o ∷ os) = true
 
--- Wherever the tree has an outcome, its predicate holds.
+-- The start predicate admits each place at which the tree has an outcome.
 unfoldable pub sound_on : Node → Text → Bool
 unfolding outcomes bounded_repeat fold_code_point expand_code_point chars start_predicate abstract_start_predicate
     bytes_that_pass may_start encode

@@ -25,7 +25,7 @@ tree_of n = record { root = cat (cat n end_of_cat) (cat goal end_of_cat); flags 
 abbrev no_groups : PatternContext
 no_groups = record { flags = no_flags; groups = [] }
 
--- Where case is not ignored, a character is its only case variant.
+-- If case is not ignored, a character is its only case variant.
 spelled_alone : (c : ℕ) → AreCaseVariants false false c (c ∷ [])
 spelled_alone c = record {
   increasing = tt;

@@ -1,4 +1,4 @@
--- Programs and the trees whose code they are.
+-- Programs, and the trees whose code they are.
 use Rattle.std.specs.Prelude.{◌≡◌, ℕ, ◌^◌, ◌-◌, List, [], ◌∷◌, None, refl, true, false}
 use Rattle.regex_meaning.specs.Tree.{goal, char, byte_set, byte_sequence, cat, end_of_cat, alt, lookaround, loop, loop_1_char_body}
 use Rattle.regex_meaning.specs.CompilationRelation.{Insn, Goal, Char, Alt, Jump, EnterLoop, LoopAgain, Loop1CharBody, ByteSeq, Lookbehind, Program, Counters, IsCode}

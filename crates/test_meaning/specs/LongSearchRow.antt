@@ -10,7 +10,7 @@ use Rattle.regex_meaning.specs.FirstAndAllMatches.{no_groups}
 use Rattle.regex_meaning.specs.OutcomesWithStepTicks.{TickOrOutcome, tick, pair, ticked, ticked_bounded_repeat}
 use Rattle.test_meaning.specs.Computing.{times}
 
--- More ticks than these stand before the first pair.
+-- There are more ticks than this before the first pair.
 abbrev takes_more_than : ℕ → List TickOrOutcome → Bool
 takes_more_than n [] = false
 takes_more_than n (pair o ∷ items) = false

@@ -1,4 +1,4 @@
--- Worked rows: patterns, trees and what is said of a match.
+-- Worked rows: patterns, trees and matches.
 use Rattle.std.specs.Prelude.{◌≡◌, [], ◌∷◌, Some, None, refl, true, false, codes}
 use Rattle.regex_meaning.specs.Tree.{goal, char, cat, end_of_cat, alt, bracket, capture_group, lookaround, loop, loop_1_char_body}
 use Rattle.regex_meaning.specs.Text.{utf8_text, utf16_text, ucs2_text}
@@ -46,7 +46,7 @@ optional_group : matches (cat (cat (capture_group 0 [] (cat (char 97) end_of_cat
 unfolding matches
 optional_group = refl
 
--- `[a-z]` on U+0161
+-- `[a-z]` on U+0161.
 letters_ucs2 : matches (cat (cat (bracket (in_brackets false ((97, 122) ∷ []))) end_of_cat) (cat goal end_of_cat))
     (ucs2_text (353 ∷ []) false) 0 ≡ []
 unfolding matches
@@ -57,12 +57,12 @@ surrogate_ucs2 : matches (cat (char 55296) (cat goal end_of_cat)) (ucs2_text (55
 unfolding matches
 surrogate_ucs2 = refl
 
--- No unit is U+110000.
+-- U+110000 is not a unit.
 too_large_utf16 : matches (cat (char 1114112) (cat goal end_of_cat)) (utf16_text (97 ∷ []) false) 0 ≡ []
 unfolding matches
 too_large_utf16 = refl
 
--- No unit is U+110000.
+-- U+110000 is not a unit.
 too_large_ucs2 : matches (cat (char 1114112) (cat goal end_of_cat)) (ucs2_text (97 ∷ []) false) 0 ≡ []
 unfolding matches
 too_large_ucs2 = refl
@@ -73,7 +73,7 @@ lazy_optional : matches (cat (cat (loop_1_char_body (times 0 (Some 1) false) (ch
 unfolding matches
 lazy_optional = refl
 
--- `(?=(a))` leaves its group, `(?!(a))` does not
+-- `(?=(a))` keeps its group, and `(?!(a))` does not.
 crossed : matches (cat (alt (cat (lookaround (look false false 0 1)
     (cat (capture_group 0 [] (cat (char 97) end_of_cat)) end_of_cat)) (cat (char 97) end_of_cat))
     (cat (lookaround (look true false 1 2) (cat (capture_group 1 [] (cat (char 97) end_of_cat)) end_of_cat))

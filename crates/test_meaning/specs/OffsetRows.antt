@@ -1,4 +1,4 @@
--- Rows on offsets: starts at, within and past the text, and where the list goes on.
+-- Rows on offsets: starts at, within and past the text, and where the list of matches continues.
 use Rattle.std.specs.Prelude.{◌≡◌, ◌-◌, ◌^◌, [], ◌∷◌, Some, None, refl, true, false, codes, map}
 use Rattle.regex_meaning.specs.Tree.{goal, bracket, char, cat, end_of_cat, match_any, loop_1_char_body}
 use Rattle.regex_meaning.specs.Text.{utf8_text, ascii_text, utf16_text, ucs2_text}
@@ -12,7 +12,7 @@ offsets : map (offset (utf8_text (195 ∷ 169 ∷ 226 ∷ 130 ∷ 172 ∷ 240 �
 unfolding chars
 offsets = refl
 
--- Only the offsets at which a character begins, and the end, are those of places.
+-- Only the offsets at which a character begins, and the end, are offsets of places.
 places : map (place_at (utf8_text (195 ∷ 169 ∷ 97 ∷ []) false))
     (0 ∷ 1 ∷ 2 ∷ 3 ∷ 4 ∷ []) ≡ (Some 0 ∷ None ∷ Some 1 ∷ Some 2 ∷ None ∷ [])
 unfolding chars
@@ -40,14 +40,15 @@ two_characters : matches (cat match_any (cat goal end_of_cat)) (utf8_text (195 �
 unfolding matches
 two_characters = refl
 
--- `[^é]` in `éa` at each offset from 0 to 4: where none begins nothing is looked for further on
+-- `[^é]` in `éa` at each offset from 0 to 4. If no match begins there, no later match is searched
+-- for.
 at_each : map (at_offset (cat (bracket (in_brackets true ((233, 233) ∷ []))) (cat goal end_of_cat))
     (utf8_text (195 ∷ 169 ∷ 97 ∷ []) false)) (0 ∷ 1 ∷ 2 ∷ 3 ∷ 4 ∷ [])
     ≡ (None ∷ None ∷ Some (found 2 3 []) ∷ None ∷ None ∷ [])
 unfolding at_offset
 at_each = refl
 
--- `a*?` at the end is empty there
+-- `a*?` has an empty match at the end.
 at_the_end : at_offset (cat (cat (loop_1_char_body (times 0 None false) (char 97)) end_of_cat) (cat goal end_of_cat))
     (utf8_text (codes "aa") false) 2 ≡ Some (found 2 2 [])
 unfolding at_offset
@@ -88,13 +89,13 @@ far_ucs2 : matches (cat (cat (loop_1_char_body (times 0 None true) (char 97)) en
 unfolding matches
 far_ucs2 = refl
 
--- `a*` on `aab`: behind 0..2 the list goes on at 2, behind 2..2 at 3, and behind 3..3 nowhere
+-- `a*` on `aab`: after 0..2 the list continues at 2, after 2..2 at 3, and after 3..3 it ends.
 goes_on : map (goes_on_at (cat (cat (loop_1_char_body (times 0 None true) (char 97)) end_of_cat) (cat goal end_of_cat))
     (utf8_text (codes "aab") false)) (0 ∷ 2 ∷ 3 ∷ 4 ∷ []) ≡ (Some 2 ∷ Some 3 ∷ None ∷ None ∷ [])
 unfolding goes_on_at
 goes_on = refl
 
--- The empty pattern on `é`: behind 0..0 it goes on past the character.
+-- The empty pattern on `é`: after 0..0 the list continues past the character.
 goes_past_a_character : map (goes_on_at (cat end_of_cat (cat goal end_of_cat)) (utf8_text (195 ∷ 169 ∷ []) false))
     (0 ∷ 2 ∷ []) ≡ (Some 2 ∷ None ∷ [])
 unfolding goes_on_at

@@ -243,7 +243,7 @@ same_fold : matches same_fold-tree (utf8_text (107 ∷ 226 ∷ 132 ∷ 170 ∷ [
 unfolding matches
 same_fold = refl
 
--- `(.)\1` where the characters are compared by `canonicalize`, whatever the text folds
+-- `(.)\1` with characters that are compared by `canonicalize`, regardless of the text's folding.
 abbrev alike-tree : (unicode : Bool) → Node
 alike-tree unicode = (cat (cat (capture_group 0 [] (cat match_any_except_line_terminator end_of_cat))
     (cat (back_ref 1 (alike unicode)) end_of_cat)) (cat goal end_of_cat))
@@ -276,7 +276,7 @@ names_behind : matches names_behind-tree (utf8_text (120 ∷ 121 ∷ 122 ∷ [])
 unfolding matches
 names_behind = refl
 
--- A one-character loop over what no text of characters has, then `a`.
+-- A one-character loop over a character that no text has, followed by `a`.
 abbrev surrogate_not_at_all-tree : Node
 surrogate_not_at_all-tree =
     (cat (loop_1_char_body (times 0 None true) (char 55296)) (cat (char 97) (cat goal end_of_cat)))
@@ -285,7 +285,7 @@ surrogate_not_at_all : matches surrogate_not_at_all-tree (utf8_text (97 ∷ []) 
 unfolding matches
 surrogate_not_at_all = refl
 
--- A string set behind: `ab` in reading order.
+-- A string set in a lookbehind: `ab` is in reading order.
 abbrev strings_behind-tree : Node
 strings_behind-tree =
     (cat (lookaround (look false true 0 0) (string_set ((97 ∷ 98 ∷ []) ∷ []) false)) (cat goal end_of_cat))
@@ -294,7 +294,7 @@ strings_behind : matches strings_behind-tree (utf8_text (97 ∷ 98 ∷ []) false
 unfolding matches
 strings_behind = refl
 
--- A sequence of 17 bytes behind.
+-- A sequence of 17 bytes in a lookbehind.
 abbrev long_sequence_behind-tree : Node
 long_sequence_behind-tree = (cat (lookaround (look false true 0 0)
     (byte_sequence (97 ∷ 98 ∷ 99 ∷ 100 ∷ 101 ∷ 102 ∷ 103 ∷ 104 ∷ 105 ∷ 106 ∷ 107 ∷ 108 ∷ 109 ∷ 110 ∷ 111 ∷ 112 ∷ 113
@@ -331,7 +331,7 @@ before_digits : matches before_digits-tree (utf8_text (97 ∷ 49 ∷ 98 ∷ 50 �
 unfolding matches
 before_digits = refl
 
--- Two arms, each a group named `n`.
+-- Two arms, each with a group named `n`.
 abbrev two_groups_of_one_name-tree : Node
 two_groups_of_one_name-tree =
     (cat (alt (capture_group 0 (110 ∷ []) (char 97)) (capture_group 1 (110 ∷ []) (char 98))) (cat goal end_of_cat))

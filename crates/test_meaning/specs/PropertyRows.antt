@@ -1,4 +1,4 @@
--- Worked rows of the names of properties, and of the code points that have them.
+-- Worked rows of the names of properties, and of the code points with these properties.
 use Rattle.std.specs.Prelude.{◌≡◌, refl, Some, None, [], ◌∷◌, map, codes}
 use Prim.Native.String.{String}
 use Rattle.ucd_sets.specs.Names.{category_names, script_names}
@@ -38,7 +38,7 @@ casefolded : property_named (codes "CWKCF") ≡ Some changes_when_nfkc_casefolde
 unfolding category_names
 casefolded = refl
 
--- A property and a value of it.
+-- A property with a value.
 letter : property_with_value (codes "gc") (codes "L") ≡ Some (in_database (set.CategoryGroup Letter))
 unfolding category_names
 letter = refl
@@ -51,8 +51,8 @@ coptic : property_with_value (codes "scx") (codes "Qaac") ≡ Some (in_database 
 unfolding script_names
 coptic = refl
 
--- Names are exact. A script is no name by itself, and `Any` is no category. Names of Unicode that the
--- tables do not have are none, nor are those of later editions.
+-- Names are exact. The name of a script alone is not valid, and `Any` is not a category. Names of
+-- Unicode that the tables do not have are invalid, and so are those of later editions.
 no_names : map (λ name. property_named (codes name))
     ("lu" ∷ "IsLu" ∷ "Greek" ∷ "WSpace" ∷ "Grapheme_Link" ∷ "Other_Math" ∷ "Extended_Pictographic" ∷ "EComp" ∷ "" ∷ [])
     ≡ None ∷ None ∷ None ∷ None ∷ None ∷ None ∷ None ∷ None ∷ None ∷ []

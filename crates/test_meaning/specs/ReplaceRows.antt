@@ -115,13 +115,13 @@ whole : replaced_by 100 (cat (cat (bracket (in_brackets false ((48, 57) ∷ []))
 unfolding replaced_by
 whole = refl
 
--- Two groups of one name, in two arms.
+-- Two groups with the same name, in two arms.
 either : replaced_by 100 (cat (alt (capture_group 0 (codes "n") (char 97)) (capture_group 1 (codes "n") (char 98)))
     (cat goal end_of_cat)) (codes "ab") (codes "[${n}]") ≡ codes "[a][b]"
 unfolding replaced_by
 either = refl
 
--- And one behind the other: the first one counts.
+-- Two groups with the same name in sequence: the first one is used.
 first_of_both : named (cat (capture_group 0 (codes "n") (char 97))
     (cat (capture_group 1 (codes "n") (char 98)) (cat goal end_of_cat))) (utf8_text (codes "ab") false)
     (codes "n") ≡ (Some (0, 1) ∷ [])
@@ -133,7 +133,7 @@ second_arm : named (cat (alt (capture_group 0 (codes "n") (char 97)) (capture_gr
 unfolding named
 second_arm = refl
 
--- `(?<=(?<a>x)(?<b>y))z`: names stand under their ids
+-- `(?<=(?<a>x)(?<b>y))z`: each name has the id of its group.
 behind : named (cat (cat (lookaround (look false true 0 2)
     (cat (capture_group 1 (98 ∷ []) (cat (char 121) end_of_cat))
     (cat (capture_group 0 (97 ∷ []) (cat (char 120) end_of_cat)) end_of_cat))) (cat (char 122) end_of_cat))

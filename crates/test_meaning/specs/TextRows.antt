@@ -76,7 +76,7 @@ of_the_empty_name = refl
 of_no_group : named_group two (codes "m") ≡ None
 of_no_group = refl
 
--- Both groups of the name matched: the first one counts.
+-- Both groups with the name matched: the first one is used.
 abbrev both : Answer
 both = record { range = (0, 2); captures = Some (0, 1) ∷ Some (1, 2) ∷ []; names = codes "n" ∷ codes "n" ∷ [] }
 
@@ -92,14 +92,14 @@ truncated = refl
 cut_off : named_groups (record two { captures = [] }) ≡ (codes "n", None) ∷ []
 cut_off = refl
 
--- A match of a group that is there and of one that is not, and what is asked of it.
+-- A match with a group that exists and one that does not, and the results of its accessors.
 abbrev one_of_two : Answer
 one_of_two = record { range = (0, 1); captures = Some (0, 1) ∷ None ∷ []; names = codes "n" ∷ [] ∷ [] }
 
 groups : map (group one_of_two) (0 ∷ 1 ∷ 2 ∷ 3 ∷ []) ≡ (Some (0, 1) ∷ Some (0, 1) ∷ None ∷ None ∷ [])
 groups = refl
 
--- The same without its captures.
+-- The same without captures.
 groups_cut_off : map (group (record one_of_two { captures = [] })) (0 ∷ 1 ∷ []) ≡ (Some (0, 1) ∷ None ∷ [])
 groups_cut_off = refl
 
@@ -151,7 +151,7 @@ words : replaced (codes "hello world") 0
 unfolding expansion replaced
 words = refl
 
--- Among the ASCII characters and the two beyond, each expands to those with its fold.
+-- Each ASCII character, and the two others, expands to the characters with its fold.
 abbrev candidates : List ℕ
 candidates = numbers_from 0 128 ++ (0x017F ∷ 0x212A ∷ 0xE9 ∷ [])
 

@@ -57,7 +57,7 @@ six_signs : matches six_signs-tree (utf8_text (226 ∷ 130 ∷ 172 ∷ 226 ∷ 1
 unfolding matches
 six_signs = refl
 
--- An empty set accepts nothing.
+-- An empty set accepts no character.
 abbrev empty_set-tree : Node
 empty_set-tree = (cat (char_set []) (cat goal end_of_cat))
 
@@ -65,7 +65,7 @@ empty_set : matches empty_set-tree (utf8_text (97 ∷ []) false) 0 ≡ []
 unfolding matches
 empty_set = refl
 
--- A loop over an empty set leaves at once.
+-- A loop over an empty set is left at once.
 abbrev empty_set_not_at_all-tree : Node
 empty_set_not_at_all-tree =
     (cat (loop_1_char_body (times 0 None true) (byte_set [])) (cat (char 97) (cat goal end_of_cat)))
@@ -74,7 +74,7 @@ empty_set_not_at_all : matches empty_set_not_at_all-tree (utf8_text (97 ∷ []) 
 unfolding matches
 empty_set_not_at_all = refl
 
--- The strings `a` and `ab`, then `c`.
+-- The strings `a` and `ab`, followed by `c`.
 abbrev strings_in_order-tree : Node
 strings_in_order-tree = (cat (string_set ((97 ∷ []) ∷ (97 ∷ 98 ∷ []) ∷ []) false) (cat (char 99) (cat goal end_of_cat)))
 
@@ -228,7 +228,7 @@ not_a : matches not_a-tree (utf8_text (97 ∷ 195 ∷ 169 ∷ []) false) 0 ≡ (
 unfolding matches
 not_a = refl
 
--- A lookahead that names an empty range past the last group.
+-- A lookahead with an empty range of groups past the last group.
 abbrev empty_range_of_groups-tree : Node
 empty_range_of_groups-tree = (cat (lookaround (look false false 5 5) (char 97)) (cat goal end_of_cat))
 
@@ -246,7 +246,7 @@ nested_empty_loops : matches nested_empty_loops-tree (utf8_text (98 ∷ []) fals
 unfolding matches
 nested_empty_loops = refl
 
--- Empty iterations count up to the minimum.
+-- Empty iterations count until the minimum is reached.
 abbrev thousand_empty_iterations-tree : Node
 thousand_empty_iterations-tree = (cat (loop (times 1000 (Some 1000) true) 0 0 empty) (cat goal end_of_cat))
 
@@ -262,7 +262,7 @@ too_many_iterations : matches too_many_iterations-tree (utf8_text (97 ∷ []) fa
 unfolding matches
 too_many_iterations = refl
 
--- No character is U+110000.
+-- U+110000 is not a character.
 abbrev no_such_character-tree : Node
 no_such_character-tree = (cat (char 1114112) (cat goal end_of_cat))
 

@@ -1,8 +1,8 @@
-//! The table of what is wrong with texts that are no patterns.
+//! The table of diagnoses of texts that are not patterns.
 
-// Each line is the letters of the flags, a colon, a text, an arrow, and what is wrong with the text and where, or that it is a
-// pattern. Places count code points. Two things that are wrong are told by the first, but for what is seen at the end
-// alone.
+// Each line has the letters of the flags, a colon, a text, an arrow, and what is wrong with the
+// text and where, or that it is a pattern. Positions count code points. If two things are wrong,
+// the first one is reported, except for what is detected only at the end.
 pub(crate) const CAUSES: &str = r":é😀(a|b → unclosed group at 2
 :(a(b → unclosed group at 2
 :é(a)(b → unclosed group at 4
@@ -34,8 +34,8 @@ u:{1} → nothing to repeat at 0
 :é(?=a)* → an assertion cannot be repeated at 6
 u:(?<!a)? → an assertion cannot be repeated at 6
 :^{2,1} → an assertion cannot be repeated at 1
-:a{2,1} → quantifier out of order at 1
-:é😀{99999999999999999999,1} → quantifier out of order at 2
+:a{2,1} → the maximum of a quantifier is below its minimum at 1
+:é😀{99999999999999999999,1} → the maximum of a quantifier is below its minimum at 2
 :é[a → unclosed class at 1
 :[ → unclosed class at 0
 :[^ → unclosed class at 0
@@ -69,8 +69,8 @@ u:é\u{} → incomplete Unicode escape at 1
 u:\u{41 → incomplete Unicode escape at 0
 u:\ud83d\u00 → incomplete Unicode escape at 6
 u:é\u{110000} → code point past U+10FFFF at 1
-:é\ → nothing to escape at 1
-:[\ → nothing to escape at 1
+:é\ → backslash at the end of the pattern at 1
+:[\ → backslash at the end of the pattern at 1
 :é\1 → no such group at 1
 :(a)\2 → no such group at 3
 :\2(a)\3 → no such group at 5
@@ -83,22 +83,22 @@ u:é\u{110000} → code point past U+10FFFF at 1
 u:\k<n>(b) → no group has this name at 0
 :é\k → reference without a name at 1
 :(?<n>a)\kn → reference without a name at 7
-:é(?<1>a) → invalid name at 4
-:(?<>a) → invalid name at 3
+:é(?<1>a) → character not allowed in a name at 4
+:(?<>a) → character not allowed in a name at 3
 :(?<é>a) → names beyond ASCII are supported only in EcmaScript2018 at 3
 :b(?<aé>a) → names beyond ASCII are supported only in EcmaScript2018 at 5
 u:(?<😀>a) → names beyond ASCII are supported only in EcmaScript2018 at 3
 :(?<n>a)\k<é> → names beyond ASCII are supported only in EcmaScript2018 at 10
-:(?<\u0061>a) → invalid name at 3
-:(?<a-b>a) → invalid name at 4
-:\k<> → invalid name at 3
+:(?<\u0061>a) → character not allowed in a name at 3
+:(?<a-b>a) → character not allowed in a name at 4
+:\k<> → character not allowed in a name at 3
 :é(?<a → unclosed name at 3
 :(?<n>a)\k<n → unclosed name at 9
 :(?<n>a)|(?<n>b) → duplicate name at 11
 :(?<n>a)(?<m>b)(?<n>c)\1{ → duplicate name at 17
 :*(?<n>a)(?<n>b) → nothing to repeat at 0
-u:é] → unmatched bracket at 1
-u:} → unmatched bracket at 0
+u:é] → unmatched ] or } at 1
+u:} → unmatched ] or } at 0
 u:é{}} → incomplete quantifier at 1
 u:a{ → incomplete quantifier at 1
 u:a{1 → incomplete quantifier at 1
@@ -110,7 +110,7 @@ u:{ → incomplete quantifier at 0
 :\k<n>(?<n>a) → a pattern
 v:[&\-\--] → a pattern";
 
-// The same in the whole language.
+// The same for the whole language.
 pub(crate) const ECMASCRIPT_CAUSES: &str = r"u:a\c1 → control escape without a letter at 1
 u:[\c] → control escape without a letter at 1
 u:é\00 → octal escapes are not allowed with u at 1
@@ -125,9 +125,9 @@ u:[a\p{L] → unknown property at 2
 u:[\d-a] → a class escape cannot be the end of a range at 1
 u:[ab-\s] → a class escape cannot be the end of a range at 2
 :é(?<a → unclosed name at 3
-:é(?<1>) → invalid name at 4
-:(?<é-b>) → invalid name at 4
-:(?<a\u{110000}>) → invalid name at 4
+:é(?<1>) → character not allowed in a name at 4
+:(?<é-b>) → character not allowed in a name at 4
+:(?<a\u{110000}>) → character not allowed in a name at 4
 :\k(?<a>b) → reference without a name at 0
 :\k<b>(?<a>c) → no group has this name at 0
 :(?<a>b)(?<\u0061>c) → duplicate name at 10
@@ -136,12 +136,12 @@ u:[ab-\s] → a class escape cannot be the end of a range at 2
 u:(?=a)* → an assertion cannot be repeated at 5
 :^* → an assertion cannot be repeated at 1
 u:a{ → incomplete quantifier at 1
-u:} → unmatched bracket at 0
+u:} → unmatched ] or } at 0
 u:\u{110000} → code point past U+10FFFF at 0
 u:\u → incomplete Unicode escape at 0
 u:\x → incomplete hexadecimal escape at 0
 u:é\a → unknown escape at 1
-:é\ → nothing to escape at 1
+:é\ → backslash at the end of the pattern at 1
 :[a → unclosed class at 0
 :[b-a] → range out of order at 1
 :(a → unclosed group at 0

@@ -1,11 +1,11 @@
-//! How deep patterns nest.
+//! Tests of how deeply patterns are nested.
 
 use crate::patterns::{add, code_points};
 use regex_parser::greatest_parenthesis_depth_of_pattern::nesting;
 use std::alloc::AllocError;
 use std::test::Fail;
 
-// A text, which may be no pattern, and how deep it nests.
+// Texts, which need not be patterns, and their nesting depths.
 const DEPTHS: &str = r"a|b → 0
 (a) → 1
 (a)(b)(c) → 1

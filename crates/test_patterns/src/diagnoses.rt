@@ -1,4 +1,4 @@
-//! What is wrong with texts that are no patterns, and where.
+//! Tests of diagnoses: what is wrong with texts that are not patterns, and where.
 
 use crate::causes::{CAUSES, ECMASCRIPT_CAUSES};
 use crate::patterns::{add, code_points, flags_of};
@@ -11,7 +11,7 @@ use std::alloc::{AllocError, Global};
 use std::process::Abort;
 use std::test::Fail;
 
-// The error of a text is written, an allocation failure as well.
+// Writes the error of a text. It may be an allocation failure.
 fn write_error(text: &mut String, row: &str, syntax: Syntax) -> Result<(), AllocError> {
     let alloc = *text.allocator();
     let (letters, pattern) = row.split_once(':').unwrap_or((row, "no colon"));
@@ -22,8 +22,8 @@ fn write_error(text: &mut String, row: &str, syntax: Syntax) -> Result<(), Alloc
     }
 }
 
-// Returns the first line of a table that says something else of its text than the parser, with what the
-// parser says.
+// Returns the first line of a table that differs from what the parser says about its text, with
+// what the parser says.
 fn first_wrong<'t>(
     alloc: Global,
     table: &'t str,
@@ -60,7 +60,7 @@ fn causes_in_the_whole_language_have_these_places(rt: HostRuntime) -> Result<(),
     Ok(())
 }
 
-// Whether the three calls that tell what is wrong with a text tell the same. No row has too many groups.
+// Checks whether the three calls that diagnose a text agree. No row has too many groups.
 fn is_told_alike(alloc: Global, row: &str) -> Result<bool, AllocError> {
     let (letters, pattern) = row.split_once(':').unwrap_or((row, "no colon"));
     let pattern = code_points(alloc, pattern)?;
@@ -84,7 +84,7 @@ fn causes_are_told_where_patterns_are_refused(rt: HostRuntime) -> Result<(), Fai
     Ok(())
 }
 
-// What is wrong with the piece, 65,536 times the other piece, and the last piece.
+// Returns the diagnosis of a text: the first piece, 65,536 copies of the second, and the third.
 fn told_around(alloc: Global, pieces: [&str; 3]) -> Result<Option<Diagnosis>, AllocError> {
     let mut pattern = code_points(alloc, pieces[0])?;
     add(&mut pattern, pieces[1], 65536)?;
@@ -92,7 +92,7 @@ fn told_around(alloc: Global, pieces: [&str; 3]) -> Result<Option<Diagnosis>, Al
     diagnose(alloc, &pattern, Flags::default())
 }
 
-// Pieces as above, the number of groups that are told, and the place.
+// Pieces as above, the number of groups in the diagnosis, and the position.
 const TOO_MANY: [([&str; 3], u32, usize); 3] = [
     (["", "()", ""], 65536, 131_070),
     ([")\\((?:[(]", "(?<a>", "(("], 65538, 327_684),
@@ -115,13 +115,13 @@ fn one_group_is_too_many_whatever_else_is_wrong(rt: HostRuntime) -> Result<(), F
     Ok(())
 }
 
-// What is wrong with a pattern that is refused.
+// Returns the diagnosis of a pattern that is refused.
 fn told_of(alloc: Global, pattern: &str) -> Result<Option<Diagnosis>, AllocError> {
     let pattern = code_points(alloc, pattern)?;
     diagnose(alloc, &pattern, Flags::default())
 }
 
-// A pattern, and the offset in bytes of the place where something is wrong.
+// Patterns, and the byte offset of the position at which something is wrong.
 const OFFSETS: [(&str, usize); 6] = [
     ("(a", 0),
     ("é*+", 3),
@@ -152,7 +152,7 @@ fn a_place_past_the_end_is_the_end(rt: HostRuntime) {
     assert!(rt; beyond.offset_in("é") == 2);
 }
 
-// What is shown below a pattern that is refused, given by its code points.
+// Writes what is displayed below a refused pattern, which is given by its code points.
 fn write_shown(text: &mut String, pattern: &str) -> Result<(), AllocError> {
     let alloc = *text.allocator();
     let pattern = code_points(alloc, pattern)?;
@@ -162,7 +162,7 @@ fn write_shown(text: &mut String, pattern: &str) -> Result<(), AllocError> {
     }
 }
 
-// The same of a pattern given as a text.
+// Writes the same for a pattern that is given as a text.
 fn write_shown_below_text(text: &mut String, pattern: &str) -> Result<(), AllocError> {
     match told_of(*text.allocator(), pattern)? {
         Some(diagnosis) => write!(text, "{}", diagnosis.below_text(pattern)),
@@ -170,11 +170,11 @@ fn write_shown_below_text(text: &mut String, pattern: &str) -> Result<(), AllocE
     }
 }
 
-// A pattern, and what is shown below it.
+// Patterns, and what is displayed below them.
 const SHOWN: [(&str, &str); 4] = [
     ("é😀(a|b", "é😀(a|b\n  ^ unclosed group"),
     ("a\nb\t*+c\nd", "b *+c\n   ^ nothing to repeat"),
-    ("a\n\\", "\\\n^ nothing to escape"),
+    ("a\n\\", "\\\n^ backslash at the end of the pattern"),
     ("a|b)\nc", "a|b)\n   ^ unopened group"),
 ];
 

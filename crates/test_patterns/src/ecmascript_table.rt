@@ -1,7 +1,7 @@
 //! The table of patterns of the whole language.
 
-// Lines as in the table of the profile: the letters of the flags, a colon, a pattern, an arrow and its
-// tree; with no arrow it is no pattern.
+// Lines as in the table of the profile: the letters of the flags, a colon, a pattern, an arrow and
+// its tree. A line without an arrow is not a pattern.
 pub(crate) const ECMASCRIPT_PATTERNS: &str = r":\1 → Cat[Cat[<1>], Goal]
 :\18 → Cat[Cat[<1>, 8], Goal]
 :(a)\18 → Cat[Cat[Group0(Cat[a]), <1>, 8], Goal]

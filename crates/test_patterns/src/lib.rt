@@ -1,4 +1,5 @@
-//! Rows of the front: patterns with their trees, texts that are refused with what is wrong in them, and sets.
+//! Tests of the front end by rows: patterns with their trees, texts that are refused with their
+//! diagnoses, and sets.
 #![tactic(auto)]
 
 #[cfg(test)]

@@ -1,4 +1,4 @@
-//! Patterns: their trees, and those that are refused.
+//! Tests of patterns: their trees, and those that are refused.
 
 use crate::ecmascript_table::ECMASCRIPT_PATTERNS;
 use crate::printing::write_tree;
@@ -23,7 +23,7 @@ pub(crate) fn flags_of(letters: &str) -> Flags {
     }
 }
 
-// The tree of a pattern, none where it is refused.
+// Returns the tree of a pattern. Returns `None` if it is refused.
 fn tree(
     alloc: Global,
     pattern: &[u32],
@@ -65,7 +65,8 @@ fn write_answer(
     }
 }
 
-// Returns the first line of a table whose pattern has another tree than the line says, with that tree.
+// Returns the first line of a table whose pattern has another tree than the line says, with that
+// tree.
 fn first_wrong<'t>(
     alloc: Global,
     table: &'t str,
@@ -103,7 +104,7 @@ fn patterns_of_the_whole_language_have_these_trees(rt: HostRuntime) -> Result<()
     Ok(())
 }
 
-// Adds a piece of a pattern so many times.
+// Appends `count` copies of a piece of a pattern.
 pub(crate) fn add(pattern: &mut Vec<u32>, piece: &str, count: usize) -> Result<(), AllocError> {
     let piece = code_points(*pattern.allocator(), piece)?;
     for _ in 0..count {
@@ -112,7 +113,7 @@ pub(crate) fn add(pattern: &mut Vec<u32>, piece: &str, count: usize) -> Result<(
     Ok(())
 }
 
-// Why a pattern of so many groups is refused, if it is.
+// Returns the error of a pattern with this many groups, if it is refused.
 fn refusal_of(alloc: Global, groups: usize) -> Result<Option<ParseError>, AllocError> {
     let mut pattern = Vec::new(alloc);
     add(&mut pattern, "()", groups)?;
@@ -126,8 +127,8 @@ fn groups_have_a_limit(rt: HostRuntime) -> Result<(), Fail> {
     Ok(())
 }
 
-// Whether a pattern has a tree, which is optimized and dropped, where it has so many openings and as many closings behind
-// them.
+// Checks whether a pattern of `count` openings and as many closings has a tree, which is then
+// optimized and dropped.
 fn is_read(alloc: Global, opening: &str, closing: &str, count: usize) -> Result<bool, AllocError> {
     let mut pattern = Vec::new(alloc);
     add(&mut pattern, opening, count)?;

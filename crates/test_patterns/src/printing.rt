@@ -1,4 +1,4 @@
-//! Trees of patterns as text.
+//! Writes trees of patterns as text.
 
 use regex_pattern_front::codepointset::Interval;
 use regex_pattern_front::ir::{Node, Quantifier};
@@ -45,7 +45,7 @@ fn write_cat(text: &mut String, nodes: &[Node]) -> Result<(), AllocError> {
     text.push_str("]")
 }
 
-// What stands before the child of a node that has one.
+// Writes what precedes the child of a node with one child.
 fn write_head(text: &mut String, node: &Node) -> Result<(), AllocError> {
     match node {
         Node::CaptureGroup { id, name, .. } => {

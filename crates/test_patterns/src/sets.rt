@@ -1,4 +1,4 @@
-//! Sets of bytes and of code points.
+//! Tests of sets of bytes and of code points.
 
 use regex_pattern_front::bytesearch::{
     AsciiBitmap, ByteArraySet, ByteBitmap, ByteSearcher, ByteSet,
@@ -63,8 +63,9 @@ fn byte_arrays_are_searched(rt: HostRuntime) {
     );
 }
 
-// Without `u`: the uppercase of `ÿ`, `ς` and `µ` is one code unit; that of `ß` is two, those of `ı` and `ſ` are in ASCII,
-// and Deseret letters are two code units. With it: the Kelvin sign and `ẞ` fold, and `İ` does not.
+// Without `u`: the uppercase of `ÿ`, `ς` and `µ` is one code unit; that of `ß` is two, those of `ı`
+// and `ſ` are in ASCII, and Deseret letters are two code units. With it: the Kelvin sign and `ẞ`
+// fold, and `İ` does not.
 #[test]
 fn code_points_are_canonicalized(rt: HostRuntime) {
     let asked = [0x61, 0x41, 0xFF, 0x3C2, 0xB5, 0xDF, 0x131, 0x17F, 0x1_0428];

@@ -1,8 +1,9 @@
 //! The table of patterns.
 
-// Each line is the letters of the flags, a colon, a pattern, an arrow and its tree; with no arrow it is no pattern. For
-// the letter `o` the tree is optimized. Beside the letter K stands its twin beyond ASCII, U+212A, and beside s U+017F. At
-// the end stands a backslash before each letter that no rule names.
+// Each line has the letters of the flags, a colon, a pattern, an arrow and the tree. A line without
+// an arrow is not a pattern. With the letter `o`, the tree is optimized. Next to the letter K is
+// its counterpart outside of ASCII, U+212A, and next to s is U+017F. At the end there is a
+// backslash before each letter that no rule of the grammar names.
 pub(crate) const PATTERNS: &str = r": → Cat[Cat[], Goal]
 :a|b → Cat[Alt(Cat[a], Cat[b]), Goal]
 :ab| → Cat[Alt(Cat[a, b], Cat[]), Goal]

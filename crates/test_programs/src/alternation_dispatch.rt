@@ -48,7 +48,8 @@ fn write_each(text: &mut String, choices: &ArmDispatchTables) -> Result<(), Allo
     }
 }
 
-// Writes the arms after the first key of each run of equal rows, and those of the text's end if they differ from the last key's.
+// Writes the arms after the first key of each run of equal rows, and those of the text's end if
+// they differ from the last key's.
 fn write_rows(
     text: &mut String,
     choices: &ArmDispatchTables,

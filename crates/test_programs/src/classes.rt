@@ -1,4 +1,4 @@
-//! The tables of the classes of plans, in words.
+//! Writes the tables of the classes of plans.
 
 use crate::predicates::write_bytes;
 use regex_pattern_front::ir::Regex;
@@ -7,7 +7,7 @@ use regress_program::emit::{emit, emit_units};
 use regress_program::plan::Plan;
 use std::alloc::{AllocError, Global};
 
-// The classes of the plan of a tree for texts in bytes.
+// Writes the classes of the plan of a tree for texts in bytes.
 pub(crate) fn write_classes(
     alloc: Global,
     text: &mut String,
@@ -19,7 +19,7 @@ pub(crate) fn write_classes(
     }
 }
 
-// The same for texts of 16-bit units.
+// Writes the same for texts of 16-bit units.
 pub(crate) fn write_unit_classes(
     alloc: Global,
     text: &mut String,
@@ -41,7 +41,8 @@ fn write_each(text: &mut String, plan: &Plan) -> Result<(), AllocError> {
     Ok(())
 }
 
-// Whether the class is of single units, the steps, and the bytes at which a run may end.
+// Writes whether the class has only single-unit characters, its steps, and the bytes at which a
+// scan may end.
 fn write_class(text: &mut String, class: &Class) -> Result<(), AllocError> {
     text.push_str(if class.single_unit { "single" } else { "wide" })?;
     write_steps(text, &class.steps)?;
@@ -51,7 +52,8 @@ fn write_class(text: &mut String, class: &Class) -> Result<(), AllocError> {
     }
 }
 
-// Each step behind the first key of a row of keys that have it. Keys before the first one have 0.
+// Writes each step after the first key of a run of keys that have it. Before the first one, keys
+// have the step 0.
 fn write_steps(text: &mut String, steps: &[u8; 256]) -> Result<(), AllocError> {
     let mut before = 0;
     for (key, step) in steps.iter().enumerate() {

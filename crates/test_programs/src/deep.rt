@@ -1,4 +1,4 @@
-//! Wide and deep patterns are compiled.
+//! Tests that wide and deep patterns are compiled.
 
 use regex_parser::parse::try_parse;
 use regex_pattern_front::flags::Flags;
@@ -8,7 +8,7 @@ use std::alloc::{AllocError, Global};
 use std::process::Abort;
 use std::test::Fail;
 
-// Adds a piece of a pattern so many times.
+// Appends `count` copies of a piece of a pattern.
 fn add(pattern: &mut Vec<u32>, piece: &str, count: usize) -> Result<(), AllocError> {
     for _ in 0..count {
         for c in piece.chars() {
@@ -18,7 +18,8 @@ fn add(pattern: &mut Vec<u32>, piece: &str, count: usize) -> Result<(), AllocErr
     Ok(())
 }
 
-// Whether a pattern of so many openings and as many closings behind them is compiled, also once it is optimized.
+// Checks whether a pattern of `count` openings and as many closings is compiled, with and without
+// being optimized.
 fn is_compiled(
     alloc: Global,
     opening: &str,
@@ -36,8 +37,8 @@ fn is_compiled(
     Ok(as_read && emit(alloc, &re).is_ok())
 }
 
-// Each line is a count, and an opening and its closing round what is inside. The first two are wide, the others deep, by what
-// stands first inside or last.
+// Each line has a count, and an opening and its closing around the contents. The first two are
+// wide. The others are deep, in their first or in their last part.
 const NESTS: &str = "\
 100000 a|…
 100000 a…

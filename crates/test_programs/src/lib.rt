@@ -1,4 +1,5 @@
-//! Rows of the compiler: programs and start predicates of trees made by hand, names, refusals, wide and deep patterns.
+//! Tests of the compiler by rows: programs and start predicates of trees that are made by hand,
+//! names, refusals, and wide and deep patterns.
 #![tactic(auto)]
 
 #[cfg(test)]

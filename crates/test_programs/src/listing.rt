@@ -1,4 +1,4 @@
-//! Programs in words.
+//! Writes programs in words.
 
 use crate::predicates::{write_bytes, write_members};
 use regex_pattern_front::canonical::Sameness;
@@ -7,7 +7,7 @@ use regress_program::emit::{EmitError, emit, emit_units};
 use regress_program::insn::{Insn, LoopFields};
 use std::alloc::{AllocError, Global};
 
-// The program of a tree for texts in bytes, or why there is none.
+// Writes the program of a tree for texts in bytes, or why there is none.
 pub(crate) fn write_program(
     alloc: Global,
     text: &mut String,
@@ -19,7 +19,7 @@ pub(crate) fn write_program(
     }
 }
 
-// The same for texts of 16-bit units.
+// Writes the program for texts of 16-bit units, or why there is none.
 pub(crate) fn write_units(
     alloc: Global,
     text: &mut String,
@@ -42,7 +42,7 @@ fn named(error: EmitError) -> &'static str {
     }
 }
 
-// The instructions one after another.
+// Writes the instructions in order.
 fn write_insns(text: &mut String, insns: &[Insn]) -> Result<(), AllocError> {
     for insn in insns {
         if !text.is_empty() {
@@ -104,7 +104,8 @@ fn write_look(text: &mut String, insn: &Insn) -> Result<(), AllocError> {
     }
 }
 
-// What reads a character, bytes or nothing, and leads nowhere else.
+// Writes an instruction that reads a character, bytes or nothing, and continues only at the next
+// one.
 fn write_test(text: &mut String, insn: &Insn) -> Result<(), AllocError> {
     match insn {
         Insn::Char(c) => write_word(text, "Char", &[*c as usize]),
@@ -163,7 +164,7 @@ fn write_head(text: &mut String, fields: &LoopFields) -> Result<(), AllocError> 
     write_word(text, truth(fields.greedy), &[fields.exit as usize])
 }
 
-// How many bytes there are, and the bytes as characters.
+// Writes the number of bytes, and the bytes as characters.
 fn write_literal(text: &mut String, bytes: &[u8]) -> Result<(), AllocError> {
     write!(text, "ByteSeq{} ", bytes.len())?;
     for byte in bytes {

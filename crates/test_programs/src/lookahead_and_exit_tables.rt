@@ -50,7 +50,8 @@ fn write_each(text: &mut String, decided: &LookaheadAndExitTables) -> Result<(),
     }
 }
 
-// Writes the verdict after the first key of each run of equal verdicts, and that of the text's end if it differs from the last key's.
+// Writes the verdict after the first key of each run of equal verdicts, and that of the text's end
+// if it differs from the last key's.
 fn write_rows(text: &mut String, verdicts: &LookaheadOrExitTable) -> Result<(), AllocError> {
     let mut before = "";
     for (seen, verdict) in verdicts.by.iter().enumerate() {

@@ -1,4 +1,5 @@
-//! Which instructions of programs record, with how many codes, and what a place pays for all of them; and codes of threads.
+//! Writes which instructions of a program record, their numbers of codes, the cost of all of them
+//! per offset, and codes of threads.
 
 ghost use Rattle.regress_memo.specs.CheckedAnalysis.{HasDisjointCodes};
 
@@ -8,7 +9,7 @@ use regress_memo::loop_data_key_codes::LoopCountAndIterationStart;
 use regress_program::emit::emit;
 use std::alloc::{AllocError, Global};
 
-// The memo analysis of the program of a tree for texts in bytes, if it has one.
+// Writes the memo analysis of a tree's program for texts in bytes, if it has one.
 pub(crate) fn write_memo_analysis(
     alloc: Global,
     text: &mut String,
@@ -24,7 +25,7 @@ pub(crate) fn write_memo_analysis(
     }
 }
 
-// Each instruction that records and its codes, and the prices of all these together.
+// Writes each recording instruction with its number of codes, and the total cost.
 fn write_records(text: &mut String, memo_analysis: &MemoAnalysis) -> Result<(), AllocError> {
     let mut all = 0u64;
     for (ip, line) in memo_analysis.lines.iter().enumerate() {
@@ -37,7 +38,8 @@ fn write_records(text: &mut String, memo_analysis: &MemoAnalysis) -> Result<(), 
     write!(text, "for {all}")
 }
 
-// The codes of threads at the instructions of a program that record and have several, if it has a memo analysis.
+// Writes the codes of threads at the recording instructions with several codes, if the program has
+// a memo analysis.
 pub(crate) fn write_codes(
     alloc: Global,
     text: &mut String,
@@ -53,7 +55,7 @@ pub(crate) fn write_codes(
     }
 }
 
-// Those of one instruction after another.
+// Writes the codes of one instruction after another.
 fn write_each(
     alloc: Global,
     text: &mut String,
@@ -79,8 +81,9 @@ fn write_each(
     }
 }
 
-// The codes behind none to four iterations of each loop, where the current one has read a character, and where it has not; with
-// a mark where that is not sound at the end of a text of one unit.
+// Writes the codes after zero to four iterations of each loop, if the current iteration has read a
+// character and if it has not. A mark shows states that are not sound at the end of a text of one
+// unit.
 fn write_codes_at(
     alloc: Global,
     text: &mut String,

@@ -1,4 +1,4 @@
-//! Counts the keys that tables of three offsets record, one by one.
+//! Counts the keys that a memo table for three offsets records, one by one.
 
 ghost use Rattle.std.specs.Prelude.{IfOk, IfSome};
 ghost use Rattle.regress_memo.specs.CheckedAnalysis.{HasDisjointCodes};
@@ -9,13 +9,13 @@ use regress_memo::memo::{MemoTable, ThreadMemoKey};
 use regress_program::emit::emit;
 use std::alloc::{AllocError, Global};
 
-/// So many places there are, and so many codes are tried.
+/// The number of offsets, and the number of codes that are tested.
 const PLACES: usize = 3;
 
 const CODES: usize = 7;
 
-// Writes how many keys the byte program of a tree has, if it has a memo analysis, and whether there
-// may be a table for as many offsets as can be counted.
+// If the byte program of a tree has a memo analysis, writes the number of its keys, and whether
+// there can be a table for the greatest number of offsets.
 pub(crate) fn write_memo(alloc: Global, text: &mut String, tree: &Regex) -> Result<(), AllocError> {
     let Some(memo_analysis) = memo_analysis_of(alloc, tree)? else {
         return text.push_str("none");
@@ -34,7 +34,7 @@ pub(crate) fn write_memo(alloc: Global, text: &mut String, tree: &Regex) -> Resu
     }
 }
 
-// The memo analysis of a program, if it has one.
+// Returns the memo analysis of a program, if it has one.
 fn memo_analysis_of(alloc: Global, tree: &Regex) -> Result<Option<MemoAnalysis>, AllocError>
     ensures { IfOk result (λ found. IfSome found HasDisjointCodes) }
 {
@@ -45,7 +45,8 @@ fn memo_analysis_of(alloc: Global, tree: &Regex) -> Result<Option<MemoAnalysis>,
     MemoAnalysis::new(alloc, program.insns(), loops)
 }
 
-// Records each key as failing, and then as finding an end. Counts those that change no other key.
+// Records each key as failing, and then as finding an end. Counts the keys for which this changes
+// no other key.
 fn write_keys(text: &mut String, memo: &mut MemoTable) -> Result<(), AllocError> {
     let mut noted = 0usize;
     for ip in 0..memo.memo_analysis().lines.len() {
@@ -71,7 +72,7 @@ fn write_keys(text: &mut String, memo: &mut MemoTable) -> Result<(), AllocError>
     write!(text, ", {noted} find an end")
 }
 
-// Returns whether a key is recorded as failing, and no other key changes.
+// Checks whether a key is recorded as failing and no other key changes.
 fn fails_alone(memo: &mut MemoTable, key: ThreadMemoKey) -> bool {
     if !memo.has(key) || memo.fails(key) {
         return false;
@@ -82,7 +83,7 @@ fn fails_alone(memo: &mut MemoTable, key: ThreadMemoKey) -> bool {
     memo.fails(key) && after.0 == before.0.wrapping_add(1) && after.1 == before.1
 }
 
-// Returns whether a key is recorded as finding an end, and no other key changes.
+// Checks whether a key is recorded as finding an end and no other key changes.
 fn reaches_alone(memo: &mut MemoTable, key: ThreadMemoKey) -> bool {
     if !memo.has(key) || memo.is_known_to_reach_end(key) || !memo.records_successes() {
         return false;
@@ -93,7 +94,7 @@ fn reaches_alone(memo: &mut MemoTable, key: ThreadMemoKey) -> bool {
     memo.is_known_to_reach_end(key) && after.1 == before.1.wrapping_add(1) && after.0 == before.0
 }
 
-// Returns how many keys are known to fail, and how many to find an end.
+// Returns the number of keys that are known to fail, and that are known to find an end.
 fn known(memo: &MemoTable) -> (usize, usize) {
     let (mut failures, mut ends) = (0usize, 0usize);
     for ip in 0..memo.memo_analysis().lines.len() {

@@ -1,4 +1,4 @@
-//! The parts of programs and of their copies in words.
+//! Writes the parts of programs, and of their copies.
 
 use crate::listing::write_word;
 use crate::predicates::write_words;
@@ -8,7 +8,7 @@ use regress_program::emit::{emit, emit_units};
 use regress_program::insn::{CompiledRegex, Program};
 use std::alloc::{AllocError, Global};
 
-// The parts of the program of a tree for texts in bytes, and those of its copy.
+// Writes the parts of the program of a tree for texts in bytes, and those of its copy.
 pub(crate) fn write_parts(
     alloc: Global,
     text: &mut String,
@@ -29,7 +29,7 @@ fn write_compiled(text: &mut String, program: &CompiledRegex) -> Result<(), Allo
     write_words(text, program.start_pred())
 }
 
-// The same for texts of 16-bit units.
+// Writes the same for texts of 16-bit units.
 pub(crate) fn write_unit_parts(
     alloc: Global,
     text: &mut String,
@@ -44,8 +44,8 @@ pub(crate) fn write_unit_parts(
     }
 }
 
-// How many instructions, classes, loops, groups and names there are, whether U+E9 is in the only class and whether the
-// flag `u` is set; and the names of four groups.
+// Writes the numbers of instructions, classes, loops, groups and names, whether U+E9 is in the only
+// class, whether the flag `u` is set, and the names of four groups.
 fn write_one(text: &mut String, program: &Program) -> Result<(), AllocError> {
     let numbers = [
         program.insns().len(),
@@ -66,7 +66,7 @@ fn write_one(text: &mut String, program: &Program) -> Result<(), AllocError> {
     write_names(text, &names)
 }
 
-// The names of groups as they are shown.
+// Writes the names of groups as they are displayed.
 pub(crate) fn write_shown_names(
     alloc: Global,
     text: &mut String,
@@ -85,7 +85,7 @@ fn has_letter(classes: &[BracketContents]) -> bool {
     }
 }
 
-// Each name before a stroke.
+// Writes each name before a stroke.
 fn write_names(text: &mut String, names: &[&str]) -> Result<(), AllocError> {
     for name in names {
         write!(text, " {name}/")?;

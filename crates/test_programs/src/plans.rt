@@ -1,4 +1,4 @@
-//! What plans say of what may stand next, in words.
+//! Writes plans in words: where a match may begin, and what may follow.
 
 ghost use Rattle.std.specs.Prelude.{◌<◌};
 
@@ -17,7 +17,7 @@ use regress_program::required_prefix_types::{Literal, Prefix};
 use regress_program::table_keys_of_units::KEYS;
 use std::alloc::{AllocError, Global};
 
-// The plan of a tree for texts in bytes.
+// Writes the plan of a tree for texts in bytes.
 pub(crate) fn write_plan(alloc: Global, text: &mut String, tree: &Regex) -> Result<(), AllocError> {
     match emit(alloc, tree) {
         Ok(program) => write_sets(text, program.plan()),
@@ -25,7 +25,7 @@ pub(crate) fn write_plan(alloc: Global, text: &mut String, tree: &Regex) -> Resu
     }
 }
 
-// The same for texts of 16-bit units.
+// Writes the plan for texts of 16-bit units.
 pub(crate) fn write_unit_plan(
     alloc: Global,
     text: &mut String,
@@ -37,8 +37,8 @@ pub(crate) fn write_unit_plan(
     }
 }
 
-// The units of a character after which the leading char loop is scanned again, and how many groups
-// are opened before it.
+// Writes after how many units of a character the leading char loop is scanned again, and how many
+// groups are opened before it.
 pub(crate) fn write_leading_loop(
     alloc: Global,
     text: &mut String,
@@ -57,7 +57,7 @@ pub(crate) fn write_leading_loop(
     write!(text, "{max_char_units} behind {opens}")
 }
 
-// Where a search has to try, and what may stand behind each run.
+// Writes where a search has to try, and what may follow each char loop.
 fn write_sets(text: &mut String, plan: &Plan) -> Result<(), AllocError> {
     match plan.start {
         CandidateStarts::Anywhere => text.push_str("anywhere")?,
@@ -78,7 +78,7 @@ fn write_sets(text: &mut String, plan: &Plan) -> Result<(), AllocError> {
     write_leap(text, plan)
 }
 
-// The rows of characters that the plan's classes know.
+// Writes the tables of the plan's classes.
 fn write_rows(text: &mut String, plan: &Plan) -> Result<(), AllocError> {
     for class in &plan.classes {
         let Interval { first, last } = class.known;
@@ -89,7 +89,8 @@ fn write_rows(text: &mut String, plan: &Plan) -> Result<(), AllocError> {
     Ok(())
 }
 
-// The units of the goal to which a search leaps, and the edges of what a match may read before it.
+// Writes the units of the goal to which a search leaps, and the first key of each run of keys that
+// a match may read before it.
 fn write_leap(text: &mut String, plan: &Plan) -> Result<(), AllocError> {
     match &plan.leap {
         Some(leap) => {
@@ -100,14 +101,15 @@ fn write_leap(text: &mut String, plan: &Plan) -> Result<(), AllocError> {
     }
 }
 
-// The keys of which one must begin the character before, and whether the left end serves too.
+// Writes the keys with one of which the character before a match begins, and whether the left end
+// is allowed too.
 fn write_before(text: &mut String, before: PrecedingCharFilter) -> Result<(), AllocError> {
     let PrecedingCharFilter { keys, len, edge } = before;
     write!(text, "behind {len} {keys:?}")?;
     if edge { text.push_str(" edge") } else { Ok(()) }
 }
 
-// Which keys may stand first, second and so on, and what is looked for first.
+// Writes which keys may be first, second and so on in a match, and what is searched for first.
 fn write_prefix(
     text: &mut String,
     prefix: &Prefix,
@@ -127,7 +129,8 @@ fn write_prefix(
     }
 }
 
-// The units that are looked for in a row, and how many units on, and what is looked for in a short text.
+// Writes the literal that is searched for and its offset in a match, and what is searched for in a
+// short text.
 fn write_known(text: &mut String, known: &LiteralPrefilter) -> Result<(), AllocError> {
     let Literal { units, len, ahead } = &known.literal;
     write!(text, " row {len} of {units:?} at {ahead}")?;
@@ -140,7 +143,7 @@ fn write_known(text: &mut String, known: &LiteralPrefilter) -> Result<(), AllocE
     }
 }
 
-// The masks that are looked through, with the bits that stay, and how many units on.
+// Writes the masks that are tested, with the expected bits and the offset in a match.
 fn write_probes(text: &mut String, probes: &[MaskedUnitProbe]) -> Result<(), AllocError> {
     for probe in probes {
         let MaskedUnitProbe { ahead, mask, bits } = *probe;
@@ -149,7 +152,7 @@ fn write_probes(text: &mut String, probes: &[MaskedUnitProbe]) -> Result<(), All
     Ok(())
 }
 
-// The keys of units that may stand so many units on.
+// Returns the keys of the units that may be at an offset in a match.
 fn keys_at(prefix: &Prefix, ahead: usize) -> FirstSet
     requires { ahead < 16 }
 {
@@ -171,7 +174,8 @@ fn write_set(text: &mut String, plan: &Plan, name: &str, number: u32) -> Result<
     }
 }
 
-// The first key of each row of keys that are in the set, or are not; and whether the end is in it.
+// Writes the first key of each run of keys that are all in the set, or all not, and whether the end
+// is in it.
 fn write_edges(text: &mut String, set: &FirstSet) -> Result<(), AllocError> {
     write_key_edges(text, &set.keys)?;
     if set.end {
@@ -181,7 +185,7 @@ fn write_edges(text: &mut String, set: &FirstSet) -> Result<(), AllocError> {
     }
 }
 
-// The keys from which on a table has another value than for the key before.
+// Writes each key for which a table has another value than for the key before.
 fn write_key_edges(text: &mut String, keys: &[bool; 256]) -> Result<(), AllocError> {
     let mut before = false;
     for (key, here) in keys.iter().enumerate() {

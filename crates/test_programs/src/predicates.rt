@@ -1,4 +1,4 @@
-//! Start predicates in words.
+//! Writes start predicates.
 
 use regex_pattern_front::bytesearch::ByteSet;
 use regex_pattern_front::ir::Regex;
@@ -6,7 +6,7 @@ use regress_program::insn::StartPredicate;
 use regress_program::startpredicate::predicate_for_re;
 use std::alloc::{AllocError, Global};
 
-// The predicate of a tree, and its bytes.
+// Writes the start predicate of a tree, and its bytes.
 pub(crate) fn write_predicate(
     alloc: Global,
     text: &mut String,
@@ -31,7 +31,7 @@ pub(crate) fn write_bytes(text: &mut String, name: &str, bytes: &[u8]) -> Result
     write!(text, "{name} {bytes:?}")
 }
 
-// The name, and the members of a set.
+// Writes the name and the members of a set.
 pub(crate) fn write_members<Set: ByteSet>(
     text: &mut String,
     name: &str,

@@ -1,4 +1,4 @@
-//! What is answered for trees, row by row.
+//! Answers questions about trees, row by row.
 
 use crate::alternation_dispatch::{write_arms_by_key, write_unit_arms_by_key};
 use crate::classes::{write_classes, write_unit_classes};
@@ -20,7 +20,7 @@ use std::process::Abort;
 use std::test::Fail;
 use test_trees::tree_of;
 
-// Writes what is answered to a question about a tree.
+// Writes the answer to a question about a tree.
 fn write_answer(
     alloc: Global,
     text: &mut String,
@@ -56,7 +56,8 @@ fn write_answer(
     }
 }
 
-// The tree of a pattern with the letters of its flags, which is optimized; none where it is no pattern.
+// Returns the optimized tree of a pattern with the flags of these letters. Returns `None` if it is
+// not a pattern.
 fn parsed(alloc: Global, pattern: &str, letters: &str) -> Option<Regex> {
     let code_points: Vec<u32> = pattern.chars().map(u32::from).collect(alloc).ok()?;
     let flags = Flags {
@@ -71,7 +72,7 @@ fn parsed(alloc: Global, pattern: &str, letters: &str) -> Option<Regex> {
     Some(tree)
 }
 
-// The tree of these words, or of a pattern between strokes and the letters of its flags.
+// Returns the tree of these words, or of a pattern between slashes and the letters of its flags.
 fn asked_tree(alloc: Global, words: &str) -> Option<Regex> {
     let Some(pattern) = words.strip_prefix('/') else {
         return tree_of(alloc, words);
@@ -80,7 +81,8 @@ fn asked_tree(alloc: Global, words: &str) -> Option<Regex> {
     parsed(alloc, pattern, letters)
 }
 
-// The same for a question, a blank and a tree in words, or a pattern.
+// Writes the answer to a question. The question is followed by a blank and a tree in words, or a
+// pattern.
 fn write_answer_to(alloc: Global, text: &mut String, asked: &str) -> Result<(), AllocError> {
     let (question, words) = asked.split_once(' ').unwrap_or((asked, ""));
     match asked_tree(alloc, words) {

@@ -18,7 +18,8 @@
 //   instructions of the arms that may match there.
 // - `lookaheads`: the same for lookaheads, with whether a thread continues: `yes`, `no`, or `ask` if the contents
 //   decide.
-// - `must_iterate`: the instruction at the end of a loop's body, and the runs of keys over which the loop iterates at once.
+// - `must_iterate`: the instruction at the end of a loop's body, and the runs of keys over which the loop iterates at
+//   once.
 // - `classes`: for the first key of each run, the number of units of a character (0 if none is accepted, 5 if the
 //   character decides); the bytes at which a scan stops.
 // - `memo_analysis`: each memoized instruction with its number of codes, and the work that an offset pays for all of

@@ -1,4 +1,4 @@
-//! Patterns whose programs are tried at the left end only.
+//! Patterns whose programs are tried only at the left end of the text.
 
 use crate::rows::{Row, compare};
 use regex_parser::parse::try_parse;
@@ -7,7 +7,7 @@ use regex_pattern_front::ir::Regex;
 use regress_program::emit::{emit, emit_units};
 use std::alloc::{AllocError, Global};
 
-// Rows of three fields: a pattern, `m` or nothing for its flags, and whether its programs are anchored.
+// Rows of three fields: a pattern, its flags (`m` or none), and whether its programs are anchored.
 pub const ANCHORED: &str = "\
 ^a~~true
 ^a~m~false
@@ -18,7 +18,8 @@ pub const ANCHORED: &str = "\
 (?:^a)+~~false
 (^a)b~~true";
 
-// Returns whether the programs of a tree for bytes and for 16-bit units are anchored, or that only one of them is.
+// Returns whether both programs of a tree, for bytes and for 16-bit units, are anchored, or only
+// one of them.
 fn anchored(alloc: Global, tree: &Regex) -> &'static str {
     let (Ok(bytes), Ok(units)) = (emit(alloc, tree), emit_units(alloc, tree)) else {
         return "no program";

@@ -10,8 +10,8 @@ pub enum Asked {
 }
 
 impl Asked {
-    // Reads `first`, `all`, the offset from which all matches are searched for, or `at` and the offset of one
-    // match.
+    // Reads `first`, `all`, the offset from which all matches are searched for, or `at` and the
+    // offset of one match.
     pub fn of(call: &str) -> Asked {
         if let Some(offset) = call.strip_prefix("at ") {
             return Asked::At(offset.parse::<usize>().unwrap_or(0));

@@ -6,9 +6,10 @@ use regress_match::{Match, Regex, ReplaceError};
 use std::alloc::{AllocError, Global};
 use std::cell::Cell;
 
-// Rows of five fields: a pattern, a text, which matches are replaced, the kind of closure, and the number of its
-// calls with the new text. The closure returns for a matched number: `twice` the number; `tenfold` the number in
-// brackets; with `below ten`, `x` for those and an error for others; with `which call`, the number of the call.
+// Rows of five fields: a pattern, a text, which matches are replaced, the kind of closure, and the
+// number of its calls with the new text. The closure returns for a matched number: `twice` the
+// number; `tenfold` the number in brackets; with `below ten`, `x` for those and an error for
+// others; with `which call`, the number of the call.
 pub const CLOSURES: &str = r#"\d+~Price: $123~first~twice~1 Price: $246
 \d+~1, or 4~first~twice~1 2, or 4
 \d+~none~first~twice~0 none
@@ -47,7 +48,8 @@ fn answer_to(alloc: Global, call: u32, number: u32, answers: &str) -> Result<Str
     answer.map_err(|_| number)
 }
 
-// Returns the result of replacing the first match, or each one for `all`, and the number of calls of the closure.
+// Returns the result of replacing the first match, or each one for `all`, and the number of calls
+// of the closure.
 fn replaced(
     alloc: Global,
     re: &Regex,

@@ -4,10 +4,11 @@ use crate::rows::{Row, compare};
 use regress_match::Regex;
 use std::alloc::{AllocError, Global};
 
-// Rows of four fields: a count, a pattern in which the part before the first `…` and the part after the last are
-// repeated as often, a text, and whether there is a match, or the error of the pattern. A loop over one character
-// counts as a loop if it is not optimized, as in the program for 16-bit units. A search of the last two rows that
-// tried all paths would not end.
+// Rows of four fields: a count, a pattern, a text, and whether there is a match, or the error of
+// the pattern. In the pattern, the part before the first `…` and the part after the last one are
+// repeated as often as the count says. A loop over one character counts as a loop if it is not
+// optimized, as in the program for 16-bit units. For the last two rows, a search that tried all
+// paths would not end.
 pub const NESTS: &str = "\
 100000~a|…b…~xb~found
 100000~a|…b…~xc~none

@@ -90,7 +90,7 @@ const TOLD: [(&str, &str, &str); 8] = [
     (
         "a{2,1}",
         "",
-        "quantifier out of order at 1, byte 1\na{2,1}\n ^ quantifier out of order",
+        "the maximum of a quantifier is below its minimum at 1, byte 1\na{2,1}\n ^ the maximum of a quantifier is below its minimum",
     ),
     (
         r"\p{L}",

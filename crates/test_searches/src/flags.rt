@@ -4,9 +4,10 @@ use crate::rows::{Row, compare};
 use regress_match::{Error, Flags, Regex, escape};
 use std::alloc::{AllocError, Global};
 
-// Rows of three fields: a kind, its argument, and the result. Flags are made of `letters`, of the code `points` of
-// letters, or of letters with `no_opt` set; the result is their text and the names of the flags that are set.
-// `escape` returns an escaped text, and `itself` the match that the escaped text finds in the text.
+// Rows of three fields: a kind, its argument, and the result. Flags are made of `letters`, of the
+// code `points` of letters, or of letters with `no_opt` set; the result is their text and the names
+// of the flags that are set. `escape` returns an escaped text, and `itself` the match that the
+// escaped text finds in the text.
 pub const FLAGS: &str = r"letters~gimuy~miu icase multiline unicode
 letters~vusim~misuv icase multiline dot_all unicode unicode_sets
 letters~~

@@ -1,4 +1,5 @@
-//! The calls of a match: groups by number, in order and by name, also after it was changed or cloned.
+//! The calls of a match: groups by number, in order and by name, also after it was changed or
+//! cloned.
 
 ghost use Rattle.std.specs.Prelude.{IsAscii};
 
@@ -8,10 +9,11 @@ use regress_match::{Match, Regex, SearchError, is_unit_boundary};
 use std::alloc::{AllocError, Global};
 use std::ops::Range;
 
-// Rows of five fields: a pattern, the letters of its flags, or `tree` if it is a tree in words, a text, a change of
-// the first match, and the results of its calls afterwards, for each search call that can read the text. The results
-// are the groups 0 to 3; the items of five calls of `groups`, each after the number of items left; those of four
-// calls of `named_groups`; and the range with the text there.
+// Rows of five fields: a pattern, the letters of its flags, or `tree` if it is a tree in words, a
+// text, a change of the first match, and the results of its calls afterwards, for each search call
+// that can read the text. The results are the groups 0 to 3; the items of five calls of `groups`,
+// each after the number of items left; those of four calls of `named_groups`; and the range with
+// the text there.
 pub const MATCHES: &str = "\
 (a)(b)?~~a~nothing~ 0..1 0..1 - - | 3 0..1 2 0..1 1 - 0 end 0 end | 0 end 0 end 0 end 0 end | 0..1 a
 (a)(b)?~~a~push~ 0..1 0..1 - - | 4 0..1 3 0..1 2 - 1 - 0 end | 0 end 0 end 0 end 0 end | 0..1 a

@@ -1,5 +1,5 @@
-//! Tests of searches by every call and executor, of matches, of replacements, and of the program. The crate has no
-//! code that others use.
+//! Tests of searches by every call and executor, of matches, of replacements, and of the program.
+//! No other crate uses this one.
 #![tactic(auto)]
 
 #[cfg(test)]

@@ -1,5 +1,5 @@
-//! How rows write matches: the range and those of the groups, with `-` for a group that did not match; `; ` separates
-//! matches.
+//! Writes matches as rows have them: the range of the match and the ranges of its groups, with `-`
+//! for a group that did not match. `; ` separates matches.
 
 use regress_input::indexing::{AsciiInput, Utf8Input};
 use regress_match::api;
@@ -38,7 +38,8 @@ fn write_item(line: &mut String, item: Result<Match, SearchError>) -> Result<(),
     Ok(write_found(line, &item?)?)
 }
 
-// Writes the next match, or all that are left. After the end the iterator returns `None` for good.
+// Writes the next match, or all remaining ones. Checks that the iterator returns `None` after the
+// end.
 fn write_items<P: MatchProducer + Drop>(
     line: &mut String,
     matches: &mut Matches<P>,
@@ -56,7 +57,7 @@ fn write_items<P: MatchProducer + Drop>(
     }
 }
 
-// Each input is named once, since a call of a generic function at it is slow to prove.
+// Each input has a function of its own, because a call of a generic function is slow to prove.
 
 pub fn write_utf8<'r, 't>(
     line: &mut String,
@@ -106,7 +107,8 @@ pub fn write_copied_of_ascii<'r, 't>(
     write_items(line, matches, first)
 }
 
-// Writes the matches before the end or the limit, and the limit. After it the iterator returns `None` for good.
+// Writes the matches before the end or the limit, and the limit. Checks that the iterator then
+// returns `None`.
 pub fn write_limited<'r, 't>(
     line: &mut String,
     matches: &mut api::LimitedMatches<'r, 't>,
@@ -124,7 +126,7 @@ pub fn write_limited<'r, 't>(
     }
 }
 
-// Writes one match, or nothing.
+// Writes one match, or nothing if there is none.
 pub fn write_one(line: &mut String, found: &Option<Match>) -> Result<(), SearchError> {
     match found {
         Some(found) => Ok(write_match(line, found)?),

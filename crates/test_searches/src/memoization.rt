@@ -1,4 +1,5 @@
-//! Searches that end in time only because failures are memoized, or because empty iterations are skipped.
+//! Searches that end in reasonable time only because failures are memoized, or because empty
+//! iterations are skipped.
 
 use crate::lines::write_utf8;
 use crate::rows::{Row, compare};
@@ -10,8 +11,8 @@ use regress_pikevm::exec::{Matches, ProducerFromProgramAndText};
 use regress_program::insn::CompiledRegex;
 use std::alloc::Global;
 
-// Rows of three fields: a pattern, a text, and its matches. A search that tried all paths, or made all iterations,
-// would not end.
+// Rows of three fields: a pattern, a text, and its matches. A search that tried all paths, or made
+// all iterations, would not end.
 pub const MEMOIZED: &str = "\
 (?:a|a)*b~aaaaaaaaaaaaaaaaaaaaaaaaaaaaaaaaaaaaaaaaaaaaaaaaaaaaaaaaaaaa~
 (a*)*b~aaaaaaaaaaaaaaaaaaaaaaaaaaaaaaaaaaaaaaaaaaaaaaaaaaaaaaaaaaaa~
@@ -58,6 +59,16 @@ a(?:()()){4294967294,4294967295}?b~ab~0..2 1..1 1..1
 (?:(?=(a)*?c)a|c)*~aacaa~0..3 -; 3..3 -; 4..4 -; 5..5 -
 (?:(?=(?:(a)b)*c)ab|c)*~ababcab~0..5 -; 5..5 -; 6..6 -; 7..7 -
 (?=(a*))a(?=(b*))~aabb~0..1 0..2 1..1; 1..2 1..2 2..4
+(?:(?=a*?$)a)+?c~aaaaac~
+(?:(?=a*?c)a)+?c~aaacaac~0..4; 4..7
+(?:(?!a*?b)a|b)*~aabaa~0..0; 1..1; 2..5; 5..5
+(?:(?=a+?(?:b|c))a|(?=a*?d)a|b)*~aabaacaad~0..5; 5..5; 6..8; 8..8; 9..9
+a*(?=a*?$)~aaa~0..3; 3..3
+(?:(?=[ab]*?c)(?:a|b)|c)*?d~abacbbcd~0..8
+(?:(?!(?:b|a*?c)d)a|b|c)*~aabaacdaa~0..3; 3..3; 4..4; 5..6; 6..6; 7..9; 9..9
+(?:(?=a{0,2}?b)a|b)*~aaabaa~0..0; 1..4; 4..4; 5..5; 6..6
+(?:(?=(?:a*?b)+?c)[ab])*~aabaabcab~0..6; 6..6; 7..7; 8..8; 9..9
+(?:(?=.*?(?:b|c*?d))a)*b~aaab~0..4
 (?:(a|aa)+?c|b)~aaaaaaaaaaaaaaaaaaaaaaaaaaaaaaaaaaaaaaaaaaaaaaaaaaaaaaaaaaaab~60..61 -
 ";
 
@@ -68,13 +79,13 @@ fn program_of(alloc: Global, pattern: &str) -> Option<CompiledRegex> {
     emit(alloc, &tree).ok()
 }
 
-// Writes the matches that an executor finds which memoizes failures after some work.
+// Writes the matches that an executor finds that memoizes failures after some work.
 fn write_memoizing(line: &mut String, re: &CompiledRegex, text: &str) -> Result<(), SearchError> {
     let executor = DefaultExecutor::new(re, text)?;
     write_utf8(line, &mut Matches::new(executor, 0), false)
 }
 
-// Writes the matches that an executor finds which memoizes failures from the first attempt on.
+// Writes the matches that an executor finds that memoizes failures from the first attempt on.
 fn write_always_memoizing(
     line: &mut String,
     re: &CompiledRegex,

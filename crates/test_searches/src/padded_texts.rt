@@ -1,5 +1,5 @@
-//! Matches at many offsets of padded texts, since a search scans many units at once, and uses other scans in long
-//! texts than in short ones.
+//! Matches at many offsets of padded texts. They are tested because a search scans many units at
+//! once, and scans long texts in another way than short ones.
 
 use crate::calls::Asked;
 use crate::patterns::{refusal, regex_of};
@@ -9,10 +9,10 @@ use crate::searches::{Search, check_methods, push_text};
 use regress_match::{Regex, SearchError};
 use std::alloc::{AllocError, Global};
 
-// Rows of five fields: a pattern, the letters of its flags, the filler, two pieces, and all matches. The text is
-// filler, the first piece, filler, and the second piece. One of the two fillers is repeated as often as each of
-// `COUNTS` says, the other at most twice. A digit in the matches is an offset from the beginning of a piece, `a` or
-// `b`.
+// Rows of five fields: a pattern, the letters of its flags, the filler, two pieces, and all
+// matches. The text is filler, the first piece, filler, and the second piece. One of the two
+// fillers is repeated as often as each of `COUNTS` says, the other at most twice. A digit in the
+// matches is an offset from the beginning of a piece, `a` or `b`.
 pub const PADDED_TEXTS: &str = r#"needle~~x~needle needle~a0..6; b0..6
 ne~~x~ne ne~a0..2; b0..2
 jake~~x~jake jake~a0..4; b0..4
@@ -49,7 +49,7 @@ j[^k]*k~~€~j k~a0..b1
 jé*k~~é~j k~a0..b1
 "#;
 
-// Numbers of repetitions around 16, 32, 48 and 64, and around 1,024 units that are left.
+// Numbers of repetitions around 16, 32, 48 and 64, and around 1,024 remaining units.
 const COUNTS: [usize; 13] = [15, 16, 17, 31, 32, 33, 48, 64, 65, 1017, 1018, 1022, 1023];
 
 // The fields of a row after its flags.

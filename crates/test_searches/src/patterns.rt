@@ -7,8 +7,8 @@ use regress_program::insn::CompiledRegexFor16BitUnits;
 use std::alloc::Global;
 use test_trees::tree_of;
 
-// Returns the program of a tree in words for 16-bit units. A tree with bytes has none and gets that of the empty
-// pattern; rows do not search for it in units.
+// Returns the program of a tree in words for 16-bit units. A tree with bytes has none and gets that
+// of the empty pattern; rows do not search for it in units.
 fn units_of(alloc: Global, words: &str) -> Result<CompiledRegexFor16BitUnits, Error> {
     let tree = tree_of(alloc, words).ok_or(Error::Memory)?;
     match emit_units(alloc, &tree) {
@@ -63,8 +63,9 @@ fn regex_of_letters(
     }
 }
 
-// Compiles a pattern with the flags of these letters. Other words in place of letters are: `new` and `from_str`, the
-// constructors without flags; `points`, that of code points; `tree` for a tree in words; `pair` for two.
+// Compiles a pattern with the flags of these letters. Other words in place of letters are: `new`
+// and `from_str`, the constructors without flags; `points`, that of code points; `tree` for a tree
+// in words; `pair` for two.
 pub fn regex_of(alloc: Global, pattern: &str, flags: &str, no_opt: bool) -> Result<Regex, Error> {
     match flags {
         "new" => Regex::new(alloc, pattern),

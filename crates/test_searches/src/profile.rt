@@ -1,7 +1,7 @@
 //! Patterns of the profile that differ from ECMAScript 2018, as `docs/PROFILE.md` lists them.
 
-// Rows like those of searches, in the order of that page: errors, each with what can be written instead; patterns
-// that only the profile accepts; and patterns with another meaning.
+// Rows like those of searches, in the order of that page: errors, each with what can be written
+// instead; patterns that only the profile accepts; and patterns with another meaning.
 pub const PROFILE: &str = r#"\p{L}~u~é~all~no pattern
 \P{L}~u~1~all~no pattern
 \p{L}~~p{L}~all~no pattern
@@ -131,7 +131,8 @@ $~~a␤~all~2..2
 \w~~é~all~
 "#;
 
-// Rows like those of units. In UCS-2, a pattern without `u` finds what it finds in a string of JavaScript.
+// Rows like those of units. In UCS-2, a pattern without `u` finds what it finds in a string of
+// JavaScript.
 pub const PROFILE_UNITS: &str = r#".~~D83C DF37~ucs2~0~0..1; 1..2
 ^..$~~D83C DF37~ucs2~0~0..2
 \uD83C\uDF37~~D83C DF37~ucs2~0~0..2

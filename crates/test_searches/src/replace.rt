@@ -5,8 +5,8 @@ use crate::rows::{Row, compare};
 use regress_match::{Regex, SearchError};
 use std::alloc::Global;
 
-// Rows of six fields: a pattern, the letters of its flags, or `tree` if it is a tree in words, a text, which matches
-// are replaced, the replacement, and the new text.
+// Rows of six fields: a pattern, the letters of its flags, or `tree` if it is a tree in words, a
+// text, which matches are replaced, the replacement, and the new text.
 pub const REPLACEMENTS: &str = r#"(\d{4})-(\d{2})-(\d{2})~~2023-12-25~first~$2/$3/$1~12/25/2023
 (\w+)~~hello~first~$1 $2 $3~hello  
 (\w+)~~hello~first~$999~

@@ -13,8 +13,8 @@ pub fn row_of(line: &str) -> Row<'_> {
     Row { asked, wanted }
 }
 
-// Adds a line to `differing` if an answer is not the expected one. The line has the row, the method of the search,
-// and the answer.
+// Adds a line to `differing` if an answer is not the expected one. The line has the row, the method
+// of the search, and the answer.
 pub fn compare(
     differing: &mut String,
     row: Row<'_>,

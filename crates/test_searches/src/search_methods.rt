@@ -85,7 +85,7 @@ fn write_of_ascii(
     }
 }
 
-// Within as many steps as can be counted.
+// Searches with the greatest step limit.
 fn write_within_steps(
     line: &mut String,
     re: &Regex,
@@ -103,7 +103,7 @@ fn write_within_steps(
     )
 }
 
-// The same text in 16-bit units, each of which is a character.
+// Returns the same text in 16-bit units, each of which is a character.
 fn units_of_ascii(alloc: Global, text: &str) -> Result<Vec<u16>, AllocError> {
     text.bytes().map(u16::from).collect(alloc)
 }
@@ -128,7 +128,8 @@ fn write_of_ascii_text(
     }
 }
 
-// Writes the matches of a pattern in a text. Methods that read ASCII write `no ASCII` for other texts.
+// Writes the matches of a pattern in a text. Methods that read ASCII write `no ASCII` for other
+// texts.
 pub fn write_found(
     alloc: Global,
     line: &mut String,

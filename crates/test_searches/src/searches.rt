@@ -24,9 +24,10 @@ pub fn push_text(text: &mut String, written: &str) -> Result<(), AllocError> {
     Ok(())
 }
 
-// Returns whether a row is searched by a method. ASCII texts are searched as ASCII and in 16-bit units too, since
-// offsets are the same there. Trees with bytes have no program for units, unless the second tree of a pair gives
-// it. A search at one offset is a call of each encoding, and of no named executor.
+// Returns whether a row is searched by a method. ASCII texts are searched as ASCII and in 16-bit
+// units too, since offsets are the same there. Trees with bytes have no program for units, unless
+// the second tree of a pair gives it. A search at one offset is a call of each encoding, and of no
+// named executor.
 fn is_for(search: &Search<'_>, method: SearchMethod) -> bool {
     let is_of_bytes = search.flags == "pair"
         || search.flags == "tree" && search.pattern.contains("byte");

@@ -2,7 +2,7 @@
 
 ghost use Rattle.std.specs.Prelude.{◌<◌, ◌⊎◌, IsCharBoundary, IsTrue, length};
 
-// Returns whether an offset is a character boundary of the text, or past the end.
+// Checks whether an offset is a character boundary of the text, or past the end.
 pub fn is_start(text: &str, offset: usize) -> bool
     ensures { IsTrue result → IsCharBoundary text.now offset ⊎ (length text.now < offset) }
 {

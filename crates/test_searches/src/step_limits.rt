@@ -12,10 +12,10 @@ use regress_program::insn::CompiledRegex;
 use std::alloc::Global;
 use test_trees::tree_of;
 
-// Rows of seven fields: a pattern, `no_opt` or nothing, a text, a start, the least and the greatest limit, and the
-// matches with each limit between them. `limit` follows the matches if the limit is reached. For `tree` in the second
-// field the first is a tree in words. So it is for `left`, for which only the first match is searched for; the number
-// of steps left follows it.
+// Rows of seven fields: a pattern, `no_opt` or nothing, a text, a start, the least and the greatest
+// limit, and the matches with each limit between them. `limit` follows the matches if the limit is
+// reached. For `tree` in the second field the first is a tree in words. So it is for `left`, for
+// which only the first match is searched for; the number of steps left follows it.
 pub const STEP_LIMITS: &str = r#"cat:2 a goal~tree~a~0~0~1~limit
 cat:2 a goal~tree~a~0~2~2~0..1; limit
 cat:2 a goal~tree~a~0~3~20~0..1

@@ -1,8 +1,9 @@
 //! The table of searches.
 
-// Rows of five fields: a pattern, the letters of its flags, a text in which `␤` stands for a line feed, a call, and
-// its result. The calls are `all`, `first`, an offset for all matches from there, or `at` and an offset for the match
-// there. `regex_of` lists the words that may stand in place of letters, such as `tree`.
+// Rows of five fields: a pattern, the letters of its flags, a text in which `␤` stands for a line
+// feed, a call, and its result. The calls are `all`, `first`, an offset for all matches from there,
+// or `at` and an offset for the match there. `regex_of` lists the words that may stand in place of
+// letters, such as `tree`.
 pub const SEARCHES: &str = r#"a|ab~~abc~all~0..1
 ((a)|(ab))((c)|(bc))~~abc~all~0..3 0..1 0..1 - 1..3 - 1..3
 (?<=x)y~~yxy~all~2..3
@@ -116,11 +117,23 @@ x.{1,2}?y~~xyy xabcy xay~all~0..3; 10..13
 (a*){2}~~ab~all~0..1 1..1; 1..1 1..1; 2..2 2..2
 (?:a|ab)(?:c|bcd)(d*)~~abcd~all~0..4 4..4
 (a)\1~~aab~all~0..2 0..1
+(\w)\1~~abccd_ee~all~2..4 2..3; 6..8 6..7
+(\d)\1~~12 334 4~all~3..5 3..4
+([a-z])\1~i~abBc~all~1..3 1..2
+([а-я])\1~~аббв~all~2..6 2..4
+(.)\1~~é€€a~all~2..8 2..5
+(\w)\1~~₂aa~all~3..5 3..4
 (?<=(a+)(b+))$~~aabb~all~4..4 0..2 2..4
 (?<!a)b~~abb~all~2..3
 a$~~aa~all~1..2
 a\b~~aa a~all~1..2; 3..4
 a\B.~~aa~all~0..2
+\bb~~ab b ab_b b~all~3..4; 10..11
+\b[^a]~~aba b~all~3..4; 4..5
+\Bb~~ab b abb~all~1..2; 6..7; 7..8
+\b.~~яab~all~2..3
+\bs~iu~ſs s~all~0..2; 4..5
+\b(\w+) \1\b~~ab_ab ab ab~all~6..11 6..8
 ^a~~ba~0~
 ^a~~ba~1~
 ^a~~ab~0~0..1
@@ -189,6 +202,11 @@ a*a~~aa~all~0..2
 (?=[^])~~aé~all~0..0; 1..1
 (?![^])~~aé~all~3..3
 (?=[а-яё])[^]~i~аЯZё~all~0..2; 5..7
+[а-я]+~~Яаяѐ~all~2..6
+[а-€]+~~я€aя~all~0..5; 6..8
+[!-я]+~~aяa€~all~0..4
+[а-я]{2,3}~~абвг~all~0..6
+[а-яё]+~~лёдaё~all~0..6; 7..9
 (?:a(?!b)|b)+~~aababbaa~all~0..1; 2..3; 4..8
 (?:(?=[ab])\w(?!c))*~~abbcab~all~0..2; 2..2; 3..3; 4..6; 6..6
 (?:(?!b)(\w))+(?=b)~~acdbxb~all~0..3 2..3; 4..5 4..5

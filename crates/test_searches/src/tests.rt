@@ -1,4 +1,5 @@
-//! The tests. Each checks the rows of one table, and fails with a line for each row whose answer differs.
+//! The tests. Each checks the rows of one table, and fails with a line for each row whose answer
+//! differs.
 
 use crate::anchored::{ANCHORED, check_anchored};
 use crate::closures::{CLOSURES, check_with};

@@ -6,8 +6,9 @@ use std::alloc::{AllocError, Global};
 use std::io;
 use std::io::Write;
 
-// Rows: the number of writes to the output and to the errors that succeed, the arguments, each a field, and the exit
-// status with the texts written. `-` stands for any number of writes, `␀` for an argument that is not UTF-8.
+// Rows: the number of writes to the output and to the errors that succeed, the arguments, each a
+// field, and the exit status with the texts written. `-` stands for any number of writes, `␀` for
+// an argument that is not UTF-8.
 pub const RUNS: &str = r#"-- a|ab~~abc~0 "0..1\n" ""
 -- ab|a~~aab~0 "0..1\n1..3\n" ""
 -- ~~ab~0 "0..0\n1..1\n2..2\n" ""

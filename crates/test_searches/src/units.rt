@@ -7,9 +7,9 @@ use crate::rows::{Row, compare};
 use regress_match::{Regex, SearchError, is_unit_boundary};
 use std::alloc::{AllocError, Global};
 
-// Rows of six fields: a pattern, the letters of its flags, or `tree` if it is a tree in words, the units in
-// hexadecimal, their encoding or `both`, a start, and all matches from there. Rows with one encoding are those in
-// which the two differ.
+// Rows of six fields: a pattern, the letters of its flags, or `tree` if it is a tree in words, the
+// units in hexadecimal, their encoding or `both`, a start, and all matches from there. Rows with
+// one encoding are those in which the two differ.
 pub const UNITS: &str = r#".~~61 D83D DE00 61~utf16~0~0..1; 1..3; 3..4
 .~~61 D83D DE00 61~ucs2~0~0..1; 1..2; 2..3; 3..4
 .~~D83D DE00~utf16~0~0..2
@@ -83,7 +83,8 @@ $~~DE00~both~at 1~1..1
 a~~61~both~at 18446744073709551615~
 "#;
 
-// Rows of two fields: units in hexadecimal, and for each offset from 0 to 3 whether it is a boundary.
+// Rows of two fields: units in hexadecimal, and for each offset from 0 to 3 whether it is a
+// boundary.
 pub const BOUNDARIES: &str = "\
 D83D DE00~true false true false
 DE00~true true false false";

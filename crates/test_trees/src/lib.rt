@@ -1,16 +1,19 @@
-//! Trees from words, for rows of trees made by hand.
+//! Reads trees from words, for rows with trees that are made by hand.
 //!
-//! Each node stands before its children, as in `cat:2 alt a b goal`. Behind a colon are numbers in hexadecimal, with
-//! commas between them. A word of one letter is that character. The other words are:
+//! Each node precedes its children, as in `cat:2 alt a b goal`. Numbers follow a colon. They are
+//! hexadecimal, and separated by commas. A word of one letter is this character. The other words
+//! are:
 //!
-//! - with no child `goal`, `empty`, `any`, `start`, `line`, `char:C`, `ref:GROUP`, `canonical:GROUP,UNICODE` for a
-//!   reference by `Canonicalize`, `set:C,..`, `byteset:B,..`, `bytes:B,..`, and
-//!   `class:FIRST,LAST,..` and `not:FIRST,LAST,..`;
-//! - with one child `group:ID`, `named:ID,LETTER`, `ahead:FIRST,END`, `behind:FIRST,END`, `loop:FIRST,END,MIN`,
-//!   `loop:FIRST,END,MIN,MAX`, `loop1:MIN` and `loop1:MIN,MAX`, where `FFFFFFFF` is the greatest minimum there is;
-//! - with two children `alt`, with so many `cat:COUNT`, and `strings:COUNT` with so many sets for its strings, or
-//!   `istrings:COUNT` where their case does not count;
-//! - `groups` for the empty groups of all ids, and `loops` for so many loops over nothing.
+//! - without children: `goal`, `empty`, `any`, `start`, `line`, `char:C`, `ref:GROUP`,
+//!   `canonical:GROUP,UNICODE` (a reference that compares by `Canonicalize`), `set:C,..`,
+//!   `byteset:B,..`, `bytes:B,..`, `class:FIRST,LAST,..` and `not:FIRST,LAST,..`;
+//! - with one child: `group:ID`, `named:ID,LETTER`, `ahead:FIRST,END`, `behind:FIRST,END`,
+//!   `loop:FIRST,END,MIN`, `loop:FIRST,END,MIN,MAX`, `loop1:MIN` and `loop1:MIN,MAX`, where
+//!   `FFFFFFFF` stands for the greatest minimum;
+//! - with two children: `alt`;
+//! - with `COUNT` children: `cat:COUNT`, and `strings:COUNT` (or `istrings:COUNT`, which ignores
+//!   case), whose children are sets, one for each string;
+//! - `groups` for an empty group of each id, and `loops` for as many loops over nothing.
 #![tactic(auto)]
 
 use regex_pattern_front::codepointset::{CodePointSet, Interval};
@@ -19,7 +22,8 @@ use regex_pattern_front::ir::{AnchorType, Node, Quantifier, Regex};
 use regex_pattern_front::types::BracketContents;
 use std::alloc::Global;
 
-/// The tree of these words, none where they are not those of one tree or memory is out.
+/// Returns the tree of these words. Returns `None` if they are not the words of one tree, or if an
+/// allocation fails.
 pub fn tree_of(alloc: Global, words: &str) -> Option<Regex> {
     let mut nodes = Vec::new(alloc);
     put_nodes(alloc, words, &mut nodes)?;
@@ -33,7 +37,7 @@ pub fn tree_of(alloc: Global, words: &str) -> Option<Regex> {
     })
 }
 
-// Puts the nodes of the words onto each other, the last word's first.
+// Pushes the nodes of the words onto `nodes`, beginning with the last word.
 fn put_nodes(alloc: Global, words: &str, nodes: &mut Vec<Node>) -> Option<()> {
     for word in words.rsplit(' ') {
         let (name, numbers) = word.split_once(':').unwrap_or((word, ""));
@@ -53,7 +57,7 @@ fn numbers_of(alloc: Global, text: &str) -> Option<Vec<u32>> {
     Some(numbers)
 }
 
-// The node of a word, which takes its children from the nodes.
+// Returns the node of a word. Its children are taken from `nodes`.
 fn node_of(alloc: Global, name: &str, numbers: &[u32], nodes: &mut Vec<Node>) -> Option<Node> {
     match (name, numbers) {
         ("cat", [count]) => cat_of(alloc, *count, nodes),
@@ -81,7 +85,7 @@ fn cat_of(alloc: Global, count: u32, nodes: &mut Vec<Node>) -> Option<Node> {
     Some(Node::Cat(children))
 }
 
-// The strings are those of sets that stand behind.
+// Returns the set of strings. Each string is given by the members of a `set` that follows.
 fn strings_of(alloc: Global, count: u32, icase: bool, nodes: &mut Vec<Node>) -> Option<Node> {
     let mut alternatives = Vec::new(alloc);
     for _ in 0..count {
@@ -103,7 +107,7 @@ fn child_of(alloc: Global, nodes: &mut Vec<Node>) -> Option<Box<Node>> {
     Box::new(alloc, nodes.pop()?).ok()
 }
 
-// The groups of all ids, or as many loops, with nothing in them.
+// Pushes the groups of all ids, or that many loops, all of them empty.
 fn put_many(alloc: Global, name: &str, nodes: &mut Vec<Node>) -> Option<()> {
     for id in 0..=u16::MAX {
         let child = Box::new(alloc, Node::Empty).ok()?;
@@ -117,7 +121,7 @@ fn put_many(alloc: Global, name: &str, nodes: &mut Vec<Node>) -> Option<()> {
     Some(())
 }
 
-// A node with one child.
+// Returns a node with one child.
 fn parent(alloc: Global, name: &str, numbers: &[u32], child: Box<Node>) -> Option<Node> {
     match (name, numbers) {
         ("group", [id]) => Some(Node::CaptureGroup {
@@ -160,7 +164,7 @@ fn name_of(alloc: Global, letter: u32) -> Option<String> {
     Some(name)
 }
 
-// The least number of iterations, and the greatest one if there is one.
+// Returns the minimum and, if there is one, the maximum number of iterations.
 fn quantifier(bounds: &[u32]) -> Option<Quantifier> {
     let (min, max) = match bounds {
         [min] => (*min, None),
@@ -185,7 +189,7 @@ fn start_of_line(multiline: bool) -> Node {
     }
 }
 
-// A node with no child.
+// Returns a node without children.
 fn leaf(alloc: Global, name: &str, numbers: &[u32]) -> Option<Node> {
     match (name, numbers) {
         ("goal", []) => Some(Node::Goal),
@@ -229,7 +233,7 @@ fn bytes_of(alloc: Global, numbers: &[u32]) -> Option<Vec<u8>> {
     Some(bytes)
 }
 
-// The class of the code points from each second number to the next one, or of all others.
+// Returns the class of the code points in the given ranges, or of all others.
 fn class_of(alloc: Global, invert: bool, bounds: &[u32]) -> Option<Node> {
     let mut intervals = Vec::new(alloc);
     for bounds in bounds.chunks(2) {

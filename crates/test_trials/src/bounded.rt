@@ -1,4 +1,4 @@
-//! Searches in as much work as their bound says.
+//! Tests of searches with the work that their bound requires.
 
 use crate::fault::ParseFault;
 use crate::lists::{are_same, are_same_places};
@@ -6,36 +6,36 @@ use regress_match::{BoundedRegex, Match, Regex, Unbounded, WorkError};
 use regress_pikevm::exec::{WorkLimitedProducer, WorkMatches};
 use std::alloc::{AllocError, Global};
 
-/// So much work for each unit of a text, and one.
+/// Returns the work that suffices for this many units.
 pub fn enough(bounded: &BoundedRegex<'_>, units: usize) -> u64 {
     let places = (units as u64).saturating_add(1);
     bounded.work_per_unit().saturating_mul(places)
 }
 
-// A text, and its matches, which were found without a bound.
+// A text and its matches, which were found without a bound.
 #[derive(Clone, Copy)]
 struct Known<'a> {
     text: &'a str,
     list: &'a [Match],
 }
 
-// What a search in so much work came to.
+// The result of a search with a work budget.
 #[derive(Drop)]
 struct Worked {
     list: Vec<Match>,
-    // How much work is left.
+    // The work that is left.
     left: u64,
-    // Whether more would have had to be done.
+    // Whether more work was needed.
     is_out: bool,
 }
 
 impl Worked {
-    // Whether it found these.
+    // Checks whether the search found these matches.
     fn has_all(&self, list: &[Match]) -> bool {
         !self.is_out && are_same(list, &self.list)
     }
 
-    // Whether it found these from the first on, and then no work was left.
+    // Checks whether the search found a prefix of these matches, and then no work was left.
     fn is_cut(&self, list: &[Match]) -> bool {
         let Some(first) = list.get(..self.list.len()) else {
             return false;
@@ -44,7 +44,7 @@ impl Worked {
     }
 }
 
-// All that is to come. No call gives back work that was done.
+// Returns all remaining items. Checks that no call increases the work that is left.
 fn all<P: WorkLimitedProducer + Drop>(
     alloc: Global,
     mut matches: WorkMatches<P>,
@@ -69,7 +69,7 @@ fn all<P: WorkLimitedProducer + Drop>(
     Ok(Worked { list, left, is_out })
 }
 
-// What a search in bytes comes to.
+// Returns the result of a search in bytes.
 fn all_in_bytes(
     alloc: Global,
     bounded: &BoundedRegex<'_>,
@@ -79,7 +79,8 @@ fn all_in_bytes(
     all(alloc, bounded.find_from(text, 0, work)?)
 }
 
-// Whether these matches take so much work: none of it is left, and one less is too little.
+// Checks whether finding these matches takes exactly this much work: none is left, and one unit
+// less does not suffice.
 fn is_taken(
     alloc: Global,
     bounded: &BoundedRegex<'_>,
@@ -96,7 +97,7 @@ fn is_taken(
     }
 }
 
-// Whether all matches in bytes are found, in as much work as is counted.
+// Checks whether all matches in bytes are found with the counted work.
 fn is_found(
     alloc: Global,
     bounded: &BoundedRegex<'_>,
@@ -116,7 +117,7 @@ fn is_found(
     Ok(others.has_all(known.list) && others.left == found.left)
 }
 
-// So they are in UTF-16.
+// Checks the same in UTF-16.
 fn is_found_in_utf16(
     alloc: Global,
     bounded: &BoundedRegex<'_>,
@@ -128,7 +129,7 @@ fn is_found_in_utf16(
     Ok(!found.is_out && are_same_places(known.text, known.list, &found.list))
 }
 
-// Whether the same is found in UCS-2 as without a bound.
+// Checks whether a search in UCS-2 finds the same as without a bound.
 fn is_same_in_ucs2(
     alloc: Global,
     re: &Regex,
@@ -142,7 +143,8 @@ fn is_same_in_ucs2(
     Ok(found.has_all(&list))
 }
 
-/// Whether the same is found in as much work as the bound says is enough; none where no bound is known.
+/// Checks whether the same matches are found with the work that the bound requires. Returns `None`
+/// if no bound is known.
 pub fn is_bounded(
     alloc: Global,
     re: &Regex,

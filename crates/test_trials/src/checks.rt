@@ -1,4 +1,4 @@
-//! What must hold of the searches of any pattern in any text.
+//! Checks that hold for the searches of each pattern in each text.
 
 ghost use Rattle.std.specs.Prelude.{IsAscii};
 
@@ -21,12 +21,12 @@ pub struct Case<'a> {
     pub text: &'a str,
 }
 
-// All matches.
+// Returns all matches.
 fn found(alloc: Global, re: &Regex, text: &str) -> Result<Vec<Match>, ParseFault> {
     Ok(all(alloc, re.find_iter(text)?)?)
 }
 
-// The tree as it was parsed has the same matches.
+// Checks whether the unoptimized tree has the same matches.
 fn is_same_unoptimized(alloc: Global, case: Case<'_>, list: &[Match]) -> Result<bool, ParseFault> {
     let flags = Flags {
         no_opt: true,
@@ -36,13 +36,13 @@ fn is_same_unoptimized(alloc: Global, case: Case<'_>, list: &[Match]) -> Result<
     Ok(are_same(list, &found(alloc, &re, case.text)?))
 }
 
-// The copying executor finds the same.
+// Checks whether the copying executor finds the same matches.
 fn is_copied(alloc: Global, re: &Regex, text: &str, list: &[Match]) -> Result<bool, ParseFault> {
     let others = find::<PikeVMExecutor<Utf8Input>>(re, text, 0)?;
     Ok(are_same(list, &all(alloc, others)?))
 }
 
-// All matches, by an executor that remembers what failed from the first attempt on.
+// Returns all matches that an executor finds that remembers failures from the first attempt on.
 fn found_remembering(
     alloc: Global,
     re: &CompiledRegex,
@@ -53,13 +53,13 @@ fn found_remembering(
     all(alloc, Matches::new(executor, 0))
 }
 
-// It finds the same.
+// Checks whether the executor that remembers failures finds the same matches.
 fn is_remembered(alloc: Global, case: Case<'_>, list: &[Match]) -> Result<bool, ParseFault> {
     let program = program_of(alloc, case.pattern, Flags::from(case.flags))?;
     Ok(are_same(list, &found_remembering(alloc, &program, case.text)?))
 }
 
-// Over ASCII the same is found.
+// Checks whether the search of ASCII texts finds the same matches.
 fn is_same_in_ascii(
     alloc: Global,
     re: &Regex,
@@ -71,7 +71,7 @@ fn is_same_in_ascii(
     Ok(are_same(list, &all(alloc, re.find_iter_ascii(text)?)?))
 }
 
-// So it is by the copying executor.
+// Checks the same with the copying executor.
 fn is_copied_in_ascii(
     alloc: Global,
     re: &Regex,
@@ -84,7 +84,7 @@ fn is_copied_in_ascii(
     Ok(are_same(list, &all(alloc, others)?))
 }
 
-// In UTF-16 the same places are found.
+// Checks whether the search in UTF-16 finds the same places.
 fn is_same_in_utf16(
     alloc: Global,
     re: &Regex,
@@ -96,7 +96,8 @@ fn is_same_in_utf16(
     Ok(are_same_places(text, list, &others))
 }
 
-// From a match's end, which is a boundary, the rest is found.
+// Checks whether a search from the end of a match, which is a boundary, finds the remaining
+// matches.
 fn is_rest(
     alloc: Global,
     re: &Regex,
@@ -110,7 +111,7 @@ fn is_rest(
     Ok(are_same(rest, &all(alloc, re.find_from(text, end)?)?))
 }
 
-// So it is from the end of each match that is not empty.
+// Checks this for the end of each match that is not empty.
 fn is_resumed(alloc: Global, re: &Regex, text: &str, list: &[Match]) -> Result<bool, ParseFault> {
     let mut same = true;
     for (id, found) in list.iter().enumerate() {
@@ -122,18 +123,19 @@ fn is_resumed(alloc: Global, re: &Regex, text: &str, list: &[Match]) -> Result<b
     Ok(same)
 }
 
-// In place of each match, and of the first, the match gives the text back.
+// Checks whether replacing each match, or the first one, by itself does not change the text.
 fn is_given_back(re: &Regex, text: &str) -> Result<bool, ParseFault> {
     let each = re.replace_all(text, "$0")?.as_str() == text;
     Ok(each && re.replace(text, "$0")?.as_str() == text)
 }
 
-// That something holds, or what does not.
+// Returns the fault if the check fails.
 fn want(holds: bool, fault: ParseFault) -> Result<(), ParseFault> {
     if holds { Ok(()) } else { Err(fault) }
 }
 
-// That all holds of the matches of a pattern; and whether a bound of its work is known.
+// Makes all checks for the matches of a pattern. Returns whether a work bound of the pattern is
+// known.
 fn check(alloc: Global, re: &Regex, case: Case<'_>, list: &[Match]) -> Result<bool, ParseFault> {
     let text = case.text;
     want(
@@ -158,7 +160,8 @@ fn check(alloc: Global, re: &Regex, case: Case<'_>, list: &[Match]) -> Result<bo
     Ok(bounded.is_some())
 }
 
-/// How many matches a case has, and whether a bound of its work is known; or what does not hold of them.
+/// Returns the number of matches of a case, and whether a work bound is known. Returns the fault if
+/// a check fails.
 pub fn try_case(alloc: Global, case: Case<'_>) -> Result<(usize, bool), ParseFault> {
     let re = Regex::with_flags(alloc, case.pattern, Flags::from(case.flags))?;
     let list = found(alloc, &re, case.text)?;

@@ -1,12 +1,12 @@
-//! Patterns whose searches take more time than anyone has, where nothing is remembered: how much work they do in texts without a
-//! match, and how much their bound allows.
+//! Patterns whose searches explode if nothing is remembered. Compares how much work they do in
+//! texts without a match with how much their bound allows.
 
 use crate::bounded::enough;
 use crate::fault::ParseFault;
 use regress_match::{BoundedRegex, Regex};
 use std::alloc::{AllocError, Global};
 
-/// Each of them with what its texts are many times, and what stands behind that.
+/// The patterns. Each has a piece that its texts repeat, and the end of its texts.
 pub const EXPLOSIONS: [[&str; 3]; 12] = [
     ["(a*)*b", "a", ""],
     ["(?:a|a)*b", "a", ""],
@@ -26,13 +26,13 @@ pub const EXPLOSIONS: [[&str; 3]; 12] = [
     ["(.*?)x", "a", ""],
 ];
 
-/// How many characters their texts have, besides what stands at the end.
+/// The numbers of characters of the texts, without the end.
 pub const SIZES: [usize; 3] = [1_000, 10_000, 100_000];
 
-/// The greatest factor between the bound and the work, rounded up.
+/// The greatest allowed quotient of the bound and the work, rounded up.
 const MOST: u64 = 21;
 
-/// One of them.
+/// A pattern, and what its texts consist of.
 #[derive(Clone, Copy)]
 pub struct Explosion {
     pub pattern: &'static str,
@@ -41,7 +41,7 @@ pub struct Explosion {
 }
 
 impl Explosion {
-    /// That of a row.
+    /// Reads a row.
     pub fn of(row: [&'static str; 3]) -> Self {
         let [pattern, piece, end] = row;
         Explosion {
@@ -51,7 +51,7 @@ impl Explosion {
         }
     }
 
-    // Its text of so many characters, which are a multiple of those that it is made of.
+    // Returns the text with this many characters, a multiple of the length of the repeated piece.
     fn text(self, alloc: Global, size: usize) -> Result<String, AllocError> {
         let pieces = size.checked_div(self.piece.len()).unwrap_or(0);
         let mut text = String::new(alloc);
@@ -62,7 +62,8 @@ impl Explosion {
         Ok(text)
     }
 
-    /// How often the work of a search through a text of so many characters goes into what its bound allows, rounded up.
+    /// Returns the quotient of the bound and the work of a search in a text of this size, rounded
+    /// up.
     pub fn factor(self, alloc: Global, size: usize) -> Result<u64, ParseFault> {
         let re = Regex::new(alloc, self.pattern)?;
         let bounded = re.bounded()?;
@@ -71,7 +72,7 @@ impl Explosion {
     }
 }
 
-// The same of a text without a match.
+// Returns this quotient for a text without a match.
 fn factor_of(bounded: &BoundedRegex<'_>, text: &str) -> Result<u64, ParseFault> {
     let bound = enough(bounded, text.len());
     let mut matches = bounded.find_from(text, 0, bound)?;

@@ -1,39 +1,40 @@
-//! What may not hold of a case.
+//! The faults of a case.
 
 use regress_match::{Error, SearchError, Unbounded, WorkError};
 use regress_program::emit::EmitError;
 use std::alloc::AllocError;
 
-/// What does not hold of a case.
+/// What is wrong with a case.
 #[derive(Clone, Copy, Debug, PartialEq, Eq)]
 pub enum ParseFault {
-    /// That the pattern is one.
+    /// The pattern is refused.
     Pattern,
-    /// That there is memory for all.
+    /// An allocation failed.
     Refused,
-    /// That the tree as it was parsed has the same matches.
+    /// The unoptimized tree has other matches.
     Unoptimized,
-    /// That the copying executor finds them.
+    /// The copying executor finds other matches.
     Copied,
-    /// That they are found where what failed is remembered from the first attempt on.
+    /// The executor that remembers failures from the first attempt on finds other matches.
     Remembered,
-    /// That they are found over ASCII.
+    /// The search of ASCII texts finds other matches.
     Ascii,
-    /// That the copying executor finds them there.
+    /// The copying executor finds other matches in ASCII texts.
     CopiedAscii,
-    /// That the same places are found in UTF-16.
+    /// The search in UTF-16 finds other places.
     Utf16,
-    /// That from the end of a match the rest is found.
+    /// A search from the end of a match finds other matches.
     Resumed,
-    /// That a limit on steps is exact.
+    /// A step limit is not exact.
     Limited,
-    /// That they are found in as much work as is said to be enough.
+    /// The work that is said to suffice does not, or leads to other matches.
     Bounded,
-    /// That a bound of the work is known.
+    /// No work bound is known.
     Unbounded,
-    /// That `$0` in place of matches gives the text back.
+    /// Replacing matches by `$0` changes the text.
     GivenBack,
-    /// That nothing is refused but what has to be, and that all is as it has to be behind it.
+    /// A call was refused for another reason than an allocation failure, or has another result than
+    /// expected.
     Wrong,
 }
 

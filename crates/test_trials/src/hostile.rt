@@ -1,7 +1,7 @@
-//! The engine where patterns, trees, texts and starts are odd, by every call.
+//! Tests of the engine with odd patterns, trees, texts and starts, by every call.
 //!
-//! A call to which memory is refused is made once more. So, whichever request for memory is refused, what is printed is the
-//! same (`refusals/run.sh` at the top refuses each in turn).
+//! A call in which an allocation fails is repeated. So the output is the same whichever allocation
+//! is refused (`refusals/run.sh` at the top refuses each one in turn).
 
 mod bytes;
 mod calls;
@@ -35,11 +35,11 @@ fn try_section(rt: &HostRuntime, section: Section) -> io::Result<()> {
     println!(rt; "{name}: {agree} rows agree")
 }
 
-/// Tells of each section of rows how many agree.
+/// Prints for each section of rows how many agree.
 ///
 /// # Errors
 ///
-/// Where it cannot be printed.
+/// Returns an error if printing fails.
 pub fn tell_all(rt: &HostRuntime) -> io::Result<()> {
     for section in SECTIONS {
         try_section(rt, section)?;

@@ -1,5 +1,5 @@
-//! Runs the cases of a file through the body of `regress-tool`, and counts those that end as the file says. A case that does
-//! not is a line on standard error.
+//! Runs the cases of a file with the body of `regress-tool`, and counts those with the expected
+//! result. A case with another result is printed as a line on standard error.
 
 use anyhow::Result;
 use regress_match::program;
@@ -7,10 +7,10 @@ use serde::Deserialize;
 use std::alloc::{AllocError, Global};
 use std::fs;
 
-/// The word before the others that asks for the whole language.
+/// The option for the whole language.
 const ES2018: &str = "--es2018";
 
-/// A file of cases, one a line, and the language of their patterns.
+/// A file with one case in each line, and the language of their patterns.
 #[derive(Clone, Copy)]
 struct Cases {
     file: &'static str,
@@ -27,10 +27,10 @@ const WHOLE_CASES: Cases = Cases {
     is_whole: true,
 };
 
-/// The status of a refused pattern.
+/// The exit status for a refused pattern.
 const REFUSED: u8 = 2;
 
-// The words that the program is given, what it has to print, and the status that it has to end with.
+// The arguments of the program, its expected output, and its expected exit status.
 #[derive(Drop, Deserialize)]
 struct Case {
     pattern: String,
@@ -40,7 +40,8 @@ struct Case {
     status: u8,
 }
 
-// Whether the program ends as the case says, and complains only where the pattern is refused.
+// Checks whether the program has the expected result, and prints an error only if the pattern is
+// refused.
 fn ends_as_judged(alloc: Global, is_whole: bool, case: Case) -> Result<bool, AllocError> {
     let Case {
         pattern,
@@ -63,14 +64,14 @@ fn ends_as_judged(alloc: Global, is_whole: bool, case: Case) -> Result<bool, All
     Ok(got == status && out.as_slice() == stdout.as_bytes() && err.is_empty() != is_refused)
 }
 
-/// Tells of each language how many cases there are, and whether all agree.
+/// Prints the number of cases for each language. Returns whether all agree.
 pub fn agree(rt: &HostRuntime) -> Result<bool> {
     let profile = agrees(rt, PROFILE_CASES)?;
     let whole = agrees(rt, WHOLE_CASES)?;
     Ok(profile && whole)
 }
 
-// Tells how many cases there are in a file, and whether all agree.
+// Prints the number of cases in a file. Returns whether all agree.
 fn agrees(rt: &HostRuntime, cases: Cases) -> Result<bool> {
     let alloc = rt.alloc();
     let lines = fs::read_to_string(rt, cases.file)?;

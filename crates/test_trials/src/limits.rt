@@ -1,4 +1,4 @@
-//! Searches whose steps are limited, by the steps that they say are left.
+//! Tests of searches with a step limit, by the steps that they report as left.
 
 ghost use Rattle.regex_meaning.specs.CodeUnitOffsets.{IsBoundaryOrPastEnd};
 ghost use Rattle.std.specs.Prelude.{◌<◌, ◌⊎◌, IsCharBoundary, length};
@@ -12,10 +12,10 @@ use regress_pikevm::exec::{MatchProducer, Matches};
 use regress_program::insn::CompiledRegex;
 use std::alloc::{AllocError, Global};
 
-/// More steps than any search here takes.
+/// More steps than any of these searches takes.
 const PLENTY: u64 = 1 << 40;
 
-/// The program for bytes of the optimized tree of a pattern.
+/// Returns the program for bytes of the optimized tree of a pattern.
 pub fn program_of(alloc: Global, pattern: &str, flags: Flags) -> Result<CompiledRegex, Error> {
     let code_points: Vec<u32> = pattern.chars().map(u32::from).collect(alloc)?;
     let mut tree = try_parse(alloc, &code_points, flags.for_front())?;
@@ -23,7 +23,7 @@ pub fn program_of(alloc: Global, pattern: &str, flags: Flags) -> Result<Compiled
     Ok(emit(alloc, &tree)?)
 }
 
-// Has an executor look for the first match from a start on.
+// Searches for the first match from a start on.
 fn ask<P: MatchProducer>(executor: &mut P, start: usize) -> Result<(), SearchError>
     requires { IsBoundaryOrPastEnd (P.text executor.old) start }
 {
@@ -35,7 +35,7 @@ fn ask<P: MatchProducer>(executor: &mut P, start: usize) -> Result<(), SearchErr
     Ok(())
 }
 
-// The steps that it needs for that.
+// Returns the number of steps that this search needs.
 fn need(re: &CompiledRegex, text: &str, start: usize) -> Result<u64, SearchError>
     requires { IsCharBoundary text.now start ⊎ (length text.now < start) }
 {
@@ -44,7 +44,7 @@ fn need(re: &CompiledRegex, text: &str, start: usize) -> Result<u64, SearchError
     Ok(PLENTY.saturating_sub(executor.steps_left()))
 }
 
-// Where the list goes on behind a match, if it does.
+// Returns where the list of matches continues after a match, if it does.
 fn start_behind(text: &str, found: &Match) -> Option<usize> {
     if found.start() < found.end() {
         return Some(found.end());
@@ -53,7 +53,8 @@ fn start_behind(text: &str, found: &Match) -> Option<usize> {
     found.end().checked_add(next.len_utf8())
 }
 
-// The steps that are needed for each match together with those before it, and at last for the end, too.
+// Returns the number of steps that are needed for each match and all matches before it, and last
+// for the end of the list.
 fn sums(
     alloc: Global,
     re: &CompiledRegex,
@@ -78,7 +79,7 @@ fn sums(
     Ok(sums)
 }
 
-// How many of these sums so many steps are enough for.
+// Returns for how many items this number of steps suffices.
 fn count(sums: &[u64], steps: u64) -> usize {
     let mut items = 0usize;
     for sum in sums {
@@ -87,7 +88,7 @@ fn count(sums: &[u64], steps: u64) -> usize {
     items
 }
 
-// Whether a match is the one of this number.
+// Checks whether a match is the one with this number in the list.
 fn is_at(list: &[Match], number: usize, found: &Match) -> bool {
     match list.get(number) {
         Some(wanted) => is_same(wanted, found),
@@ -95,7 +96,8 @@ fn is_at(list: &[Match], number: usize, found: &Match) -> bool {
     }
 }
 
-// Whether so many items of the list are to come, and a refusal then if not the end, which is an item, too.
+// Checks whether this many items of the list follow, and then an error, unless the last item is the
+// end of the list.
 fn are_to_come<P: MatchProducer + Drop>(
     mut matches: Matches<P>,
     list: &[Match],
@@ -116,7 +118,7 @@ fn are_to_come<P: MatchProducer + Drop>(
     same && limited == (items <= list.len()) && yielded == items.min(list.len())
 }
 
-// Whether a search with so many steps yields so many items.
+// Checks whether a search with this many steps yields this many items.
 fn yields(
     re: &Regex,
     text: &str,
@@ -128,13 +130,13 @@ fn yields(
     Ok(are_to_come(matches, list, items))
 }
 
-// What the items of a case need.
+// Returns the numbers of steps that the items of a case need.
 fn sums_of(alloc: Global, case: Case<'_>, list: &[Match]) -> Result<Vec<u64>, ParseFault> {
     let program = program_of(alloc, case.pattern, Flags::from(case.flags))?;
     Ok(sums(alloc, &program, case.text, list)?)
 }
 
-/// Whether, with as many steps as some items of the list need, these come, and with one less one less.
+/// Checks that the steps that an item needs yield it, and that one step less yields one item less.
 pub fn is_limited(
     alloc: Global,
     re: &Regex,

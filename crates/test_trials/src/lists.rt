@@ -1,4 +1,4 @@
-//! Lists of matches, and whether they are the same.
+//! Lists of matches, and their comparison.
 
 ghost use Rattle.std.specs.Prelude.{◌<◌, ◌⊎◌, IsCharBoundary, IsTrue, length};
 
@@ -6,14 +6,14 @@ use regress_match::{Match, Range, SearchError};
 use regress_pikevm::exec::{MatchProducer, Matches};
 use std::alloc::{AllocError, Global};
 
-/// Whether an offset is a boundary of the text's characters.
+/// Checks whether an offset is a character boundary of the text.
 pub fn is_start(text: &str, offset: usize) -> bool
     ensures { IsTrue result → IsCharBoundary text.now offset ⊎ (length text.now < offset) }
 {
     text.is_char_boundary(offset)
 }
 
-/// All matches to come.
+/// Returns all remaining matches.
 pub fn all<P: MatchProducer + Drop>(
     alloc: Global,
     mut matches: Matches<P>,
@@ -25,18 +25,18 @@ pub fn all<P: MatchProducer + Drop>(
     Ok(list)
 }
 
-// How many 16-bit units stand before an offset.
+// Returns the number of 16-bit units before an offset.
 fn units_before(text: &str, offset: usize) -> Option<usize> {
     Some(text.get(..offset)?.encode_utf16().count())
 }
 
-// Whether a range in bytes is one in 16-bit units.
+// Checks whether a range in bytes is the same as a range in 16-bit units.
 fn is_same_in_units(text: &str, bytes: &Range<usize>, units: &Range<usize>) -> bool {
     units_before(text, bytes.start) == Some(units.start)
         && units_before(text, bytes.end) == Some(units.end)
 }
 
-// The same of groups.
+// Checks the same for the ranges of groups.
 fn are_same_in_units(
     text: &str,
     bytes: &[Option<Range<usize>>],
@@ -53,12 +53,12 @@ fn are_same_in_units(
     same
 }
 
-/// Whether two matches are the same.
+/// Checks whether two matches are equal.
 pub fn is_same(one: &Match, other: &Match) -> bool {
     one.range == other.range && one.captures == other.captures
 }
 
-/// Whether these are the same matches.
+/// Checks whether two lists of matches are equal.
 pub fn are_same(some: &[Match], others: &[Match]) -> bool {
     let mut same = some.len() == others.len();
     for (one, other) in some.iter().zip(others) {
@@ -67,7 +67,7 @@ pub fn are_same(some: &[Match], others: &[Match]) -> bool {
     same
 }
 
-/// Whether these are the same matches of a text in bytes and in 16-bit units.
+/// Checks whether the matches of a text in bytes and in 16-bit units are at the same places.
 pub fn are_same_places(text: &str, bytes: &[Match], units: &[Match]) -> bool {
     let mut same = bytes.len() == units.len();
     for (bytes, units) in bytes.iter().zip(units) {

@@ -1,7 +1,7 @@
-//! Runs cases that another engine judged, every short text by every constructor, patterns made from a seed, and odd rows by
-//! every call (these alone: `test_trials hostile`).
+//! Runs cases that another engine judged, every short text with every constructor, generated
+//! patterns, and odd rows with every call (only these with `test_trials hostile`).
 //!
-//! The status is 1 where a judged case or a constructor differs.
+//! The exit status is 1 if a judged case or a constructor disagrees.
 #![tactic(auto)]
 
 mod bounded;
@@ -22,7 +22,7 @@ use anyhow::Result;
 use std::env;
 use std::process::ExitCode;
 
-// Whether the odd rows alone are asked for. Where memory is refused to it this cannot be told.
+// Checks whether only the odd rows are wanted. This is unknown if an allocation fails.
 fn asks_for_hostile(rt: &HostRuntime) -> bool {
     match env::args(rt) {
         Ok(mut words) => words.nth(1).is_some_and(|word| word.as_str() == "hostile"),

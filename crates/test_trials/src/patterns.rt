@@ -1,38 +1,39 @@
-//! Patterns of a few pieces.
+//! Generates patterns of a few pieces.
 
 use crate::seed::Seed;
 use std::alloc::{AllocError, Global};
 
-/// How many groups and lookarounds may be open.
+/// The maximum number of open groups and lookarounds.
 const DEPTH: u32 = 4;
 
-/// What takes a quantifier.
+/// Pieces that may be followed by a quantifier.
 const ATOMS: [&str; 16] = [
     "a", "b", "k", "é", "😀", ".", "[ab]", "[^a]", "[^b-é]", "\\w", "\\W", "\\d", "\\s", "[\\s\\S]",
     "ab", "K",
 ];
 
-/// What does not.
+/// Pieces that may not.
 const LOOKS: [&str; 6] = ["^", "$", "\\b", "\\B", "(?=a)", "(?<!b)"];
 
-/// How often.
+/// The quantifiers.
 const QUANTIFIERS: [&str; 9] = ["*", "+", "?", "*?", "+?", "??", "{2}", "{1,2}", "{0,2}?"];
 
-/// What is opened: what behaves as an atom once it is closed, and what does not.
+/// The openings of groups, which are atoms when they are closed, and of lookarounds, which are not.
 const GROUPS: [&str; 3] = ["(", "(?:", "("];
 
 const LOOKAROUNDS: [&str; 4] = ["(?=", "(?!", "(?<=", "(?<!"];
 
-// A pattern as far as it is written.
+// A pattern that is being written.
 #[derive(Drop)]
 struct Draft {
     text: String,
-    // How many groups were opened that capture.
+    // The number of capture groups that were opened.
     groups: u32,
-    // How many parentheses are open, and for each, the last in the lowest bit, whether it is one of a group.
+    // The number of open parentheses, and for each of them, beginning with the last in the lowest
+    // bit, whether it is a group.
     open: u32,
     kinds: u32,
-    // Whether a quantifier may stand next.
+    // Whether a quantifier may come next.
     counts: bool,
 }
 
@@ -64,7 +65,7 @@ impl Draft {
         self.write(")", is_group)
     }
 
-    // Some piece that may stand next.
+    // Appends a piece that may come next.
     fn add(&mut self, seed: &mut Seed) -> Result<(), AllocError> {
         if self.counts && seed.is(4) {
             return self.write(seed.pick(&QUANTIFIERS), false);
@@ -95,7 +96,7 @@ impl Draft {
     }
 }
 
-/// A pattern of at most so many pieces, with what closes it.
+/// Returns a pattern of at most this many pieces, and the closings that it needs.
 pub fn pattern(alloc: Global, seed: &mut Seed, pieces: u32) -> Result<String, AllocError> {
     let mut draft = Draft {
         text: String::new(alloc),

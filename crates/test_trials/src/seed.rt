@@ -1,6 +1,6 @@
-//! Numbers that look like any others, and are the same in each run.
+//! Pseudo-random numbers that are the same in each run.
 
-/// Where the row of numbers is.
+/// The state of the generator.
 #[derive(Clone, Copy)]
 pub struct Seed(u64);
 
@@ -9,7 +9,7 @@ impl Seed {
         Seed(0x9E37_79B9_7F4A_7C15)
     }
 
-    // The next number, of 32 bits.
+    // Returns the next number, of 32 bits.
     fn next(&mut self) -> u64 {
         self.0 = self
             .0
@@ -18,12 +18,12 @@ impl Seed {
         self.0 >> 32
     }
 
-    /// Whether it comes so often in ten times.
+    /// Returns `true` in `in_ten` out of ten cases.
     pub fn is(&mut self, in_ten: u64) -> bool {
         self.next() % 10 < in_ten
     }
 
-    /// One of these texts, none where there are none.
+    /// Returns one of these texts. Empty if there are none.
     pub fn pick(&mut self, texts: &[&'static str]) -> &'static str {
         let many = (texts.len() as u64).max(1);
         let at = (self.next() % many) as usize;

@@ -1,6 +1,8 @@
-//! Searches for patterns in texts, both made of numbers that are the same in each run, and checks what must hold without
-//! knowing what is found: another executor, another encoding, `no_opt`, a search that goes on, one in as much work as its bound
-//! says, and `$0` find the same. Behind them stands, of patterns that explode, how far the work is from the bound.
+//! Searches for generated patterns in generated texts, which are the same in each run. It makes
+//! checks that do not need the expected matches: another executor, another encoding, `no_opt`, a
+//! resumed search, a search with the work that its bound requires, and replacement by `$0` have to
+//! agree. After that, for patterns with exploding searches, it shows how much greater the bound is
+//! than the work.
 
 use crate::checks::{Case, try_case};
 use crate::explosions::{EXPLOSIONS, Explosion, SIZES};
@@ -9,19 +11,19 @@ use crate::seed::Seed;
 use crate::texts::text;
 use std::io;
 
-/// How many cases there are.
+/// The number of cases.
 const CASES: u32 = 600;
 
-/// The flags that they have.
+/// The flags of the cases.
 const FLAGS: [&str; 8] = ["", "", "i", "m", "s", "u", "iu", "imsu"];
 
-/// How many pieces a pattern has, and how many characters a text.
+/// The number of pieces of a pattern, and of characters of a text.
 const PIECES: u32 = 9;
 
 const CHARACTERS: u32 = 6;
 
-// Tries the next case, and answers how many matches there are and whether there is a bound, or nothing where something does not
-// hold.
+// Tries the next case. Returns the number of matches and whether there is a bound. Returns `None`
+// if a check fails.
 fn try_next(rt: &HostRuntime, seed: &mut Seed) -> io::Result<Option<(usize, bool)>> {
     let pattern = pattern(rt.alloc(), seed, PIECES)?;
     let text = text(rt.alloc(), seed, CHARACTERS)?;
@@ -40,7 +42,7 @@ fn try_next(rt: &HostRuntime, seed: &mut Seed) -> io::Result<Option<(usize, bool
     }
 }
 
-// Tries so many cases.
+// Tries all cases.
 fn try_cases(rt: &HostRuntime) -> io::Result<()> {
     let mut seed = Seed::new();
     let mut agree = 0u32;
@@ -56,7 +58,7 @@ fn try_cases(rt: &HostRuntime) -> io::Result<()> {
     println!(rt; "{CASES} cases: {agree} agree, with {matches} matches, {bounds} with a bound")
 }
 
-// Tells of a pattern how often its work goes into its bound, in texts of each size.
+// Prints, for a pattern and texts of each size, how much greater the bound is than the work.
 fn tell(rt: &HostRuntime, explosion: Explosion) -> io::Result<()> {
     let pattern = explosion.pattern;
     print!(rt; "{pattern}: the bound is, rounded up,")?;
@@ -69,7 +71,7 @@ fn tell(rt: &HostRuntime, explosion: Explosion) -> io::Result<()> {
     println!(rt; " times the work")
 }
 
-/// Tells of the cases, and then of the patterns that explode.
+/// Prints the results of the cases, and then those of the patterns with exploding searches.
 pub fn tell_all(rt: &HostRuntime) -> io::Result<()> {
     try_cases(rt)?;
     for row in EXPLOSIONS {

@@ -1,6 +1,6 @@
-//! Compiles every text of at most four out of eight characters by each constructor, and counts the patterns among the texts
-//! and their matches. A text on which a constructor does other than the programs of the parsed tree is a line on standard
-//! error.
+//! Compiles every text of at most four characters, out of eight, with each constructor. Counts the
+//! patterns among the texts and their matches. If a constructor disagrees with the programs of the
+//! parsed tree, the text is printed as a line on standard error.
 
 use anyhow::{Result, bail};
 use regex_pattern_front::flags as front;
@@ -12,10 +12,10 @@ use std::alloc::{AllocError, Global};
 /// The characters of the texts.
 const LETTERS: [char; 8] = ['a', 'b', '|', '*', '(', ')', '^', '.'];
 
-/// How many texts there are of no character, of one, and so on.
+/// The number of texts of zero characters, of one, and so on.
 const COUNTS: [u32; 5] = [1, 8, 64, 512, 4096];
 
-/// What is searched.
+/// The text that is searched.
 const SEARCHED: &str = "abba";
 
 /// The same in 16-bit units.
@@ -37,7 +37,7 @@ const CONSTRUCTORS: [Constructor; 4] = [
     Constructor::FromUnicode,
 ];
 
-// What was counted of texts.
+// The counts of texts.
 #[derive(Clone, Copy, Default)]
 struct Tally {
     patterns: u64,
@@ -45,7 +45,7 @@ struct Tally {
     differ: u64,
 }
 
-// The text with this number among those of so many characters.
+// Returns the text with this number, among the texts of this length.
 fn text_of(alloc: Global, length: usize, number: u32) -> Result<String, AllocError> {
     let mut text = String::new(alloc);
     let mut digits = number;
@@ -70,14 +70,14 @@ fn constructed(
     }
 }
 
-// The pattern of the programs of the parsed tree.
+// Returns the pattern that is made of the programs of the parsed tree.
 fn parsed(alloc: Global, points: &[u32]) -> Result<Regex, Error> {
     let tree = try_parse(alloc, points, front::Flags::default())?;
     let units = emit_units(alloc, &tree)?;
     Ok(Regex::from_programs(emit(alloc, &tree)?, units))
 }
 
-// Writes the matches that are to come, and counts them.
+// Writes the remaining matches, and counts them.
 fn write_matches<P: MatchProducer + Drop>(
     line: &mut String,
     matches: Matches<P>,
@@ -91,8 +91,8 @@ fn write_matches<P: MatchProducer + Drop>(
     Ok(count)
 }
 
-// Writes what is found of a pattern in bytes and in 16-bit units, or why it is none. The answer is how many matches there are
-// in bytes.
+// Writes what a pattern finds in bytes and in 16-bit units, or why it is refused. Returns the
+// number of matches in bytes.
 fn write_found(line: &mut String, re: Result<Regex, Error>) -> Result<Option<u64>, SearchError> {
     match re {
         Ok(re) => {
@@ -108,7 +108,7 @@ fn write_found(line: &mut String, re: Result<Regex, Error>) -> Result<Option<u64
     }
 }
 
-// Counts a text, and answers whether all constructors do as the programs of its tree.
+// Counts a text. Returns whether all constructors agree with the programs of its tree.
 fn count_text(alloc: Global, tally: &mut Tally, text: &str) -> Result<bool, SearchError> {
     let points: Vec<u32> = text.chars().map(u32::from).collect(alloc)?;
     let mut wanted = String::new(alloc);
@@ -127,7 +127,7 @@ fn count_text(alloc: Global, tally: &mut Tally, text: &str) -> Result<bool, Sear
     Ok(true)
 }
 
-// Counts the texts of so many characters, and tells of those that differ.
+// Counts the texts of this length, and prints those for which constructors disagree.
 fn count_all(rt: &HostRuntime, length: usize, count: u32) -> Result<Tally> {
     let mut tally = Tally::default();
     for number in 0..count {
@@ -141,7 +141,7 @@ fn count_all(rt: &HostRuntime, length: usize, count: u32) -> Result<Tally> {
     Ok(tally)
 }
 
-/// Tells of the texts of each length. The answer is whether all constructors agree.
+/// Prints the counts for each length. Returns whether all constructors agree.
 pub fn agrees(rt: &HostRuntime) -> Result<bool> {
     let mut differ = 0u64;
     for (length, texts) in COUNTS.into_iter().enumerate() {

@@ -1,4 +1,4 @@
--- What a local tree finds in a part of a text it finds in the text.
+-- If a local tree has a match in a part of a text, it has one in the whole text.
 use Rattle.std.proofs.Common.{◌≡◌, ◌⊎◌, ℕ, zero, suc, ◌+◌, ◌-◌, ◌<◌, ◌≤◌, Bool, true, false, not, ◌&&◌, List, [], ◌∷◌, ◌++◌, length, map, Option}
 use Rattle.std.proofs.Common.{Some, None, refl, ap, sym, ◌∙◌, filter, flat_map, arith, subst, option_map, option_and_then, append-nil, append_assoc}
 use Rattle.std.proofs.Common.{get_or, lit<}
@@ -30,7 +30,7 @@ use Rattle.regex_meaning.proofs.EachElementLemmas.{Each, Each-append, Each-map, 
 use Rattle.regex_meaning.proofs.BoolLemmas.{and-left, and-right}
 use Rattle.use_grep.specs.Local.{is_local}
 
--- ---- One of them
+-- ---- Lists with an element that has a property
 
 abbrev Has : {A : Type 0} → (A → Type 0) → List A → Type 0
 Has P [] = ⊥
@@ -59,7 +59,7 @@ module _ {A : Type 0} (P : A → Type 0) where
   Has-filter test h (x ∷ xs) (inl p) = Has-here (test x) x (filter test xs) (h x p) p
   Has-filter test h (x ∷ xs) (inr k) = Has-later (test x) x (filter test xs) (Has-filter test h xs k)
 
-  -- of those that pass a test
+  -- A property of the elements of a list that pass a test.
   Each-keep : (b : Bool) (x : A) (xs : List A) → (b ≡ true → P x) → Each P xs → Each P (if b then x ∷ xs else xs)
   Each-keep true x xs h k = (h refl, k)
   Each-keep false x xs h k = k
@@ -75,19 +75,20 @@ module _ {A B : Type 0} (P : A → Type 0) (Q : B → Type 0) where
   Has-image f h (x ∷ xs) (inl p) = inl (h x p)
   Has-image f h (x ∷ xs) (inr k) = inr (Has-image f h xs k)
 
--- a fact of each, whatever i is
+-- A property that depends on an index, for each element and all indices.
 Each-under : {A I : Type 0} (R : I → Type 0) (P : I → A → Type 0) (xs : List A) → ((i : I) → R i → Each (P i) xs)
     → Each (λ x. (i : I) → R i → P i x) xs
 Each-under R P [] h = tt
 Each-under R P (x ∷ xs) h = (λ i r. (h i r).0, Each-under R P xs (λ i r. (h i r).1))
 
--- ---- Outcomes that end so many characters on
+-- ---- Outcomes that end a number of characters later
 
 module _ (shift : ℕ) where
   abbrev EndsBehind : (end : ℕ) → Outcome → Type 0
   EndsBehind end o = o.end ≡ shift + end
 
-  -- for each of these outcomes one of the others ends so many characters on
+  -- For each outcome of the first list, the second list has an outcome that ends `shift` characters
+  -- later.
   abbrev AreAmong : (os ps : List Outcome) → Type 0
   AreAmong os ps = Each (λ o. Has (EndsBehind o.end) ps) os
 
@@ -179,7 +180,8 @@ module _ (shift : ℕ) (q : Quantifier) (a b : ℕ → Groups → List Outcome)
 
 -- ---- Trees
 
--- one text stands in another one, behind so many of its characters, and no word goes on beyond its ends
+-- The text `s` is a part of the text `t`, after `shift` characters, and no word extends beyond its
+-- ends.
 pub record IsPart (shift : ℕ) (s t : Text) : Type 0 where
   pub same : (place c : ℕ) → slice_get s.characters place ≡ Some c → slice_get t.characters (shift + place) ≡ Some c
   pub longer : shift + length s.characters ≤ length t.characters
@@ -196,7 +198,7 @@ get-none [] i h = omega arith
 get-none (x ∷ xs) zero h = cc h
 get-none (x ∷ xs) (suc i) h = let le = get-none xs i h in omega (arith, le)
 
--- ---- Where words end
+-- ---- Word boundaries
 
 module _ (shift : ℕ) (s t : Text) (part : IsPart shift s t) (u : Bool) where
   abbrev is_word : ℕ → Bool
@@ -225,7 +227,7 @@ module _ (shift : ℕ) (s t : Text) (part : IsPart shift s t) (u : Bool) where
       ap (λ p. is_some_and (character_before t p) is_word) at
       ∙ read-word place (slice_get s.characters place) refl (λ past. absurd (omega arith))
 
-  -- past the end of a text no word ends
+  -- There is no word boundary past the end of a text.
   none-past : (place : ℕ) → length s.characters < place → is_at_word_boundary s u place ≡ true → ⊥
   none-past zero past h = absurd (omega arith)
   none-past (suc place) past h =
@@ -318,7 +320,7 @@ or-none None b h = (refl, h)
 or-none (Some a) b h = cc h
 
 module _ (root : Node) (text : Text) where
-  -- where no place has a match, the next one has none
+  -- If no place in a range has a match, then no single place in it has one.
   none-from : (n from : ℕ) → first_match_among root text n from ≡ None → (place : ℕ) → from ≤ place → place < from + n → match_at root text place ≡ None
   unfolding first_match_among
   none-from zero from h place le less = absurd (omega arith)
@@ -345,7 +347,7 @@ module _ (root : Node) (text : Text) where
   at-left_end : HasRisingPlaceOffsets text → place_at text 0 ≡ Some 0
   at-left_end is = ap (place_at text) (sym is.from_zero) ∙ place_at-offset text 0 is (omega arith)
 
-  -- there is an answer where there is a match
+  -- There is an answer if there is a match.
   pub some-answer : HasRisingPlaceOffsets text → is_some (slice_get (answers_from root text 0) 0) ≡ is_some (first_match root text 0)
   some-answer is =
       ap (λ (all : List Answer). is_some (slice_get all 0)) (answers-go_on root text is 0)
@@ -370,7 +372,7 @@ module _ (root : Node) (local : is_local root ≡ true) (shift : ℕ) (s t : Tex
       none-all root s (length s.characters + 1 - 0) 0 (λ place l.
       none-at place (none-from root t (length t.characters + 1 - 0) 0 h (shift + place) (omega arith) (omega arith)))
 
-  -- a part of a text with no match has none
+  -- If a text has no match, a part of it has none.
   pub none-in_part : HasRisingPlaceOffsets s → HasRisingPlaceOffsets t → is_some (slice_get (answers_from root t 0) 0) ≡ false → is_some (slice_get (answers_from root s 0) 0) ≡ false
   none-in_part is_s is_t h =
       some-answer root s is_s ∙ ap is_some (none-first (is-none (first_match root t 0) (sym (some-answer root t is_t) ∙ h)))
@@ -394,7 +396,8 @@ get-right (x ∷ xs) ys i =
 get-at : (xs ys : List ℕ) → slice_get (xs ++ ys) (length xs) ≡ slice_get ys 0
 get-at xs ys = let none : length xs ≡ length xs + 0 = omega arith in ap (slice_get (xs ++ ys)) none ∙ get-right xs ys 0
 
--- a line break stands last, or first, where there are any characters
+-- The characters are empty, or the last one is a line break. In the next definition, it is the
+-- first one.
 abbrev EndInBreak : List ℕ → Type 0
 EndInBreak cs = (cs ≡ []) ⊎ ((ds : List ℕ) × (cs ≡ ds ++ 10 ∷ []))
 
@@ -429,7 +432,7 @@ module _ (u : Bool) (t : Text) where
       ∙ ap (λ o. is_some_and o (is_word_char u)) (get-right before (line ++ behind) (length line) ∙ get-at line behind)
       ∙ first-no-word behind h
 
--- these characters stand in a text, as a line or several
+-- The characters of a line are in a text, as one or several whole lines.
 pub record StandsIn (line text : List ℕ) : Type 0 where
   pub before : List ℕ
   pub behind : List ℕ
@@ -447,7 +450,7 @@ part-of line text unicode st = record {
   ends = λ u. no-word-after u (utf8_text text unicode) st.before (chars line) st.behind st.whole st.ends;
 }
 
--- a line and what follows it, joined
+-- A line is in the text that begins with it.
 stands-first : (line rest : List ℕ) → IsUtf8 line → BeginInBreak (chars rest) → StandsIn line (line ++ rest)
 stands-first line rest is ends = record { before = []; behind = chars rest; whole = chars-append line rest is; begins = inl refl; ends = ends }
 
@@ -487,7 +490,7 @@ stands-later line first text is st = record {
       ∙ sym (append_assoc (chars first) (chars (10 ∷ []) ++ st.before) (chars line ++ st.behind));
 }
 
--- each line of a text stands in it
+-- Each line of a text is in the text.
 all-stand : (lines : List (List ℕ)) → Each IsUtf8 lines → Each (λ line. StandsIn line (join_with_byte 10 lines)) lines
 all-stand [] h = tt
 all-stand (line ∷ []) h = (subst (StandsIn line) (append-nil line) (stands-first line [] h.0 (inl no-chars)), tt)
@@ -504,7 +507,7 @@ is_break b = eqb b 10
 abbrev lines : (text : List ℕ) → List (List ℕ)
 lines text = slice_split is_break text
 
--- a line break is of ASCII, so what stands before it and behind it are texts
+-- A line break is ASCII, so the parts before and after it are UTF-8.
 module _ (text : List ℕ) (is : IsUtf8 text) (inside : position_or_len is_break text < length text) where
   abbrev at : ℕ
   at = position_or_len is_break text
@@ -537,7 +540,7 @@ lines-stand text is =
     subst (λ t. Each (λ line. StandsIn line t) (lines text)) (join_with_byte-slice_split 10 text)
     (all-stand (lines text) (lines-are (length text) text (omega arith) is))
 
--- Where a text has no match of a local tree, none of its lines has one.
+-- If a text has no match of a local tree, none of its lines has one.
 pub lines-have_none : (root : Node) (unicode : Bool) (text : List ℕ) → is_local root ≡ true → IsUtf8 text
     → is_some (slice_get (answers_from root (utf8_text text unicode) 0) 0) ≡ false
     → Each (λ line. is_some (slice_get (answers_from root (utf8_text line unicode) 0) 0) ≡ false) (lines text)

@@ -1,4 +1,4 @@
--- Lines near selected ones, one line after another.
+-- Lines near selected lines, one line after another.
 use Rattle.std.proofs.Common.{◌≡◌, ℕ, zero, suc, ◌+◌, ◌-◌, ◌<◌, ◌≤◌, List, [], ◌∷◌, ◌++◌, Bool, true, false, filter, refl, ap, sym, ◌∙◌, append-nil, arith}
 use Rattle.std.specs.Prelude.{◌&&◌, ◌||◌, nat_le, if◌then◌else◌}
 use Rattle.std.specs.List.{range_with_len}
@@ -7,7 +7,7 @@ use Rattle.std.proofs.lemmas.List.Elements.{filter-append}
 use Rattle.std.proofs.Math.Bool.{and-false}
 use Rattle.use_grep.specs.Nearby.{IsIncreasing, IsIncreasingFrom, is_near, near}
 
--- a line that is too far behind the first is near one of the others, or near none
+-- A line that is too far after the first selected line is near another one, or near none.
 pub passed : (before after x n : ℕ) (xs : List ℕ) → x + after < n → is_near before after (x ∷ xs) n ≡ is_near before after xs n
 passed before after x n xs far =
     ap (λ b. (nat_le x (n + before) && b) || is_near before after xs n) (lt-leb n (x + after) far)
@@ -27,7 +27,7 @@ none-beyond before after low n (x ∷ xs) is far =
     let further : n + before < x = omega arith in
     rw (lt-leb x (n + before) further) (none-beyond before after x n xs is.1 further)
 
--- no line is near one that begins further behind
+-- A line is not near selected lines that begin too far after it.
 pub none-near : (before after x n : ℕ) (xs : List ℕ) → IsIncreasing (x ∷ xs) → n + before < x → is_near before after (x ∷ xs) n ≡ false
 none-near before after x n xs is far = none-beyond before after x n (x ∷ xs) (omega arith, is.1) far
 
@@ -46,7 +46,8 @@ left : (n : ℕ) (b : Bool) → b ≡ false → (if b then n ∷ [] else []) ≡
 left n true h = cc h
 left n false h = refl
 
--- where the first is not too far before a line, whether the line is near one is whether the first is not too far behind it
+-- If the first selected line is not too far before a line, the line is near a selected one exactly
+-- if the first one is not too far after it.
 pub near_first : (before after x n : ℕ) (xs : List ℕ) → IsIncreasing (x ∷ xs) → n ≤ x + after
     → nat_le (x - n) before ≡ is_near before after (x ∷ xs) n
 near_first before after x n xs is a = by (nat_le (x - n) before) refl
@@ -61,20 +62,20 @@ module _ (before after : ℕ) (selected : List ℕ) (first count at : ℕ) (e : 
       ap (filter (is_near before after selected)) (range-more first count at e)
       ∙ filter-append (is_near before after selected) (range_with_len first count) (at ∷ [])
 
-  -- a line that is near is taken
+  -- A line that is near is taken.
   pub near-kept : (done next : List ℕ) → is_near before after selected at ≡ true → done ≡ near before after selected first count → next ≡ done ++ at ∷ []
       → next ≡ near before after selected first (suc count)
   near-kept done next is so_far e =
       e ∙ ap (λ xs. xs ++ at ∷ []) so_far ∙ ap (λ xs. near before after selected first count ++ xs) (sym (kept at (is_near before after selected at) is)) ∙ sym more
 
-  -- one that is not is left
+  -- A line that is not near is not taken.
   pub near-left : (done : List ℕ) → is_near before after selected at ≡ false → done ≡ near before after selected first count
       → done ≡ near before after selected first (suc count)
   near-left done is so_far =
       so_far ∙ sym (append-nil (near before after selected first count))
       ∙ ap (λ xs. near before after selected first count ++ xs) (sym (left at (is_near before after selected at) is)) ∙ sym more
 
--- one line more, of which is known whether it is near
+-- One more line, for which it is known whether it is near.
 module _ (before after : ℕ) (selected left : List ℕ) (first at : ℕ) (b : Bool) (from : first ≤ at)
     (same : is_near before after selected at ≡ is_near before after left at) (is : b ≡ is_near before after left at) where
   behind : suc (at - first) ≡ at + 1 - first

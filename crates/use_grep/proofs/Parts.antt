@@ -1,11 +1,11 @@
--- The parts that matches have of a line, and the line with them painted, so far and with those to come.
+-- The parts of a line that matches cover, and the painted line, one more match at a time.
 use Rattle.std.proofs.Common.{◌≡◌, ℕ, List, [], ◌∷◌, ◌++◌, ap, drop, sym, ◌∙◌, append_assoc}
 use Rattle.std.specs.Prelude.{slice_range}
 use Rattle.regex_meaning.specs.MatchGroupsByNumberAndName.{Answer}
 use Rattle.regex_meaning.specs.Replace.{replaced}
 use Rattle.use_grep.specs.Selecting.{colored_from, matched_parts, painted_part}
 
--- one part more, which is that of the next match
+-- One more part, that of the next match.
 pub parts-more : (line : List ℕ) (whole done more : List (ℕ × List ℕ)) (left rest : List Answer) (m : Answer) (start : ℕ) (part : List ℕ)
     → done ++ matched_parts line left ≡ whole → left ≡ m ∷ rest → start ≡ m.range.0 → part ≡ slice_range line m.range.0 m.range.1
     → more ≡ done ++ (start, part) ∷ []
@@ -17,7 +17,8 @@ parts-more line whole done more left rest m start part so_far next at is e =
     ∙ so_far
 
 module _ (line start end : List ℕ) where
-  -- what is made, with the matches that are left, is the whole: so it stays when one is written
+  -- The output together with the remaining matches is the whole result. This is preserved when a
+  -- match is written.
   pub painted-more : (made next whole : List ℕ) (from to : ℕ) (left rest : List Answer) (m : Answer)
       → made ++ colored_from line start end from left ≡ whole → left ≡ m ∷ rest
       → next ≡ made ++ (slice_range line from m.range.0 ++ painted_part line start end m) → to ≡ m.range.1

@@ -1,4 +1,4 @@
--- A pattern that is compiled is a search for what its tree finds.
+-- A compiled pattern searches for the matches of its tree.
 use Rattle.std.proofs.Common.{◌≡◌, ℕ, List, [], ◌∷◌, Bool, true, false, refl, ap, sym, subst, ◌∙◌, filter}
 use Rattle.std.specs.Prelude.{◌||◌, chars, is_some, slice_get, if◌then◌else◌}
 use Rattle.regex_meaning.specs.Tree.{Flags, Tree}
@@ -12,7 +12,7 @@ use Rattle.regex_meaning.proofs.EachElementLemmas.{Each, Each-map}
 use Rattle.use_grep.specs.Selecting.{HasNoneInLines, IsLocal, IsSearchOf, framed, has_match, lines_of, searched, tree_flags}
 use Rattle.use_grep.proofs.InParts.{lines-have_none}
 
--- the flags that differ in `i` alone
+-- Flags that differ only in `i`.
 pub flags-of_case : (b m d n u v : Bool) → m ≡ false → d ≡ false → n ≡ false → u ≡ false → v ≡ false → flags_by b m d n u v ≡ tree_flags b
 unfolding flags_from_letters
 flags-of_case true m d n u v em ed en eu ev = rw (em, ed, en, eu, ev) refl
@@ -25,7 +25,7 @@ is-search flags pattern re is = record {
   found = λ tree parsed line. ap (λ answers. is_some (slice_get answers 0)) (ecmascript-searches-follow flags (chars pattern) re tree is parsed line 0).0;
 }
 
--- A text with no match has none in its lines, where the grammar has a local tree of the pattern.
+-- If the grammar has a local tree for the pattern, the lines of a text without a match have none.
 pub none-in_lines : (flags : Flags) (pattern : List ℕ) (re : Regex) → IsCompiledWithSyntax ecmascript flags (chars pattern) re → IsLocal flags pattern → HasNoneInLines re
 none-in_lines flags pattern re is local text utf8 none =
     let found = (is-search flags pattern re is).found local.0 local.1 in
@@ -38,7 +38,7 @@ none-in_lines flags pattern re is local text utf8 none =
     filter-none test (line ∷ lines) h = rw (h.0, filter-none test lines h.1) refl
 
 module _ (flags wanted : Flags) (same : flags ≡ wanted) (words whole_lines : Bool) (pattern : List ℕ) (re : Regex) where
-  -- the flags, and what is searched, said in the words of the options
+  -- The flags and the searched pattern, in terms of the options.
   search-of : (text : List ℕ) → IsCompiledWithSyntax ecmascript flags (chars text) re → IsSearchOf wanted text re
   search-of text is = is-search wanted text re (subst (λ f. IsCompiledWithSyntax ecmascript f (chars text) re) same is)
 
@@ -60,7 +60,7 @@ module _ (flags wanted : Flags) (same : flags ≡ wanted) (words whole_lines : B
   pub alone-is-one : IsCompiledWithSyntax ecmascript flags (chars pattern) re → (tree : Tree) × ParsesEcmaScript wanted (chars pattern) tree
   alone-is-one is = (tree_for_16_bit_units re, subst (λ f. ParsesEcmaScript f (chars pattern) (tree_for_16_bit_units re)) same is.parsed)
 
--- a pattern that is framed asks for one of the two
+-- A framed pattern comes from one of the two options.
 pub by-words : (words whole_lines : Bool) → words ≡ true → (words || whole_lines) ≡ true
 by-words words whole_lines w = rw (w) refl
 

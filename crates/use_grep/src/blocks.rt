@@ -1,4 +1,4 @@
-//! Whole lines of a file, a block at a time.
+//! Reads a file in blocks of whole lines.
 
 ghost use Rattle.std.specs.Prelude.{◌≡◌, ◌≤◌, ◌+◌, IfOk, vec_len};
 
@@ -8,7 +8,8 @@ use std::io;
 use std::io::Read;
 use thiserror::Error;
 
-// The number of bytes that are read at a time. A block is at most this much longer than its last line.
+// The number of bytes that are read at a time. A block is longer than its last line by at most this
+// number.
 const STEP: usize = 1 << 17;
 
 /// Why there is no next block.
@@ -17,7 +18,7 @@ pub enum BlockError {
     /// The file could not be read.
     #[error("{0}")]
     Read(io::Error),
-    /// A line is longer than it may be.
+    /// A line exceeds the maximum length.
     #[error("a line is too long")]
     TooLong,
     /// An allocation for the line failed.
@@ -31,15 +32,15 @@ impl From<AllocError> for BlockError {
     }
 }
 
-/// The lines of a reader, in blocks of whole lines. One block is kept in memory.
+/// The lines of a reader, in blocks of whole lines. Only one block is in memory.
 #[derive(Drop)]
 pub struct Blocks<R: Read + Drop> {
     reader: R,
     longest: u64,
     end_of_line: u8,
     buffer: Vec<u8>,
-    // Where the lines end that were returned, how many bytes they take with their last line break, and how many were
-    // read.
+    // The offset at which the returned lines end, the offset after their last line break, and the
+    // number of bytes that were read.
     end: usize,
     taken: usize,
     filled: usize,
@@ -49,7 +50,7 @@ pub struct Blocks<R: Read + Drop> {
 }
 
 impl<R: Read + Drop> Blocks<R> {
-    /// Returns the blocks of a reader. Its lines end with `end_of_line` and have at most `longest` bytes each.
+    /// Creates a reader of blocks. A line ends with `end_of_line`, and has at most `longest` bytes.
     ///
     /// # Errors
     ///
@@ -75,7 +76,8 @@ impl<R: Read + Drop> Blocks<R> {
     ///
     /// # Errors
     ///
-    /// `Read` if the reader fails, `TooLong` if a line is too long, and `Memory` if an allocation fails.
+    /// `Read` if the reader fails, `TooLong` if a line is too long, and `Memory` if an allocation
+    /// fails.
     pub fn advance(&mut self) -> Result<bool, BlockError> {
         self.forget_taken();
         for _ in 0..u64::MAX {
@@ -92,12 +94,12 @@ impl<R: Read + Drop> Blocks<R> {
         Ok(false)
     }
 
-    /// Returns the lines of the block, without the line break of the last one.
+    /// Returns the lines of the block. The last one has no line break.
     pub fn lines(&self) -> &[u8] {
         &self.buffer[..self.end]
     }
 
-    // Moves the bytes that were not returned to the front of the buffer.
+    // Moves the bytes that were not yet returned to the front of the buffer.
     fn forget_taken(&mut self) {
         self.buffer.copy_within(self.taken..self.filled, 0);
         let left = self.filled - self.taken;
@@ -106,14 +108,14 @@ impl<R: Read + Drop> Blocks<R> {
         self.filled = left;
     }
 
-    // Makes a block of the bytes that are left at the end of the file, and returns whether there are any.
+    // Makes a block of the bytes that remain at the end of the file. Returns whether there are any.
     fn take_rest(&mut self) -> bool {
         self.taken = self.filled;
         self.end = self.filled;
         self.filled > 0
     }
 
-    // Reads more bytes into the buffer, and returns how many: 0 at the end of the file.
+    // Reads more bytes into the buffer, and returns their number. It is 0 at the end of the file.
     fn read_more(&mut self) -> Result<usize, BlockError>
         ensures { IfOk result (λ n. self.new.filled ≡ self.old.filled + n) }
     {
@@ -132,7 +134,7 @@ impl<R: Read + Drop> Blocks<R> {
         }
     }
 
-    // Doubles a buffer that is full.
+    // Doubles the buffer if it is full.
     fn make_room(&mut self) -> Result<(), AllocError>
         ensures { self.new.filled ≡ self.old.filled }
     {

@@ -1,11 +1,11 @@
-//! The colours of the output, as `GREP_COLORS` gives them.
+//! The colours of the output, which `GREP_COLORS` may set.
 
 use std::alloc::{AllocError, Global};
 use std::env;
 use std::env::VarError;
 use use_support::Given;
 
-/// What is coloured.
+/// The roles that have a colour.
 #[derive(Clone, Copy, Debug)]
 pub enum Role {
     /// A match in a selected line.
@@ -18,15 +18,15 @@ pub enum Role {
     Number,
     /// The offset of a line or a match.
     Offset,
-    /// What separates these.
+    /// A separator between these.
     Separator,
-    /// A selected line, beside its matches.
+    /// A selected line, apart from its matches.
     Line,
-    /// A context line, beside its matches.
+    /// A context line, apart from its matches.
     ContextLine,
 }
 
-// The key of each role in `GREP_COLORS`, and its default, in the order of the roles.
+// The key of each role in `GREP_COLORS` and its default, in the order of `Role`.
 const ROLES: [(&str, &str); 8] = [
     ("ms", "01;31"),
     ("mc", "01;31"),
@@ -38,18 +38,19 @@ const ROLES: [(&str, &str); 8] = [
     ("cx", ""),
 ];
 
-/// The texts that begin and end each role's colour on a terminal.
+/// The texts that begin and end the colour of each role on a terminal.
 #[derive(Drop)]
 pub struct Colors {
-    // One for each role, empty if the role has no colour.
+    // One text for each role. It is empty if the role has no colour.
     starts: Vec<String>,
     end: &'static str,
-    // Whether selected lines and context lines change their colours with `-v`.
+    // Whether `-v` swaps the colours of selected lines and context lines.
     reverses: bool,
 }
 
 impl Colors {
-    /// Returns the colours that the command line or, without an option, the environment asks for.
+    /// Returns the colours of the command line. Without an option, they are those of the
+    /// environment.
     ///
     /// # Errors
     ///
@@ -65,7 +66,8 @@ impl Colors {
         }
     }
 
-    // Reads settings such as `ms=01;32:fn=34:ne`, up to the first that is malformed. Unknown keys are ignored.
+    // Reads settings such as `ms=01;32:fn=34:ne`, up to the first malformed one. Unknown keys are
+    // ignored.
     fn parse(alloc: Global, text: &str) -> Result<Colors, AllocError> {
         let mut values = ROLES;
         let mut erases = true;
@@ -98,7 +100,7 @@ impl Colors {
         })
     }
 
-    /// Returns the role of a line beside its matches.
+    /// Returns the role of a line apart from its matches.
     pub fn line_role(&self, is_selected: bool, is_inverted: bool) -> Role {
         if is_selected == (self.reverses && is_inverted) {
             Role::ContextLine
@@ -107,7 +109,7 @@ impl Colors {
         }
     }
 
-    /// Returns the text that begins a role's colour, or an empty text if it has none.
+    /// Returns the text that begins the colour of a role. It is empty if the role has none.
     pub fn start(&self, role: Role) -> &str {
         match self.starts.get(role as usize) {
             Some(text) => text.as_str(),
@@ -115,7 +117,7 @@ impl Colors {
         }
     }
 
-    /// Returns the text that ends a role's colour, or an empty text if it has none.
+    /// Returns the text that ends the colour of a role. It is empty if the role has none.
     pub fn end(&self, role: Role) -> &'static str {
         if self.start(role).is_empty() {
             ""
@@ -125,7 +127,7 @@ impl Colors {
     }
 }
 
-// Checks whether a value has only digits and semicolons.
+// Checks whether a value consists of digits and semicolons.
 fn is_sgr(value: &str) -> bool {
     for byte in value.as_bytes() {
         if *byte != b';' && !byte.is_ascii_digit() {
@@ -135,7 +137,7 @@ fn is_sgr(value: &str) -> bool {
     true
 }
 
-// Sets the value of a key, and `mt` sets those of matches in all lines.
+// Sets the value of a key. `mt` sets the values of both kinds of matches.
 fn set<'v>(values: &mut [(&'static str, &'v str); 8], key: &str, value: &'v str) {
     for (of, kept) in values {
         if *of == key || key == "mt" && of.starts_with('m') {

@@ -5,9 +5,10 @@ ghost use Rattle.use_grep.specs.Nearby.{IsIncreasing, StartsFrom, is_near, near}
 
 use std::alloc::{AllocError, Global};
 
-/// Returns the numbers of the lines that are printed, of those from `first` up to and without `end`: of each line that
-/// is selected, or is at most `before` lines before or `after` lines behind a selected line. Contexts that overlap are
-/// merged, since each number comes once and in order. The selected lines are numbers in increasing order.
+/// Returns the numbers in `first..end` of the lines that are printed: each selected line, and each
+/// line that is at most `before` lines before or `after` lines after a selected line. Each number
+/// occurs once, in ascending order, so overlapping contexts are merged. `selected` has numbers in
+/// ascending order.
 ///
 /// # Errors
 ///
@@ -34,7 +35,7 @@ pub fn near(
     Ok(numbers)
 }
 
-// Checks whether a line is near a selected line, where it is not too far behind the first of them.
+// Checks whether a line is near the first selected line, if it is not too far after it.
 #[tactic(auto, using(crate::proofs::Near::near_first))]
 fn is_near_first(selected: &[u64], before: u64, number: u64) -> bool
     ensures { (after : ℕ) → StartsFrom number after selected.now → IsIncreasing selected.now
@@ -46,7 +47,8 @@ fn is_near_first(selected: &[u64], before: u64, number: u64) -> bool
     }
 }
 
-// Returns the selected lines without those that are too far before a line to be followed by it.
+// Returns the selected lines without those that are more than `after` lines before the line
+// `number`.
 fn not_passed(selected: &[u64], after: u64, number: u64) -> &[u64]
     ensures same { (before n : ℕ) → number ≤ n
         → is_near before after selected.now n ≡ is_near before after result.now n }

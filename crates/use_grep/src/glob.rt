@@ -1,4 +1,4 @@
-//! Globs of file names, as `--include` and `--exclude` take them.
+//! Globs of file names, for `--include` and `--exclude`.
 
 use anyhow::{Result, bail};
 use regress_match::{Flags, Regex, escape};
@@ -14,11 +14,11 @@ pub struct Globs {
 }
 
 impl Globs {
-    /// Returns the globs of a command line.
+    /// Reads the globs of a command line.
     ///
     /// # Errors
     ///
-    /// A glob that is not valid, as `[z-a]`, or an allocation that fails.
+    /// Returns an error if a glob is invalid, such as `[z-a]`, or if an allocation fails.
     pub fn of(alloc: Global, given: &Given<'_>) -> Result<Globs> {
         let dirs = without_slashes(alloc, &given.texts(alloc, "exclude-dir")?)?;
         Ok(Globs {
@@ -28,8 +28,8 @@ impl Globs {
         })
     }
 
-    /// Checks whether a file is searched. The name is a file name of the command line, or the last part of the path of
-    /// a file in a directory.
+    /// Checks whether a file is searched. `name` is the name on the command line or, for a file in
+    /// a directory, the last part of its path.
     ///
     /// # Errors
     ///
@@ -41,7 +41,7 @@ impl Globs {
         Ok(self.include.is_none() || matches(&self.include, name)?)
     }
 
-    /// Checks whether a directory is searched. The name is as for `takes_file`.
+    /// Checks whether a directory is searched. `name` is as in `takes_file`.
     ///
     /// # Errors
     ///
@@ -51,7 +51,7 @@ impl Globs {
     }
 }
 
-// Returns names without the slashes at their ends.
+// Returns the names without trailing slashes.
 fn without_slashes<'a>(alloc: Global, names: &[&'a str]) -> Result<Vec<&'a str>, AllocError> {
     let mut found = Vec::new(alloc);
     for name in names {
@@ -70,8 +70,9 @@ fn matches(globs: &Option<Regex>, name: &str) -> Result<bool, AllocError> {
     }
 }
 
-// A pattern for the names that one of the globs matches, or `None` if there are no globs. A glob matches the whole name
-// or what follows a slash. The last alternative, an empty class, matches nothing.
+// Compiles a pattern for the names that one of the globs matches. Returns `None` if there are no
+// globs. A glob matches a whole name, or the part after a slash. The last alternative, an empty
+// class, matches nothing.
 fn any_of(alloc: Global, globs: &[&str]) -> Result<Option<Regex>> {
     if globs.is_empty() {
         return Ok(None);
@@ -92,7 +93,7 @@ fn any_of(alloc: Global, globs: &[&str]) -> Result<Option<Regex>> {
     }
 }
 
-// Writes the pattern of a glob.
+// Appends the pattern of a glob.
 fn push_glob(pattern: &mut String, alloc: Global, glob: &str) -> Result<(), AllocError> {
     let mut rest = glob;
     for _ in 0..glob.len() {
@@ -109,7 +110,8 @@ fn behind(text: &str, first: char) -> &str {
     text.strip_prefix(first).unwrap_or("")
 }
 
-// Writes the piece of a glob that begins with a character, and returns what is behind the piece.
+// Appends the pattern of one piece of a glob, which begins with a given character. Returns the rest
+// of the glob.
 fn push_piece<'g>(
     pattern: &mut String,
     alloc: Global,
@@ -142,7 +144,8 @@ fn push_escaped<'g>(
     Ok(behind(rest, c))
 }
 
-// Writes the class that begins behind a `[`. Without an end the `[` is a literal. A `]` that comes first is an element.
+// Appends the class after a `[`. If the class has no end, the `[` is literal. A `]` that comes
+// first is an element of the class.
 fn push_class<'g>(pattern: &mut String, rest: &'g str) -> Result<&'g str, AllocError> {
     let inside = behind_negation(rest);
     let negated = inside.len() < rest.len();
@@ -159,7 +162,7 @@ fn push_class<'g>(pattern: &mut String, rest: &'g str) -> Result<&'g str, AllocE
     Ok(behind)
 }
 
-// Returns what is behind a `!` or `^`, or everything if there is none.
+// Returns the text after a leading `!` or `^`. Returns the whole text if there is none.
 fn behind_negation(rest: &str) -> &str {
     match rest.strip_prefix('!') {
         Some(inside) => inside,
@@ -167,7 +170,7 @@ fn behind_negation(rest: &str) -> &str {
     }
 }
 
-// Writes the elements of a class, and its end.
+// Appends the elements of a class, and its end.
 fn push_elements(pattern: &mut String, elements: &str) -> Result<(), AllocError> {
     for c in elements.chars() {
         if c == '[' || c == '\\' || c == '^' {

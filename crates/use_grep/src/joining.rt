@@ -1,11 +1,12 @@
-//! The one pattern that is made of several.
+//! Joins several patterns into one.
 
 ghost use Rattle.std.specs.Prelude.{◌≡◌, ◌++◌, IfOk, map, string_bytes};
 ghost use Rattle.use_grep.specs.Joining.{alternative, joined};
 
 use std::alloc::{AllocError, Global};
 
-/// Returns one pattern that matches what any of the patterns matches. At a place the first one that matches counts.
+/// Returns one pattern that matches where any of the patterns matches. If several match at a
+/// position, the first one has priority.
 ///
 /// # Errors
 ///
@@ -26,7 +27,7 @@ pub fn joined(alloc: Global, patterns: &[String]) -> Result<String, AllocError>
     Ok(all)
 }
 
-// Writes one alternative, and the `|` behind it.
+// Appends a pattern as an alternative, and a `|` after it.
 fn push_alternative(all: &mut String, pattern: &str) -> Result<(), AllocError>
     ensures { IfOk result (λ _. string_bytes all.new ≡ string_bytes all.old ++ alternative pattern.now) }
 {

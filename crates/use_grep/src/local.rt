@@ -1,8 +1,9 @@
-//! Local patterns: their matches depend only on the characters that they read and on where words end. They do not
-//! depend on other characters beside them or on what a group matched.
+//! Local patterns. Their matches depend only on the characters that they read and on word
+//! boundaries, and not on other characters next to them or on what a group has matched.
 //!
-//! If a local pattern has no match in a text, it has none in a line of the text. So whole texts are searched first. A
-//! word that ends at the end of a line also ends there in the text, since a line break is not a word character.
+//! If a local pattern has no match in a text, it has none in any line of the text. So whole texts
+//! are searched first. A word that ends at the end of a line also ends there in the text, because a
+//! line break is not a word character.
 #![tactic(auto, unfolding(regex_pattern_front::specs::AstToSpecTree::node_of, regress_program::specs::InnerNodeCountMeasure::inner_node_count))]
 
 ghost use Rattle.std.specs.Prelude.{◌≡◌, IfOk, IsTrue, chars};
@@ -17,7 +18,7 @@ use regress_match::Flags;
 use regress_match::backends::try_parse_in;
 use std::alloc::{AllocError, Global};
 
-/// Checks whether a pattern is local in this sense. A pattern that is refused is not.
+/// Checks whether a pattern is local. An invalid pattern is not.
 ///
 /// # Errors
 ///
@@ -39,8 +40,8 @@ fn characters(alloc: Global, text: &str) -> Result<Vec<u32>, AllocError>
     text.chars().map(u32::from).collect(alloc)
 }
 
-// Checks whether a node and each node inside it is local. It loops along the last node inside each node, so that
-// neither many alternatives nor nested groups take stack.
+// Checks whether a node and all nodes inside it are local. It loops over the last node inside each
+// node, so that neither many alternatives nor nested groups use much stack.
 #[cycle(is_local_node)]
 fn is_local_node(node: &Node) -> bool
     ensures { result ≡ is_local_tree (node_of node.now) }

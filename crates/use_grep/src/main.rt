@@ -1,6 +1,7 @@
-//! Prints the lines in which a pattern has a match, as `grep` does: `use_grep [OPTIONS] PATTERN [FILE]..`.
+//! Prints the lines in which a pattern has a match, like `grep`: `use_grep [OPTIONS] PATTERN
+//! [FILE]..`.
 //!
-//! It ends with status 0 if a line was selected, 1 if none was, and 2 after an error.
+//! The exit status is 0 if a line was selected, 1 if none was, and 2 after an error.
 #![tactic(auto)]
 
 ghost use Rattle.std.specs.Prelude.{◌≡◌, ◌&&◌, ◌||◌, if◌then◌else◌, nat_eq, not};
@@ -32,10 +33,10 @@ use std::io::ErrorKind;
 use std::process::ExitCode;
 use use_support::{CommandLine, Given, Program, TROUBLE, run, run_row};
 
-// The status of a program that the signal `SIGPIPE` ends, as it ends grep.
+// The exit status when the output is closed: that of `grep` when the signal `SIGPIPE` ends it.
 const BROKEN_PIPE: u8 = 141;
 
-// Returns the exit status of a search. With `-q` a selected line counts more than an error.
+// Returns the exit status of a search. With `-q`, a selected line has priority over an error.
 fn status(tally: &Tally, is_quiet: bool) -> u8
     ensures { result ≡ (if nat_eq tally.now.selected 0 then (if tally.now.has_trouble then 2 else 1)
         else (if tally.now.has_trouble && not is_quiet then 2 else 0)) }
@@ -65,7 +66,7 @@ impl Program for Grep {
     }
 }
 
-// A run for a row of a file. It has no rows of its own.
+// Runs the program for one row of a file. It cannot read a file of rows itself.
 struct RowRun;
 
 impl Program for RowRun {
@@ -78,7 +79,8 @@ impl Program for RowRun {
     }
 }
 
-// Runs once for each row of a file, which has the words of a command line, and prints the status of each.
+// Reads a file whose rows have the arguments of a command line. Runs the program for each row, and
+// prints its status.
 fn run_rows(rt: &HostRuntime, name: &str) -> Result<u8> {
     let rows = fs::read_to_string(rt, name)?;
     for row in rows.lines() {
@@ -95,7 +97,7 @@ fn run_once(rt: &HostRuntime, given: &Given<'_>) -> Result<u8> {
     run_joined(rt, given, &patterns, pattern.as_str())
 }
 
-// Searches for the pattern that is made of these.
+// Searches for the pattern that is joined from the given ones.
 fn run_joined(
     rt: &HostRuntime,
     given: &Given<'_>,
@@ -106,7 +108,7 @@ fn run_joined(
     run_checked(rt, &options, patterns)
 }
 
-// Searches, if the patterns are valid.
+// Searches if the patterns are valid.
 fn run_checked(rt: &HostRuntime, options: &Options<'_>, patterns: &[String]) -> Result<u8> {
     if options.is_fixed || are_patterns(rt, options, patterns)? {
         search_files(rt, options)
@@ -115,8 +117,8 @@ fn run_checked(rt: &HostRuntime, options: &Options<'_>, patterns: &[String]) -> 
     }
 }
 
-// Checks the patterns, and reports what is wrong. Each of several has to be a pattern by itself that refers to no
-// group, since groups have other numbers in the pattern that is made of them.
+// Checks the patterns, and reports what is wrong. If there are several, each has to be valid on its
+// own and must not refer to groups, because groups have other numbers in the joined pattern.
 fn are_patterns(rt: &HostRuntime, options: &Options<'_>, patterns: &[String]) -> Result<bool> {
     print_notes(rt, options.pattern)?;
     if patterns.len() < 2 {
@@ -135,7 +137,7 @@ fn are_patterns(rt: &HostRuntime, options: &Options<'_>, patterns: &[String]) ->
     Ok(true)
 }
 
-// Reports what a pattern of grep means here, where that is something else.
+// Prints notes about parts of a `grep` pattern that have another meaning here.
 fn print_notes(rt: &HostRuntime, pattern: &str) -> Result<()> {
     if has_posix_class(pattern) {
         eprintln!(rt;
@@ -164,7 +166,8 @@ fn search_files(rt: &HostRuntime, options: &Options<'_>) -> Result<u8> {
     }
 }
 
-// Returns the status of a search that failed because its output was closed. Other failures are errors.
+// Returns the exit status of a search that failed because its output was closed. Other failures are
+// returned as errors.
 fn failed(why: &Failure) -> Result<u8> {
     if let Failure::Write(cause) = why {
         if cause.kind() == ErrorKind::BrokenPipe {

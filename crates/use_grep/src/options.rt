@@ -17,18 +17,18 @@ pub enum Output {
     Matches,
     /// The number of selected lines.
     Count,
-    /// The file's name, if a line is selected.
+    /// The file's name, if a line of it is selected.
     NamesWith,
-    /// The file's name, if no line is selected.
+    /// The file's name, if no line of it is selected.
     NamesWithout,
     /// Nothing.
     Nothing,
 }
 
-/// Context lines: lines that are printed although they are not selected.
+/// Context: lines that are printed because they are near selected lines.
 #[derive(Clone, Copy, Debug)]
 pub struct Context {
-    /// Whether an option for context was given. Groups of lines are then separated by `--`.
+    /// Whether an option for context was given. If so, groups of lines are separated by `--`.
     pub is_on: bool,
     /// The number of lines that are printed before each selected line.
     pub before: u64,
@@ -40,7 +40,8 @@ pub struct Context {
 #[derive(Clone, Copy, Debug)]
 pub struct Operand<'a> {
     pub name: &'a str,
-    /// Whether the name is not UTF-8. Then `name` has U+FFFD for what is not, and names no file.
+    /// Whether the name is not valid UTF-8. If so, `name` has U+FFFD for the invalid bytes, and
+    /// names no file.
     pub is_lossy: bool,
 }
 
@@ -53,11 +54,11 @@ impl<'a> Operand<'a> {
     }
 }
 
-/// What is searched, where, and what is printed.
+/// What is searched for, where, and what is printed.
 #[derive(Drop)]
 pub struct Options<'a> {
     pub pattern: &'a str,
-    /// Whether the pattern is made of plain texts.
+    /// Whether the pattern consists of plain texts.
     pub is_fixed: bool,
     /// The files and directories to search. `-` is standard input.
     pub operands: Vec<Operand<'a>>,
@@ -67,36 +68,36 @@ pub struct Options<'a> {
     pub invert: bool,
     pub numbers: bool,
     pub offsets: bool,
-    /// Whether names are printed: always, never, or by default if there may be several files.
+    /// Whether file names are printed. `None` means: if there may be several files.
     pub names: Option<bool>,
     pub output: Output,
     pub context: Context,
-    /// Whether directories are searched.
+    /// Whether directories are searched recursively.
     pub is_recursive: bool,
     pub globs: Globs,
     /// Whether lines end with a NUL byte.
     pub nul: bool,
-    /// Whether the output is flushed after each line, as it is on a terminal.
+    /// Whether the output is flushed after each line. On a terminal, it is.
     pub flushes: bool,
-    /// Whether messages about files that cannot be read are left out.
+    /// Whether messages about unreadable files are suppressed.
     pub is_silent: bool,
     pub colors: Option<Colors>,
-    /// Whether progress is shown, which is if standard error is a terminal and standard output is not.
+    /// Whether progress is shown. It is if standard error is a terminal and standard output is not.
     pub tells: bool,
     /// Whether binary files are printed as text.
     pub lossy: bool,
-    /// The number of selected lines after which the search of a file stops.
+    /// The maximum number of selected lines of a file. The search of the file stops there.
     pub most: u64,
-    /// The number of bytes that a line may have.
+    /// The maximum number of bytes of a line.
     pub longest: u64,
 }
 
 impl<'a> Options<'a> {
-    /// Returns the options of a command line, for this pattern.
+    /// Reads the options of a command line. `pattern` is the pattern to search for.
     ///
     /// # Errors
     ///
-    /// A glob that is not valid, or an allocation that fails.
+    /// Returns an error if a glob is invalid or an allocation fails.
     pub fn of(rt: &HostRuntime, given: &Given<'a>, pattern: &'a str) -> Result<Options<'a>> {
         let alloc = rt.alloc();
         let output = what_is_printed(given);
@@ -132,7 +133,7 @@ impl<'a> Options<'a> {
         })
     }
 
-    /// Checks whether lines are printed, rather than counts or names.
+    /// Checks whether lines are printed, and not counts or names.
     pub fn prints_lines(&self) -> bool {
         matches!(self.output, Output::Lines | Output::Matches)
     }
@@ -143,12 +144,13 @@ impl<'a> Options<'a> {
     }
 }
 
-/// Checks whether patterns are given by `-e` or `-f`. If not, the first word is the pattern.
+/// Checks whether patterns are given by `-e` or `-f`. If not, the first argument is the pattern.
 pub fn has_patterns(given: &Given<'_>) -> bool {
     given.has("regexp") || given.has("file")
 }
 
-// What is printed. If several options ask for different output, `-q` wins, then `-L`, `-l`, `-c` and `-o`.
+// Returns what is printed. If several options apply, `-q` has priority, then `-L`, `-l`, `-c` and
+// `-o`.
 fn what_is_printed(given: &Given<'_>) -> Output {
     if given.has("quiet") {
         Output::Nothing
@@ -165,7 +167,7 @@ fn what_is_printed(given: &Given<'_>) -> Output {
     }
 }
 
-// Whether the first selected line of a file decides its output.
+// Checks whether the first selected line of a file determines its output.
 fn is_done_at_first(output: Output) -> bool {
     matches!(
         output,
@@ -195,7 +197,8 @@ fn context_of(given: &Given<'_>, output: Output) -> Context {
     }
 }
 
-// The files: all words, but for the pattern. Without any, standard input, or with `-r` the current directory.
+// Returns the files to search: all arguments but the pattern. Without files, it is standard input
+// or, with `-r`, the current directory.
 fn operands<'a>(
     alloc: Global,
     given: &Given<'a>,
@@ -215,7 +218,7 @@ fn operands<'a>(
     Ok(operands)
 }
 
-// The colours, if they are used: by default on a terminal.
+// Returns the colours if they are used. By default, they are used on a terminal.
 fn colors(rt: &HostRuntime, given: &Given<'_>) -> Result<Option<Colors>, AllocError> {
     let when = given.text("color");
     if when == ALWAYS || when == AUTO && rt.stdout().is_terminal() {
@@ -231,7 +234,7 @@ const ALWAYS: &str = "always";
 
 const AUTO: &str = "auto";
 
-/// The command line.
+/// The description of the command line.
 pub static LINE: CommandLine = CommandLine {
     name: "use_grep",
     about: "Prints the lines in which a pattern of ECMAScript 2018 has a match.",

@@ -1,4 +1,4 @@
-//! The pattern that is searched.
+//! Compiles the pattern to search for.
 
 ghost use Rattle.std.specs.Prelude.{◌≡◌, ◌++◌, IfOk, IsTrue, chars, codes, if◌then◌else◌, string_bytes};
 ghost use Rattle.regex_meaning.specs.Tree.{Tree};
@@ -13,7 +13,7 @@ use regress_match::{Error, Flags, Regex};
 use std::alloc::{AllocError, Global};
 use std::io;
 
-// The flags that the pattern is read with.
+// Returns the flags with which the pattern is read.
 fn flags(options: &Options<'_>) -> Flags
     ensures { spec_flags_of result ≡ tree_flags options.now.ignore_case }
 {
@@ -23,7 +23,8 @@ fn flags(options: &Options<'_>) -> Flags
     }
 }
 
-/// A pattern that is searched, and whether a text with no match is known to have none in its lines.
+/// A compiled pattern, and whether it is known that the lines of a text without a match have no
+/// matches.
 #[derive(Drop)]
 pub struct Query {
     pub re: Regex,
@@ -31,11 +32,12 @@ pub struct Query {
     ghost none_in_lines: { IsTrue is_local → HasNoneInLines re },
 }
 
-/// Compiles the pattern of these options.
+/// Compiles the pattern of the options.
 ///
 /// # Errors
 ///
-/// The errors of `Regex::with_syntax`, also for the pattern without what `-w` and `-x` put around it.
+/// Returns the errors of `Regex::with_syntax`. The pattern is also checked without the frame of
+/// `-w` or `-x`.
 pub fn compile(alloc: Global, options: &Options<'_>) -> Result<Query, Error>
     ensures searched { IfOk result (λ q. IsSearchOf (tree_flags options.now.ignore_case)
         (searched options.now.words options.now.whole_lines options.now.pattern.now) q.re) }
@@ -58,7 +60,7 @@ pub fn compile(alloc: Global, options: &Options<'_>) -> Result<Query, Error>
     })
 }
 
-// Returns the pattern with what `-x` or else `-w` puts around it.
+// Returns the pattern with the frame of `-x` or, without `-x`, of `-w`.
 fn framed(alloc: Global, pattern: &str, whole_lines: bool) -> Result<String, AllocError>
     ensures { IfOk result (λ s. string_bytes s ≡ framed whole_lines pattern.now) }
 {
@@ -69,11 +71,11 @@ fn framed(alloc: Global, pattern: &str, whole_lines: bool) -> Result<String, All
     }
 }
 
-/// Checks that a pattern is one by itself, so that others can stand beside it.
+/// Checks that a pattern is valid on its own, so that it may be joined with others.
 ///
 /// # Errors
 ///
-/// The errors of `Regex::with_syntax`.
+/// Returns the errors of `Regex::with_syntax`.
 pub fn check_alone(alloc: Global, options: &Options<'_>, pattern: &str) -> Result<(), Error>
     ensures { IfOk result (λ _. (tree : Tree)
         × ParsesEcmaScript (tree_flags options.now.ignore_case) (chars pattern.now) tree) }
@@ -82,11 +84,11 @@ pub fn check_alone(alloc: Global, options: &Options<'_>, pattern: &str) -> Resul
     Ok(())
 }
 
-/// Prints why a pattern is refused, with a `^` below the place of the error.
+/// Prints why a pattern is refused, with a `^` below the position of the error.
 ///
 /// # Errors
 ///
-/// A write or an allocation that fails.
+/// Returns an error if writing or an allocation fails.
 pub fn say_refused(
     rt: &HostRuntime,
     options: &Options<'_>,

@@ -1,4 +1,4 @@
-//! The patterns of the command line, and the one pattern that is made of them.
+//! The patterns of the command line, before they are joined.
 
 use crate::options::has_patterns;
 use anyhow::{Result, bail};
@@ -12,12 +12,13 @@ use use_support::Given;
 /// The language of the patterns.
 pub const SYNTAX: Syntax = Syntax::EcmaScript2018;
 
-/// Returns the patterns of a command line: those of `-e`, and then those of `-f`, or the first word. Each line is a
-/// pattern. With `-F` their syntax characters are escaped.
+/// Returns the patterns of a command line: those of `-e`, followed by those of `-f`, or the first
+/// argument. Each line is a pattern. With `-F`, syntax characters are escaped.
 ///
 /// # Errors
 ///
-/// No pattern, one that is not UTF-8, a file that cannot be read, or an allocation that fails.
+/// Returns an error if there is no pattern, if a pattern is not UTF-8, if a file cannot be read, or
+/// if an allocation fails.
 pub fn given_patterns(rt: &HostRuntime, given: &Given<'_>) -> Result<Vec<String>> {
     let alloc = rt.alloc();
     let mut patterns = Patterns {
@@ -62,7 +63,8 @@ impl Patterns {
         Ok(())
     }
 
-    // Adds the lines of a file. An empty file has none, and the last one may have no line break.
+    // Appends the lines of a file. An empty file has none. The last line need not have a line
+    // break.
     fn push_file(&mut self, rt: &HostRuntime, name: &str) -> Result<()> {
         let bytes = read(rt, name)?;
         let Ok(text) = from_utf8(&bytes) else {
@@ -87,7 +89,8 @@ fn read(rt: &HostRuntime, name: &str) -> Result<Vec<u8>> {
     }
 }
 
-/// Checks whether a pattern may refer to a group: whether it has `\k` or a backslash before a digit from 1 to 9.
+/// Checks whether a pattern may refer to a group: it has `\k`, or a backslash before a digit from 1
+/// to 9.
 pub fn may_refer(pattern: &str) -> bool {
     let mut is_escaped = false;
     for c in pattern.chars() {
@@ -99,7 +102,8 @@ pub fn may_refer(pattern: &str) -> bool {
     false
 }
 
-/// Checks whether a pattern has `\p{` or `\P{`, which without the flag `u` is the letter and a brace.
+/// Checks whether a pattern has `\p{` or `\P{`. Without the flag `u`, this is the letter followed
+/// by a brace.
 pub fn has_property_escape(pattern: &str) -> bool {
     let mut is_escaped = false;
     let mut is_letter_escaped = false;
@@ -113,7 +117,8 @@ pub fn has_property_escape(pattern: &str) -> bool {
     false
 }
 
-/// Checks whether a pattern has a POSIX class, such as `[:alpha:]` or `[:^alpha:]`, which ECMAScript does not know.
+/// Checks whether a pattern has a POSIX class, such as `[:alpha:]` or `[:^alpha:]`, which
+/// ECMAScript does not have.
 pub fn has_posix_class(pattern: &str) -> bool {
     for behind in pattern.split("[:").skip(1) {
         if let Some((name, _)) = behind.split_once(":]") {

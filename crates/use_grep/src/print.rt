@@ -1,4 +1,4 @@
-//! What is printed of lines.
+//! Prints lines and results.
 
 use crate::colors::{Colors, Role};
 use crate::failure::Failure;
@@ -12,15 +12,15 @@ use std::io::{BufWriter, Printer, Write};
 /// A line that is printed.
 #[derive(Clone, Copy, Debug)]
 pub struct Row<'t> {
-    /// The line's number in the file, from 1 on.
+    /// The line's number in the file, counted from 1.
     pub number: u64,
     /// The offset of the line in the file, in bytes.
     pub offset: u64,
     /// The line's bytes.
     pub raw: &'t [u8],
-    /// The line as a text, with U+FFFD for what is not UTF-8.
+    /// The line as text, with U+FFFD for bytes that are not UTF-8.
     pub text: &'t str,
-    /// Whether the line is selected; if not, it is context.
+    /// Whether the line is selected. If not, it is context.
     pub is_selected: bool,
 }
 
@@ -29,17 +29,17 @@ pub struct Row<'t> {
 pub struct Screen<'s, 'a> {
     alloc: Global,
     options: &'s Options<'a>,
-    // Whether names of files are printed.
+    // Whether file names are printed.
     has_names: bool,
     out: BufWriter<Printer<'s, HostRuntime>>,
 }
 
 impl<'s, 'a> Screen<'s, 'a> {
-    /// Returns the standard output for these options.
+    /// Creates the standard output for the options.
     ///
     /// # Errors
     ///
-    /// An allocation that fails.
+    /// Returns an error if an allocation fails.
     pub fn new(
         rt: &'s HostRuntime,
         options: &'s Options<'a>,
@@ -53,11 +53,11 @@ impl<'s, 'a> Screen<'s, 'a> {
         })
     }
 
-    /// Writes what is buffered.
+    /// Writes the contents of the buffer.
     ///
     /// # Errors
     ///
-    /// A write that fails.
+    /// Returns an error if writing fails.
     pub fn flush(&mut self) -> io::Result<()> {
         self.out.flush()
     }
@@ -66,7 +66,7 @@ impl<'s, 'a> Screen<'s, 'a> {
     ///
     /// # Errors
     ///
-    /// A write or an allocation that fails.
+    /// Returns an error if writing or an allocation fails.
     pub fn row(&mut self, query: &Query, name: &str, row: &Row<'_>) -> Result<(), Failure> {
         if self.options.output == Output::Matches {
             return self.matches(query, name, row);
@@ -80,7 +80,7 @@ impl<'s, 'a> Screen<'s, 'a> {
         Ok(self.end_line()?)
     }
 
-    // Prints a line in its colours: behind each match the line's own begins again.
+    // Prints a line in its colours. The line's own colour begins again after each match.
     fn colored(&mut self, colors: &Colors, query: &Query, row: &Row<'_>) -> Result<(), Failure> {
         let line = paint_of(
             colors,
@@ -100,7 +100,7 @@ impl<'s, 'a> Screen<'s, 'a> {
         Ok(self.line(line, painted.as_bytes())?)
     }
 
-    // Prints the text of a line in the line's colour, without a carriage return at its end.
+    // Prints the text of a line in the line's colour, without a carriage return at the end.
     fn line(&mut self, paint: Paint<'_>, text: &[u8]) -> io::Result<()> {
         let inside = text.strip_suffix(b"\r");
         self.out.write_all(paint.start.as_bytes())?;
@@ -128,7 +128,7 @@ impl<'s, 'a> Screen<'s, 'a> {
         Ok(())
     }
 
-    // Prints the name of the file, the number of the line and the offset, as far as they are asked for.
+    // Prints the file's name, the line's number and the offset, as the options say.
     fn prefix(
         &mut self,
         name: &str,
@@ -170,13 +170,13 @@ impl<'s, 'a> Screen<'s, 'a> {
         }
     }
 
-    // Ends a line of the output that shows a line.
+    // Ends an output line that shows a line of a file.
     fn end_line(&mut self) -> io::Result<()> {
         let end = [self.options.end()];
         self.end_with(&end)
     }
 
-    // Ends a line of the output, and flushes the output if that is asked for.
+    // Ends an output line. Flushes the output if the options say so.
     fn end_with(&mut self, end: &[u8]) -> io::Result<()> {
         self.out.write_all(end)?;
         if self.options.flushes {
@@ -185,21 +185,21 @@ impl<'s, 'a> Screen<'s, 'a> {
         Ok(())
     }
 
-    /// Prints the line between groups of lines with context.
+    /// Prints the line that separates groups of lines with context.
     ///
     /// # Errors
     ///
-    /// A write that fails.
+    /// Returns an error if writing fails.
     pub fn gap(&mut self) -> io::Result<()> {
         self.painted(Role::Separator, "--")?;
         self.out.write_all(b"\n")
     }
 
-    /// Prints the result for a whole file: the number of its selected lines, or its name.
+    /// Prints the result for a whole file: its name, or the number of its selected lines.
     ///
     /// # Errors
     ///
-    /// A write that fails.
+    /// Returns an error if writing fails.
     pub fn end(&mut self, name: &str, selected: u64) -> io::Result<()> {
         match self.options.output {
             Output::Count => self.count(name, selected),
@@ -224,7 +224,7 @@ impl<'s, 'a> Screen<'s, 'a> {
     }
 }
 
-// The role of the matches in a line.
+// Returns the role of the matches in a line.
 fn match_role(row: &Row<'_>) -> Role {
     if row.is_selected {
         Role::Match

@@ -1,4 +1,4 @@
-//! The search of files.
+//! Searches files.
 
 ghost use Rattle.std.specs.Prelude.{◌≡◌, ◌<◌, IfOk, false, true};
 
@@ -21,7 +21,7 @@ use std::fs::File;
 use std::io::Read;
 use std::{fs, io, mem};
 
-// Progress is shown after this many blocks of a file, each of 128 KB or more.
+// Progress is shown each time this many blocks of a file were searched. A block has 128 KB or more.
 const BLOCKS: u64 = 512;
 
 /// The result of a search.
@@ -41,30 +41,31 @@ pub struct Search<'s, 'a> {
     options: &'s Options<'a>,
     screen: Screen<'s, 'a>,
     tally: Tally,
-    // Whether a line was printed, which `--` separates from the next group.
+    // Whether a line was printed. If so, `--` separates it from the next group.
     has_printed: bool,
 }
 
-// How far a file is searched.
+// The progress of the search of a file.
 #[derive(Drop)]
 struct Progress<'n> {
     name: &'n str,
     blocks: u64,
-    // How many lines were searched, and how many bytes they have, with what ends them.
+    // The number of lines that were searched, and their bytes, with the bytes that end lines.
     lines: u64,
     bytes: u64,
-    // How many lines were selected, and the number of the last one, or 0.
+    // The number of lines that were selected, and the number of the last one (0 if there is none).
     selected: u64,
     latest: u64,
     // The number of the last line that was printed, or 0.
     printed: u64,
-    // The lines just before the next one that may be printed before it.
+    // The last lines before the next one. They may be printed as context before it.
     kept: VecDeque<Kept>,
-    // Whether no more of it is searched.
+    // Whether the rest of the file is not searched.
     is_over: bool,
-    // Whether it has a NUL byte.
+    // Whether the file has a NUL byte.
     is_binary: bool,
-    // Whether a line that is not text was selected or near a selected one, and is not printed.
+    // Whether a line that is selected or near a selected one was not printed because it is not
+    // text.
     is_hidden: bool,
 }
 
@@ -93,13 +94,13 @@ impl<'n> Progress<'n> {
         }
     }
 
-    // Ends the search at the first selected line of a binary file.
+    // If the file is binary, ends its search at the first selected line.
     fn end_as_binary(&mut self) {
         self.is_hidden = true;
         self.is_over = true;
     }
 
-    // Passes a line.
+    // Moves past a line.
     fn pass(&mut self, number: u64, raw: &[u8]) {
         self.lines = number;
         self.bytes = self
@@ -128,11 +129,11 @@ impl<'n> Progress<'n> {
 }
 
 impl<'s, 'a> Search<'s, 'a> {
-    /// Returns a search of the files of these options.
+    /// Creates a search of the files of the options.
     ///
     /// # Errors
     ///
-    /// An allocation that fails.
+    /// Returns an error if an allocation fails.
     pub fn new(
         rt: &'s HostRuntime,
         query: &'s Query,
@@ -155,11 +156,11 @@ impl<'s, 'a> Search<'s, 'a> {
         })
     }
 
-    /// Searches all files, and prints what is selected. What cannot be searched is reported.
+    /// Searches all files, and prints what is selected. Reports what cannot be searched.
     ///
     /// # Errors
     ///
-    /// A write or an allocation that fails.
+    /// Returns an error if writing or an allocation fails.
     pub fn all(mut self) -> Result<Tally, Failure> {
         for operand in &self.options.operands {
             self.operand(operand)?;
@@ -171,7 +172,7 @@ impl<'s, 'a> Search<'s, 'a> {
         Ok(self.tally)
     }
 
-    // Whether nothing more can change what is printed.
+    // Checks whether the rest of the search cannot change the output.
     fn is_done(&self) -> bool {
         self.options.output == Output::Nothing && self.tally.selected > 0
     }
@@ -218,7 +219,7 @@ impl<'s, 'a> Search<'s, 'a> {
         }
     }
 
-    // Reports a file that cannot be read, unless `-s` is given.
+    // Reports a file that cannot be read. With `-s`, prints no message.
     fn cannot_read<E: Display>(&mut self, what: &str, why: &E) -> Result<(), Failure>
         ensures { IfOk result (λ _. self.new.tally.has_trouble ≡ true) }
     {
@@ -229,7 +230,7 @@ impl<'s, 'a> Search<'s, 'a> {
         self.tell(what, why)
     }
 
-    // Reports an error, which the status shows.
+    // Reports an error. The exit status shows it.
     fn trouble<E: Display>(&mut self, what: &str, why: &E) -> Result<(), Failure>
         ensures { IfOk result (λ _. self.new.tally.has_trouble ≡ true) }
     {
@@ -237,7 +238,7 @@ impl<'s, 'a> Search<'s, 'a> {
         self.tell(what, why)
     }
 
-    // Notes that something could not be searched, for the exit status.
+    // Records for the exit status that something could not be searched.
     fn mark_trouble(&mut self)
         ensures { self.new.tally.has_trouble ≡ true }
     {
@@ -274,14 +275,14 @@ impl<'s, 'a> Search<'s, 'a> {
         self.end(&progress)
     }
 
-    // Marks a file with a NUL byte as binary.
+    // Marks a file as binary if it has a NUL byte.
     fn judge(&self, progress: &mut Progress<'_>, block: &[u8]) {
         if !self.options.lossy && !self.options.nul && memchr(0, block).is_some() {
             progress.is_binary = true;
         }
     }
 
-    // Shows how far the search of a long file is.
+    // Shows the progress in a long file.
     fn show_progress(&self, progress: &mut Progress<'_>) -> io::Result<()> {
         progress.blocks = progress.blocks.saturating_add(1);
         if !self.options.tells || progress.blocks % BLOCKS != 0 {
@@ -292,7 +293,7 @@ impl<'s, 'a> Search<'s, 'a> {
         eprint!(self.rt; "\r{name}: {lines} lines")
     }
 
-    // Clears what was shown.
+    // Clears the progress line.
     fn clear(&self) -> io::Result<()> {
         if self.options.tells {
             eprint!(self.rt; "\r\u{1b}[K")?;
@@ -312,7 +313,7 @@ impl<'s, 'a> Search<'s, 'a> {
         self.trouble(what.as_str(), why)
     }
 
-    // Searches a block of lines. NUL bytes end lines of a binary file, too.
+    // Searches a block of lines. In a binary file, NUL bytes end lines too.
     fn block(&mut self, progress: &mut Progress<'_>, block: &[u8]) -> Result<(), Failure> {
         self.judge(progress, block);
         let is_binary = progress.is_binary;
@@ -331,8 +332,8 @@ impl<'s, 'a> Search<'s, 'a> {
         Ok(())
     }
 
-    // A line that is not UTF-8 is searched with U+FFFD for what is not. If it is selected and not printed, that is
-    // marked.
+    // Searches a line that is not UTF-8, with U+FFFD for the invalid bytes. If it is selected but
+    // not printed, this is recorded.
     fn no_text(&mut self, progress: &mut Progress<'_>, line: &[u8]) -> Result<(), Failure>
         ensures { self.old.options.now.lossy ≡ false
             → IfOk result (λ _. progress.old.selected < progress.new.selected → progress.new.is_hidden ≡ true) }
@@ -351,7 +352,7 @@ impl<'s, 'a> Search<'s, 'a> {
         Ok(())
     }
 
-    // A text of whole lines. It is cut into lines only if it has to be.
+    // Searches a text of whole lines. It is split into lines only if necessary.
     fn text(&mut self, progress: &mut Progress<'_>, text: &str) -> Result<(), Failure> {
         let options = self.options;
         let cuts = options.invert || options.nul || options.offsets || options.context.is_on;
@@ -375,7 +376,7 @@ impl<'s, 'a> Search<'s, 'a> {
         Ok(())
     }
 
-    // Cuts a text into lines.
+    // Splits a text into lines.
     fn cut<'t>(&self, text: &'t str) -> Result<Vec<&'t str>, AllocError> {
         let alloc = self.rt.alloc();
         if self.options.nul {
@@ -385,7 +386,8 @@ impl<'s, 'a> Search<'s, 'a> {
         }
     }
 
-    // Searches lines, of which one may be too long. A line that is not UTF-8 is alone, and its bytes are given.
+    // Searches lines. One of them may be too long. A line that is not UTF-8 is searched alone, and
+    // its bytes are given.
     fn lines(
         &mut self,
         progress: &mut Progress<'_>,
@@ -417,7 +419,7 @@ impl<'s, 'a> Search<'s, 'a> {
         Ok(())
     }
 
-    // Counts the lines that were found, as many as are wanted, and returns those to print.
+    // Counts the lines that were found, up to the maximum, and returns those to print.
     fn take<'f, 't>(&self, progress: &mut Progress<'_>, found: &'f [Line<'t>]) -> &'f [Line<'t>] {
         let most = self.options.most;
         let wanted = within_most(found, progress.selected, most);
@@ -437,7 +439,7 @@ impl<'s, 'a> Search<'s, 'a> {
         wanted
     }
 
-    // Prints a line that is selected, where no other is printed.
+    // Prints a selected line, if no context is printed.
     fn found(&mut self, progress: &mut Progress<'_>, line: &Line<'_>) -> Result<(), Failure> {
         let row = Row {
             number: line.number,
@@ -450,10 +452,10 @@ impl<'s, 'a> Search<'s, 'a> {
     }
 }
 
-// Printing lines with their context.
+// Printing lines with context.
 impl<'s, 'a> Search<'s, 'a> {
-    // Returns the numbers of the lines to print, of those that are kept and the next ones, of which the selected are
-    // given.
+    // Returns the numbers of the lines to print, among the kept lines and the next ones. `found`
+    // are the selected lines.
     fn numbers(
         &self,
         progress: &Progress<'_>,
@@ -482,7 +484,8 @@ impl<'s, 'a> Search<'s, 'a> {
         near(alloc, context.before, context.after, &numbers, first, end)
     }
 
-    // Prints those of the kept lines and of these that have one of the numbers, and passes these lines.
+    // Prints the kept lines and the given lines that have one of the numbers. Then moves past the
+    // given lines.
     fn show(
         &mut self,
         progress: &mut Progress<'_>,
@@ -522,7 +525,7 @@ impl<'s, 'a> Search<'s, 'a> {
         Ok(())
     }
 
-    // Prints those of the kept lines that are now near a selected one.
+    // Prints the kept lines that are near a selected line.
     fn show_kept(
         &mut self,
         progress: &mut Progress<'_>,
@@ -550,7 +553,7 @@ impl<'s, 'a> Search<'s, 'a> {
         Ok(())
     }
 
-    // Keeps a line that may be printed before one that comes after the last of those at hand.
+    // Keeps the last lines, which may be printed before a line that is not yet read.
     fn keep(
         &self,
         progress: &mut Progress<'_>,
@@ -565,7 +568,7 @@ impl<'s, 'a> Search<'s, 'a> {
         Ok(())
     }
 
-    // Prints a line, unless it is not text. The end of the file reports it.
+    // Prints a line, unless it is not text. At the end of the file, this is reported.
     fn print(
         &mut self,
         progress: &mut Progress<'_>,
@@ -584,7 +587,7 @@ impl<'s, 'a> Search<'s, 'a> {
         self.screen.row(self.query, progress.name, row)
     }
 
-    // Separates a line from the group of lines with context before it.
+    // Prints a separator if there is a gap between a line and the line printed before it.
     fn separate(&mut self, progress: &mut Progress<'_>, number: u64) -> io::Result<()> {
         if !self.options.context.is_on {
             return Ok(());
@@ -610,7 +613,7 @@ impl<'s, 'a> Search<'s, 'a> {
     }
 }
 
-// Numbers of lines, in order.
+// Numbers of lines in ascending order.
 #[derive(Drop)]
 struct Numbers<'n> {
     numbers: &'n [u64],
@@ -622,7 +625,7 @@ impl<'n> Numbers<'n> {
         Numbers { numbers, at: 0 }
     }
 
-    // Whether the next one is this, which is taken then.
+    // Checks whether the next number is this one, and if so, takes it.
     fn takes(&mut self, number: u64) -> bool {
         let is_next = self.numbers.get(self.at) == Some(&number);
         if is_next {
@@ -654,7 +657,7 @@ fn is_directory(rt: &HostRuntime, name: &str) -> bool {
     }
 }
 
-// Whether lines of several files may be printed, so that their names are.
+// Checks whether lines of several files may be printed, so that file names are printed too.
 fn may_be_several(rt: &HostRuntime, options: &Options<'_>) -> bool {
     match options.operands.as_slice() {
         [only] => options.is_recursive && (only.name.is_empty() || is_directory(rt, only.name)),

@@ -1,4 +1,4 @@
-//! Which lines are selected, and what is shown of them.
+//! Selects lines, and finds the parts of them that are shown.
 
 ghost use Rattle.std.specs.Prelude.{◌≡◌, ◌++◌, ◌∷◌, ◌+◌, ◌^◌, ◌<◌, [], IfErr, IfOk, false};
 ghost use Rattle.std.specs.Prelude.{◌-◌, IsCharBoundary, drop, filter, length, map, nat_lt, slice_range, string_bytes, take};
@@ -13,21 +13,21 @@ use memchr::memchr_iter;
 use regress_match::{Match, Regex, SearchError};
 use std::alloc::{AllocError, Global};
 
-/// The texts that begin and end coloured text on a terminal.
+/// The texts that begin and end the colour of a text on a terminal.
 #[derive(Clone, Copy, Debug)]
 pub struct Paint<'c> {
     pub start: &'c str,
     pub end: &'c str,
 }
 
-/// A line of a file, and its number there, from 1 on.
+/// A line of a file, and its number, counted from 1.
 #[derive(Clone, Copy, Debug)]
 pub struct Line<'t> {
     pub number: u64,
     pub text: &'t str,
 }
 
-/// Checks whether a line is selected: one with a match or, inverted, one without.
+/// Checks whether a line is selected: it has a match or, with `invert`, it has none.
 ///
 /// # Errors
 ///
@@ -50,7 +50,7 @@ pub fn lines_of<'t>(alloc: Global, text: &'t str) -> Result<Vec<&'t str>, AllocE
     text.split('\n').collect(alloc)
 }
 
-/// Returns the parts of a text that NUL bytes end: its lines with `-z`.
+/// Returns the lines of a text in which a NUL byte ends a line, for `-z`.
 ///
 /// # Errors
 ///
@@ -68,7 +68,8 @@ pub fn count_lines(text: &str) -> u64
     memchr_iter(b'\n', text.as_bytes()).count() as u64 + 1
 }
 
-/// Returns the number of lines before the first that has more than `longest` bytes, or of all lines if none has.
+/// Returns the number of lines before the first one that has more than `longest` bytes. If there is
+/// no such line, it is the number of all lines.
 pub fn how_many_fit(lines: &[&str], longest: u64) -> usize
     ensures { result ≡ position_or_len (λ l. nat_lt longest (length l.now)) lines.now }
 {
@@ -84,8 +85,8 @@ pub fn how_many_fit(lines: &[&str], longest: u64) -> usize
     fit
 }
 
-/// Returns the selected lines, all of them and in order, with their numbers. `before` is the number of lines of the
-/// file before these.
+/// Returns all selected lines in order, with their numbers. `before` is the number of lines of the
+/// file before these lines.
 ///
 /// # Errors
 ///
@@ -113,8 +114,9 @@ pub fn selected<'t>(
     Ok(found)
 }
 
-/// Returns the lines of a text that have a match, in order, with their numbers. `before` is the number of lines of the
-/// file before the text. A text without a match is not cut into lines if it is known that its lines have none.
+/// Returns all lines of a text that have a match in order, with their numbers. `before` is the
+/// number of lines of the file before the text. If the text has no match, and it is known that its
+/// lines then have none, the text is not split into lines.
 ///
 /// # Errors
 ///
@@ -137,7 +139,8 @@ pub fn selected_in<'t>(
     selected(alloc, &query.re, false, &lines, before)
 }
 
-/// Returns the lines that are shown of those found: `before` lines were shown before, and `most` are shown at most.
+/// Returns the lines to show, among those that were found. `before` lines were already shown, and
+/// at most `most` are shown in total.
 pub fn within_most<'f, 't>(found: &'f [Line<'t>], before: u64, most: u64) -> &'f [Line<'t>]
     ensures { result.now ≡ take (most - before) found.now }
 {
@@ -149,21 +152,21 @@ pub fn within_most<'f, 't>(found: &'f [Line<'t>], before: u64, most: u64) -> &'f
     }
 }
 
-// Adds a line.
+// Appends a line.
 fn push<'t>(found: &mut Vec<Line<'t>>, number: u64, text: &'t str) -> Result<(), AllocError>
     ensures { IfOk result (λ _. map shown found.new.items ≡ map shown found.old.items ++ (number, text.now) ∷ []) }
 {
     Ok(found.push(Line { number, text })?)
 }
 
-/// A part of a line that matched, and where it begins in the line, in bytes.
+/// A part of a line that a match covers, and its start in the line, in bytes.
 #[derive(Clone, Copy, Debug)]
 pub struct Part<'t> {
     pub start: usize,
     pub text: &'t str,
 }
 
-/// Returns the parts of a line that matched, in order. They may be empty.
+/// Returns the parts of a line that matches cover, in order. A part may be empty.
 ///
 /// # Errors
 ///
@@ -185,7 +188,7 @@ pub fn matched_parts<'t>(
     Ok(parts)
 }
 
-// Adds a part.
+// Appends a part.
 fn push_part<'t>(parts: &mut Vec<Part<'t>>, start: usize, text: &'t str) -> Result<(), AllocError>
     ensures { IfOk result (λ _. map shown_part parts.new.items
         ≡ map shown_part parts.old.items ++ (start, text.now) ∷ []) }
@@ -193,7 +196,7 @@ fn push_part<'t>(parts: &mut Vec<Part<'t>>, start: usize, text: &'t str) -> Resu
     Ok(parts.push(Part { start, text })?)
 }
 
-/// Returns a line with its matches painted. Nothing is written for an empty match.
+/// Returns a line with its matches painted. An empty match has no colour.
 ///
 /// # Errors
 ///
@@ -218,7 +221,7 @@ pub fn colored(
     Ok(made)
 }
 
-// Writes a line from an offset on.
+// Appends the rest of a line from an offset on.
 fn push_rest(made: &mut String, line: &str, from: usize) -> Result<(), AllocError>
     requires { IsCharBoundary line.now from }
     ensures { IfOk result (λ _. string_bytes made.new ≡ string_bytes made.old ++ drop from line.now) }
@@ -226,7 +229,8 @@ fn push_rest(made: &mut String, line: &str, from: usize) -> Result<(), AllocErro
     made.push_str(&line[from..])
 }
 
-// Writes what is between an offset and a match, and the match, painted. Returns where the match ends.
+// Appends the text between an offset and a match, and the painted match. Returns the end of the
+// match.
 fn push_match(
     made: &mut String,
     line: &str,
@@ -246,7 +250,7 @@ fn push_match(
     Ok(found.end())
 }
 
-// Writes a part, painted.
+// Appends a painted part.
 fn push_painted(made: &mut String, part: &str, paint: Paint<'_>) -> Result<(), AllocError>
     ensures { IfOk result (λ _. string_bytes made.new ≡ string_bytes made.old
         ++ painted paint.entry.start.now paint.entry.end.now part.now) }

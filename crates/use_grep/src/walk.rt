@@ -1,32 +1,33 @@
-//! The files in directories, in the order of their names.
+//! Finds the files in directories, in the order of their names.
 
 use crate::glob::Globs;
 use std::alloc::AllocError;
 use std::fs::DirEntry;
 use std::{fs, io};
 
-/// What a walk finds.
+/// The items of a walk.
 #[derive(Drop)]
 pub enum Step {
     /// A file.
     File(String),
-    /// What cannot be read, and why.
+    /// A path that cannot be read, and the reason.
     Trouble(String, io::Error),
 }
 
-/// A walk through a directory and those in it. It follows no symbolic links, and finds regular files only.
+/// A walk through a directory and its subdirectories. It does not follow symbolic links, and finds
+/// only regular files.
 #[derive(Drop)]
 pub struct Walk<'s> {
     rt: &'s HostRuntime,
     globs: &'s Globs,
-    // What is still to come, the next at the end: a path, and whether it is a directory.
+    // The paths that are still to be visited, the next one last, and whether each is a directory.
     left: Vec<(String, bool)>,
-    // What could not be read.
+    // The paths that could not be read.
     troubles: Vec<Step>,
 }
 
 impl<'s> Walk<'s> {
-    /// Returns the walk through a directory. An empty path is the current directory.
+    /// Creates a walk through a directory. An empty path is the current directory.
     ///
     /// # Errors
     ///
@@ -42,7 +43,7 @@ impl<'s> Walk<'s> {
         })
     }
 
-    /// Goes on to the next file, or what cannot be read, or returns `None` at the end.
+    /// Returns the next file, or the next path that cannot be read. Returns `None` at the end.
     ///
     /// # Errors
     ///
@@ -73,7 +74,8 @@ impl<'s> Walk<'s> {
         Ok(())
     }
 
-    // Returns the entries of a directory that can be read, in no order. The others are noted.
+    // Returns the entries of a directory that can be read, in no particular order. The others are
+    // recorded as unreadable.
     fn entries(&mut self, path: &str) -> Result<Vec<(String, Kind)>, AllocError> {
         let mut found = Vec::new(self.rt.alloc());
         let real = if path.is_empty() { "." } else { path };
@@ -93,7 +95,7 @@ impl<'s> Walk<'s> {
         Ok(found)
     }
 
-    // Takes an entry up, if it is searched.
+    // Adds an entry to the paths to visit, if it is to be searched.
     fn push(&mut self, path: String, kind: Kind) -> Result<(), AllocError> {
         let is_taken = match kind {
             Kind::File => self.globs.takes_file(last_part(path.as_str()))?,
@@ -119,7 +121,7 @@ enum Kind {
     Other,
 }
 
-// The last part of a path, which does not end with a slash.
+// Returns the last part of a path that does not end with a slash.
 fn last_part(path: &str) -> &str {
     match path.rsplit_once('/') {
         Some((_, name)) => name,
@@ -127,7 +129,7 @@ fn last_part(path: &str) -> &str {
     }
 }
 
-// The path of an entry, and what it is.
+// Returns the path of an entry, and its kind.
 fn entry_of(
     rt: &HostRuntime,
     folder: &str,

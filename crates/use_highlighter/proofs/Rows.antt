@@ -1,4 +1,4 @@
--- Pieces in a row, and those of a text that is cut at the matches so far.
+-- Adjacent pieces, and the pieces of a text that is split at the matches so far.
 use Rattle.std.proofs.Common.{◌≡◌, ℕ, ◌≤◌, List, [], ◌∷◌, ◌++◌, length, map, drop, filter, flat_map, refl, ap, sym, ◌∙◌, append_assoc, append-nil}
 use Rattle.std.proofs.Common.{subst}
 use Rattle.std.specs.Prelude.{Option, Some, None, is_some}
@@ -17,16 +17,16 @@ use Rattle.use_highlighter.specs.declared.pieces.Piece.{Piece}
 abbrev pub piece : (start end : ℕ) → (token : Option ℕ) → Piece
 piece start end token = record { start = start; end = end; token = token }
 
--- a piece with the token that it is
+-- The range and the token of a piece.
 abbrev mark_of : Piece → (ℕ × ℕ) × Option ℕ
 mark_of p = (range_of p, p.token)
 
--- one piece more
+-- One more piece.
 row-more : (from at to : ℕ) (token : Option ℕ) (ps : List Piece) → StandInRow from ps at → at ≤ to → StandInRow from (ps ++ piece at to token ∷ []) to
 row-more from at to token [] row le = (sym row, le, refl)
 row-more from at to token (p ∷ ps) row le = (row.0, row.1, row-more p.end at to token ps row.2 le)
 
--- put together they are the text between the ends of the row
+-- The concatenation of the pieces is the text between the ends of their row.
 row-together : (text : List ℕ) (from to : ℕ) (ps : List Piece) → StandInRow from ps to → flat_map (part_of text) ps ++ drop to text ≡ drop from text
 row-together text from to [] row = ap (λ n. drop n text) (sym row)
 row-together text from to (p ∷ ps) row =
@@ -41,18 +41,19 @@ marked-more ps start end token = ap (map mark_of) (filter-append (λ p. is_some 
 unmarked-more : (ps : List Piece) (start end : ℕ) → marked (ps ++ piece start end None ∷ []) ≡ marked ps
 unmarked-more ps start end = ap (map mark_of) (filter-append (λ p. is_some p.token) ps _ ∙ append-nil _)
 
--- The pieces so far reach from the left end to an offset; what is marked in them and the matches that are left are all matches.
+-- The pieces so far cover the text up to an offset. Their tokens, followed by the remaining
+-- matches, are all matches.
 pub record IsCutTo (text : List ℕ) (names : List (List ℕ)) (matches left : List Answer) (to : ℕ) (pieces : List Piece) : Type 0 where
   pub row : StandInRow 0 pieces to
   pub tokens : marked pieces ++ marks_of names left ≡ marks_of names matches
   pub slices : Each (IsSliceOf text) pieces
 
 module _ (text : List ℕ) (names : List (List ℕ)) (matches : List Answer) where
-  -- no piece yet
+  -- There is no piece yet.
   pub cut-none : (left : List Answer) (pieces : List Piece) → left ≡ matches → pieces ≡ [] → IsCutTo text names matches left 0 pieces
   cut-none left pieces e none = subst (IsCutTo text names matches left 0) (sym none) record { row = refl; tokens = ap (marks_of names) e; slices = tt }
 
-  -- what stands in front of a match, and the match
+  -- The text before a match, and the match.
   pub cut-more : (left rest : List Answer) (m : Answer) (from to token : ℕ) (pieces first both : List Piece) → IsCutTo text names matches left from pieces
       → left ≡ m ∷ rest → IsCharBoundaryRange text (from, m.range.0) → IsCharBoundaryRange text m.range → to ≡ m.range.1 → token ≡ token_of names m
       → first ≡ pieces ++ piece from m.range.0 None ∷ [] → both ≡ first ++ piece m.range.0 m.range.1 (Some token) ∷ []
@@ -71,7 +72,7 @@ module _ (text : List ℕ) (names : List (List ℕ)) (matches : List Answer) whe
         slices = Each-append (IsSliceOf text) (pieces ++ gap ∷ []) _ (Each-append (IsSliceOf text) pieces _ cut.slices (before, tt)) (whole, tt);
       })
 
-  -- the rest of the text
+  -- The rest of the text.
   pub cut-rest : (left : List Answer) (from : ℕ) (pieces all : List Piece) → IsCutTo text names matches left from pieces
       → left ≡ [] → IsCharBoundaryRange text (from, length text) → all ≡ pieces ++ piece from (length text) None ∷ [] → IsCutAt text names matches all
   cut-rest left from pieces all cut l rest a =

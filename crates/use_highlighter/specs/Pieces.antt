@@ -1,4 +1,4 @@
--- A text that is cut into pieces.
+-- A text that is split into pieces.
 use Rattle.std.specs.Prelude.{◌≡◌, ◌≤◌, ℕ, List, [], ◌∷◌, ◌++◌, Option, Some, map, filter, flat_map, is_some, length, slice_range}
 use Rattle.regex_meaning.specs.Laws.{Each}
 use Rattle.regex_meaning.specs.MatchGroupsByNumberAndName.{Answer}
@@ -6,6 +6,7 @@ use Rattle.regress_match.specs.ExpansionsAndMatchRanges.{IsCharBoundaryRange}
 use Rattle.use_highlighter.specs.Tokens.{token_of}
 use Rattle.use_highlighter.specs.declared.pieces.Piece.{Piece}
 
+-- The range of a piece in the text, in bytes.
 abbrev pub range_of : Piece → ℕ × ℕ
 range_of p = (p.start, p.end)
 
@@ -13,25 +14,27 @@ range_of p = (p.start, p.end)
 abbrev pub part_of : (text : List ℕ) → Piece → List ℕ
 part_of text p = slice_range text p.start p.end
 
--- Its range is one of whole characters.
+-- The range of the piece begins and ends at character boundaries.
 abbrev pub IsSliceOf : (text : List ℕ) → Piece → Type 0
 IsSliceOf text p = IsCharBoundaryRange text (range_of p)
 
--- They stand in a row: each begins where the one before ended.
+-- The pieces are adjacent: the first begins at `from`, each begins where the one before it ends,
+-- and the last ends at `to`.
 abbrev pub StandInRow : (from : ℕ) → List Piece → (to : ℕ) → Type 0
 StandInRow from [] to = from ≡ to
 StandInRow from (p ∷ ps) to = (p.start ≡ from) × (p.start ≤ p.end) × StandInRow p.end ps to
 
--- The ranges of the tokens, each with which token it is.
+-- The range and the token of each piece that is a token.
 abbrev pub marked : List Piece → List ((ℕ × ℕ) × Option ℕ)
 marked pieces = map (λ p. (range_of p, p.token)) (filter (λ p. is_some p.token) pieces)
 
--- The same of matches.
+-- The range and the token of each match.
 abbrev pub marks_of : (names : List (List ℕ)) → List Answer → List ((ℕ × ℕ) × Option ℕ)
 marks_of names matches = map (λ m. (m.range, Some (token_of names m))) matches
 
--- Cut at these matches: the pieces stand in a row from the left end of the text to the right one, so none lies over another;
--- put together they are the text; and those that are tokens are the matches, all of them and in order, each with its token.
+-- The text is split at these matches. The pieces are adjacent from the start to the end of the
+-- text, and their concatenation is the text. The pieces that are tokens are exactly the matches, in
+-- order.
 pub record IsCutAt (text : List ℕ) (names : List (List ℕ)) (matches : List Answer) (pieces : List Piece) : Type 0 where
   pub covered : StandInRow 0 pieces (length text)
   pub together : flat_map (part_of text) pieces ≡ text

@@ -1,4 +1,4 @@
--- Pieces of a text as they are shown.
+-- How the pieces of a text are shown.
 use Rattle.std.specs.Prelude.{ℕ, ◌+◌, ◌%◌, List, [], ◌∷◌, ◌++◌, Option, Some, None, chars, codes, eqb, flat_map, slice_get, unwrap_or, if◌then◌else◌}
 use Rattle.std.specs.Char.{encode_utf8}
 use Rattle.use_highlighter.specs.Pieces.{part_of}
@@ -6,7 +6,7 @@ use Rattle.use_highlighter.specs.declared.pieces.Piece.{Piece}
 use Rattle.use_highlighter.specs.declared.show.Style.{Style}
 use Rattle.use_highlighter.specs.declared.show.Style.TheVariants.{Ansi, Html}
 
--- A character in HTML.
+-- A character as HTML.
 abbrev pub escaped_char : ℕ → List ℕ
 escaped_char c =
     if eqb c 38 then codes "&amp;"
@@ -15,36 +15,43 @@ escaped_char c =
     else if eqb c 34 then codes "&quot;"
     else encode_utf8 c
 
+-- A text as HTML.
 unfoldable pub escaped : (text : List ℕ) → List ℕ
 escaped text = flat_map escaped_char (chars text)
 
+-- A text in this style.
 abbrev pub text_shown : Style → (text : List ℕ) → List ℕ
 text_shown Ansi text = text
 text_shown Html text = escaped text
 
+-- The name with this index. Empty if there is none.
 abbrev pub name_at : (names : List (List ℕ)) → ℕ → List ℕ
 name_at names number = unwrap_or (slice_get names number) []
 
--- What begins a token: a colour by its number, which come again behind the sixth, or a span of its name's class.
+-- The escape sequence that begins the colour of a token. There are six colours, which repeat.
 abbrev pub colour_of : (number : ℕ) → List ℕ
 colour_of number = 27 ∷ codes "[3" ++ (encode_utf8 (49 + number % 6) ++ codes "m")
 
+-- The tag that begins a token. Its class is the token's name.
 abbrev pub span_of : (name : List ℕ) → List ℕ
 span_of name = codes "<span class=\"" ++ (escaped name ++ codes "\">")
 
+-- The text that begins a token.
 abbrev pub begin_of : Style → (names : List (List ℕ)) → (number : ℕ) → List ℕ
 begin_of Ansi names number = colour_of number
 begin_of Html names number = span_of (name_at names number)
 
+-- The text that ends a token.
 abbrev pub end_of : Style → List ℕ
 end_of Ansi = 27 ∷ codes "[m"
 end_of Html = codes "</span>"
 
--- A part of a text, which is a token or none; nothing of an empty one.
+-- A part of a text, which may be a token. If it is empty, nothing is shown.
 abbrev pub shown_part : Style → (names : List (List ℕ)) → Option ℕ → (part : List ℕ) → List ℕ
 shown_part style names token [] = []
 shown_part style names None part = text_shown style part
 shown_part style names (Some number) part = begin_of style names number ++ (text_shown style part ++ end_of style)
 
+-- A piece of the text.
 abbrev pub shown : Style → (names : List (List ℕ)) → (text : List ℕ) → Piece → List ℕ
 shown style names text p = shown_part style names p.token (part_of text p)

@@ -1,6 +1,6 @@
 //! Colours the tokens of a text: `use_highlighter [--html] -t NAME=PATTERN.. [FILE]`.
 //!
-//! It ends with status 0, or 2 where something is wrong.
+//! The exit status is 0, or 2 after an error.
 #![tactic(auto)]
 
 mod options;
@@ -20,10 +20,10 @@ use use_support::{CommandLine, Given, Program, run};
 
 const MB: usize = 1_000_000;
 
-// For texts of this length or more a message on the terminal says what is being done.
+// For texts of this length or more, a message on the terminal shows what is being done.
 const LONG: usize = 10 * MB;
 
-// The text of a file, or of standard input where its name is `-`.
+// Reads a file as text. `-` is standard input.
 fn text_of(rt: &HostRuntime, name: &str) -> Result<String> {
     let text = if name == "-" {
         io::read_to_string(rt.alloc(), rt.reader())
@@ -33,25 +33,25 @@ fn text_of(rt: &HostRuntime, name: &str) -> Result<String> {
     text.context(format_args!("reading {name}"))
 }
 
-// The text of these options with its tokens in colour. For a long one a message on the terminal says what is being
-// done.
+// Returns the text of the options with its tokens coloured. For a long text, a message on the
+// terminal shows what is being done.
 fn colored(rt: &HostRuntime, options: &Options<'_>) -> Result<String> {
     let alloc = rt.alloc();
     let tokens = tokens(alloc, &options.tokens)?;
     let re = compile(alloc, &tokens)?;
     let text = text_of(rt, options.file)?;
-    let tells = text.len() >= LONG && rt.stderr().is_terminal();
-    if tells {
+    let shows_progress = text.len() >= LONG && rt.stderr().is_terminal();
+    if shows_progress {
         eprint!(rt; "\rsearching {} MB", text.len() / MB)?;
     }
     let pieces = cut(alloc, &re, &tokens, text.as_str())?;
-    if tells {
+    if shows_progress {
         eprint!(rt; "\r\u{1b}[Kwriting {} pieces", pieces.len())?;
     }
     Ok(show(alloc, options.style, &tokens, text.as_str(), &pieces)?)
 }
 
-// Prints the file of these options with its tokens in colour.
+// Prints the file of the options with its tokens coloured.
 fn print(rt: &HostRuntime, options: &Options<'_>) -> Result<()> {
     let shown = colored(rt, options);
     if rt.stderr().is_terminal() {

@@ -1,21 +1,21 @@
-//! What is asked for on the command line.
+//! The options of the command line.
 
 use crate::show::Style;
 use std::alloc::{AllocError, Global};
 use use_support::Form::{Each, Switch, WordOr};
 use use_support::{Argument, CommandLine, Given};
 
-/// What tokens there are, what is shown, and how.
+/// The tokens, the text, and the style.
 #[derive(Debug, Drop)]
 pub struct Options<'a> {
-    /// Each as `NAME=PATTERN`.
+    /// The tokens. Each is `NAME=PATTERN`.
     pub tokens: Vec<&'a str>,
     pub file: &'a str,
     pub style: Style,
 }
 
 impl<'a> Options<'a> {
-    /// Those that a command line gave.
+    /// Reads the options of a command line.
     ///
     /// # Errors
     ///
@@ -38,7 +38,7 @@ const AFTER: &str =
     r#"A name is of ASCII letters, digits, _ and $, with no digit in front, and stands once.
 For example: use_highlighter -t 'comment=//.*' -t 'string="[^"]*"' -t 'number=\b\d+\b' FILE"#;
 
-/// The command line.
+/// The description of the command line.
 pub static LINE: CommandLine = CommandLine {
     name: "use_highlighter",
     about: "Colours the tokens of a text.",

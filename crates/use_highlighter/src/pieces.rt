@@ -1,4 +1,4 @@
-//! A text in pieces: its tokens, and what stands between them.
+//! Splits a text into pieces: its tokens, and the texts between them.
 
 ghost use Rattle.std.specs.Prelude.{◌≡◌, ◌++◌, ◌∷◌, [], IfErr, IfOk};
 ghost use Rattle.regress_match.specs.{ProgramTreesAndAnswers.{utf8_answers}, CompileErrors.{IsOutOfMemory}};
@@ -8,7 +8,7 @@ use crate::tokens::{Token, token_of};
 use regress_match::{Regex, SearchError};
 use std::alloc::{AllocError, Global};
 
-/// A part of a text: a range in bytes, and the token that it is, by its place among the tokens.
+/// A part of a text: its range in bytes, and the index of its token if it is one.
 #[derive(Clone, Copy, Debug, PartialEq, Eq)]
 pub struct Piece {
     pub start: usize,
@@ -16,11 +16,12 @@ pub struct Piece {
     pub token: Option<usize>,
 }
 
-/// A text in pieces: the matches, in front of each what stands there, be it nothing, and the rest at last.
+/// Splits a text into pieces. Before each match, there is a piece with the text before it, which
+/// may be empty. The last piece is the rest of the text.
 ///
 /// # Errors
 ///
-/// `Memory` where there is no memory for the search or the pieces.
+/// Returns `Memory` if an allocation fails.
 pub fn cut(
     alloc: Global,
     re: &Regex,
@@ -44,7 +45,7 @@ pub fn cut(
     Ok(pieces)
 }
 
-// One piece more.
+// Appends a piece.
 fn push(
     pieces: &mut Vec<Piece>,
     start: usize,

@@ -1,4 +1,4 @@
-//! Pieces as they are shown on a terminal or in a page.
+//! Shows pieces on a terminal or in a page.
 
 ghost use Rattle.std.specs.Prelude.{◌≡◌, ◌++◌, IfOk, chars, flat_map, string_bytes};
 ghost use Rattle.regex_meaning.specs.Laws.{Each};
@@ -12,13 +12,13 @@ use std::alloc::{AllocError, Global};
 /// How tokens are shown.
 #[derive(Clone, Copy, Debug, PartialEq, Eq)]
 pub enum Style {
-    /// In colours of a terminal.
+    /// In the colours of a terminal.
     Ansi,
-    /// As spans of HTML, whose class is the token's name.
+    /// As HTML spans, whose class is the token's name.
     Html,
 }
 
-/// The text of the pieces, with tokens as they are shown.
+/// Returns the text of the pieces, with the tokens in this style.
 ///
 /// # Errors
 ///
@@ -46,7 +46,7 @@ pub fn show(
     Ok(made)
 }
 
-// Writes one piece. Of an empty one nothing is shown.
+// Appends a piece. For an empty piece, nothing is appended.
 fn push_piece(
     made: &mut String,
     style: Style,
@@ -71,7 +71,7 @@ fn push_piece(
     })
 }
 
-// Writes what begins a token.
+// Appends the text that begins a token.
 fn push_begin(
     made: &mut String,
     style: Style,
@@ -87,7 +87,7 @@ fn push_begin(
     }
 }
 
-// Writes what begins the colour of a token's number.
+// Appends the escape sequence for the colour of a token.
 fn push_colour(made: &mut String, number: usize) -> Result<(), AllocError>
     ensures { IfOk result (λ _. string_bytes made.new ≡ string_bytes made.old ++ colour_of number) }
 {
@@ -96,7 +96,7 @@ fn push_colour(made: &mut String, number: usize) -> Result<(), AllocError>
     made.push_str("m")
 }
 
-// Writes what begins the span of a token.
+// Appends the tag that begins a token.
 fn push_span(made: &mut String, tokens: &[Token<'_>], number: usize) -> Result<(), AllocError>
     ensures { IfOk result (λ _. string_bytes made.new
         ≡ string_bytes made.old ++ span_of (name_at (names_of tokens.now) number)) }
@@ -106,7 +106,7 @@ fn push_span(made: &mut String, tokens: &[Token<'_>], number: usize) -> Result<(
     made.push_str("\">")
 }
 
-// Writes the name of a token in HTML.
+// Appends the name of a token as HTML.
 fn push_name(made: &mut String, tokens: &[Token<'_>], number: usize) -> Result<(), AllocError>
     ensures { IfOk result (λ _. string_bytes made.new
         ≡ string_bytes made.old ++ escaped (name_at (names_of tokens.now) number)) }
@@ -114,7 +114,7 @@ fn push_name(made: &mut String, tokens: &[Token<'_>], number: usize) -> Result<(
     push_escaped(made, name_of(tokens, number))
 }
 
-// The name of a token.
+// Returns the name of a token.
 fn name_of<'a>(tokens: &[Token<'a>], number: usize) -> &'a str
     ensures { result.now ≡ name_at (names_of tokens.now) number }
 {
@@ -124,7 +124,7 @@ fn name_of<'a>(tokens: &[Token<'a>], number: usize) -> &'a str
     }
 }
 
-// Writes a text between tokens, or in one.
+// Appends a text in this style.
 fn push_text(made: &mut String, style: Style, part: &str) -> Result<(), AllocError>
     ensures { IfOk result (λ _. string_bytes made.new ≡ string_bytes made.old ++ text_shown style part.now) }
 {
@@ -134,7 +134,7 @@ fn push_text(made: &mut String, style: Style, part: &str) -> Result<(), AllocErr
     }
 }
 
-// Writes a text in HTML.
+// Appends a text as HTML.
 #[tactic(auto, unfolding(crate::specs::Shown::escaped))]
 fn push_escaped(made: &mut String, part: &str) -> Result<(), AllocError>
     ensures { IfOk result (λ _. string_bytes made.new ≡ string_bytes made.old ++ escaped part.now) }
@@ -158,7 +158,7 @@ fn push_chars(made: &mut String, all: &[char]) -> Result<(), AllocError>
     Ok(())
 }
 
-// Writes a character in HTML.
+// Appends a character as HTML.
 fn push_char(made: &mut String, c: char) -> Result<(), AllocError>
     ensures { IfOk result (λ _. string_bytes made.new ≡ string_bytes made.old ++ escaped_char c) }
 {

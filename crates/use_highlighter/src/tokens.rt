@@ -1,4 +1,4 @@
-//! The tokens that are looked for.
+//! The tokens to search for.
 
 ghost use Rattle.std.specs.Prelude.{◌≡◌, ◌++◌, [], All, IfOk, chars, is_some, string_bytes};
 ghost use Rattle.regex_meaning.specs.EcmaGrammarWithAnnexB.{ecmascript};
@@ -21,11 +21,11 @@ pub struct Token<'a> {
     pub pattern: &'a str,
 }
 
-/// The tokens of these words, each `NAME=PATTERN`.
+/// Reads tokens. Each word is `NAME=PATTERN`.
 ///
 /// # Errors
 ///
-/// Where there is no `=` in a word, and where there is no memory.
+/// Returns an error if a word has no `=`, or if an allocation fails.
 pub fn tokens<'a>(alloc: Global, words: &[&'a str]) -> Result<Vec<Token<'a>>> {
     let mut tokens = Vec::new(alloc);
     for word in words {
@@ -37,11 +37,12 @@ pub fn tokens<'a>(alloc: Global, words: &[&'a str]) -> Result<Vec<Token<'a>>> {
     Ok(tokens)
 }
 
-/// The pattern that matches each of these tokens.
+/// Compiles the joined pattern, which matches each of the tokens.
 ///
 /// # Errors
 ///
-/// Where the pattern of a token is none by itself, or a name is none of a group, and where there is no memory.
+/// Returns an error if the pattern of a token is not valid on its own, if a name is not valid for a
+/// group, or if an allocation fails.
 pub fn compile(alloc: Global, tokens: &[Token<'_>]) -> Result<Regex>
     ensures compiled { IfOk result (IsCompiledWithSyntax ecmascript (flags_from_letters [])
         (chars (any_of tokens.now))) }
@@ -61,14 +62,14 @@ pub fn compile(alloc: Global, tokens: &[Token<'_>]) -> Result<Regex>
     }
 }
 
-// The flags that patterns are read with: none.
+// Returns the flags of the patterns: none.
 fn flags() -> Flags
     ensures { spec_flags_of result ≡ flags_from_letters [] }
 {
     Flags::default()
 }
 
-// Refuses a token whose pattern is none.
+// Refuses a token whose pattern is invalid.
 fn refuse_wrong(alloc: Global, token: &Token<'_>) -> Result<()>
     ensures { IfOk result (λ _. IsPattern token.now) }
 {
@@ -80,8 +81,8 @@ fn refuse_wrong(alloc: Global, token: &Token<'_>) -> Result<()>
     }
 }
 
-// A pattern that matches what one of the tokens matches, in a group by its name. `[]` matches nothing, so that each
-// token stands behind a bar.
+// Returns a pattern that matches what one of the tokens matches, in a group with the token's name.
+// It begins with `[]`, which matches nothing, so that each token follows a `|`.
 fn any_of(alloc: Global, tokens: &[Token<'_>]) -> Result<String, AllocError>
     ensures { IfOk result (λ s. string_bytes s ≡ any_of tokens.now) }
 {
@@ -92,7 +93,7 @@ fn any_of(alloc: Global, tokens: &[Token<'_>]) -> Result<String, AllocError>
     Ok(any)
 }
 
-// One token more.
+// Appends a token.
 fn push_token(any: &mut String, token: &Token<'_>) -> Result<(), AllocError>
     ensures { IfOk result (λ _. string_bytes any.new ≡ string_bytes any.old ++ arm_of token.now) }
 {
@@ -103,7 +104,7 @@ fn push_token(any: &mut String, token: &Token<'_>) -> Result<(), AllocError>
     any.push_str(")")
 }
 
-/// Which of the tokens a match is: the first whose group matched, by its place among them.
+/// Returns the index of the token that a match is: the first one whose group matched.
 pub fn token_of(tokens: &[Token<'_>], found: &Match) -> usize
     ensures { result ≡ token_of (names_of tokens.now) (answer_of found.now) }
 {
@@ -119,7 +120,7 @@ pub fn token_of(tokens: &[Token<'_>], found: &Match) -> usize
     place
 }
 
-// Whether the group with this name matched.
+// Checks whether the group with this name matched.
 fn has_matched(found: &Match, name: &str) -> bool
     ensures { result ≡ is_some (named_group (answer_of found.now) name.now) }
 {

@@ -1,5 +1,5 @@
-//! What callers conclude from the laws of the crates. Each function cites one law or two, and its clause follows from
-//! them.
+//! Callers of the laws of the crates. Each function cites one or two laws, and its clause follows
+//! from them.
 
 ghost use Rattle.std.specs.Prelude.{◌≡◌, ◌==◌, ◌≤◌, ◌<◌, ◌+◌, ◌-◌, ℕ, List, [], ◌∷◌, true, false, Option, Some, None, Result, Ok, Err, IfOk, IfSome, IsAscii, chars};
 ghost use Rattle.std.specs.Prelude.{codes, if◌then◌else◌, length, option_map, slice_get, string_bytes};
@@ -37,7 +37,8 @@ use std::alloc::Global;
 
 // ---- Patterns
 
-/// Compiles the pattern whose matches are the occurrences of `text`: its tree is the sequence of the text's characters.
+/// Compiles the pattern whose matches are the occurrences of `text`: its tree is the sequence of
+/// the text's characters.
 ///
 /// # Errors
 ///
@@ -64,7 +65,8 @@ pub fn groups_are_those_of_the_text(re: &Regex)
 
 // ---- Matches
 
-/// Finds the first match in `text`. It is the first answer of the tree that the grammar gives to the pattern.
+/// Finds the first match in `text`. It is the first answer of the tree that the grammar gives to
+/// the pattern.
 ///
 /// # Errors
 ///
@@ -78,7 +80,7 @@ pub fn find_first(re: &Regex, text: &str) -> Result<Option<Match>, SearchError>
     re.find(text)
 }
 
-/// Replaces each match by itself, which gives the text back.
+/// Replaces each match by itself, which does not change the text.
 ///
 /// # Errors
 ///
@@ -90,7 +92,7 @@ pub fn replace_by_itself(re: &Regex, text: &str) -> Result<String, SearchError>
     re.replace_all(text, "$0")
 }
 
-/// The first match is a slice of the text.
+/// The first match is a slice of the text: it begins and ends at character boundaries.
 pub fn first_match_is_a_slice(re: &Regex, text: &str)
     ensures { IfSome (slice_get (utf8_answers re.now text.now 0) 0) (MatchFitsText text.now) }
 {
@@ -114,7 +116,7 @@ pub fn matches_are_few(re: &Regex, text: &str)
     answer_count_is_bounded();
 }
 
-/// A search from the end of the first match, if it is not empty, finds the rest.
+/// If the first match is not empty, a search from its end finds the remaining matches.
 pub fn search_resumes_after_first_match(re: &Regex, text: &str)
     ensures { (m : Answer) (rest : List Answer) → utf8_answers re.now text.now 0 ≡ m ∷ rest → m.range.0 < m.range.1
         → utf8_answers re.now text.now m.range.1 ≡ rest }
@@ -123,7 +125,7 @@ pub fn search_resumes_after_first_match(re: &Regex, text: &str)
     resuming_after_nonempty_match_yields_rest();
 }
 
-/// An ASCII text has the same matches by either kind of search.
+/// Searches for ASCII texts and searches for UTF-8 texts find the same matches in an ASCII text.
 pub fn same_matches_in_ascii(re: &Regex, text: &str)
     ensures { IsAscii text.now → ascii_answers re.now text.now 0 ≡ utf8_answers re.now text.now 0 }
 {
@@ -132,7 +134,7 @@ pub fn same_matches_in_ascii(re: &Regex, text: &str)
 
 // ---- Iterators
 
-/// After `None`, an iterator over matches returns `None` for good.
+/// After `None`, an iterator over matches always returns `None`.
 pub fn none_is_final()
     ensures { (tree : Tree) (text : Text) (start : ℕ) (it behind : RemainingView) (rs : List NextResult)
         → YieldsMatches tree text start it → NextCallsYield it (None ∷ rs) behind → AllNone rs }
@@ -149,7 +151,8 @@ pub fn no_item_follows_match_at_text_end()
     match_at_text_end_is_last();
 }
 
-/// The first item of a search within a work budget is `WorkLimit` only if the budget was less than the bound.
+/// The first item of a search within a work budget is `WorkLimit` only if the budget is less than
+/// the bound.
 pub fn work_limit_means_too_small_a_budget()
     ensures { (tree : Tree) (text : Text) (start per_unit work : ℕ) (it behind : RemainingAnswersAndWork)
         (rs : List WorkLimitedNextResult)
@@ -159,8 +162,8 @@ pub fn work_limit_means_too_small_a_budget()
     searches_return_matches_within_work();
 }
 
-/// With a budget of just what the bound requires, the calls of a search cost at most that together, unless an
-/// allocation fails.
+/// If the budget is just what the bound requires and no allocation fails, the calls of a search
+/// together cost at most that budget.
 pub fn calls_cost_at_most_the_bound<P: WorkLimitedProducer>()
     ensures { (tree : Tree) (text : Text) (start per_unit : ℕ) (it behind : WorkMatchesView P)
         (rs : List WorkLimitedNextResult) → let bound = enough_work_for_text per_unit text in
@@ -171,7 +174,8 @@ pub fn calls_cost_at_most_the_bound<P: WorkLimitedProducer>()
     call_costs_are_work_spent::<P>();
 }
 
-/// With a budget by the limit of the pattern's bounds, the work is enough, whichever bound is used.
+/// If the budget is computed from the limit of the pattern's bounds, the work suffices, whichever
+/// bound is used.
 pub fn budget_by_the_limit_is_enough()
     ensures { (re : TheRegex) (text : Text) (start per_unit work : ℕ) (it : RemainingAnswersAndWork) →
         IsHigherOfProgramWorkBounds re per_unit

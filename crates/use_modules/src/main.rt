@@ -1,5 +1,5 @@
-//! Prints why a pattern is refused, what a program consists of, and the first and last character of
-//! a text.
+//! Prints why a pattern is refused, what a compiled program contains, and the first and last
+//! character of a text.
 #![tactic(auto)]
 
 mod laws;

@@ -1,4 +1,4 @@
--- Numbers of a script by the tests that `src/coercions.rt` makes.
+-- The conversions of a script's numbers, by the tests in `src/coercions.rt`.
 use Rattle.std.specs.Prelude.{◌≡◌, ◌+◌, ◌*◌, ◌-◌, ◌/◌, ◌%◌, ◌^◌, ◌<◌, ◌≤◌, ℕ, ℤ, zero, suc, pos, negsuc, min, Bool, true, false, ◌&&◌, Option, Some, None, unsigned_abs}
 use Rattle.std.specs.Float.{Float, binary64, nan, inf, fin, float_with_sign, float_zero}
 use Rattle.std.specs.Float.Ieee.{up, down, lt, fits, of_bits, to_unsigned}
@@ -19,7 +19,7 @@ length-by_min (inf false) n r a b = omega (arith, a, b)
 length-by_min (fin true m e) n r a b = omega (arith, a, b)
 length-by_min (fin false m e) n r a b = omega (arith, a, b)
 
--- ---- the size, which `to_u128` answers where it is below 2 ^ 128
+-- ---- The absolute value, which `to_u128` returns if it is less than 2 ^ 128
 
 abbrev pub AsU128 : Float → Option ℕ → Type 0
 AsU128 x r = Casts (λ n. pos n) (FitsUnsignedBits 128) (whole_part x) r
@@ -33,7 +33,7 @@ size-some x y n is h = by x (subst (λ (k : Float). AsU128 k (Some n)) is h)
     by (inf s) g = absurd (true≢false g.1)
     by (fin s m e) g = ap (λ (z : ℤ). unsigned_abs z % 2 ^ 32) g.0.1
 
--- a multiple of 2 ^ 32
+-- A multiple of 2 ^ 32.
 multiple : (m k : ℕ) → 75 ≤ k → m * 2 ^ k / 1 % 2 ^ 32 ≡ 0
 multiple m k h =
     ap (λ (n : ℕ). n % 2 ^ 32) (div-one (m * 2 ^ k))
@@ -54,7 +54,7 @@ digits-below : (s : Bool) (m : ℕ) (e : ℤ) → fits binary64 (fin s (suc m) e
 unfolding fits
 digits-below s m e h = ltb-true _ _ (second _ _ _ _ h)
 
--- A number of 2 ^ 128 or more that the format holds is such a multiple.
+-- A number of the format that is 2 ^ 128 or more is a multiple of 2 ^ 32.
 large : (s : Bool) (m : ℕ) (e : ℤ) → fits binary64 (fin s m e) ≡ true → ¬ (m * up e / down e < 2 ^ 128) → 0 ≡ m * up e / down e % 2 ^ 32
 large s zero e f g = sym (ap (λ (n : ℕ). n / down e % 2 ^ 32) (zero-mul (up e)) ∙ ap (λ (n : ℕ). n % 2 ^ 32) (zero-div (down e)))
 large s (suc m) (negsuc k) f g = absurd (g (lt_of_le_of_lt (div-le_self (suc m * 1) (2 ^ suc k)) (omega (arith, digits-below s m (negsuc k) f))))
@@ -78,7 +78,7 @@ size-none x y is f h = by x (subst (λ (k : Float). fits binary64 k ≡ true) is
     by (inf s) f g = refl
     by (fin s m e) f g = large false m e f g.0
 
--- ---- the sign
+-- ---- The sign
 
 zero_is : of_bits binary64 0 ≡ float_zero
 unfolding of_bits

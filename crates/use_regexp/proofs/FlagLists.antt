@@ -1,4 +1,4 @@
--- Flags by the tests of their letters.
+-- Flags and the tests of their letters.
 use Rattle.std.proofs.Common.{◌≡◌, ℕ, List, Bool, true, refl}
 use Rattle.std.specs.Prelude.{Option, Some}
 use Rattle.regex_meaning.specs.NumberListHelpers.{contains}

@@ -1,4 +1,4 @@
--- Where a match stands that a search finds.
+-- The position of a match that a search finds.
 use Rattle.std.proofs.Common.{◌≡◌, ℕ, ◌≤◌, Bool, true, false, not, ◌&&◌, List, length, IsTrue, refl, sym, ◌∙◌, ap, nat_le}
 use Rattle.std.specs.Prelude.{Option, Some, None, Result, IfOk, IfSome, option_map, if◌then◌else◌, slice_get}
 use Rattle.std.proofs.lemmas.Bool.{and_parts, cases_Bool}
@@ -27,7 +27,7 @@ not-true : (b : Bool) → not b ≡ true → b ≡ false
 not-true true e = cc
 not-true false e = refl
 
--- what is known of a match that is found from a start on
+-- What is known about a match that a search from a start on finds.
 pub record Stands (us : List ℕ) (u : Bool) (start : ℕ) (m : Answer) : Type 0 where
   pub fits : MatchRangesLieWithinUnits us m
   pub behind : start ≤ m.range.0
@@ -41,7 +41,7 @@ module _ (re : Regex) (us : List ℕ) (small : AreUnits us) where
       ((and_parts (nat_le end (length us)) (not (is_within_pair us end))
       (sym (unit_boundary-between us end small) ∙ unit_boundary-place_at us unicode end ∙ at)).1)
 
-  -- the first answer from a start on, in a text of these units
+  -- The first answer from a start on, in a text of these units.
   first-in : (u : Bool) (text : Text) → HasRisingPlaceOffsets text → units text ≡ length us → ((end : ℕ) → IsBoundary text end → IsTrue u → is_within_pair us end ≡ false)
       → (start : ℕ) (m : Answer) → first_answer (tree_for_16_bit_units re).root text start ≡ Some m → Stands us u start m
   first-in u text is size whole start m e =
@@ -62,7 +62,7 @@ module _ (re : Regex) (us : List ℕ) (small : AreUnits us) where
       let unicode = (tree_for_16_bit_units re).flags.unicode in
       first-in false (units_as_ucs2_text re us) (ucs2_text-IsText us unicode) (ucs2_text-units us unicode) (λ end at no. absurd (cc no)) start m e
 
-  -- the first match from a start on
+  -- The first match from a start on.
   first-found : (u : Bool) (start : ℕ) (m : Answer)
       → slice_get (if u then utf16_answers re us start else ucs2_answers re us start) 0 ≡ Some m → Stands us u start m
   first-found true start m e =
@@ -70,7 +70,7 @@ module _ (re : Regex) (us : List ℕ) (small : AreUnits us) where
   first-found false start m e =
       first-ucs2 start m (sym (head-first (tree_for_16_bit_units re).root (units_as_ucs2_text re us) (ucs2_text-IsText us (tree_for_16_bit_units re).flags.unicode) start) ∙ e)
 
-  -- the match that begins there
+  -- The match that begins at a start.
   here-found : (u : Bool) (start : ℕ) (m : Answer)
       → (if u then utf16_answer_beginning_at re us start else ucs2_answer_beginning_at re us start) ≡ Some m → Stands us u start m
   here-found true start m e =
@@ -90,7 +90,7 @@ module _ (p : Pattern) (us : List ℕ) (index : ℕ) where
   unfolding match_here
   here-stands small m e = standing m (here-found p.re us small p.flags.unicode (start_of p us index) m e)
 
--- What the calls of the engine answer, by the flag.
+-- The results of the engine's calls, by the flag `u`.
 module _ (p : Pattern) (us : List ℕ) (index start : ℕ) (s : start ≡ start_of p us index) {E : Type 0} (r : Result (Option Match) E) where
   abbrev list_by : (u : Bool) → (from : ℕ) → List Answer
   list_by u from = if u then utf16_answers p.re us from else ucs2_answers p.re us from

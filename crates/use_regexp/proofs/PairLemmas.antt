@@ -1,4 +1,4 @@
--- Indices that cut a pair, and those behind a character.
+-- Indices within a surrogate pair, and indices after a character.
 use Rattle.std.proofs.Common.{◌≡◌, ℕ, zero, suc, ◌+◌, ◌-◌, ◌<◌, ◌≤◌, ◌⊎◌, inl, inr, Bool, true, false, not, ◌&&◌, List, [], ◌∷◌, length, IsTrue}
 use Rattle.std.proofs.Common.{refl, sym, subst, ap, ap₂, ◌∙◌, arith, add-one, eqb-true, le-leb, nat_eq, slice_index}
 use Rattle.std.specs.Prelude.{if◌then◌else◌}
@@ -9,16 +9,16 @@ use Rattle.regex_meaning.specs.Text.{is_high_surrogate, is_low_surrogate, is_uni
 use Rattle.regex_meaning.proofs.UnitBoundaryLemmas.{AreUnits, low-not_high, unit_boundary-between}
 use Rattle.use_regexp.specs.Units.{advanced, character_start}
 
--- a test has one answer
+-- A test has one result.
 true_not_false : (b : Bool) → b ≡ true → b ≡ false → ⊥
 true_not_false b t f = cc
 
--- no unit is both
+-- No unit is both a high and a low surrogate.
 high-not_low : (v : ℕ) → is_high_surrogate v ≡ true → is_low_surrogate v ≡ false
 high-not_low v high = false_from_ne_true (is_low_surrogate v) (λ low. true_not_false (is_high_surrogate v) high (low-not_high v low))
 
 module _ (us : List ℕ) where
-  -- past the end no pair is cut
+  -- No index past the end is within a pair.
   pub past-end : (i : ℕ) → length us ≤ i → is_within_pair us i ≡ false
   past-end zero l = refl
   past-end (suc j) l = ap (λ n. is_high_surrogate (slice_index us j) && is_low_surrogate n) (none us (suc j) l) ∙ and-false (is_high_surrogate (slice_index us j))
@@ -34,7 +34,7 @@ module _ (us : List ℕ) where
     | inr past ↦ absurd (true_not_false (is_within_pair us i) cut (past-end i past))
   ]
 
-  -- before an index that cuts a pair none is cut
+  -- The index before one within a pair is not within a pair.
   whole-before : (i : ℕ) → is_within_pair us i ≡ true → is_within_pair us (i - 1) ≡ false
   whole-before zero cut = cc
   whole-before (suc j) cut =
@@ -47,7 +47,7 @@ module _ (us : List ℕ) where
           ap (λ b. is_high_surrogate (slice_index us k) && b) (high-not_low (slice_index us (suc k)) high) ∙ and-false (is_high_surrogate (slice_index us k))
 
 module _ (u : Bool) (us : List ℕ) where
-  -- an index stands for itself, or, within a pair, for the one before
+  -- The character at an index begins at the index or, within a pair, one unit before it.
   pub start-cases : (i : ℕ)
       → ((u && is_within_pair us i) ≡ true) × (character_start u us i ≡ i - 1) ⊎ ((u && is_within_pair us i) ≡ false) × (character_start u us i ≡ i)
   start-cases i = by (u && is_within_pair us i) refl
@@ -66,21 +66,21 @@ module _ (u : Bool) (us : List ℕ) where
       by true e = inl (e, ap (λ (b : Bool). if b then i + 2 else i + 1) e)
       by false e = inr (e, ap (λ (b : Bool). if b then i + 2 else i + 1) e)
 
-  -- an index stands for one that is at most a unit before it
+  -- The character at an index begins at most one unit before it.
   pub start-near : (i : ℕ) → i ≤ character_start u us i + 1
   start-near i = elim (start-cases i) [
     | inl cut ↦ omega (arith, cut.1)
     | inr same ↦ omega (arith, same.1)
   ]
 
-  -- one that cuts no pair stands for itself
+  -- If an index is not within a pair, its character begins there.
   pub start-whole : (i : ℕ) → (u ≡ true → is_within_pair us i ≡ false) → character_start u us i ≡ i
   start-whole i whole = elim (start-cases i) [
     | inl cut ↦ let parts = and_parts u (is_within_pair us i) cut.0 in absurd (true_not_false (is_within_pair us i) parts.1 (whole parts.0))
     | inr same ↦ same.1
   ]
 
-  -- the next character begins behind
+  -- The next character begins after the index.
   pub advanced-starts : (i : ℕ) → i < character_start u us (advanced u us i)
   advanced-starts i = elim (advanced-cases i) [
     | inl pair ↦ rw (pair.1) (elim (start-cases (i + 2)) [
@@ -93,7 +93,7 @@ module _ (u : Bool) (us : List ℕ) where
     ])
   ]
 
-  -- with what a match is known to stand behind, the loop goes on behind it
+  -- Given the position of a match, the loop continues after the index of the search.
   pub next-rises : (last start end : ℕ) → character_start u us last ≤ start → start ≤ end → (u ≡ true → is_within_pair us end ≡ false)
       → last < (if nat_eq start end then advanced u us end else end)
   next-rises last start end behind le whole = elim (cases_Bool (nat_eq start end)) [
@@ -133,7 +133,7 @@ module _ (u : Bool) (us : List ℕ) where
         ]
       ]
 
--- what follows a match in the loop stands behind its end
+-- The loop continues at the end of the match or later.
 pub next-behind : (u : Bool) (us : List ℕ) (start end : ℕ) → (u ≡ true → is_within_pair us end ≡ false)
     → end ≤ character_start u us (if nat_eq start end then advanced u us end else end)
 next-behind u us start end whole = elim (cases_Bool (nat_eq start end)) [
@@ -141,7 +141,7 @@ next-behind u us start end whole = elim (cases_Bool (nat_eq start end)) [
   | inr more ↦ rw more (let same = start-whole u us end whole in omega arith)
 ]
 
--- a search may begin where the character of an index does
+-- A search may begin where the character at an index begins.
 start-boundary : (us : List ℕ) → AreUnits us → (i : ℕ)
     → IsTrue (is_unit_boundary us (character_start true us i)) ⊎ (length us < character_start true us i)
 start-boundary us small i = elim (start-cases true us i) [
@@ -155,7 +155,7 @@ start-boundary us small i = elim (start-cases true us i) [
     boundary : (i : ℕ) → i ≤ length us → is_within_pair us i ≡ false → is_unit_boundary us i ≡ true
     boundary i le whole = unit_boundary-between us i small ∙ ap₂ (λ a b. a && not b) (le-leb i (length us) le) whole
 
--- the same of a number that is that place
+-- The same for a number that is equal to this position.
 pub may-begin : (u : Bool) (us : List ℕ) (i start : ℕ) → AreUnits us → start ≡ character_start u us i → u ≡ true
     → IsTrue (is_unit_boundary us start) ⊎ (length us < start)
 may-begin u us i start small s e =

@@ -1,14 +1,14 @@
--- What is left of matches that are replaced one after the other.
+-- The matches that remain while matches are replaced in order.
 use Rattle.std.proofs.Common.{◌≡◌, ℕ, List, [], ◌∷◌, length, map, refl, arith, sym, subst}
 use Rattle.regex_meaning.specs.MatchGroupsByNumberAndName.{Answer}
 use Rattle.use_regexp.specs.Replace.{StandInUnits}
 
--- of nothing nothing is made
+-- Mapping an empty list gives an empty list.
 pub map-none : {A B : Type 0} (f : A → B) (xs : List A) → length xs ≡ 0 → map f xs ≡ []
 map-none f [] e = refl
 map-none f (x ∷ xs) e = absurd (omega arith)
 
--- what stands behind the end of one where the next one of the matches that are left was replaced
+-- The remaining matches are after the end of a replaced match.
 pub stand-behind : (us : List ℕ) (from to : ℕ) (left rest : List Answer) (m : Answer) → StandInUnits us from left → left ≡ m ∷ rest → to ≡ m.range.1
     → StandInUnits us to rest
 stand-behind us from to left rest m stand e t = subst (λ at. StandInUnits us at rest) (sym t) (subst (StandInUnits us from) e stand).2

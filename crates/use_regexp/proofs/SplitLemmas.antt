@@ -1,4 +1,4 @@
--- Separators one after the other, and the pieces between them.
+-- Successive separators, and the pieces between them.
 use Rattle.std.proofs.Common.{◌≡◌, ℕ, ◌+◌, ◌-◌, ◌<◌, ◌≤◌, ◌⊎◌, inl, inr, Bool, true, false, List, [], ◌∷◌, ◌++◌, length, map, take, nat_eq, nat_lt}
 use Rattle.std.proofs.Common.{refl, sym, subst, ap, ◌∙◌, arith, append_assoc, append-nil, length-append}
 use Rattle.std.specs.Bool.{MatchBool}
@@ -19,7 +19,7 @@ use Rattle.use_regexp.proofs.FoundStands.{first-stands}
 use Rattle.use_regexp.proofs.PairLemmas.{advanced-starts, start-whole}
 
 module _ (p : Pattern) (us : List ℕ) where
-  -- ---- Where a separator stands
+  -- ---- The position of a separator
 
   before-is : (chosen : Option Answer) (m : Answer) → before_end us chosen ≡ Some m → chosen ≡ Some m
   before-is None m e = cc
@@ -67,12 +67,12 @@ module _ (p : Pattern) (us : List ℕ) where
         by None q e = cc
         by (Some n) q e = taken n q (nat_eq n.range.1 from) refl e
 
-    -- what a call answers
+    -- The result of a call.
     pub separator-stands-if : (m : Option Match) → option_map answer_of m ≡ separator p us from → IfSome m (λ f. IsSeparator p us from (answer_of f))
     separator-stands-if None e = tt
     separator-stands-if (Some f) e = separator-stands (answer_of f) (sym e)
 
-  -- what a call finds, is the next separator
+  -- The result of a call is the next separator.
   pub separator-is : (from : ℕ) (first taken got : Option Answer) → first ≡ first_match p us from → taken ≡ chosen p us from first → got ≡ before_end us taken
       → got ≡ separator p us from
   unfolding separator
@@ -80,7 +80,8 @@ module _ (p : Pattern) (us : List ℕ) where
 
   -- ---- The pieces so far
 
-  -- The separators so far lead to a place, with these pieces; whatever separators follow from there go on with them.
+  -- The separators so far lead to an offset, with these pieces. They can be continued by the
+  -- separators from this offset on.
   pub record IsSplitTo (limit from : ℕ) (made : Groups) : Type 0 where
     pub ms : List Answer
     pub goes_on : (rest : List Answer) → AreSeparators p us from (limit - length made) rest → AreSeparators p us 0 limit (ms ++ rest)
@@ -120,9 +121,9 @@ module _ (p : Pattern) (us : List ℕ) where
         last (inl none) = inl none
         last (inr enough) = inr (omega (arith, enough))
 
-  -- ---- A turn of the loop
+  -- ---- An iteration of the loop
 
-  -- where it stands: within the text, at an index that cuts no pair, with these pieces
+  -- The state of the loop: an offset in the text that is not within a pair, and the pieces so far.
   pub record IsCutTo (limit from : ℕ) (made : Groups) : Type 0 where
     pub inside : from ≤ length us
     pub whole : CutsNone p us from
@@ -153,7 +154,7 @@ module _ (p : Pattern) (us : List ℕ) where
         let less = s.goes_on b.whole in
         omega (arith, less, s.fits.whole, t)
 
-  -- there are enough of them, by what they are shown as
+  -- There are enough pieces, counted by what they represent.
   pub enough : {A : Type 0} (f : A → Option (ℕ × ℕ)) (limit from : ℕ) (items list : List A) → list ≡ items → (separator p us from ≡ None) ⊎ (limit ≤ length list)
       → (separator p us from ≡ None) ⊎ (limit ≤ length (map f items))
   enough f limit from items list e (inl none) = inl none

@@ -1,4 +1,4 @@
--- What a template says, sign by sign, and where the groups of a match stand.
+-- The expansion of a template, part by part, and the ranges of the groups of a match.
 use Rattle.std.proofs.Common.{◌≡◌, ℕ, zero, suc, ◌+◌, ◌-◌, Bool, true, false, List, [], ◌∷◌, ◌++◌, length, drop, refl, sym, ap, ◌∙◌, arith}
 use Rattle.std.proofs.Common.{append_assoc}
 use Rattle.std.specs.Prelude.{Option, Some, None, IfSome, if◌then◌else◌, option_map, slice_get, unwrap_or}
@@ -12,7 +12,7 @@ use Rattle.regex_meaning.specs.Replace.{text_of}
 use Rattle.use_regexp.specs.Template.{IsWritten, Said, is_ascii, is_group, named_text, numbered, said, said_in, say, two_digits}
 
 module _ (text : List ℕ) (m : Answer) where
-  -- nothing says nothing
+  -- The expansion of an empty template is empty.
   pub said-none : (count : ℕ) (rest : List ℕ) → length rest ≡ 0 → said_in text m count rest ≡ []
   said-none zero rest none = refl
   said-none (suc count) [] none = refl
@@ -21,7 +21,7 @@ module _ (text : List ℕ) (m : Answer) where
   pub said-out : (count : ℕ) (rest : List ℕ) → count ≡ 0 → said_in text m count rest ≡ []
   said-out count rest none = ap (λ n. said_in text m n rest) none
 
-  -- what its first signs say stands before what the rest says
+  -- The expansion of the first part precedes the expansion of the rest.
   pub said-more : (before after whole rest behind left : List ℕ) (first count next : ℕ) → before ++ said_in text m count rest ≡ whole
       → rest ≡ first ∷ behind → count ≡ suc next → IsWritten before after left (said text m first behind) → after ++ said_in text m next left ≡ whole
   said-more before after whole rest behind left first count next h r c w =
@@ -30,9 +30,9 @@ module _ (text : List ℕ) (m : Answer) where
       (append_assoc before s.units (said_in text m next s.rest)
       ∙ ap (λ n. before ++ said_in text m n (first ∷ behind)) (sym c) ∙ ap (λ t. before ++ said_in text m count t) (sym r) ∙ h)
 
-  -- ---- Its signs
+  -- ---- Parts of a template
 
-  -- what is written is what a sign says
+  -- The output is extended by the expansion of a part.
   written : (before after left units rest : List ℕ) (s : Said) → s ≡ say units rest → after ≡ before ++ units → left ≡ rest → IsWritten before after left s
   written before after left units rest s e a l = (a ∙ ap (λ (s : Said). before ++ s.units) (sym e), l ∙ ap (λ (s : Said). s.rest) (sym e))
 
@@ -49,7 +49,7 @@ module _ (text : List ℕ) (m : Answer) where
       let is : is_group m (digit - 48) ≡ true = ap (is_group m) (sym o) ∙ g in
       written before after left (text_of text m (group m (digit - 48))) rest _ (rw (at, n, is) refl) (a ∙ ap (λ k. before ++ text_of text m (group m k)) o) l
 
-  -- a name of ASCII names a group by its bytes
+  -- An ASCII name identifies a group by its bytes.
   pub named-text-is : (name bytes : List ℕ) → Some bytes ≡ (if list_all is_ascii name then Some name else None) → text_of text m (named_group m bytes) ≡ named_text text m name
   named-text-is name bytes e = by (list_all is_ascii name) e
     where
@@ -76,7 +76,7 @@ module _ (us : List ℕ) where
   range-within : (m : Answer) (id : ℕ) → MatchRangesLieWithinUnits us m → IfSome (group_range m.captures id) (IsRangeWithinUnits us)
   range-within m id fits = unwrapped (slice_get m.captures id) (get-within m.captures id fits.groups)
 
-  -- a group by number stands in the text
+  -- The range of a group by number is in the text.
   pub group-within : (m : Answer) (number : ℕ) → MatchRangesLieWithinUnits us m → IfSome (group m number) (IsRangeWithinUnits us)
   group-within m zero fits = fits.whole
   group-within m (suc id) fits = range-within m id fits
@@ -85,7 +85,7 @@ module _ (us : List ℕ) where
   first-within m [] fits = tt
   first-within m (id ∷ ids) fits = either (group_range m.captures id) (first_range m ids) (range-within m id fits) (first-within m ids fits)
 
-  -- so does one by name
+  -- The range of a group by name is in the text.
   pub named-within : (m : Answer) (name : List ℕ) → MatchRangesLieWithinUnits us m → IfSome (named_group m name) (IsRangeWithinUnits us)
   named-within m [] fits = tt
   named-within m (c ∷ name) fits = first-within m (ids_named m (c ∷ name)) fits

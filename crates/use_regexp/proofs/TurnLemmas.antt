@@ -1,4 +1,4 @@
--- Matches that are found one after the other.
+-- Matches that are found one after another.
 use Rattle.std.proofs.Common.{◌≡◌, ℕ, ◌+◌, ◌-◌, ◌<◌, ◌≤◌, Bool, true, false, ◌||◌, List, [], ◌∷◌, ◌++◌, length, map, refl, sym, subst, ap, ◌∙◌}
 use Rattle.std.proofs.Common.{arith, append_assoc, append-nil}
 use Rattle.std.specs.Prelude.{Option, Some, None, Result, IfOk, IfSome, option_map, if◌then◌else◌, slice_get}
@@ -19,7 +19,7 @@ use Rattle.use_regexp.specs.declared.pattern.Pattern.{Pattern}
 use Rattle.use_regexp.proofs.FoundStands.{first-stands, here-stands}
 use Rattle.use_regexp.proofs.PairLemmas.{next-behind, next-rises, start-near}
 
--- with `g` a search begins at `lastIndex`
+-- With `g`, a search begins at `lastIndex`.
 global-index : (p : Pattern) (last : ℕ) → p.flags.global ≡ true → search_index p last ≡ last
 global-index p last e = ap (λ (b : Bool). if b || p.flags.sticky then last else 0) e
 
@@ -35,7 +35,7 @@ module _ (p : Pattern) (us : List ℕ) (index last : ℕ) (same : index ≡ sear
       let same_answer : found_by sticky index ≡ found p us last = ap (found_by sticky) same ∙ ap (λ b. found_by b (search_index p last)) (sym e) in
       IfOk-map r (λ m. option_map answer_of m ≡ found_by sticky index) _ (λ m g. g ∙ same_answer) h
 
--- the match behind a reference
+-- The match behind a reference.
 pub copied-answers : (r : Option (Bor Match)) (m : Option Match) → option_copied r ≡ m → option_map (λ x. answer_of x.now) r ≡ option_map answer_of m
 copied-answers None m e = ap (option_map answer_of) e
 copied-answers (Some x) m e = ap (option_map answer_of) e
@@ -43,7 +43,7 @@ copied-answers (Some x) m e = ap (option_map answer_of) e
 module _ (p : Pattern) (us : List ℕ) where
   -- ---- The list
 
-  -- what is found so far stands before whatever is found from here on
+  -- The matches so far precede the matches from here on.
   abbrev pub GoesOn : (first last : ℕ) → (so_far : List Answer) → Type 0
   GoesOn first last so_far = (rest : List Answer) → AreFoundInTurn p us last rest → AreFoundInTurn p us first (so_far ++ rest)
 
@@ -61,7 +61,7 @@ module _ (p : Pattern) (us : List ℕ) where
   pub goes-end : (first last : ℕ) (ms : List Answer) → GoesOn first last ms → found p us last ≡ None → AreFoundInTurn p us first ms
   goes-end first last ms on e = subst (AreFoundInTurn p us first) (append-nil ms) (on [] e)
 
-  -- the next index is nearer to the end
+  -- The next index is nearer to the end.
   pub turn-smaller : (last next : ℕ) (m : Answer) → p.flags.global ≡ true → StandsFrom p us (search_index p last) m → next ≡ index_after_match p us m
       → length us + 3 - next < length us + 3 - last
   turn-smaller last next m global s n =
@@ -70,7 +70,7 @@ module _ (p : Pattern) (us : List ℕ) where
       let near = start-near p.flags.unicode us last in
       omega (arith, rises, near, behind, s.fits.whole, n)
 
-  -- ---- Where they stand
+  -- ---- Positions of the matches
 
   module _ (small : AreUnits us) where
     pub found-stands : (last : ℕ) (m : Answer) → found p us last ≡ Some m → StandsFrom p us (search_index p last) m
@@ -80,7 +80,7 @@ module _ (p : Pattern) (us : List ℕ) where
         by true e = here-stands p us (search_index p last) small m e
         by false e = first-stands p us (search_index p last) small m e
 
-    -- what a call answers
+    -- The result of a call.
     pub found-stands-ok : {E : Type 0} (last : ℕ) (r : Result (Option Match) E) → IfOk r (λ m. option_map answer_of m ≡ found p us last)
         → IfOk r (λ m. IfSome m (λ f. StandsFrom p us (search_index p last) (answer_of f)))
     found-stands-ok last r h = IfOk-map r _ _ of h
@@ -100,7 +100,7 @@ module _ (p : Pattern) (us : List ℕ) where
           stand-in-turn global ms (index_after_match p us m) m.range.1 (next-behind p.flags.unicode us m.range.0 m.range.1 s.whole) s.fits.whole.1 h.1,
         )
 
-    -- those that are taken stand in the text, in order
+    -- The matches that are taken are in the text, in ascending order.
     pub taken-stand : (last : ℕ) (ms : List Answer) → AreTaken p us 0 last ms → StandInUnits us 0 ms
     taken-stand last ms h = by p.flags.global refl h
       where
@@ -123,7 +123,7 @@ module _ (p : Pattern) (us : List ℕ) where
   pub taken-one : (first last : ℕ) (ms : List Answer) → p.flags.global ≡ false → ms ≡ option_to_list (found p us last) → AreTaken p us first last ms
   taken-one first last ms e h = subst (taken_by first last ms) (sym e) h
 
-  -- ---- `lastIndex` behind them
+  -- ---- `lastIndex` after the matches
 
   pub taken-last : (last : ℕ) (ms : List Answer) → AreTaken p us 0 last ms
       → (if p.flags.global then 0 else last_behind p last (slice_get ms 0)) ≡ last_taken p us last

@@ -3,22 +3,23 @@ use Rattle.std.specs.Prelude.{ℕ, Bool, ◌-◌, ◌*◌, ◌/◌, ◌%◌, ◌
 use Rattle.std.specs.Float.{Float, nan, inf, fin}
 use Rattle.std.specs.Float.Ieee.{up, down}
 
--- The whole part of m * 2 ^ e, at most 2 ^ 53 - 1; 0 for a negative number.
+-- The whole part of m * 2 ^ e, limited to 2 ^ 53 - 1. 0 for a negative number.
 abbrev pub length_of : Float → ℕ
 length_of nan = 0
 length_of (inf negative) = if negative then 0 else 2 ^ 53 - 1
 length_of (fin negative m e) = if negative then 0 else min (m * up e / down e) (2 ^ 53 - 1)
 
--- The whole part of the size m * 2 ^ e, modulo 2 ^ 32.
+-- The whole part of the absolute value m * 2 ^ e, modulo 2 ^ 32.
 abbrev pub size_modulo_32_bits : Float → ℕ
 size_modulo_32_bits nan = 0
 size_modulo_32_bits (inf negative) = 0
 size_modulo_32_bits (fin negative m e) = m * up e / down e % 2 ^ 32
 
+-- The number with this sign and absolute value, modulo 2 ^ 32.
 abbrev pub with_sign_modulo_32_bits : (negative : Bool) → (size : ℕ) → ℕ
 with_sign_modulo_32_bits negative size = if negative then (2 ^ 32 - size) % 2 ^ 32 else size
 
--- The whole part of the number, modulo 2 ^ 32.
+-- The whole part of a number, modulo 2 ^ 32.
 abbrev pub uint32_of : Float → ℕ
 uint32_of nan = 0
 uint32_of (inf negative) = 0

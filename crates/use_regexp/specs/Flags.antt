@@ -18,18 +18,19 @@ flags_in letters = record {
   sticky = contains letters 121;
 }
 
--- The flags with these letters, if they are letters of flags.
+-- The flags with these letters. `None` if the letters are invalid.
 abbrev pub flags_of : List ℕ → Option Flags
 flags_of letters = if are_flags letters then Some (flags_in letters) else None
 
--- The letters of the flags that are set, in the order of the standard (22.2.6.4 of the 13th edition).
+-- The letters of the flags that are set, in the order of the standard (22.2.6.4 of the 13th
+-- edition).
 abbrev pub letters_of : Flags → List ℕ
 letters_of f =
     letter_if_flag_set f.has_indices 100 ++ letter_if_flag_set f.global 103 ++ letter_if_flag_set f.ignore_case 105
     ++ letter_if_flag_set f.multiline 109 ++ letter_if_flag_set f.dot_all 115
     ++ letter_if_flag_set f.unicode 117 ++ letter_if_flag_set f.sticky 121
 
--- The flags of the tree of the pattern.
+-- The flags with which the pattern's tree is built.
 abbrev pub tree_flags : Flags → tree.Flags
 tree_flags f = record {
   icase = f.ignore_case;
@@ -40,6 +41,6 @@ tree_flags f = record {
   unicode_sets = false;
 }
 
--- A search begins at `lastIndex` and sets it.
+-- Whether a search begins at `lastIndex` and sets it.
 abbrev pub keeps_index : Flags → Bool
 keeps_index f = f.global || f.sticky

@@ -9,24 +9,26 @@ use Rattle.use_regexp.specs.declared.pattern.Pattern.{Pattern}
 use Rattle.use_regexp.specs.declared.regexp.RegExp.{RegExp}
 
 module _ (p : Pattern) (text : List ℕ) where
-  -- The index at which the loop continues after a match: its end, or one character further if it is empty.
+  -- The index at which the loop continues after a match: the end of the match, or one character
+  -- further if it is empty.
   abbrev pub index_after_match : Answer → ℕ
   index_after_match m = if m.range.0 == m.range.1 then advanced p.flags.unicode text m.range.1 else m.range.1
 
-  -- Successive searches from an index on find these matches, and then none.
+  -- Successive searches, the first one from `last` on, find these matches, and then no other match.
   abbrev pub AreFoundInTurn : (last : ℕ) → List Answer → Type 0
   AreFoundInTurn last [] = found p text last ≡ None
   AreFoundInTurn last (m ∷ ms) = (found p text last ≡ Some m) × AreFoundInTurn (index_after_match m) ms
 
-  -- With `g` all matches from an index on, otherwise the match of a search.
+  -- With `g`, the matches are all matches from `first` on. Otherwise they are the match of a single
+  -- search, if there is one.
   abbrev pub AreTaken : (first last : ℕ) → List Answer → Type 0
   AreTaken first last ms =
       MatchBool p.flags.global (AreFoundInTurn first ms) (ms ≡ option_to_list (found p text last))
 
-  -- `lastIndex` after them: with `g` the last search has found no match
+  -- `lastIndex` after these matches. With `g` it is 0, because the last search has found no match.
   abbrev pub last_taken : (last : ℕ) → ℕ
   last_taken last = if p.flags.global then 0 else last_behind p last (found p text last)
 
--- An object with this `lastIndex` afterwards.
+-- The `lastIndex` of the object after the call has this value.
 abbrev pub LeavesTaken : (before after : RegExp) → (text : List ℕ) → Type 0
 LeavesTaken before after text = after.last_index ≡ last_taken before.pattern text before.last_index

@@ -11,18 +11,18 @@ use Rattle.use_regexp.specs.declared.flags.Flags as flags
 use Rattle.use_regexp.specs.declared.error.RegExpError.{RegExpError}
 use Rattle.use_regexp.specs.declared.error.RegExpError.TheVariants.{Flags, Pattern, Memory}
 
--- The error for an error of the engine.
+-- The constructor's error for an error of the engine.
 abbrev pub of_pattern : Error → RegExpError
 of_pattern error.Memory = Memory
 of_pattern e = Pattern e
 
--- The engine refuses the source with the flags of these letters.
+-- The engine refuses the source with the flags of these letters, with this error.
 pub record IsRefused (source letters : List ℕ) (e : Error) : Type 0 where
   pub flags : flags.Flags
   pub are : flags_of letters ≡ Some flags
   pub refused : IsPatternRefusedWithSyntax ecmascript (tree_flags flags) (characters_of flags.unicode source) e
 
--- When each error is possible for a source and letters of flags.
+-- When each error may occur, for a source and the letters of flags.
 abbrev pub CanRefuse : (source letters : List ℕ) → RegExpError → Type 0
 CanRefuse source letters Flags = are_flags letters ≡ false
 CanRefuse source letters (Pattern error.Memory) = ⊥

@@ -14,21 +14,22 @@ use Rattle.use_regexp.specs.Loops.{AreTaken}
 use Rattle.use_regexp.specs.Template.{substitution}
 use Rattle.use_regexp.specs.declared.pattern.Pattern.{Pattern}
 
--- Each match is a range of the text, and begins after the offset and after the end of the previous match, or there.
+-- The matches are ranges of the text in ascending order, and do not overlap. The first begins at
+-- `from` or later.
 abbrev pub StandInUnits : (text : List ℕ) → (from : ℕ) → List Answer → Type 0
 StandInUnits text from [] = from ≤ length text
 StandInUnits text from (m ∷ ms) = (from ≤ m.range.0) × MatchRangesLieWithinUnits text m × StandInUnits text m.range.1 ms
 
--- These matches, each with the expansion of the template for it.
+-- Each match with the expansion of the template for it.
 abbrev pub substituted : (text template : List ℕ) → List Answer → List (Answer × List ℕ)
 substituted text template ms = map (λ m. (m, substitution text m template)) ms
 
--- The text with the expansions of the template in place of the matches.
+-- The result is the text with each match replaced by the expansion of the template.
 abbrev pub IsReplaced : Pattern → (last : ℕ) → (text template made : List ℕ) → Type 0
 IsReplaced p last text template made =
     (ms : List Answer) × AreTaken p text 0 last ms × (made ≡ replaced text 0 (substituted text template ms))
 
--- A closure may be called for each of the matches.
+-- The closure may be called for each match that is replaced.
 abbrev pub CanBeTaken : (takes : Bor Match → Type 0) → Pattern → (text : List ℕ) → (last : ℕ) → Type 0
 CanBeTaken takes p text last = (ms : List Answer) → AreTaken p text 0 last ms → ClosureCanBeCalled takes ms
 
@@ -36,21 +37,22 @@ CanBeTaken takes p text last = (ms : List Answer) → AreTaken p text 0 last ms 
 abbrev pub units_of : {Z : Type 0} → Vec ℕ Z → List ℕ
 units_of v = v.items
 
--- `says`: the closure may return this result for this match.
+-- `says` relates a match to the results that the closure may return for it.
 module _ {Z E : Type 0} (says : Bor Match → Result (Vec ℕ Z) E → Type 0) where
-  -- The text with its results in place of these matches.
+  -- The result is the text with each of these matches replaced by the closure's result for it.
   abbrev pub IsReplacedBy : (text : List ℕ) → List Answer → (made : List ℕ) → Type 0
   IsReplacedBy text ms made = answered.IsReplacedBy says units_of text ms made
 
-  -- When each error is possible for these matches.
+  -- When each error may occur, for these matches.
   abbrev pub CanRefuseAt : List Answer → ReplaceError E → Type 0
   CanRefuseAt ms e = answered.CanRefuseWith says units_of ms e
 
   module _ (p : Pattern) (text : List ℕ) (last : ℕ) where
-    -- For the matches that are replaced.
+    -- `IsReplacedBy` for the matches that are replaced.
     abbrev pub IsReplacedWith : (made : List ℕ) → Type 0
     IsReplacedWith made = (ms : List Answer) × AreTaken p text 0 last ms × IsReplacedBy text ms made
 
+    -- `CanRefuseAt` for the matches that are replaced.
     abbrev pub CanRefuseWith : ReplaceError E → Type 0
     CanRefuseWith (Search e) = IsOutOfMemory e
     CanRefuseWith (Closure e) = (ms : List Answer) × AreTaken p text 0 last ms

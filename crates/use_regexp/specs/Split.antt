@@ -11,54 +11,59 @@ use Rattle.use_regexp.specs.Exec.{first_match, match_here}
 use Rattle.use_regexp.specs.Units.{advanced}
 use Rattle.use_regexp.specs.declared.pattern.Pattern.{Pattern}
 
--- The match ends at this index.
+-- Whether there is a match that ends at this index.
 abbrev pub ends_at : (index : ℕ) → Option Answer → Bool
 ends_at index m = option_map_or (λ (a : Answer). a.range.1 == index) m false
 
--- The match, if it begins before the end of the text.
+-- The match, if it begins before the end of the text. Otherwise `None`.
 abbrev pub before_end : (text : List ℕ) → Option Answer → Option Answer
 before_end text m = option_and_then (λ (a : Answer). if nat_lt a.range.0 (length text) then Some a else None) m
 
 module _ (p : Pattern) (text : List ℕ) where
-  -- With `u` the index is not within a surrogate pair.
+  -- With `u`, the index is not within a surrogate pair.
   abbrev pub CutsNone : (index : ℕ) → Type 0
   CutsNone index = IsTrue p.flags.unicode → is_within_pair text index ≡ false
 
-  -- The first match from an index on; if it ends there, the first one from the next index on.
+  -- The first match from an index on. If it ends at this index, it is the first match from the next
+  -- index on.
   abbrev pub chosen : (from : ℕ) → (first : Option Answer) → Option Answer
   chosen from first = if ends_at from first then first_match p text (advanced p.flags.unicode text from) else first
 
-  -- The next separator after the start of a piece. The loop of the standard tries one index before the end of the text after
-  -- another, and skips a match that ends at the start of the piece. So it finds this one.
+  -- The next separator after the start of a piece. The loop of the standard tries each index before
+  -- the end of the text in order, and skips matches that end at the start of the piece, so it finds
+  -- this match.
   unfoldable pub separator : (from : ℕ) → Option Answer
   separator from =
       before_end text (chosen from (first_match p text from))
 
-  -- These are the successive separators after the start of a piece. After them there is none, or there are as many pieces as
-  -- the limit allows: a separator adds one piece, and one for each of its groups.
+  -- These are the successive separators after the start of a piece. After them there is no other,
+  -- or there are as many pieces as the limit allows. A separator adds one piece, and one for each
+  -- of its groups.
   abbrev pub AreSeparators : (from wanted : ℕ) → List Answer → Type 0
   AreSeparators from wanted [] = (separator from ≡ None) ⊎ (wanted ≡ 0)
   AreSeparators from wanted (m ∷ ms) =
       (separator from ≡ Some m) × AreSeparators m.range.1 (wanted - (length m.captures + 1)) ms
 
-  -- The piece before each separator, the groups of the separator, and the rest of the text.
+  -- The pieces: before each separator the text in front of it, then the groups of the separator,
+  -- and last the rest of the text.
   abbrev pub pieces : (from : ℕ) → List Answer → Groups
   pieces from [] = Some (from, length text) ∷ []
   pieces from (m ∷ ms) = Some (from, m.range.0) ∷ (m.captures ++ pieces m.range.1 ms)
 
-  -- The pieces of an empty text: none if the pattern matches it.
+  -- The pieces of an empty text. There is none if the pattern matches the empty text.
   abbrev pub pieces_of_none : Groups
   pieces_of_none = if is_some (match_here p text 0) then [] else Some (0, 0) ∷ []
 
-  -- The pieces of a text that is not empty, at most as many as the limit allows.
+  -- The pieces of a non-empty text, up to the limit.
   abbrev pub ArePieces : (limit : ℕ) → Groups → Type 0
   ArePieces limit made = (ms : List Answer) × AreSeparators 0 limit ms × (made ≡ take limit (pieces 0 ms))
 
-  -- The pieces of a text, at most as many as the limit allows.
+  -- The pieces of a text, up to the limit.
   abbrev pub IsSplit : (limit : ℕ) → Groups → Type 0
   IsSplit limit made = MatchBool (length text == 0) (made ≡ take limit pieces_of_none) (ArePieces limit made)
 
-  -- A separator is a range of the text after the start of the piece, and does not end within a surrogate pair.
+  -- The separator is a range of the text after the start of the piece, and does not end within a
+  -- surrogate pair.
   pub record IsSeparator (from : ℕ) (m : Answer) : Type 0 where
     pub fits : MatchRangesLieWithinUnits text m
     pub behind : CutsNone from → from ≤ m.range.0

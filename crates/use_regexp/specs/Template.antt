@@ -7,49 +7,54 @@ use Rattle.std.specs.Char.{is_ascii_digit}
 use Rattle.regex_meaning.specs.MatchGroupsByNumberAndName.{Answer, group, named_group, named_groups}
 use Rattle.regex_meaning.specs.Replace.{text_of}
 
--- The expansion of the first units of a template, and the rest of it.
+-- The expansion of the first part of a template, and the rest of the template.
 pub record Said : Type 0 where
   pub units : List ℕ
   pub rest : List ℕ
 
+-- The expansion `units`, with the rest of the template.
 abbrev pub say : (units rest : List ℕ) → Said
 say units rest = record { units = units; rest = rest }
 
--- The expansion is appended to the output, and this is the rest.
+-- The expansion is appended to the output, and `rest` is the rest of the template.
 abbrev pub IsWritten : (before after rest : List ℕ) → Said → Type 0
 IsWritten before after rest s = (after ≡ before ++ s.units) × (rest ≡ s.rest)
 
+-- Whether a unit is ASCII.
 abbrev pub is_ascii : ℕ → Bool
 is_ascii c = nat_lt c 128
 
--- The unit that ends a name.
+-- Whether the unit is `>`, which ends a name.
 abbrev pub is_greater : ℕ → Bool
 is_greater c = c == 62
 
--- The number of a digit and the digit after it; 0 if no digit follows.
+-- The number with a first digit and the digit after it. 0 if no digit follows.
 abbrev pub two_digits : (first : ℕ) → List ℕ → ℕ
 two_digits first [] = 0
 two_digits first (c ∷ cs) = if is_ascii_digit c then first * 10 + (c - 48) else 0
 
 module _ (m : Answer) where
-  -- The pattern has a group with this number.
+  -- Whether the pattern has a group with this number.
   abbrev pub is_group : (number : ℕ) → Bool
   is_group number = nat_lt 0 number && nat_le number (length m.captures)
 
-  -- The pattern has groups with names.
+  -- Whether the pattern has named groups.
   abbrev pub has_names : Bool
   has_names = not (length (named_groups m) == 0)
 
-  -- The index at which a name after `$<` ends, if any group has a name.
+  -- The index at which a name after `$<` ends. `None` if it does not end, or if no group has a
+  -- name.
   abbrev pub name_end : List ℕ → Option ℕ
   name_end rest = if has_names then position is_greater rest else None
 
 module _ (text : List ℕ) (m : Answer) where
-  -- The text of the group with a name, which is ASCII; empty if there is no such group or it did not match.
+  -- The text of the group with this name, which is ASCII. Empty if there is no such group or it did
+  -- not match.
   abbrev pub named_text : (name : List ℕ) → List ℕ
   named_text name = if list_all is_ascii name then text_of text m (named_group m name) else []
 
-  -- After `$` and a digit: the group with a number of two digits, or of one; otherwise `$` itself.
+  -- After `$` and a digit: the group with a number of two digits, or else of one digit. If there is
+  -- neither, the `$` is literal.
   abbrev pub numbered : (digit : ℕ) → List ℕ → Said
   numbered digit rest =
       let one = digit - 48 in
@@ -58,13 +63,14 @@ module _ (text : List ℕ) (m : Answer) where
       else if is_group m one then say (text_of text m (group m one)) rest
       else say (36 ∷ digit ∷ []) rest
 
-  -- After `$<`: the group with the name before `>`; otherwise `$<` itself.
+  -- After `$<`: the group with the name before `>`. If there is no name, the `$<` is literal.
   abbrev pub named : List ℕ → Said
   named rest =
       option_map_or (λ (end : ℕ). say (named_text (take end rest)) (drop (suc end) rest))
       (name_end m rest) (say (36 ∷ 60 ∷ []) rest)
 
-  -- `$` and one unit: the match, the text before or after it, or `$`; otherwise both units
+  -- `$` and one unit: `$&` is the match, `` $` `` the text before it, `$'` the text after it, and
+  -- `$$` a `$`. Otherwise both units are literal.
   abbrev pub plain : (sign : ℕ) → List ℕ
   plain sign =
       if sign == 38 then text_of text m (group m 0)
@@ -73,17 +79,17 @@ module _ (text : List ℕ) (m : Answer) where
       else if sign == 36 then 36 ∷ []
       else 36 ∷ sign ∷ []
 
-  -- After `$`.
+  -- The expansion after a `$`.
   abbrev pub behind_dollar : List ℕ → Said
   behind_dollar [] = say (36 ∷ []) []
   behind_dollar (c ∷ rest) =
       if is_ascii_digit c then numbered c rest else if c == 60 then named rest else say (plain c) rest
 
-  -- The expansion of the first units.
+  -- The expansion of the first part of a template, which begins with the unit `first`.
   abbrev pub said : (first : ℕ) → List ℕ → Said
   said c rest = if c == 36 then behind_dollar rest else say (c ∷ []) rest
 
-  -- The expansion of a template with at most this many units.
+  -- The expansion of a template, in at most `count` parts.
   abbrev pub said_in : (count : ℕ) → List ℕ → List ℕ
   said_in zero template = []
   said_in (suc count) [] = []

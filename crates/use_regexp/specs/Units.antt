@@ -1,4 +1,4 @@
--- Texts of 16-bit code units, which are read as UTF-16 with the flag `u`.
+-- Texts of 16-bit code units. With the flag `u` they are read as UTF-16.
 use Rattle.std.specs.Prelude.{ℕ, zero, suc, ◌+◌, ◌-◌, Bool, ◌&&◌, List, if◌then◌else◌}
 use Rattle.regex_meaning.specs.Laws.{is_within_pair}
 use Rattle.regex_meaning.specs.Text.{utf16_characters}
@@ -8,7 +8,8 @@ module _ (unicode : Bool) where
   abbrev pub characters_of : List ℕ → List ℕ
   characters_of units = if unicode then utf16_characters units else units
 
-  -- The start of the character at an index: one unit before an index within a surrogate pair (21.2.2.2).
+  -- The index at which the character at an index begins. Within a surrogate pair, it is one unit
+  -- before the index (21.2.2.2).
   abbrev pub character_start : List ℕ → (index : ℕ) → ℕ
   character_start text index = if unicode && is_within_pair text index then index - 1 else index
 

@@ -9,7 +9,7 @@ use std::alloc::AllocError;
 /// Why the constructor of a regular expression fails.
 #[derive(Clone, Copy, Debug, PartialEq, Eq, thiserror::Error)]
 pub enum RegExpError {
-    /// A letter is not that of a flag, or occurs twice.
+    /// A letter is not the letter of a flag, or occurs twice.
     #[error("the flags are refused")]
     Flags,
     /// The pattern has a syntax error or exceeds a limit.

@@ -13,14 +13,15 @@ const LETTERS: [u16; 7] = [100, 103, 105, 109, 115, 117, 121];
 /// The flags of a regular expression (21.2.5). `d` is a flag of the 13th edition (ES2022).
 #[derive(Clone, Copy, Debug, Default, PartialEq, Eq)]
 pub struct Flags {
-    /// Results of `exec` have the array `indices` (`d`). It does not change a search, since a [`Match`](crate::Match)
-    /// always has the indices.
+    /// The results of `exec` have the array `indices` (`d`). This does not change a search, because
+    /// a [`Match`](crate::Match) always has the indices.
     pub has_indices: bool,
-    /// A search continues at the end of the previous one, and calls that replace or match use all matches (`g`).
+    /// A search continues at the end of the previous match, and calls that replace or match use all
+    /// matches (`g`).
     pub global: bool,
-    /// Letters match in either case (`i`).
+    /// Letters match regardless of case (`i`).
     pub ignore_case: bool,
-    /// `^` and `$` also match after and before line terminators (`m`).
+    /// `^` also matches after a line terminator, and `$` before one (`m`).
     pub multiline: bool,
     /// `.` also matches line terminators (`s`).
     pub dot_all: bool,
@@ -34,8 +35,8 @@ impl Flags {
     ghost use Rattle.use_regexp.specs.Flags.{flags_of, keeps_index as keeps, letters_of, tree_flags};
     ghost use Rattle.regress_match.specs.PublicFlagsAsSpecFlags.{spec_flags_of as engine_flags};
 
-    /// Returns the flags with these letters, in any order, or `None` if a letter is not that of a flag or occurs twice
-    /// (21.2.3.2.2).
+    /// Returns the flags with these letters, in any order. Returns `None` if a letter is not the
+    /// letter of a flag or occurs twice (21.2.3.2.2).
     pub fn of_letters(letters: &[u16]) -> Option<Flags>
         ensures { result ≡ flags_of letters.now }
     {
@@ -54,7 +55,8 @@ impl Flags {
         }
     }
 
-    /// Returns the letters of the flags that are set, in the order `dgimsuy` (22.2.6.4 of the 13th edition).
+    /// Returns the letters of the flags that are set, in the order `dgimsuy` (22.2.6.4 of the 13th
+    /// edition).
     ///
     /// # Errors
     ///
@@ -73,7 +75,7 @@ impl Flags {
         Ok(letters)
     }
 
-    // Returns whether a search begins at `lastIndex` and sets it.
+    // Checks whether a search begins at `lastIndex` and sets it.
     pub(crate) fn keeps_index(self) -> bool
         ensures { result ≡ keeps self }
     {
@@ -105,7 +107,7 @@ fn push_if(letters: &mut Vec<u16>, set: bool, letter: u16) -> Result<(), AllocEr
     Ok(())
 }
 
-// Returns whether each letter is that of a flag and none occurs twice.
+// Checks whether each letter is the letter of a flag, and none occurs twice.
 fn are_flags(letters: &[u16]) -> bool
     ensures { result ≡ are_flags_of letters.now }
 {

@@ -1,10 +1,13 @@
-//! The RegExp object of a script interpreter, over texts of 16-bit units: ECMA-262, 9th edition, 21.2.3 to 21.2.6.
+//! The RegExp object of a script interpreter, over texts of 16-bit units: ECMA-262, 9th edition,
+//! 21.2.3 to 21.2.6.
 //!
-//! With the flag `u` pattern and text are read as UTF-16; without it each code unit is a character. Clause numbers,
-//! such as 21.2.5.7, are those of the 9th edition unless another one is named.
+//! With the flag `u`, pattern and text are read as UTF-16. Without it, each code unit is a
+//! character. Clause numbers, such as 21.2.5.7, are those of the 9th edition unless another edition
+//! is named.
 //!
-//! The functions take coerced values. A host converts the property `lastIndex` by [`to_length`] and the limit of a
-//! split by [`to_uint32`]. Before that it converts a value that is not a number to one (7.1.3, ToNumber).
+//! The functions take coerced values. A host converts the property `lastIndex` with [`to_length`],
+//! and the limit of a split with [`to_uint32`]. If the value is not a number, the host first
+//! converts it to one (7.1.3, ToNumber).
 #![tactic(auto)]
 
 mod coercions;

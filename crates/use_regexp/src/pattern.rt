@@ -13,7 +13,7 @@ use regress_match::exec::{MatchProducer, Matches};
 use regress_match::{Match, Regex, SearchError, Syntax};
 use std::alloc::{AllocError, Global};
 
-/// A compiled pattern with its source text and its flags.
+/// A compiled pattern, with its source text and its flags.
 #[derive(Drop)]
 pub struct Pattern {
     re: Regex,
@@ -27,13 +27,13 @@ impl Pattern {
     ghost use Rattle.use_regexp.specs.Loops.{AreFoundInTurn, AreTaken, index_after_match};
 
     /// Compiles a pattern of the whole language, with annex B, with the flags of these letters
-    /// (21.2.3.2.2, RegExpInitialize). With `u` the source is read
-    /// as UTF-16; without it each code unit is a character.
+    /// (21.2.3.2.2, RegExpInitialize). With `u`, the source is read as UTF-16. Without it, each
+    /// code unit is a character.
     ///
     /// # Errors
     ///
-    /// `Flags` if a letter is not that of a flag or occurs twice, `Pattern` if the pattern is refused, and `Memory` if
-    /// an allocation fails.
+    /// Returns `Flags` if a letter is not the letter of a flag or occurs twice, `Pattern` if the
+    /// pattern is refused, and `Memory` if an allocation fails.
     pub fn new(alloc: Global, source: &[u16], letters: &[u16]) -> Result<Pattern, RegExpError>
         ensures compiled { IfOk result (IsPatternOf source.now letters.now) }
         ensures refused { IfErr result (CanRefuse source.now letters.now) }
@@ -92,9 +92,9 @@ impl Pattern {
         }
     }
 
-    /// Returns the match of a search with this `lastIndex` (21.2.5.2.2, RegExpBuiltinExec). With `g` or `y` the search
-    /// begins at `lastIndex`, otherwise at 0. With `y` no other index is tried. With `u` an index within a surrogate
-    /// pair means the start of the pair.
+    /// Returns the match of a search with this `lastIndex` (21.2.5.2.2, RegExpBuiltinExec). With
+    /// `g` or `y`, the search begins at `lastIndex`, and otherwise at 0. With `y`, no other index
+    /// is tried. With `u`, an index within a surrogate pair is moved to the start of the pair.
     ///
     /// # Errors
     ///
@@ -113,7 +113,8 @@ impl Pattern {
         }
     }
 
-    // Returns the index at which a search begins: `lastIndex` with `g` or `y`, otherwise 0.
+    // Returns the index at which a search begins. It is `lastIndex` with `g` or `y`, and otherwise
+    // 0.
     fn search_index(&self, last_index: usize) -> usize
         ensures { result ≡ search_index_of self.now last_index }
     {
@@ -124,8 +125,8 @@ impl Pattern {
         }
     }
 
-    /// Returns `lastIndex` after a search. With `g` or `y` it is the end of the match, or 0 without a match. Otherwise
-    /// it is unchanged.
+    /// Returns `lastIndex` after a search. With `g` or `y`, it is the end of the match, or 0 if
+    /// there is none. Otherwise it is unchanged.
     pub fn last_behind(&self, last_index: usize, found: Option<&Match>) -> usize
         ensures { result ≡ last_behind self.now last_index (option_map (λ m. answer_of m.now) found.entry) }
     {
@@ -138,8 +139,8 @@ impl Pattern {
         }
     }
 
-    // Returns the index at which a loop over matches continues after a match: its end, or one character further if it
-    // is empty.
+    // Returns the index at which a loop over matches continues after a match: the end of the match,
+    // or one character further if it is empty.
     pub(crate) fn index_after_match(&self, text: &[u16], found: &Match) -> usize
         requires { found.now.range.end ≤ length text.now }
         ensures { result ≡ index_after_match self.now text.now (answer_of found.now) }
@@ -166,8 +167,8 @@ impl Pattern {
         Ok(matches)
     }
 
-    /// Returns all matches from the index `first` on with `g`, and otherwise the match of a search with this
-    /// `lastIndex`, if there is one.
+    /// Returns matches: with `g` all matches from the index `first` on, and otherwise the match of
+    /// a search with this `lastIndex`, if there is one.
     ///
     /// # Errors
     ///
@@ -190,7 +191,8 @@ impl Pattern {
         Ok(matches)
     }
 
-    /// Returns `lastIndex` after these matches. With `g` it is 0, since the last search has found no match.
+    /// Returns `lastIndex` after these matches. With `g` it is 0, because the last search has found
+    /// no match.
     pub fn last_taken(&self, last_index: usize, matches: &[Match]) -> usize
         ensures { result ≡ (if self.now.flags.global then 0
             else last_behind self.now last_index (slice_get (map answer_of matches.now) 0)) }
@@ -210,7 +212,7 @@ fn first<P: MatchProducer + Drop>(mut matches: Matches<P>) -> Result<Option<Matc
     matches.next().transpose()
 }
 
-// Returns a list that contains the match, if there is one.
+// Returns the match as a list, which is empty if there is none.
 fn listed(alloc: Global, found: Option<Match>) -> Result<Vec<Match>, AllocError>
     ensures { IfOk result (λ v. map answer_of v.items ≡ option_to_list (option_map answer_of found)) }
 {

@@ -13,28 +13,29 @@ use crate::source::escaped;
 use regress_match::{Match, SearchError};
 use std::alloc::{AllocError, Global};
 
-/// A regular expression, and the index at which its next search begins.
+/// A regular expression, with the index at which its next search begins.
 #[derive(Drop)]
 pub struct RegExp {
     pub(crate) pattern: Pattern,
-    /// `lastIndex` in code units (21.2.6.1): the index at which the next search begins with `g` or `y`. Any value is
-    /// allowed; a search from past the end of the text finds no match.
+    /// `lastIndex` in code units (21.2.6.1). With `g` or `y`, the next search begins at this index.
+    /// Any value is allowed. A search from past the end of the text finds no match.
     ///
-    /// The property of a script's object may hold any value, which a call coerces. So before a call a host sets this
-    /// field to the property's number, converted by [`to_length`](crate::to_length). After `exec`, `test`,
-    /// `match_text`, `replace` and
-    /// `replace_with` it writes the field back to the property if the flags have `g` or `y`; otherwise the property
-    /// keeps its value.
+    /// The property of a script's object may hold any value, and a call coerces it. So before a
+    /// call, a host sets this field to the property's number, converted with
+    /// [`to_length`](crate::to_length). After `exec`, `test`, `match_text`, `replace` and
+    /// `replace_with`, it writes the field back to the property if the flags have `g` or `y`.
+    /// Otherwise the property keeps its value.
     pub last_index: usize,
 }
 
 impl RegExp {
-    /// Compiles a pattern with the flags of these letters, in any order (21.2.3.1). `lastIndex` is 0.
+    /// Compiles a pattern with the flags of these letters, in any order (21.2.3.1). `lastIndex` is
+    /// 0.
     ///
     /// # Errors
     ///
-    /// `Flags` if a letter is not that of a flag or occurs twice, `Pattern` if the pattern is refused, and `Memory` if
-    /// an allocation fails.
+    /// Returns `Flags` if a letter is not the letter of a flag or occurs twice, `Pattern` if the
+    /// pattern is refused, and `Memory` if an allocation fails.
     pub fn new(alloc: Global, source: &[u16], letters: &[u16]) -> Result<RegExp, RegExpError>
         ensures compiled { IfOk result (λ r. IsPatternOf source.now letters.now r.pattern) }
         ensures first { IfOk result (λ r. r.last_index ≡ 0) }
@@ -82,12 +83,14 @@ impl RegExp {
         Ok(text)
     }
 
-    /// Returns the first match from `lastIndex` on with `g`, the match that begins at `lastIndex` with `y`, and
-    /// otherwise the first match in the text (21.2.5.2). With `g` or `y` `lastIndex` becomes the end of the match, or 0
-    /// without a match. With `u` an index within a surrogate pair means the start of the pair.
+    /// Returns a match (21.2.5.2): with `g` the first match from `lastIndex` on, with `y` the match
+    /// that begins at `lastIndex`, and otherwise the first match in the text. With `g` or `y`,
+    /// `lastIndex` becomes the end of the match, or 0 if there is none. With `u`, an index within a
+    /// surrogate pair is moved to the start of the pair.
     ///
-    /// The array `indices` of a result with the flag `d` (22.2.7.2 of the 13th edition) is [`Match::groups`]: a range
-    /// is a pair of indices, and a group that did not match has none. Its `groups` are [`Match::named_groups`].
+    /// With the flag `d`, a result has an array `indices` (22.2.7.2 of the 13th edition), which is
+    /// [`Match::groups`]: a range is a pair of indices, and a group that did not match has none.
+    /// The `groups` of this array are [`Match::named_groups`].
     ///
     /// # Errors
     ///
@@ -107,11 +110,11 @@ impl RegExp {
         Ok(found)
     }
 
-    /// Returns whether `exec` finds a match, and sets `lastIndex` like `exec` (21.2.5.14).
+    /// Checks whether `exec` finds a match, and sets `lastIndex` as `exec` does (21.2.5.14).
     ///
     /// # Errors
     ///
-    /// Those of `exec`.
+    /// Returns the errors of `exec`.
     pub fn test(&mut self, text: &[u16]) -> Result<bool, SearchError>
         ensures tested { IfOk result (λ b. b ≡ is_some (found self.old.pattern text.now self.old.last_index)) }
         ensures last { IfOk result (λ b. self.new.last_index ≡ last_behind self.old.pattern
@@ -124,8 +127,8 @@ impl RegExp {
         Ok(found.is_some())
     }
 
-    /// Returns the start of the match that `exec` finds with a `lastIndex` of 0, or `None` without a match. `lastIndex`
-    /// is unchanged (21.2.5.10).
+    /// Returns the start of the match that `exec` finds if `lastIndex` is 0. Returns `None` if
+    /// there is no match. `lastIndex` is unchanged (21.2.5.10).
     ///
     /// # Errors
     ///
@@ -141,8 +144,9 @@ impl RegExp {
         }
     }
 
-    /// Returns all matches in the text with `g`, and otherwise the match of `exec`, if there is one (21.2.5.7,
-    /// `[Symbol.match]`). `lastIndex` becomes 0 with `g`, and otherwise what `exec` sets it to.
+    /// Returns matches (21.2.5.7, `[Symbol.match]`): with `g` all matches in the text, and
+    /// otherwise the match of `exec`, if there is one. With `g`, `lastIndex` becomes 0. Otherwise
+    /// `exec` sets it.
     ///
     /// # Errors
     ///
@@ -170,9 +174,9 @@ impl RegExp {
         self.last_index = last_index;
     }
 
-    /// Returns all matches from `lastIndex` on with `g`, and otherwise the match of `exec`, if there is one.
-    /// `lastIndex` is unchanged (21.2.5.8 of the 11th edition, `[Symbol.matchAll]`, which the 9th edition does not
-    /// have).
+    /// Returns matches: with `g` all matches from `lastIndex` on, and otherwise the match of
+    /// `exec`, if there is one. `lastIndex` is unchanged (21.2.5.8 of the 11th edition,
+    /// `[Symbol.matchAll]`, which the 9th edition does not have).
     ///
     /// # Errors
     ///

@@ -15,14 +15,13 @@ use regress_match::{Match, ReplaceError, SearchError};
 use std::alloc::{AllocError, Global};
 
 impl RegExp {
-    /// Returns the text with the expansion of a template in place of each match with `g`, and otherwise of the match of
-    /// `exec` (21.2.5.9, `[Symbol.replace]`). Without a match it is the text itself. `lastIndex` is set like by
-    /// `match_text`.
+    /// Returns the text with matches replaced by the expansion of a template: with `g` all matches,
+    /// and otherwise the match of `exec` (21.2.5.9, `[Symbol.replace]`). Without a match, it is the
+    /// text itself. `lastIndex` is set as by `match_text`.
     ///
-    /// In a template `$$` stands for `$`, `$&` for the match, `` $` `` for the text before it and `$'` for the text
-    /// after it.
-    /// `$` with one or two digits stands for a group, if there is one with this number, and `$<name>` for a group by
-    /// name, if any group has a name. Any other `$` stands for itself.
+    /// In a template, `$$` is a `$`, `$&` is the match, `` $` `` is the text before it, and `$'` is
+    /// the text after it. `$` with one or two digits is the group with this number, if it exists.
+    /// `$<name>` is the group with this name, if any group has a name. Any other `$` is literal.
     ///
     /// # Errors
     ///
@@ -46,13 +45,15 @@ impl RegExp {
         Ok(made)
     }
 
-    /// Returns the text with the result of a closure in place of each match with `g`, and otherwise of the match of
-    /// `exec` (21.2.5.9). The closure is called for one match after another, and not again after an error. `lastIndex`
-    /// is set like by `match_text`.
+    /// Returns the text with matches replaced by the results of a closure: with `g` all matches,
+    /// and otherwise the match of `exec` (21.2.5.9). The closure is called for the matches in
+    /// order, and not again after an error. `lastIndex` is set as by `match_text`.
     ///
-    /// # Errors
+    /// Returns `Search` if an allocation fails, and `Closure` if the closure returns an error. Then
+    /// `self` is unchanged.
     ///
-    /// `Search` if an allocation fails, and `Closure` with the error of the closure. Then `self` is unchanged.
+    /// `Search` if an allocation fails, and `Closure` with the error of the closure. Then `self` is
+    /// unchanged.
     pub fn replace_with<E, F>(
         &mut self,
         alloc: Global,
@@ -111,7 +112,7 @@ fn write_template(
     Ok(made)
 }
 
-// Appends the result of the closure for a match.
+// Appends the closure's result for a match.
 fn write_answer<E>(made: &mut Vec<u16>, answer: Result<Vec<u16>, E>) -> Result<(), ReplaceError<E>>
     ensures made { IfOk result (λ _. IsOkAnd answer (λ piece. made.new.items ≡ made.old.items ++ piece.items)) }
     ensures refused { IfErr result (IsClosureErrorOrOutOfMemory answer) }

@@ -10,7 +10,8 @@ const BACKSLASH: u16 = 92;
 
 const SLASH: u16 = 47;
 
-/// Returns the source of a pattern, escaped so that it can stand between slashes (21.2.3.2.4, EscapeRegExpPattern).
+/// Returns the source of a pattern, escaped so that it can stand between slashes (21.2.3.2.4,
+/// EscapeRegExpPattern).
 ///
 /// # Errors
 ///
@@ -58,21 +59,21 @@ fn push_plain(out: &mut Vec<u16>, in_class: bool, unit: u16) -> Result<(), Alloc
     push_behind_backslash(out, unit)
 }
 
-// Returns whether a unit needs a backslash: a line terminator, or a slash outside of a class.
+// Checks whether a unit needs a backslash: it is a line terminator, or a slash outside of a class.
 fn wants_backslash(in_class: bool, unit: u16) -> bool
     ensures { result ≡ wants in_class unit }
 {
     is_line_terminator(unit) || (unit == SLASH && !in_class)
 }
 
-// Returns whether a unit is a line terminator.
+// Checks whether a unit is a line terminator.
 fn is_line_terminator(unit: u16) -> bool
     ensures { result ≡ is_terminator_of unit }
 {
     unit == 0x0A || unit == 0x0D || unit == 0x2028 || unit == 0x2029
 }
 
-// Returns whether a class is open after a unit that does not follow a backslash.
+// Checks whether a class is open after a unit that does not follow a backslash.
 fn is_in_class(in_class: bool, unit: u16) -> bool
     ensures { result ≡ class_behind in_class unit }
 {
@@ -85,7 +86,8 @@ fn is_in_class(in_class: bool, unit: u16) -> bool
     }
 }
 
-// Appends the part of an escape after its backslash: the name of a line terminator, or the unit itself.
+// Appends what follows the backslash in an escape: the name of a line terminator, or the unit
+// itself.
 fn push_behind_backslash(out: &mut Vec<u16>, unit: u16) -> Result<(), AllocError>
     ensures { IfOk result (λ _. out.new.items ≡ out.old.items ++ behind_backslash unit) }
 {

@@ -12,10 +12,10 @@ use regress_match::{Match, Range, SearchError};
 use std::alloc::{AllocError, Global};
 
 impl RegExp {
-    /// Splits the text at the matches, and returns the ranges between them (21.2.5.12, `[Symbol.split]`). The range
-    /// before a match is followed by the ranges of the groups of the match, `None` for a group that did not match. The
-    /// list has at most `limit` items; without a limit `limit` is 2^32 - 1. A host coerces the limit by
-    /// [`to_uint32`](crate::to_uint32).
+    /// Splits the text at the matches, and returns the ranges between them (21.2.5.12,
+    /// `[Symbol.split]`). The range before a match is followed by the ranges of the match's groups,
+    /// which are `None` for groups that did not match. The list has at most `limit` items. 2^32 - 1
+    /// stands for no limit. A host coerces the limit with [`to_uint32`](crate::to_uint32).
     ///
     /// An empty match splits only between two characters. `lastIndex`, `g` and `y` have no effect.
     ///
@@ -41,7 +41,7 @@ impl RegExp {
 }
 
 impl Pattern {
-    // Returns the pieces of an empty text: none if the pattern matches it.
+    // Returns the pieces of an empty text. There is none if the pattern matches the empty text.
     fn pieces_of_none(
         &self,
         alloc: Global,
@@ -60,7 +60,7 @@ impl Pattern {
         Ok(pieces)
     }
 
-    // Returns the pieces of a text that is not empty. The search ends once there are `limit` pieces.
+    // Returns the pieces of a non-empty text. The search ends when there are `limit` pieces.
     fn pieces(
         &self,
         alloc: Global,
@@ -86,7 +86,8 @@ impl Pattern {
         Ok(pieces)
     }
 
-    // Returns the next separator after the start of a piece, unless there are `limit` pieces already.
+    // Returns the next separator after the start of a piece. Returns `None` if there are already
+    // `limit` pieces.
     fn wanted_separator(
         &self,
         text: &[u16],
@@ -107,8 +108,8 @@ impl Pattern {
         self.separator(text, from)
     }
 
-    // Returns the next separator after the start of a piece: a match that does not end there, and begins before the end
-    // of the text.
+    // Returns the next separator after the start of a piece: a match that does not end there and
+    // begins before the end of the text.
     fn separator(&self, text: &[u16], from: usize) -> Result<Option<Match>, SearchError>
         requires { from ≤ length text.now }
         ensures found { IfOk result (λ m. option_map answer_of m ≡ separator self.now text.now from) }
@@ -120,8 +121,8 @@ impl Pattern {
         Ok(before_end(text, chosen))
     }
 
-    // Returns the first match from the start of a piece on; if that is empty there, the first match from the next index
-    // on.
+    // Returns the first match from the start of a piece on. If it is empty and begins there,
+    // returns the first match from the next index on.
     fn passed(
         &self,
         text: &[u16],
@@ -144,7 +145,7 @@ impl Pattern {
     }
 }
 
-// Returns the match if it begins before the end of the text.
+// Returns the match if it begins before the end of the text, and otherwise `None`.
 fn before_end(text: &[u16], found: Option<Match>) -> Option<Match>
     ensures { option_map answer_of result ≡ before_end_of text.now (option_map answer_of found) }
 {

@@ -1,4 +1,4 @@
-//! Expansion of templates.
+//! Expands templates.
 
 ghost use Rattle.std.specs.Prelude.{◌≡◌, ◌++◌, ◌<◌, IfOk, IfSome, IsTrue, None, Some, if◌then◌else◌, length, option_map, position, string_bytes};
 ghost use Rattle.std.specs.Char.{is_ascii_digit};
@@ -18,8 +18,8 @@ const LESS: u16 = 60;
 
 const GREATER: u16 = 62;
 
-// Appends the expansion of a template for a match (21.1.3.16.1, GetSubstitution). Each iteration reads at least one
-// unit.
+// Appends the expansion of a template for a match (21.1.3.16.1, GetSubstitution). Each iteration
+// reads at least one unit.
 pub(crate) fn substitute(
     alloc: Global,
     out: &mut Vec<u16>,
@@ -41,7 +41,7 @@ pub(crate) fn substitute(
     Ok(())
 }
 
-// Appends the expansion of the first units, and returns the rest.
+// Appends the expansion of the first part of a template, and returns the rest.
 fn push_said<'a>(
     alloc: Global,
     out: &mut Vec<u16>,
@@ -61,7 +61,7 @@ fn push_said<'a>(
     Ok(behind)
 }
 
-// Appends the expansion of `$` and the units after it, and returns the rest.
+// Appends the expansion of `$` and the units after it. Returns the rest.
 fn push_behind_dollar<'a>(
     alloc: Global,
     out: &mut Vec<u16>,
@@ -87,7 +87,8 @@ fn push_behind_dollar<'a>(
     Ok(rest)
 }
 
-// Appends the expansion of `$` and one unit: a `$`, the match, or the text before or after it; otherwise both units.
+// Appends the expansion of `$` and one unit: a `$`, the match, the text before it, or the text
+// after it. Otherwise appends both units.
 fn push_plain(out: &mut Vec<u16>, text: &[u16], found: &Match, sign: u16) -> Result<(), AllocError>
     requires { MatchRangesLieWithinUnits text.now (answer_of found.now) }
     ensures { IfOk result (λ _. out.new.items ≡ out.old.items ++ plain text.now (answer_of found.now) sign) }
@@ -108,15 +109,15 @@ fn push_plain(out: &mut Vec<u16>, text: &[u16], found: &Match, sign: u16) -> Res
     Ok(())
 }
 
-// Returns whether a unit is a digit.
+// Checks whether a unit is a digit.
 fn is_digit(unit: u16) -> bool
     ensures { result ≡ is_ascii_digit unit }
 {
     matches!(unit, 48..=57)
 }
 
-// Appends the text of the group with the number of two digits, or of one digit if there is no such group; otherwise `$`
-// and the digit.
+// Appends the text of the group with a number of two digits, or else of one digit. If there is
+// neither, appends `$` and the digit.
 fn push_numbered<'a>(
     out: &mut Vec<u16>,
     text: &[u16],
@@ -144,14 +145,14 @@ fn push_numbered<'a>(
     Ok(rest)
 }
 
-// Returns whether the pattern has a group with this number.
+// Checks whether the pattern has a group with this number.
 fn is_group(found: &Match, number: usize) -> bool
     ensures { result ≡ is_group_of (answer_of found.now) number }
 {
     0 < number && number <= found.captures.len()
 }
 
-// Returns the number of a digit and the digit after it, or 0 if no digit follows.
+// Returns the number with a first digit and the digit after it. Returns 0 if no digit follows.
 fn two_digits(first: usize, rest: &[u16]) -> usize
     requires { first < 10 }
     ensures { result ≡ two_digits_of first rest.now }
@@ -162,7 +163,8 @@ fn two_digits(first: usize, rest: &[u16]) -> usize
     }
 }
 
-// Appends the text of the group with the name before `>`, if any group has a name; otherwise `$<`.
+// If any group has a name, appends the text of the group with the name before `>`. Otherwise
+// appends `$<`.
 fn push_named<'a>(
     alloc: Global,
     out: &mut Vec<u16>,
@@ -183,7 +185,8 @@ fn push_named<'a>(
     Ok(&rest[end + 1..])
 }
 
-// Returns the index at which a name ends, if any group has a name.
+// Returns the index at which a name ends. Returns `None` if it does not end, or if no group has a
+// name.
 fn name_end(found: &Match, rest: &[u16]) -> Option<usize>
     ensures end { result ≡ name_end_of (answer_of found.now) rest.now }
     ensures inside { IfSome result (λ end. end < length rest.now) }
@@ -202,7 +205,7 @@ fn greater_in(rest: &[u16]) -> Option<usize>
     rest.iter().position(|unit| *unit == GREATER)
 }
 
-// Appends the text of the group with a name, if there is one and it matched.
+// Appends the text of the group with this name, if it exists and matched.
 fn push_name(
     alloc: Global,
     out: &mut Vec<u16>,
@@ -220,7 +223,8 @@ fn push_name(
     }
 }
 
-// Returns the text of these units, or `None` if one is not ASCII. Names of groups are ASCII.
+// Returns these units as a text. Returns `None` if one of them is not ASCII. Names of groups are
+// ASCII.
 fn ascii(alloc: Global, units: &[u16]) -> Result<Option<String>, AllocError>
     ensures { IfOk result (λ s. option_map string_bytes s
         ≡ (if list_all is_ascii units.now then Some units.now else None)) }

@@ -1,4 +1,4 @@
-//! Texts of 16-bit code units, which are read as UTF-16 with the flag `u`.
+//! Texts of 16-bit code units. With the flag `u` they are read as UTF-16.
 
 ghost use Rattle.std.specs.Prelude.{◌≡◌, ◌≤◌, ◌∷◌, IfOk, length};
 ghost use Rattle.regex_meaning.specs.Laws.{is_within_pair as is_pair_at};
@@ -7,21 +7,21 @@ ghost use Rattle.use_regexp.specs.Units.{advanced as advanced_of, character_star
 
 use std::alloc::{AllocError, Global};
 
-// Returns whether a unit is a high surrogate.
+// Checks whether a unit is a high surrogate.
 fn is_high(unit: u16) -> bool
     ensures { result ≡ is_high_surrogate unit }
 {
     matches!(unit, 0xD800..=0xDBFF)
 }
 
-// Returns whether a unit is a low surrogate.
+// Checks whether a unit is a low surrogate.
 fn is_low(unit: u16) -> bool
     ensures { result ≡ is_low_surrogate unit }
 {
     matches!(unit, 0xDC00..=0xDFFF)
 }
 
-// Returns whether an index is within a surrogate pair.
+// Checks whether an index is within a surrogate pair.
 fn is_within_pair(text: &[u16], index: usize) -> bool
     ensures { result ≡ is_pair_at text.now index }
 {
@@ -34,8 +34,8 @@ fn is_within_pair(text: &[u16], index: usize) -> bool
     is_high(text[index - 1]) && is_low(text[index])
 }
 
-// Returns the start of the character at an index: with `u`, one unit before an index within a surrogate pair
-// (21.2.2.2).
+// Returns the index at which the character at an index begins. With `u`, it is one unit before an
+// index within a surrogate pair (21.2.2.2).
 pub(crate) fn character_start(unicode: bool, text: &[u16], index: usize) -> usize
     ensures { result ≡ start_of unicode text.now index }
 {
@@ -99,7 +99,8 @@ fn widened(alloc: Global, units: &[u16]) -> Result<Vec<u32>, AllocError>
     units.iter().map(|unit| u32::from(*unit)).collect(alloc)
 }
 
-// Returns the characters of a pattern: with `u` those in UTF-16, otherwise its units.
+// Returns the characters of a pattern. With `u` it is read as UTF-16; otherwise each unit is a
+// character.
 pub(crate) fn characters(
     alloc: Global,
     unicode: bool,

@@ -8,15 +8,16 @@ use crate::stop::{Malformed, Stop};
 use std::alloc::{AllocError, Global};
 use use_regexp::{Match, Range, RegExp, ReplaceError, to_length, to_uint32};
 
-/// The limit of a split without a limit.
+/// The limit that stands for no limit of a split.
 const NO_LIMIT: u32 = u32::MAX;
 
-/// Answers a line of the script: writes a line of JSON for each of its calls. A blank line has no calls.
+/// Answers a line: writes a line of JSON for each of its calls. A blank line has no calls.
 ///
 /// # Errors
 ///
-/// `SyntaxError` if the pattern or its flags are refused. `Malformed` if the line is malformed, after the answers of
-/// the calls before the error. `Memory` if an allocation fails.
+/// Returns `SyntaxError` if the pattern or its flags are refused. Returns `Malformed` if the line
+/// is malformed, after the calls before the error are answered. Returns `Memory` if an allocation
+/// fails.
 pub fn answer(alloc: Global, out: &mut String, line: &str) -> Result<(), Stop> {
     let units = units_of(alloc, line)?;
     let line = behind_blanks(&units);
@@ -29,7 +30,8 @@ pub fn answer(alloc: Global, out: &mut String, line: &str) -> Result<(), Stop> {
     answer_calls(alloc, out, &mut re, rest)
 }
 
-// Returns `lastIndex`, which is the number after `@`, or 0 without one, and the rest.
+// Reads `lastIndex`, the number after `@`. It is 0 if there is no `@`. Returns it with the rest of
+// the line.
 fn index(alloc: Global, line: &[u16]) -> Result<(usize, &[u16]), Stop> {
     match first(line) {
         Some((64, behind)) => {
@@ -61,7 +63,7 @@ fn answer_calls(
     Ok(())
 }
 
-// A method.
+// The methods.
 #[derive(Clone, Copy, PartialEq, Eq)]
 enum Method {
     Exec,
@@ -78,7 +80,8 @@ enum Method {
     LastIndex,
 }
 
-// A call of a method: its text, which is empty if it takes none, and the other parameters of `replace` and `split`.
+// A call of a method: its text (empty if the method takes none), and the other parameters of
+// `replace` and `split`.
 #[derive(Drop)]
 struct Call {
     method: Method,
@@ -103,7 +106,7 @@ const METHODS: [(&str, Method); 12] = [
     ("lastIndex", Method::LastIndex),
 ];
 
-// Returns the method with this name.
+// Returns the method with this name. Returns `None` if there is none.
 fn method_of(name: &[u16]) -> Option<Method> {
     for (text, method) in METHODS {
         if is(name, text) {
@@ -113,7 +116,7 @@ fn method_of(name: &[u16]) -> Option<Method> {
     None
 }
 
-// Returns whether the method takes a text.
+// Checks whether the method takes a text.
 fn takes_text(method: Method) -> bool {
     !matches!(
         method,
@@ -121,7 +124,7 @@ fn takes_text(method: Method) -> bool {
     )
 }
 
-// Reads a string if one is wanted, and returns it with the rest.
+// Reads a string if `is_wanted`. Returns it with the rest of the line.
 fn string_if(alloc: Global, is_wanted: bool, line: &[u16]) -> Result<(Vec<u16>, &[u16]), Stop> {
     if is_wanted {
         string(alloc, behind_blanks(line))
@@ -130,7 +133,7 @@ fn string_if(alloc: Global, is_wanted: bool, line: &[u16]) -> Result<(Vec<u16>, 
     }
 }
 
-// Reads a call, and returns it with the rest.
+// Reads a call. Returns it with the rest of the line.
 fn read_call(alloc: Global, line: &[u16]) -> Result<(Call, &[u16]), Stop> {
     let (name, rest) = word(line);
     let Some(method) = method_of(name) else {
@@ -148,7 +151,8 @@ fn read_call(alloc: Global, line: &[u16]) -> Result<(Call, &[u16]), Stop> {
     Ok((call, rest))
 }
 
-// Reads the limit of a split, if one is wanted and a number follows, and returns it with the rest.
+// Reads the limit of a split if `is_wanted` and a number follows. Returns it with the rest of the
+// line.
 fn limit_if(alloc: Global, is_wanted: bool, line: &[u16]) -> Result<(u32, &[u16]), Stop> {
     let rest = behind_blanks(line);
     if !is_wanted || !begins_number(rest) {
@@ -209,8 +213,8 @@ fn index_or_none(out: &mut String, at: Option<usize>) -> Result<(), AllocError> 
     }
 }
 
-// Writes the result of `match`: with `g` the texts of all matches, or `null` if there are none; otherwise the result of
-// `exec`.
+// Writes the result of `match`. With `g`, it is the texts of all matches, or `null` if there is
+// none. Otherwise it is the result of `exec`.
 fn matches(alloc: Global, out: &mut String, re: &mut RegExp, text: &[u16]) -> Result<(), Stop> {
     let flags = re.flags();
     let mut found = re.match_text(alloc, text)?;
@@ -222,7 +226,7 @@ fn matches(alloc: Global, out: &mut String, re: &mut RegExp, text: &[u16]) -> Re
     Ok(())
 }
 
-// Writes a comma before an item of a list, unless it is the first.
+// Writes a comma before an item of a list, unless it is the first item.
 fn part(out: &mut String, number: usize) -> Result<(), AllocError> {
     if number != 0 {
         out.push(',')?;
@@ -264,7 +268,7 @@ fn pieces(
     out.push(']')
 }
 
-// Writes the text with `<index:match|group..>` in place of matches.
+// Writes the text with each replaced match as `<index:match|group..>`.
 fn replace_with(
     alloc: Global,
     out: &mut String,
@@ -279,8 +283,8 @@ fn replace_with(
     }
 }
 
-// Returns the replacement of a match for `replaceWith`: `<index:match|group..>`, with `-` for a group that did not
-// match.
+// Returns the replacement of a match for `replaceWith`: `<index:match|group..>`. A group that did
+// not match is `-`.
 fn told(alloc: Global, text: &[u16], found: &Match) -> Result<Vec<u16>, AllocError> {
     let start = found.start();
     let begun = format!(in alloc; "<{start}")?;

@@ -1,4 +1,4 @@
-//! Writing of JSON values.
+//! Writes JSON values.
 
 use std::alloc::AllocError;
 use use_regexp::{Match, Range};
@@ -55,8 +55,8 @@ pub fn truth(out: &mut String, value: bool) -> Result<(), AllocError> {
     out.push_str(if value { "true" } else { "false" })
 }
 
-/// Writes the result of `exec`: the start of the match, its text and the texts of its groups, and those of the named
-/// groups; with `indices`, also the same with indices in place of texts.
+/// Writes the result of `exec`: the start of the match, its text, and the texts of its groups and
+/// named groups. With `indices`, also writes the indices of these.
 pub fn exec(
     out: &mut String,
     indices: bool,
@@ -74,7 +74,8 @@ pub fn exec(
     out.push('}')
 }
 
-// Writes the match, its groups and its named groups: their texts, or their indices if `text` is `None`.
+// Writes the match, its groups and its named groups, as texts. If `text` is `None`, writes their
+// indices instead.
 fn parts(out: &mut String, text: Option<&[u16]>, found: &Match) -> Result<(), AllocError> {
     out.push_str("\"match\":[")?;
     for (number, group) in found.groups().enumerate() {
@@ -87,7 +88,7 @@ fn parts(out: &mut String, text: Option<&[u16]>, found: &Match) -> Result<(), Al
     groups(out, text, found)
 }
 
-// Writes the text in a range, or its indices if `text` is `None`.
+// Writes the text in a range. If `text` is `None`, writes its indices instead.
 fn part(
     out: &mut String,
     text: Option<&[u16]>,

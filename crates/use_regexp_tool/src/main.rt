@@ -1,5 +1,6 @@
-//! Runs the calls of JavaScript's RegExp methods that lines of standard input describe, such as `/(?<y>\d{4})/y @3 exec
-//! "on 2018"`. It writes a line of JSON for each call: its result, and `lastIndex` after it.
+//! Runs calls of JavaScript's RegExp methods. Each line of standard input describes some, for
+//! example `/(?<y>\d{4})/y @3 exec "on 2018"`. For each call, it writes a line of JSON with the
+//! result and with `lastIndex` after the call.
 #![tactic(auto)]
 
 mod calls;
@@ -13,7 +14,7 @@ use anyhow::{Context, Result, bail};
 use std::process::ExitCode;
 use use_support::{CommandLine, Given, Program, TROUBLE, run};
 
-// The exit status if a pattern or flags were refused.
+// The exit status if a pattern or its flags were refused.
 const THROWN: u8 = 1;
 
 const ABOUT: &str = "Answers the calls of RegExp methods on the lines of standard input, in JSON.";
@@ -59,7 +60,7 @@ fn answer_line(rt: &HostRuntime, line: &str) -> Result<u8> {
     Ok(status)
 }
 
-// Answers each line of standard input, and returns the highest exit status of a line.
+// Answers each line of standard input, and returns the highest exit status of all lines.
 fn answer_lines(rt: &HostRuntime) -> Result<u8> {
     let mut status = 0;
     for line in rt.stdin().lines(rt.alloc()) {

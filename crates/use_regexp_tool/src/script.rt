@@ -1,4 +1,5 @@
-//! Parsing of lines. Each function parses the beginning of a line, and returns the result with the rest.
+//! Parses lines. Each function parses the beginning of a line, and returns the result with the rest
+//! of the line.
 
 ghost use Rattle.std.specs.Prelude.{◌<◌, ◌≤◌, IfSome, length};
 
@@ -34,7 +35,7 @@ fn is_digit(unit: u16) -> bool {
     matches!(unit, 48..=57)
 }
 
-/// Returns the rest after blanks.
+/// Returns the line without leading blanks.
 pub fn behind_blanks(line: &[u16]) -> &[u16] {
     match line.iter().position(|unit| !is_blank(*unit)) {
         Some(end) => &line[end..],
@@ -42,7 +43,7 @@ pub fn behind_blanks(line: &[u16]) -> &[u16] {
     }
 }
 
-/// Parses a word of letters, which may be empty.
+/// Parses a word, which consists of letters and may be empty.
 pub fn word(line: &[u16]) -> (&[u16], &[u16]) {
     match line.iter().position(|unit| !is_letter(*unit)) {
         Some(end) => line.split_at(end),
@@ -58,7 +59,7 @@ fn before_blank(line: &[u16]) -> (&[u16], &[u16]) {
     }
 }
 
-/// Returns whether a word is this name.
+/// Checks whether a word is this name.
 pub fn is(word: &[u16], name: &str) -> bool {
     word.len() == name.len()
         && word
@@ -67,7 +68,7 @@ pub fn is(word: &[u16], name: &str) -> bool {
             .all(|(unit, byte)| *unit == u16::from(byte))
 }
 
-// The numbers without digits.
+// The names of numbers without digits.
 const NAMED: [(&str, f64); 3] = [
     ("NaN", f64::NAN),
     ("Infinity", f64::INFINITY),
@@ -84,7 +85,7 @@ fn named_number(word: &[u16]) -> Option<f64> {
     None
 }
 
-/// Returns whether a line begins like a number.
+/// Checks whether a line begins like a number.
 pub fn begins_number(line: &[u16]) -> bool {
     match line.first() {
         Some(unit) if is_digit(*unit) || *unit == 45 => true,
@@ -92,7 +93,7 @@ pub fn begins_number(line: &[u16]) -> bool {
     }
 }
 
-// Returns whether a unit may occur in a number with digits.
+// Checks whether a unit may occur in a number with digits.
 fn is_of_number(unit: u16) -> bool {
     is_digit(unit) || matches!(unit, 43 | 45 | 46 | 69 | 101)
 }
@@ -109,7 +110,7 @@ fn digits_of(alloc: Global, word: &[u16]) -> Result<String, Stop> {
     Ok(text)
 }
 
-/// Parses a number, up to the next blank: a decimal number, `NaN`, `Infinity` or `-Infinity`.
+/// Parses a number that ends at the next blank: a decimal number, `NaN`, `Infinity` or `-Infinity`.
 pub fn number(alloc: Global, line: &[u16]) -> Result<(f64, &[u16]), Stop> {
     let (word, rest) = before_blank(line);
     if let Some(value) = named_number(word) {
@@ -122,7 +123,8 @@ pub fn number(alloc: Global, line: &[u16]) -> Result<(f64, &[u16]), Stop> {
     }
 }
 
-/// Returns the units before the unit at index `end`, and those after it; `None` without an index.
+/// Returns the units before the unit at index `end`, and those after it. Returns `None` if there is
+/// no index.
 fn until(line: &[u16], end: Option<usize>) -> Option<(&[u16], &[u16])>
     requires { IfSome end (λ at. at < length line.now) }
 {
@@ -132,7 +134,8 @@ fn until(line: &[u16], end: Option<usize>) -> Option<(&[u16], &[u16])>
     }
 }
 
-// Returns the index of the slash that ends a pattern: outside of classes, and not after a backslash.
+// Returns the index of the slash that ends a pattern. A slash in a class or after a backslash does
+// not.
 fn slash_in(line: &[u16]) -> Option<usize>
     ensures { IfSome result (λ at. at < length line.now) }
 {
@@ -151,7 +154,7 @@ fn slash_in(line: &[u16]) -> Option<usize>
     None
 }
 
-// Returns the index of the quote that ends a string: not after a backslash.
+// Returns the index of the quote that ends a string. A quote after a backslash does not.
 fn quote_in(line: &[u16]) -> Option<usize>
     ensures { IfSome result (λ at. at < length line.now) }
 {
@@ -195,11 +198,12 @@ enum Escape {
     Outside,
     // After the backslash.
     Begun,
-    // After `\u`: how many of its four digits remain after the next one, and the value of those before it.
+    // After `\u`. The first number is how many of its four digits follow after the next one, and
+    // the second is the value of the digits before it.
     Hex(u8, u16),
 }
 
-// Returns the value of a JSON string, from the part between its quotes.
+// Decodes a JSON string, given the part between its quotes.
 fn unescaped(alloc: Global, inside: &[u16]) -> Result<Vec<u16>, Stop> {
     let mut text = Vec::new(alloc);
     let mut escape = Escape::Outside;
@@ -216,7 +220,7 @@ fn unescaped(alloc: Global, inside: &[u16]) -> Result<Vec<u16>, Stop> {
     Ok(text)
 }
 
-// Reads a unit, and returns the next state and the unit of the value that it completes, if it does.
+// Reads a unit. Returns the next state, and the unit of the value that is now complete, if any.
 fn step(escape: Escape, unit: u16) -> Result<(Escape, Option<u16>), Malformed> {
     match escape {
         Escape::Outside if unit == 92 => Ok((Escape::Begun, None)),
@@ -234,7 +238,8 @@ fn step(escape: Escape, unit: u16) -> Result<(Escape, Option<u16>), Malformed> {
     }
 }
 
-// Returns the same after a digit of `\u`: `left` digits remain, and the digits so far have this value.
+// Returns the state after a digit of `\u`: `left` digits remain, and the digits so far have the
+// value `value`.
 fn behind_digit(left: u8, value: u16) -> (Escape, Option<u16>) {
     if left == 0 {
         (Escape::Outside, Some(value))
@@ -253,7 +258,8 @@ fn hex_digit(unit: u16) -> Option<u16> {
     }
 }
 
-// Returns the unit of an escape with one letter, or `None` if JSON does not have it. `\u` is none of them.
+// Returns the unit of an escape with one letter. Returns `None` if JSON has no such escape, and for
+// `\u`.
 fn named(unit: u16) -> Option<u16> {
     match unit {
         34 | 47 | 92 => Some(unit),

@@ -1,11 +1,11 @@
-//! Why a line is not answered to its end.
+//! Why the calls of a line are not all answered.
 
 ghost use Rattle.std.specs.Prelude.{◌≡◌, ⊤};
 
 use std::alloc::AllocError;
 use use_regexp::{RegExpError, SearchError};
 
-/// Why a line is not answered to its end.
+/// Why the calls of a line are not all answered.
 #[derive(Clone, Copy, Debug, PartialEq, Eq)]
 pub enum Stop {
     /// The pattern or its flags are refused: the constructor throws a `SyntaxError`.
@@ -19,15 +19,15 @@ pub enum Stop {
 /// What is wrong with a line.
 #[derive(Clone, Copy, Debug, PartialEq, Eq)]
 pub enum Malformed {
-    /// It begins with neither `/PATTERN/FLAGS` nor a string.
+    /// The line begins neither with `/PATTERN/FLAGS` nor with a string.
     NoPattern,
-    /// A call is expected, and no method has this name.
+    /// A call is expected, and this is not the name of a method.
     NoCall,
     /// A string is expected.
     NoString,
     /// A string has no closing quote.
     UnclosedString,
-    /// A string has an escape that JSON does not have.
+    /// A string has an escape that is not valid in JSON.
     InvalidEscape,
     /// A string has a control character that is not escaped.
     ControlCharacter,

@@ -1,4 +1,4 @@
--- What is said of names by the first one that passes a test.
+-- Facts about lists of names, from the first name that passes a test.
 use Rattle.std.proofs.Common.{◌≡◌, ◌≢◌, ℕ, zero, suc, ◌+◌, ◌<◌, Bool, true, false, ◌&&◌, ◌||◌, inl, inr, List, [], ◌∷◌, ◌++◌, length, map, refl, sym}
 use Rattle.std.proofs.Common.{◌∙◌, ap, subst, arith}
 use Rattle.std.specs.Prelude.{All, Contains, Option, Some, None, ◌⊎◌, bytes_eq, find, is_none, slice_index_or}
@@ -16,7 +16,7 @@ all-cons P y ys here rest zero d lt = here
 all-cons P y ys here rest (suc k) d lt = rest k d (omega arith)
 
 module _ {X Y : Type 0} (P : Y → Type 0) (f : X → Y) (test : X → Bool) where
-  -- where none passes, what holds of those that do not pass holds of all
+  -- If no element passes the test, a property of the elements that fail it holds for all.
   pub none-found : ((x : X) → test x ≡ false → P (f x)) → (xs : List X) → find test xs ≡ None → All P (map f xs)
   none-found fails [] e = λ k d lt. absurd (omega arith)
   none-found fails (x ∷ xs) e = elim (cases_Bool (test x)) [
@@ -24,7 +24,7 @@ module _ {X Y : Type 0} (P : Y → Type 0) (f : X → Y) (test : X → Bool) whe
     | inr q ↦ all-cons P (f x) (map f xs) (fails x q) (none-found fails xs (rw q at e))
   ]
 
-  -- where one passes, what holds of none that passes does not hold of all
+  -- If an element passes the test, a property that no such element has does not hold for all.
   pub some-found : ((x : X) → test x ≡ true → ¬ P (f x)) → (xs : List X) (y : X) → find test xs ≡ Some y → ¬ All P (map f xs)
   some-found passes [] y e h = let never : None ≡ Some y = e in absurd (cc)
   some-found passes (x ∷ xs) y e h = elim (cases_Bool (test x)) [
@@ -32,7 +32,7 @@ module _ {X Y : Type 0} (P : Y → Type 0) (f : X → Y) (test : X → Bool) whe
     | inr q ↦ some-found passes xs y (rw q at e) (λ k d lt. h (suc k) d (omega arith))
   ]
 
--- ---- Texts that are among those of others
+-- ---- Names that occur in a list
 
 module _ {X : Type 0} (f : X → List ℕ) (name : List ℕ) where
   not-first : (x : List ℕ) (xs : List (List ℕ)) → x ≢ name → ¬ Contains xs name → ¬ Contains (x ∷ xs) name
@@ -51,7 +51,7 @@ module _ {X : Type 0} (f : X → List ℕ) (name : List ℕ) where
   not-among (x ∷ xs) e (zero, lt, same) = let h = or_parts (bytes_eq name (f x)) (is_among f name xs) e in let never : false ≡ true = sym h.0 ∙ (bytes_eq-Decides name (f x)).1 (sym same) in absurd (cc)
   not-among (x ∷ xs) e (suc k, lt, same) = let h = or_parts (bytes_eq name (f x)) (is_among f name xs) e in not-among xs h.1 (k, omega arith, same)
 
-  -- among two lists
+  -- A name that occurs in one of two lists.
   pub among-either : (xs ys : List X) → (is_among f name xs || is_among f name ys) ≡ true → Contains (map f xs ++ map f ys) name
   among-either xs ys e = elim (cases_Bool (is_among f name xs)) [
     | inl t ↦ Contains-append_left (map f xs) (map f ys) name (among xs t)
@@ -64,7 +64,7 @@ module _ {X : Type 0} (f : X → List ℕ) (name : List ℕ) where
     | inr k ↦ not-among ys h.1 k
   ]
 
-  -- the first one that is this text
+  -- The first name in a list that is equal to this one.
   pub found-among : (xs : List X) (y : X) → find (λ x. bytes_eq name (f x)) xs ≡ Some y → Contains (map f xs) name
   found-among [] y e = let never : None ≡ Some y = e in absurd (cc)
   found-among (x ∷ xs) y e = elim (cases_Bool (bytes_eq name (f x))) [
@@ -79,7 +79,7 @@ module _ {X : Type 0} (f : X → List ℕ) (name : List ℕ) where
     | inr q ↦ not-first (f x) (map f xs) (λ same. let never : false ≡ true = sym q ∙ (bytes_eq-Decides name (f x)).1 (sym same) in absurd (cc)) (none-among xs (rw q at e)) k
   ]
 
--- ---- Names that differ
+-- ---- Different names
 
 differ-cons : (x : List ℕ) (xs : List (List ℕ)) → ¬ Contains xs x → AllDiffer xs → AllDiffer (x ∷ xs)
 differ-cons x xs other h i zero d lt lt2 = absurd (omega arith)
@@ -92,11 +92,11 @@ not-differ : (x : List ℕ) (xs : List (List ℕ)) → Contains xs x → ¬ AllD
 not-differ x xs has h = let k = has.0 in let inside : k < length xs = has.1 in h 0 (suc k) x (omega arith) (omega arith) (sym has.2)
 
 module _ {X : Type 0} (f : X → List ℕ) where
-  -- the names behind the first one
+  -- All names after the first one differ too.
   tail-differs : (x : List ℕ) (xs : List (List ℕ)) → AllDiffer (x ∷ xs) → AllDiffer xs
   tail-differs x xs h i j d lt lt2 = h (suc i) (suc j) d (omega arith) (omega arith)
 
-  -- the test finds that names differ
+  -- The test shows that all names differ.
   pub differ : (xs : List X) → all_differ f xs ≡ true → AllDiffer (map f xs)
   differ [] e = λ i j d lt lt2. absurd (omega arith)
   differ (x ∷ xs) e = by (find (λ y. bytes_eq (f x) (f y)) xs) refl (differ xs)
@@ -113,7 +113,7 @@ module _ {X : Type 0} (f : X → List ℕ) where
       by None q rest h = rest (rw q at e) (tail-differs (f x) (map f xs) h)
       by (Some y) q rest h = not-differ (f x) (map f xs) (found-among f (f x) xs y q) h
 
-  -- a turn of a loop that looks for two that have one name
+  -- An iteration of the loop that searches for two equal names.
   pub pair-next : (x : X) (xs rest : List X) (name : List ℕ) (answer : Bool) → xs ≡ x ∷ rest → name ≡ f x → find (λ y. bytes_eq name (f y)) rest ≡ None
       → all_differ f xs ≡ answer → all_differ f rest ≡ answer
   pair-next x xs rest name answer parts same none told =

@@ -1,4 +1,4 @@
--- Renamings that are safe, by three tests.
+-- Three tests decide whether renamings are safe.
 use Rattle.std.proofs.Common.{◌≡◌, ℕ, Bool, true, false, not, ◌||◌, List, [], ◌∷◌, ◌++◌, map, refl, sym, ap, subst}
 use Rattle.std.specs.Prelude.{All, Contains, IsTrue, Option, Some, None, find}
 use Rattle.use_renamer.specs.Names.{AllDiffer, AreSafe, all_differ, is_among, is_file_name}

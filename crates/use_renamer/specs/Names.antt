@@ -1,4 +1,4 @@
--- Renamings of files.
+-- Names of files, and renamings.
 use Rattle.std.specs.Prelude.{◌≡◌, ◌≢◌, ◌⊎◌, ℕ, List, [], ◌∷◌, ◌++◌, Bool, true, not, ◌&&◌, ◌||◌, IsTrue, Option, Some, None, String, All, AllPairs}
 use Rattle.std.specs.Prelude.{Contains, map, flat_map, filter, find, is_none, codes, bytes_eq, length, nat_eq, nat_le, slice_get, slice_range}
 use Rattle.std.specs.Prelude.{string_bytes}
@@ -13,48 +13,50 @@ use Rattle.use_renamer.specs.declared.plan.Refusal.{Refusal}
 use Rattle.use_renamer.specs.declared.plan.Refusal.TheVariants.{Memory}
 use Rattle.use_renamer.specs.declared.plan.Rename.{Rename}
 
--- A valid file name: of 1 to 255 bytes, neither `.` nor `..`, without a slash and without a NUL.
+-- Whether a name is a valid file name. It has 1 to 255 bytes, is neither `.` nor `..`, and has no
+-- slash and no NUL.
 abbrev pub is_file_name : (name : List ℕ) → Bool
 is_file_name name = not (bytes_eq name []) && not (bytes_eq name (codes ".")) && not (bytes_eq name (codes ".."))
     && nat_le (length name) 255 && not (list_any (λ b. nat_eq b 47 || nat_eq b 0) name)
 
--- A name with the template's expansion in place of each match.
+-- The name with each match replaced by the expansion of the template.
 abbrev pub new_name : Regex → (template name : List ℕ) → List ℕ
 new_name re template name = replaced name 0 (matches_with_expansions name template (utf8_answers re name 0))
 
--- The pairs of names that differ.
+-- The pairs whose two names differ.
 abbrev pub changing : List (List ℕ × List ℕ) → List (List ℕ × List ℕ)
 changing moves = filter (λ m. not (bytes_eq m.0 m.1)) moves
 
--- The names that change, each with the new one, in the order of the names.
+-- The names that change, each with its new name, in order.
 abbrev pub changes : Regex → (template : List ℕ) → (names : List (List ℕ)) → List (List ℕ × List ℕ)
 changes re template names = changing (map (λ name. (name, new_name re template name)) names)
 
--- All of these differ.
+-- No two of these names are equal.
 abbrev pub AllDiffer : List (List ℕ) → Type 0
 AllDiffer names = AllPairs (λ a b. a ≢ b) names
 
--- The list contains the name.
+-- Whether one of the items has this name.
 abbrev pub is_among : {X : Type 0} → (name_of : X → List ℕ) → (name : List ℕ) → List X → Bool
 is_among name_of name xs = list_any (λ x. bytes_eq name (name_of x)) xs
 
--- The test whether two items with names have different names.
+-- Whether all items have different names.
 abbrev pub all_differ : {X : Type 0} → (name_of : X → List ℕ) → List X → Bool
 all_differ name_of [] = true
 all_differ name_of (x ∷ xs) = is_none (find (λ y. bytes_eq (name_of x) (name_of y)) xs) && all_differ name_of xs
 
--- Renamings in a folder that lose no file, in any order, and also if only some of them are done: each new name is a valid
--- file name, all new names differ, and nothing in the folder has one of them.
+-- The renamings in a folder lose no file, in any order, and also if only some of them are done:
+-- each new name is a valid file name, all new names differ, and nothing in the folder has a new
+-- name.
 pub record AreSafe (folder : List (List ℕ)) (moves : List (List ℕ × List ℕ)) : Type 0 where
   pub stay : All (λ m. IsTrue (is_file_name m.1)) moves
   pub distinct : AllDiffer (map (λ m. m.1) moves)
   pub free : All (λ m. ¬ Contains folder m.1) moves
 
--- Why renamings are refused: an allocation failed, or they are not safe.
+-- When renamings are refused: an allocation failed, or they are not safe.
 abbrev pub CanRefuse : (folder : List (List ℕ)) → (moves : List (List ℕ × List ℕ)) → Refusal → Type 0
 CanRefuse folder moves e = (e ≡ Memory) ⊎ ¬ AreSafe folder moves
 
--- Names as bytes.
+-- The names as bytes.
 abbrev pub texts : {A : Type 0} → List (String A) → List (List ℕ)
 texts names = map string_bytes names
 
@@ -62,18 +64,19 @@ texts names = map string_bytes names
 abbrev pub move_of : Rename → List ℕ × List ℕ
 move_of r = (string_bytes r.from, string_bytes r.to)
 
+-- The renamings as pairs of the old and the new name.
 abbrev pub moves_of : List Rename → List (List ℕ × List ℕ)
 moves_of renames = map move_of renames
 
--- A group's name and the text that it matched; empty for a group that did not match.
+-- The name of a group and the text that it matched. Empty if it did not match.
 abbrev pub described : (text : List ℕ) → List ℕ × Option (ℕ × ℕ) → List ℕ
 described text (name, None) = []
 described text (name, Some range) = codes " " ++ (name ++ (codes "=" ++ slice_range text range.0 range.1))
 
--- The named groups of a match.
+-- All named groups of a match.
 abbrev pub groups_shown : (text : List ℕ) → Answer → List ℕ
 groups_shown text m = flat_map (described text) (named_groups m)
 
--- The named groups of the first match, if there is one.
+-- All named groups of the first match. Empty if there is no match.
 abbrev pub parts_of : Regex → (name : List ℕ) → List ℕ
 parts_of re name = option_map_or (groups_shown name) (slice_get (utf8_answers re name 0) 0) []

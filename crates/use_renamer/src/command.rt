@@ -22,7 +22,7 @@ const ABOUT: &str =
 Without --apply it only shows the new names. It renames no file if two new names are the same, if one
 exists already, or if one would lead out of the folder.";
 
-/// The command line.
+/// The description of the command line.
 pub static LINE: CommandLine = CommandLine {
     name: "use_renamer",
     about: ABOUT,
@@ -49,7 +49,7 @@ pub static LINE: CommandLine = CommandLine {
             Switch(None),
             "Also show the named groups of the first match",
         ),
-        // The stored run has rows of plans on standard input.
+        // A hidden option for tests: rows are read from standard input.
         Argument("rows", Switch(None), ""),
         Argument(
             "ignore-case",
@@ -60,7 +60,7 @@ pub static LINE: CommandLine = CommandLine {
 };
 
 impl<'a> Options<'a> {
-    /// Returns the options of a command line.
+    /// Reads the options of a command line.
     pub fn of(given: &Given<'a>) -> Self {
         Options {
             pattern: given.text("pattern"),

@@ -1,14 +1,16 @@
-//! The files of a folder.
+//! Reads a folder, and renames its files.
 
 use crate::plan::Rename;
 use anyhow::{Result, bail};
 use std::fs;
 use std::io::{ErrorKind, IsTerminal};
 
-// The number of files from which on, and after which, the progress is shown on a terminal.
+// If there are this many files or more, progress is shown on a terminal, each time this many are
+// renamed.
 const MANY: usize = 1000;
 
-/// The contents of a folder: the names of its files, and those of all else in it, both sorted.
+/// The contents of a folder: the names of its files, and the names of everything else. Both are
+/// sorted.
 #[derive(Drop)]
 pub struct Folder {
     pub files: Vec<String>,
@@ -17,11 +19,11 @@ pub struct Folder {
     pub unreadable: usize,
 }
 
-/// Returns the contents of a folder.
+/// Reads the contents of a folder.
 ///
 /// # Errors
 ///
-/// Any error of reading the folder, and `AllocError` if an allocation fails.
+/// Returns an error if the folder cannot be read or an allocation fails.
 pub fn list(rt: &HostRuntime, path: &str) -> Result<Folder> {
     let alloc = rt.alloc();
     let mut files = Vec::new(alloc);
@@ -61,8 +63,8 @@ pub fn list(rt: &HostRuntime, path: &str) -> Result<Folder> {
 ///
 /// # Errors
 ///
-/// Any error of renaming a file, and an error if its new name exists by now. Then the files before it are renamed, and
-/// no other file is.
+/// Returns an error if a file cannot be renamed, or if something has its new name by then. The
+/// files before it are already renamed, and no further file is.
 pub fn apply(rt: &HostRuntime, folder: &str, plan: &[Rename]) -> Result<()> {
     let tells = rt.stderr().is_terminal() && plan.len() >= MANY;
     for (done, Rename { from, to }) in plan.iter().enumerate() {

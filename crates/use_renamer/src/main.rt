@@ -1,7 +1,7 @@
 //! Renames the files of a folder by replacing the matches of a pattern in their names.
 //!
-//! The exit status is 0 if all files are renamed, or would be with `--apply`; 1 if the renamings are refused, and then
-//! none is done; and 2 for an error.
+//! The exit status is 0 if all files are renamed (or would be with `--apply`), 1 if the renamings
+//! are refused (then no file is renamed), and 2 after an error.
 #![tactic(auto)]
 
 mod command;
@@ -22,7 +22,7 @@ use std::io;
 use std::process::ExitCode;
 use use_support::{CommandLine, Given, Program, run};
 
-// Compiles the pattern. The error for a pattern with a syntax error shows the cause and the position.
+// Compiles the pattern. If it has a syntax error, the error shows the cause and the position.
 fn compile(rt: &HostRuntime, pattern: &str, flags: Flags) -> Result<Regex> {
     let alloc = rt.alloc();
     let why = match Regex::with_flags(alloc, pattern, flags) {
@@ -37,7 +37,8 @@ fn compile(rt: &HostRuntime, pattern: &str, flags: Flags) -> Result<Regex> {
     bail!("{why}")
 }
 
-// Prints a line for each file: its name, the new name, and with `--groups` the named groups.
+// Prints a line for each renaming: the old name, the new name, and with `--groups` the named
+// groups.
 fn show(rt: &HostRuntime, options: &Options<'_>, re: &Regex, plan: &[Rename]) -> Result<()> {
     for Rename { from, to } in plan {
         if options.groups {
@@ -50,7 +51,7 @@ fn show(rt: &HostRuntime, options: &Options<'_>, re: &Regex, plan: &[Rename]) ->
     Ok(())
 }
 
-// Renames the files, or shows how. Returns whether the renamings are safe.
+// Renames the files, or shows how they would be renamed. Returns whether the renamings are safe.
 fn rename(rt: &HostRuntime, options: &Options<'_>) -> Result<bool> {
     let alloc = rt.alloc();
     let re = compile(rt, options.pattern, options.flags)?;

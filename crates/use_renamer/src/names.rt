@@ -7,8 +7,8 @@ ghost use Rattle.use_renamer.specs.Names.{is_among, is_file_name};
 // The maximum length of a name in bytes.
 const LONGEST: usize = 255;
 
-/// Returns whether a name is a valid file name: of 1 to 255 bytes, neither `.` nor `..`, without a slash and without a
-/// NUL.
+/// Checks whether a name is a valid file name. It has 1 to 255 bytes, is neither `.` nor `..`, and
+/// has no slash and no NUL.
 pub fn is_file_name(name: &str) -> bool
     ensures { result ≡ is_file_name name.now }
 {
@@ -16,14 +16,14 @@ pub fn is_file_name(name: &str) -> bool
     !is_folder && name.len() <= LONGEST && !leads_on(name)
 }
 
-// Returns whether a name contains a slash or a NUL.
+// Checks whether a name has a slash or a NUL.
 fn leads_on(name: &str) -> bool
     ensures { result ≡ list_any (λ b. nat_eq b 47 || nat_eq b 0) name.now }
 {
     name.as_bytes().iter().any(|b| *b == b'/' || *b == 0)
 }
 
-/// Returns whether a list contains a name.
+/// Checks whether a list contains a name.
 pub fn is_among(name: &str, names: &[String]) -> bool
     ensures { result ≡ is_among string_bytes name.now names.now }
 {

@@ -1,4 +1,4 @@
-//! The plan of the renamings.
+//! The plan: which files are renamed, and whether this is safe.
 
 ghost use Rattle.std.specs.Prelude.{◌≡◌, ◌||◌, ◌++◌, ◌∷◌, [], IfErr, IfOk, OnOk, bytes_eq, find, is_none, not, option_map, string_bytes};
 ghost use Rattle.regress_match.specs.CompileErrors.{IsOutOfMemory};
@@ -28,7 +28,7 @@ pub enum Refusal {
         from: String,
         to: String,
     },
-    /// Something in the folder has the new name.
+    /// Something in the folder already has the new name.
     #[error("{from} would become {to}, which is there already")]
     Taken {
         from: String,
@@ -63,12 +63,14 @@ impl From<AllocError> for Refusal {
     }
 }
 
-/// Returns the renamings of the files whose names change, in the order of the files. A new name has the expansion of
-/// the template in place of each match. `others` are the names of all else in the folder.
+/// Returns the renamings of the files whose names change, in the order of the files. In a new name,
+/// each match is replaced by the expansion of the template. `others` are the names of everything
+/// else in the folder.
 ///
 /// # Errors
 ///
-/// `Memory` if an allocation fails. The other errors if the renamings are not safe, and only then.
+/// Returns `Memory` if an allocation fails. Returns the other errors exactly if the renamings are
+/// not safe.
 pub fn plan(
     alloc: Global,
     re: &Regex,
@@ -88,7 +90,7 @@ pub fn plan(
     Ok(renames)
 }
 
-// Returns the renamings of the files whose names change, safe or not.
+// Returns the renamings of the files whose names change. They may be unsafe.
 fn changes(
     alloc: Global,
     re: &Regex,
@@ -119,7 +121,7 @@ fn push_change(renames: &mut Vec<Rename>, name: &String, new: String) -> Result<
     Ok(renames.push(Rename { from, to: new })?)
 }
 
-// Returns an error if the renamings would lose a file or lead out of the folder.
+// Returns an error if the renamings would lose a file or leave the folder.
 fn check(renames: &[Rename], files: &[String], others: &[String]) -> Result<(), Refusal>
     ensures safe { let folder = texts files.now ++ texts others.now in
         OnOk result (AreSafe folder (moves_of renames.now)) }
@@ -169,7 +171,7 @@ fn first_taken<'a>(renames: &'a [Rename], files: &[String], others: &[String]) -
     })
 }
 
-// Returns two renamings with the same new name.
+// Returns the first two renamings with the same new name.
 fn first_pair(renames: &[Rename]) -> Option<(&Rename, &Rename)>
     ensures { is_none result ≡ all_differ (λ r. string_bytes r.to) renames.now }
 {

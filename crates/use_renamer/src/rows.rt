@@ -5,12 +5,13 @@ use anyhow::{Context, Result};
 use regress_match::Regex;
 use std::alloc::{AllocError, Global};
 
-/// Prints each row of standard input with one more field: the renamings, or why they are refused. A row has four
-/// fields, separated by `~`: a pattern, a template, the names of the files, and those of all else in the folder.
+/// Prints each row of standard input with one more field: the renamings, or why they are refused. A
+/// row has four fields, separated by `~`: a pattern, a template, the names of the files, and the
+/// names of everything else in the folder.
 ///
 /// # Errors
 ///
-/// Any error of reading or printing a row, and `AllocError` if an allocation fails.
+/// Returns an error if a row cannot be read or printed, or if an allocation fails.
 pub fn answer_rows(rt: &HostRuntime) -> Result<()> {
     for row in rt.stdin().lines(rt.alloc()) {
         let row = row.context("reading standard input")?;

@@ -1,4 +1,4 @@
-//! Descriptions of command lines, and the arguments given on them.
+//! Descriptions of command lines, and the arguments that are given.
 
 use crate::Words;
 use clap::{Arg, ArgAction, ArgMatches, Command, value_parser};
@@ -8,13 +8,13 @@ use std::alloc::{AllocError, Global};
 pub struct CommandLine {
     pub name: &'static str,
     pub about: &'static str,
-    /// The last lines of the help; none if empty.
+    /// The last lines of the help. Empty if there are none.
     pub after: &'static str,
     pub arguments: &'static [Argument],
 }
 
-/// A positional argument or an option: its id, which is also the long name of an option, its form,
-/// and its help text. `--help` leaves out an argument whose help text is empty.
+/// A positional argument or an option: its id, its form, and its help text. The id is also the long
+/// name of an option. An argument with an empty help text is not shown by `--help`.
 pub struct Argument(pub &'static str, pub Form, pub &'static str);
 
 /// The form of an argument.
@@ -149,14 +149,14 @@ impl CommandLine {
     }
 }
 
-/// The arguments given on a command line, with the defaults of those that were not.
+/// The arguments given on a command line, and the defaults of those that were not given.
 #[derive(Drop)]
 pub struct Given<'a> {
-    // Each value with its argument's id; a switch has an empty text.
+    // Each value with the id of its argument. The value of a switch is empty.
     values: Vec<(&'static str, &'a str)>,
-    // The words that are not UTF-8, with U+FFFD for what is not.
+    // The words that are not UTF-8, with U+FFFD for the invalid bytes.
     lossy: Vec<&'a str>,
-    // A value that is not UTF-8, of an argument that has to be.
+    // A value that is not UTF-8, of an argument that has to be UTF-8.
     unreadable: Option<&'a str>,
 }
 
@@ -198,13 +198,13 @@ impl<'a> Given<'a> {
         Ok(())
     }
 
-    // Returns a value that should be text and is not UTF-8.
+    // Returns a value that has to be UTF-8 and is not.
     pub(crate) fn unreadable(&self) -> Option<&'a str> {
         self.unreadable
     }
 
-    /// Checks whether the value of a `WordIf` or a `Words` was not UTF-8. It has U+FFFD for what was
-    /// not.
+    /// Checks whether the value of a `WordIf` or a `Words` was not UTF-8. In such a value, U+FFFD
+    /// replaces the invalid bytes.
     pub fn is_lossy(&self, word: &str) -> bool {
         self.lossy.iter().any(|of| *of == word)
     }
@@ -214,8 +214,7 @@ impl<'a> Given<'a> {
         self.values.iter().any(|(of, _)| *of == id)
     }
 
-    /// Returns the argument's value: the first if there are several, and an empty text if there is
-    /// none.
+    /// Returns the first value of the argument. Returns an empty text if it has none.
     pub fn text(&self, id: &str) -> &'a str {
         match self.values.iter().find(|(of, _)| *of == id) {
             Some((_, text)) => *text,
@@ -238,8 +237,8 @@ impl<'a> Given<'a> {
         Ok(texts)
     }
 
-    /// Returns the argument's value as a number, or `None` if it has no value or the value is not a
-    /// number.
+    /// Returns the argument's value as a number. Returns `None` if it has no value, or if the value
+    /// is not a number.
     pub fn number(&self, id: &str) -> Option<u64> {
         self.text(id).parse().ok()
     }

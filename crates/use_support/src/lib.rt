@@ -27,8 +27,8 @@ pub trait Program {
     fn run(rt: &HostRuntime, given: &Given<'_>) -> Result<u8>;
 }
 
-/// Runs a program, and returns its exit status, which is `TROUBLE` if it fails. The reason is then
-/// printed on standard error after the program's name.
+/// Runs a program, and returns its exit status. If it fails, the status is `TROUBLE`, and the
+/// reason is printed on standard error after the program's name.
 pub fn run<P: Program>(rt: &HostRuntime) -> ExitCode {
     match run_command_line::<P>(rt) {
         Ok(status) => ExitCode::from(status),
@@ -45,8 +45,8 @@ fn run_command_line<P: Program>(rt: &HostRuntime) -> Result<u8> {
     run_words::<P>(rt, &words)
 }
 
-/// Runs a program with the words of a text, which spaces separate, as its command line. Returns the
-/// exit status.
+/// Runs a program with the words of a text as its command line. The words are separated by spaces.
+/// Returns the exit status.
 ///
 /// # Errors
 ///
@@ -61,7 +61,7 @@ pub fn run_row<P: Program>(rt: &HostRuntime, row: &str) -> Result<u8> {
     run_words::<P>(rt, &words)
 }
 
-// Runs the program with the words of a command line. If that is wrong or asks for help, prints a
+// Runs the program with the words of a command line. If they are invalid or ask for help, prints a
 // message instead.
 fn run_words<P: Program>(rt: &HostRuntime, words: &Words) -> Result<u8> {
     let line = P::line();
@@ -86,7 +86,7 @@ fn run_words<P: Program>(rt: &HostRuntime, words: &Words) -> Result<u8> {
 // The words of a command line.
 #[derive(Drop)]
 struct Words {
-    // U+FFFD stands for what is not UTF-8.
+    // The words. Bytes that are not UTF-8 are replaced by U+FFFD.
     texts: Vec<String>,
     // The indices of the words that are not UTF-8.
     lossy: Vec<usize>,
@@ -112,7 +112,7 @@ impl Words {
         Ok(words)
     }
 
-    // Reads a word, and returns whether there is one. The buffer grows as needed.
+    // Reads a word. Returns whether there is one. The buffer grows as needed.
     fn read_word(
         &mut self,
         rt: &HostRuntime,

@@ -1,4 +1,4 @@
--- What the first item of a search in so much work tells, and how much is enough.
+-- What the first item of a search within a work budget decides, and how much work suffices.
 use Rattle.std.proofs.Common.{◌≡◌, ◌≤◌, ◌<◌, ◌+◌, ◌*◌, ◌^◌, ◌∙◌, ℕ, List, true, false, ap, sym, subst}
 use Rattle.std.specs.Prelude.{Option, Some, None, Result, Ok, Err, SomeIff}
 use Rattle.regress_search.specs.MatchesWithinWork.{NextYieldsWithinWork, RemainingAnswersAndWork}
@@ -18,17 +18,17 @@ module _ (re : Regex) (text : List ℕ) (per_unit work : ℕ) (it behind : Remai
   abbrev truth : Verdict
   truth = by_matches (utf8_answers re text 0)
 
-  -- a match came
+  -- The first item is a match.
   pub work-match : (item : Result Match WorkError) (m : Match) → item ≡ Ok m → NextYieldsWithinWork it (Some item) behind → Matches ≡ truth
   work-match item m is gives =
       let came = subst (λ r. NextYieldsWithinWork it (Some r) behind) is gives in
       ap by_matches (sym came.0.0 ∙ yields.answers)
 
-  -- none came
+  -- There is no item.
   pub work-none : NextYieldsWithinWork it None behind → NoMatch ≡ truth
   work-none gives = ap by_matches (sym gives.0.0 ∙ yields.answers)
 
-  -- want of work does not come where it is enough
+  -- `WorkLimit` does not occur if the work suffices.
   pub never-out : enough_work_for_text per_unit (bytes_as_utf8_text re text) ≤ work → (item : Result Match WorkError) (e : WorkError) → item ≡ Err e → e ≡ WorkLimit
       → NextYieldsWithinWork it (Some item) behind → ⊥
   never-out enough item e is limit gives =
@@ -36,9 +36,9 @@ module _ (re : Regex) (text : List ℕ) (per_unit work : ℕ) (it behind : Remai
       let never : true ≡ false = sym (yields.enough enough) ∙ out.0.0.0 in
       absurd (cc)
 
--- ---- What is enough
+-- ---- How much work suffices
 
--- a product of numbers that are the same
+-- A product of equal numbers.
 pub enough-same : (r : Option ℕ) (each per_unit places units : ℕ) → SomeIff r (each * places < 2 ^ 64) (each * places) → each ≡ per_unit → places ≡ units + 1
     → SomeIff r (per_unit * (units + 1) < 2 ^ 64) (per_unit * (units + 1))
 enough-same r each per_unit places units h same all =

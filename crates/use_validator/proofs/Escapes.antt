@@ -14,11 +14,11 @@ use Rattle.use_validator.specs.Pointer.{escape, escaped}
 
 -- ---- Characters
 
--- a byte that is neither `~` nor `/` stays
+-- A byte other than `~` and `/` is unchanged.
 escaped-other : (byte : ℕ) → byte ≢ 126 → byte ≢ 47 → escaped byte ≡ byte ∷ []
 escaped-other byte tilde slash = rw (ne_eqb byte 126 tilde, ne_eqb byte 47 slash) refl
 
--- what is written for a character
+-- The escapes of `~` and `/`.
 pub escape-tilde : escape (encode_utf8 126) ≡ 126 ∷ 48 ∷ []
 unfolding escape
 escape-tilde = rw (encode_ascii 126 (lit< tt)) refl
@@ -34,7 +34,7 @@ escape-other c tilde slash = elim (leb_tells 128 c) [
   | inr (e, low) ↦ rw (encode_ascii c low, append-nil) (escaped-other c tilde slash)
 ]
 
--- what a write says where it was the escaped character
+-- If the escaped character was written, the output is extended by it.
 pub wrote : {T E : Type 0} (r : Result T E) (new old text escaped : List ℕ) → new ≡ (if is_ok r then old ++ text else old) → escaped ≡ text → IfOk r (λ _. new ≡ old ++ escaped)
 wrote (Ok x) new old text escaped e same = e ∙ ap (λ t. old ++ t) (sym same)
 wrote (Err x) new old text escaped e same = tt
@@ -45,20 +45,20 @@ escape-next : (text rest : List ℕ) (c : ℕ) → text ≡ encode_utf8 c ++ res
 unfolding escape
 escape-next text rest c e = ap (λ t. escape t) e ∙ flat_map-append escaped (encode_utf8 c) rest
 
--- nothing is left to escape
+-- Nothing is left to escape.
 pub escape-empty : (out text whole : List ℕ) → out ++ escape text ≡ whole → length text ≡ 0 → out ≡ whole
 unfolding escape
 escape-empty out text whole e none = sym (append-nil out) ∙ ap (λ t. out ++ escape t) (sym (nil_from_length text none)) ∙ e
 
--- what is written, with the rest still to escape, stays the same when a character is written
+-- The output, followed by the escaped rest, does not change when a character is written.
 pub escape-more : (out more text rest whole : List ℕ) (c : ℕ) → out ++ escape text ≡ whole → text ≡ encode_utf8 c ++ rest
     → more ≡ out ++ escape (encode_utf8 c) → more ++ escape rest ≡ whole
 escape-more out more text rest whole c e parts m =
     ap (λ t. t ++ escape rest) m ∙ append_assoc out (escape (encode_utf8 c)) (escape rest) ∙ ap (λ t. out ++ t) (sym (escape-next text rest c parts)) ∙ e
 
--- ---- Names are read back
+-- ---- Escaped names are read back
 
--- a byte that is no `~` is read as itself
+-- A byte other than `~` is read as itself.
 reads-other : (byte : ℕ) (rest : List ℕ) → nat_eq byte 126 ≡ false → unescape (byte ∷ rest) ≡ byte ∷ unescape rest
 unfolding unescape
 reads-other byte [] e = refl

@@ -1,4 +1,4 @@
--- What the first item of a search in a limit of steps tells.
+-- What the first item of a search with a step limit decides.
 use Rattle.std.proofs.Common.{◌≡◌, ◌∙◌, ℕ, List, [], ◌∷◌, Bool, true, false, not, ap, refl, sym, subst}
 use Rattle.std.specs.Prelude.{Option, Some, None, Result, Ok, Err, nat_le}
 use Rattle.regex_meaning.specs.Tree.{Tree}
@@ -21,7 +21,8 @@ use Rattle.use_validator.specs.Judge.{by_matches, verdict_of, within}
 use Rattle.use_validator.specs.declared.judge.Verdict.{Verdict}
 use Rattle.use_validator.specs.declared.judge.Verdict.TheVariants.{Matches, NoMatch, OutOfSteps}
 
--- what is found within the steps, and whether they are enough for the end, where this is the verdict
+-- The matches that are found within the steps, and whether the steps suffice for the end, if this
+-- is the verdict.
 abbrev pub FollowsFromCounts : (found : List Answer) → (ended : Bool) → Verdict → Type 0
 FollowsFromCounts found ended Matches = (m : Answer) × (ms : List Answer) × (found ≡ m ∷ ms)
 FollowsFromCounts found ended NoMatch = (found ≡ []) × (ended ≡ true)
@@ -49,7 +50,7 @@ module _ (tree : Tree) (text : Text) (is : HasRisingPlaceOffsets text) (steps : 
   pub told : Told (within (nat_le (need_from tree text 0) steps) all)
   told = by (nat_le (need_from tree text 0) steps) refl
 
--- what an item says of what was to come
+-- What an item says about the remaining answers.
 pub came : (before behind : RemainingView) (item : Result Match SearchError) (m : Match) → item ≡ Ok m → NextYields before (Some item) behind
     → before.answers ≡ answer_of m ∷ behind.answers
 came before behind item m is gives = (subst (λ r. NextYields before (Some r) behind) is gives).0
@@ -85,16 +86,16 @@ module _ (re : Regex) (bytes : List ℕ) (steps : ℕ) where
   told-of : FollowsFromCounts (utf8_answers_within_steps steps re bytes 0) (utf8_steps_suffice steps re bytes 0) (verdict_of re bytes steps)
   told-of = told (tree_for_byte_units re) (bytes_as_utf8_text re bytes) (utf8_text-IsText bytes (tree_for_byte_units re).flags.unicode) steps
 
-  -- a match came
+  -- The first item is a match.
   pub verdict-match : (found : List Answer) (m : Answer) (ms : List Answer) → found ≡ utf8_answers_within_steps steps re bytes 0 → found ≡ m ∷ ms → Matches ≡ verdict_of re bytes steps
   verdict-match found m ms same e = is-match _ _ m ms _ told-of (sym same ∙ e)
 
-  -- none came, and no limit stands behind it
+  -- There is no item, and no step limit follows.
   pub verdict-none : (found : List Answer) (limited : Bool) → found ≡ utf8_answers_within_steps steps re bytes 0 → limited ≡ not (utf8_steps_suffice steps re bytes 0)
       → found ≡ [] → limited ≡ false → NoMatch ≡ verdict_of re bytes steps
   verdict-none found limited same limit e on = is-none _ _ _ told-of (sym same ∙ e) (not-false _ (sym limit ∙ on))
 
-  -- none came, and a limit does
+  -- There is no match, and a step limit follows.
   pub verdict-past : (found : List Answer) (limited : Bool) → found ≡ utf8_answers_within_steps steps re bytes 0 → limited ≡ not (utf8_steps_suffice steps re bytes 0)
       → found ≡ [] → limited ≡ true → OutOfSteps ≡ verdict_of re bytes steps
   verdict-past found limited same limit e on = is-past _ _ _ told-of (sym same ∙ e) (not-true _ (sym limit ∙ on))

@@ -1,4 +1,4 @@
--- Programs that are kept by the texts of their patterns.
+-- Compiled patterns that are stored by the texts of their patterns.
 use Rattle.std.proofs.Common.{◌≡◌, ℕ, List, [], ◌∷◌, Option, Some, None, String, Global, Ordering, Less, Equal, Greater, string_bytes, string_cmp}
 use Rattle.std.proofs.Common.{nat_cmp, is_eq, cond, Bool, true, false, Bor, refl, sym, ap, ◌∙◌, subst}
 use Rattle.std.specs.Prelude.{IfSome, OnErr, OnOk, Result, Ok, Err, option_copied}
@@ -19,7 +19,7 @@ Entry = String Global × Regex
 same-bytes : (xs ys : List ℕ) → is_eq (slice_cmp nat_cmp xs ys) ≡ true → xs ≡ ys
 same-bytes xs ys e = (bytes_eq-Decides xs ys).0 (sym (is_eq-slice_cmp xs ys) ∙ e)
 
--- ---- One more
+-- ---- One more pattern
 
 module _ (k : String Global) (re : Regex) (is : IsProgramOf (string_bytes k) re) where
   put-in : (o : Ordering) (e : Entry) (es next : List Entry) → string_cmp k e.0 ≡ o → AreProgramsOf (e ∷ es) → AreProgramsOf next
@@ -35,13 +35,13 @@ module _ (k : String Global) (re : Regex) (is : IsProgramOf (string_bytes k) re)
   kept-more : (es next : List Entry) → AreOfTheirTexts es → next ≡ insert_entry string_cmp es k re → AreOfTheirTexts next
   kept-more es next h e = ∥∥₁_map h (λ all. subst AreProgramsOf (sym e) (insert-keeps es all))
 
-  -- what an insertion leaves, done or refused
+  -- The patterns after an insertion, which may have been refused.
   pub kept-after : {T E : Type 0} (result : Result T E) (es next : List Entry) → AreOfTheirTexts es
       → OnOk result (next ≡ insert_entry string_cmp es k re) → OnErr result (next ≡ es) → AreOfTheirTexts next
   kept-after (Ok x) es next h more same = kept-more es next h more
   kept-after (Err e) es next h more same = subst AreOfTheirTexts (sym same) h
 
--- ---- The one with a text
+-- ---- The pattern with a given text
 
 module _ (text : List ℕ) where
   abbrev test : String Global → Bool

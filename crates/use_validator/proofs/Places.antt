@@ -7,7 +7,7 @@ use Rattle.serde_json.specs.Find.{get_member, pointer as points_to, step, unesca
 use Rattle.use_validator.specs.Pointer.{LeadsToMember, escape, escaped, longer}
 use Rattle.use_validator.proofs.Escapes.{names-read_back}
 
--- no slash stands there
+-- The bytes have no slash.
 NoSlash : List ℕ → Type 0
 NoSlash [] = Unit {0}
 NoSlash (x ∷ xs) = (nat_eq x 47 ≡ false) × NoSlash xs
@@ -26,13 +26,13 @@ unfolding escape NoSlash
 escape-no-slash [] = tt
 escape-no-slash (byte ∷ name) = escaped-no-slash byte (flat_map escaped name) (escape-no-slash name)
 
--- a name with no slash is one step
+-- A name without a slash is a single step.
 walk-name : (part name : List ℕ) (d : Data) → NoSlash name → walk part name d ≡ step (part ++ name) d
 unfolding walk NoSlash
 walk-name part [] d h = ap (λ p. step p d) (sym (append-nil part))
 walk-name part (x ∷ name) d h = rw (h.0) (walk-name (part ++ x ∷ []) name d h.1 ∙ ap (λ p. step p d) (append_assoc part (x ∷ []) name))
 
--- one step more, from wherever the steps before it lead
+-- One more step, from wherever the steps before it lead.
 then-step : (name : List ℕ) (f g : Data → Option Data) → ((d : Data) → f d ≡ option_and_then (step name) (g d)) → (o : Option Data)
     → option_and_then f o ≡ option_and_then (step name) (option_and_then g o)
 then-step name f g h None = refl
@@ -50,7 +50,7 @@ walk-longer part (x ∷ rest) name d h = elim (cases_Bool (nat_eq x 47)) [
   | inr e ↦ rw e (walk-longer (part ++ x ∷ []) rest name d h)
 ]
 
--- the step by an escaped name
+-- The step by an escaped name.
 member-step : (name : List ℕ) (members : Members) → step (escape name) (object members) ≡ get_member name members
 member-step name members = ap (λ n. get_member n members) (names-read_back name)
 

@@ -1,4 +1,4 @@
--- What is said of a text by a pattern within a limit of steps.
+-- What a pattern says about a text, if the steps of a search are limited.
 use Rattle.std.specs.Prelude.{◌≡◌, ◌⊎◌, ℕ, Bool, true, false, List, [], ◌∷◌, nat_le}
 use Rattle.regex_meaning.specs.MatchGroupsByNumberAndName.{Answer}
 use Rattle.regex_meaning.specs.StepBudget.{need_from}
@@ -7,25 +7,26 @@ use Rattle.regress_match.specs.declared.api.regex.Regex.{Regex}
 use Rattle.use_validator.specs.declared.judge.Verdict.{Verdict}
 use Rattle.use_validator.specs.declared.judge.Verdict.TheVariants.{Matches, NoMatch, OutOfSteps}
 
--- The steps that the first match needs, or that there is none.
+-- The number of steps that a search needs to find the first match, or to find that there is none.
 abbrev pub steps_needed : Regex → (text : List ℕ) → ℕ
 steps_needed re text = need_from (tree_for_byte_units re) (bytes_as_utf8_text re text) 0
 
--- Whether there are matches.
+-- The verdict for a list of matches: whether there are any.
 abbrev pub by_matches : List Answer → Verdict
 by_matches [] = NoMatch
 by_matches (m ∷ ms) = Matches
 
--- The same, where the steps are enough to tell.
+-- The verdict for a list of matches. If the steps do not suffice, it is `OutOfSteps`.
 abbrev pub within : (enough : Bool) → List Answer → Verdict
 within true ms = by_matches ms
 within false ms = OutOfSteps
 
--- A text matches where the list of matches of the pattern's tree is not empty, so wherever in it a match stands.
+-- The verdict for a text. The text matches if the pattern has a match anywhere in it.
 abbrev pub verdict_of : Regex → (text : List ℕ) → (steps : ℕ) → Verdict
 verdict_of re text steps = within (nat_le (steps_needed re text) steps) (utf8_answers re text 0)
 
--- Whether there are matches, or else that the steps are not enough to tell: that only where they are not.
+-- The verdict is right: it says whether there are matches. It may be `OutOfSteps` only if the steps
+-- do not suffice.
 abbrev pub IsToldOf : Regex → (text : List ℕ) → (steps : ℕ) → Verdict → Type 0
 IsToldOf re text steps verdict =
     (verdict ≡ by_matches (utf8_answers re text 0))

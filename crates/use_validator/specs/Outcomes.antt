@@ -1,13 +1,15 @@
--- What counts say of a schema.
+-- The outcome of a keyword that counts how many schemas (or items) hold.
 use Rattle.std.specs.Prelude.{◌≤◌, ◌<◌, ◌⊎◌, ℕ}
 use Rattle.use_validator.specs.declared.report.Outcome.{Outcome}
 use Rattle.use_validator.specs.declared.report.Outcome.TheVariants.{Holds, Fails, Undecided}
 
--- so many hold if the undecided ones are as they may be
+-- `count` is a possible number of schemas that hold. `holding` of them hold for certain. `possible`
+-- of them hold if all undecided ones do.
 abbrev pub IsPossible : (holding possible count : ℕ) → Type 0
 IsPossible holding possible count = (holding ≤ count) × (count ≤ possible)
 
--- At least and at most so many hold, whatever the undecided ones are; or so many do not, whatever they are; or it is not told by these counts.
+-- The outcome for the limits `least` and `most`. `Holds`: each possible count is within the limits.
+-- `Fails`: no possible count is. `Undecided`: neither is known.
 abbrev pub FollowsFromCounts : (least most holding possible : ℕ) → Outcome → Type 0
 FollowsFromCounts least most holding possible Holds =
     (count : ℕ) → IsPossible holding possible count → (least ≤ count) × (count ≤ most)

@@ -1,4 +1,4 @@
-//! Keywords that check a value without its properties or items.
+//! Keywords that check a value itself, without its members or items.
 
 ghost use Rattle.std.specs.Prelude.{◌≡◌, chars, length};
 ghost use Rattle.serde_json.specs.View.{view};
@@ -11,7 +11,7 @@ use serde_json::Value;
 use std::alloc::{AllocError, Global};
 use std::collections::BTreeMap;
 
-// From how many bytes on a keyword's value is not shown.
+// A keyword's value of this many bytes or more is not shown.
 const LONG: usize = 120;
 
 impl Rule<'_> {
@@ -40,7 +40,7 @@ impl Rule<'_> {
         })
     }
 
-    /// Returns what is wrong with a value for which the claim does not hold.
+    /// Returns the message for a value for which the claim does not hold.
     ///
     /// # Errors
     ///
@@ -57,7 +57,7 @@ impl Rule<'_> {
         Ok(text)
     }
 
-    // Writes the keyword's value, unless it is long.
+    // Appends the keyword's value, unless it is long.
     fn push_value(&self, alloc: Global, text: &mut String) -> Result<(), AllocError> {
         let value = self.value.to_string(alloc)?;
         if value.len() < LONG {
@@ -68,7 +68,7 @@ impl Rule<'_> {
     }
 }
 
-// Returns the words before and behind the value of a keyword.
+// Returns the words before and after the value of a keyword in a message.
 fn words(claim: &Claim<'_>) -> (&'static str, &'static str) {
     match claim {
         Claim::Never => ("no value is allowed here", ""),
@@ -95,7 +95,7 @@ fn unit(measure: Measure) -> &'static str {
     }
 }
 
-// Checks whether a value is of a type.
+// Checks whether a value has a type.
 fn is_of(kind: Kind, value: &Value) -> bool
     ensures { IsOfKind kind (view value.now) result }
 {
@@ -113,14 +113,15 @@ fn is_of(kind: Kind, value: &Value) -> bool
     }
 }
 
-// Returns how many code points a text has.
+// Returns the number of code points of a text.
 fn char_count(text: &str) -> u64
     ensures { result ≡ length (chars text.now) }
 {
     text.chars().count() as u64
 }
 
-// Returns how many characters, items or members a value has, if it is of the type that has them.
+// Returns the number of code points, items or members of a value. Returns `None` if it has another
+// type.
 fn size(measure: Measure, value: &Value) -> Option<u64>
     ensures { result ≡ size_of measure (view value.now) }
 {
@@ -140,7 +141,7 @@ fn size(measure: Measure, value: &Value) -> Option<u64>
     }
 }
 
-// Checks whether an object has a member; `other` is the answer for other values.
+// Checks whether an object has a member. For other values, returns `other`.
 fn has(value: &Value, name: &str, other: bool) -> bool
     ensures { result ≡ has_member name.now other (view value.now) }
 {
@@ -151,8 +152,8 @@ fn has(value: &Value, name: &str, other: bool) -> bool
     }
 }
 
-// Checks whether no two items of an array are equal: they are if their texts are, since whole
-// numbers are integers.
+// Checks whether all items of an array are different. Items are equal exactly if their texts are,
+// because whole numbers are integers.
 fn has_distinct_items(alloc: Global, value: &Value) -> Result<bool, AllocError> {
     let Some(items) = value.as_array() else {
         return Ok(true);

@@ -4,12 +4,12 @@ use crate::reader::Reading;
 use use_support::Form::{Number, Switch, Word, WordOr};
 use use_support::{Argument, CommandLine, Given};
 
-/// What is asked for.
+/// The options of a command line.
 #[derive(Drop)]
 pub struct Options<'a> {
     pub schema: &'a str,
     pub document: &'a str,
-    /// How many steps each search may take at first.
+    /// The maximum number of steps of each search, before a search with a work budget.
     pub steps: u64,
     pub reading: Reading,
     pub rows: bool,
@@ -25,7 +25,7 @@ Status: 0 if the document is valid, 1 if it is not, 2 if that cannot be told.";
 const STEPS: &str = "100000";
 
 impl<'a> Options<'a> {
-    /// What the words of a command line ask for.
+    /// Reads the options from the given arguments.
     pub fn of(given: &Given<'a>) -> Self {
         Options {
             schema: given.text("schema"),
@@ -40,7 +40,7 @@ impl<'a> Options<'a> {
     }
 }
 
-/// The command line.
+/// The description of the command line.
 pub static LINE: CommandLine = CommandLine {
     name: "use_validator",
     about: ABOUT,
@@ -68,7 +68,7 @@ pub static LINE: CommandLine = CommandLine {
             Switch(None),
             "Pass over keywords, formats and dialects that the program does not check",
         ),
-        // The stored run has rows on standard input.
+        // A hidden option for tests: rows are read from standard input.
         Argument("rows", Switch(None), ""),
     ],
 };

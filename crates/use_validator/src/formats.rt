@@ -1,11 +1,11 @@
-//! The formats that are checked by patterns.
+//! Formats that are checked by patterns.
 
 use std::alloc::{AllocError, Global};
 
-/// A value of `format`, and the pattern of the strings that have it.
+/// A value of `format`, and the pattern of the strings that have this format.
 pub struct Format {
     pub name: &'static str,
-    // What stands in the pattern between `^(?:` and `)$`.
+    // The pieces of the pattern between `^(?:` and `)$`.
     pieces: &'static [&'static str],
 }
 
@@ -14,11 +14,12 @@ const DATE: &str = "(?:[0-9]{4}-(?:(?:0[13578]|1[02])-(?:0[1-9]|[12][0-9]|3[01])
     |(?:0[469]|11)-(?:0[1-9]|[12][0-9]|30)|02-(?:0[1-9]|1[0-9]|2[0-8]))\
     |(?:[0-9]{2}(?:0[48]|[2468][048]|[13579][26])|(?:[02468][048]|[13579][26])00)-02-29)";
 
-// `full-time` there. A second of 60 is accepted at the end of a day of UTC, without an offset.
+// `full-time` of RFC 3339, section 5.6. The second 60 is accepted at the end of a day in UTC,
+// without an offset.
 const TIME: &str = "(?:(?:[01][0-9]|2[0-3]):[0-5][0-9]:[0-5][0-9](?:\\.[0-9]+)?\
     (?:[zZ]|[+-](?:[01][0-9]|2[0-3]):[0-5][0-9])|23:59:60(?:\\.[0-9]+)?(?:[zZ]|[+-]00:00))";
 
-// `duration` there, appendix A.
+// `duration` of RFC 3339, appendix A.
 const DURATION: &str =
     "P(?:[0-9]+W|(?=[0-9T])(?:[0-9]+Y(?:[0-9]+M(?:[0-9]+D)?)?|[0-9]+M(?:[0-9]+D)?|[0-9]+D)?\
     (?:T(?:[0-9]+H(?:[0-9]+M(?:[0-9]+S)?)?|[0-9]+M(?:[0-9]+S)?|[0-9]+S))?)";
@@ -27,8 +28,9 @@ const DURATION: &str =
 const IPV4: &str = "(?:(?:25[0-5]|2[0-4][0-9]|1[0-9]{2}|[1-9]?[0-9])\\.){3}\
     (?:25[0-5]|2[0-4][0-9]|1[0-9]{2}|[1-9]?[0-9])";
 
-// RFC 4291, section 2.2: eight groups, or `::` and seven groups at most, or fewer groups before an IPv4 address, which
-// stands between this and the next piece. The lookaheads count groups.
+// RFC 4291, section 2.2: eight groups, or `::` and at most seven groups, or fewer groups before an
+// IPv4 address. The IPv4 address is between this piece and the next one. The lookaheads count
+// groups.
 const IPV6_BEFORE_IPV4: &str = "(?:(?:[0-9a-fA-F]{1,4}:){7}[0-9a-fA-F]{1,4}\
     |(?!:*(?:[0-9a-fA-F]+:+){7}[0-9a-fA-F])(?:[0-9a-fA-F]{1,4}(?::[0-9a-fA-F]{1,4}){0,6})?\
     ::(?:[0-9a-fA-F]{1,4}(?::[0-9a-fA-F]{1,4}){0,6})?\
@@ -40,7 +42,7 @@ const IPV6_BEHIND_IPV4: &str = ")";
 // A label of a host name: RFC 1123, section 2.1, and RFC 1034, section 3.1.
 const LABEL: &str = "[a-zA-Z0-9](?:[a-zA-Z0-9-]{0,61}[a-zA-Z0-9])?";
 
-// `Local-part` of RFC 5321, section 4.1.2, with the `@`.
+// `Local-part` of RFC 5321, section 4.1.2, followed by `@`.
 const LOCAL_PART: &str = "(?:[a-zA-Z0-9!#$%&'*+/=?^_`{|}~-]+(?:\\.[a-zA-Z0-9!#$%&'*+/=?^_`{|}~-]+)*\
     |\"(?:[ !#-\\[\\]-~]|\\\\[ -~])*\")@";
 
@@ -59,7 +61,7 @@ const PATH_WITHOUT_AUTHORITY: &str = "|(?!//)(?:[a-zA-Z0-9._~!$&'()*+,;=:@/-]|%[
 const QUERY_AND_FRAGMENT: &str = "(?:\\?(?:[a-zA-Z0-9._~!$&'()*+,;=:@/?-]|%[0-9a-fA-F]{2})*)?\
     (?:#(?:[a-zA-Z0-9._~!$&'()*+,;=:@/?-]|%[0-9a-fA-F]{2})*)?";
 
-// UUIDs of RFC 4122, and the pointers of RFC 6901 and its relative form.
+// The formats. UUIDs are from RFC 4122, pointers from RFC 6901, with the relative form.
 static FORMATS: &[Format] = &[
     Format {
         name: "date",
@@ -119,7 +121,7 @@ static FORMATS: &[Format] = &[
             QUERY_AND_FRAGMENT,
         ],
     },
-    // A scheme, or no colon in the first segment of the path.
+    // Either there is a scheme, or the first segment of the path has no colon.
     Format {
         name: "uri-reference",
         pieces: &[
@@ -150,7 +152,7 @@ static FORMATS: &[Format] = &[
 ];
 
 impl Format {
-    /// Returns the format with this name, or `None` if no pattern here has it.
+    /// Returns the format with this name. Returns `None` if no pattern for it is known.
     pub fn of(name: &str) -> Option<&'static Format> {
         FORMATS.iter().find(|format| format.name == name)
     }

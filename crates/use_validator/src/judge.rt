@@ -1,4 +1,4 @@
-//! Texts in which a pattern has a match.
+//! Decides whether a pattern has a match in a text.
 
 ghost use Rattle.std.specs.Prelude.{◌≡◌, ◌≤◌, ◌<◌, ◌^◌, IfOk, SomeIff};
 ghost use Rattle.regress_match.specs.{ProgramTreesAndAnswers.{bytes_as_utf8_text, utf8_answers}, WorkBounds.{enough_work_for_text}};
@@ -7,14 +7,14 @@ ghost use Rattle.use_validator.specs.Judge.{IsToldOf, by_matches, verdict_of};
 use regress_match::{BoundedRegex, Regex, SearchError, Unbounded, WorkError};
 use std::alloc::AllocError;
 
-/// What a search in a limit of steps says of a text.
+/// What a search with limited steps says about a text.
 #[derive(Clone, Copy, PartialEq, Eq)]
 pub enum Verdict {
-    /// It has a match, somewhere.
+    /// The text has a match at some position.
     Matches,
-    /// It has none.
+    /// The text has no match.
     NoMatch,
-    /// The steps are not enough to tell.
+    /// The steps did not suffice to decide.
     OutOfSteps,
 }
 
@@ -37,8 +37,8 @@ pub fn judge(re: &Regex, text: &str, steps: u64) -> Result<Verdict, AllocError>
     }
 }
 
-/// Like `judge`. If the steps are not enough and the pattern has a work bound, searches once more with a work budget
-/// that is enough.
+/// Like `judge`. If the steps do not suffice and the pattern has a work bound, searches again with
+/// a sufficient work budget.
 ///
 /// # Errors
 ///
@@ -60,7 +60,7 @@ pub fn decide(re: &Regex, text: &str, steps: u64) -> Result<Verdict, AllocError>
     }
 }
 
-// How much work is enough for all matches of a text, where that is a number.
+// Returns how much work suffices for all matches in a text. Returns `None` on overflow.
 fn enough(bounded: &BoundedRegex<'_>, text: &str) -> Option<u64>
     ensures { let all = enough_work_for_text bounded.now.per_unit (bytes_as_utf8_text bounded.now.re text.now) in
         SomeIff result (all < 2 ^ 64) all }
@@ -68,7 +68,8 @@ fn enough(bounded: &BoundedRegex<'_>, text: &str) -> Option<u64>
     bounded.work_per_unit().checked_mul(text.len() as u64 + 1)
 }
 
-// Whether the pattern has a match in the text, in so much work, which is enough to tell.
+// Checks whether the pattern has a match in the text, with at most `work` work. This much work has
+// to suffice.
 fn judge_in_work(bounded: &BoundedRegex<'_>, text: &str, work: u64) -> Result<Verdict, AllocError>
     requires { enough_work_for_text bounded.now.per_unit (bytes_as_utf8_text bounded.now.re text.now) ≤ work }
     ensures { IfOk result (λ verdict. verdict ≡ by_matches (utf8_answers bounded.now.re text.now 0)) }

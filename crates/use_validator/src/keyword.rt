@@ -1,6 +1,6 @@
 //! The keywords of JSON Schema, draft 2020-12.
 
-/// What a keyword as `maxLength` counts.
+/// What a keyword such as `maxLength` counts.
 #[derive(Clone, Copy)]
 pub enum Measure {
     /// The code points of a string.
@@ -9,7 +9,7 @@ pub enum Measure {
     Members,
 }
 
-/// What a keyword as `maximum` says of a number.
+/// How a keyword such as `maximum` bounds a number.
 #[derive(Clone, Copy, PartialEq, Eq)]
 pub enum Range {
     AtLeast,
@@ -19,7 +19,7 @@ pub enum Range {
     MultipleOf,
 }
 
-/// A keyword that says something of a value alone.
+/// A keyword that checks a value itself.
 #[derive(Clone, Copy)]
 pub enum OfValue {
     Type,
@@ -33,14 +33,14 @@ pub enum OfValue {
     Number(Range),
 }
 
-/// A keyword that says something of a string by a pattern.
+/// A keyword that checks a string by a pattern.
 #[derive(Clone, Copy)]
 pub enum OfText {
     Pattern,
     Format,
 }
 
-/// A keyword that applies other schemas to the value.
+/// A keyword that applies other schemas to the same value.
 #[derive(Clone, Copy)]
 pub enum OfSame {
     Ref,
@@ -52,7 +52,7 @@ pub enum OfSame {
     DependentSchemas,
 }
 
-/// A keyword that applies other schemas to its items or members.
+/// A keyword that applies other schemas to the value's items or members.
 #[derive(Clone, Copy)]
 pub enum OfChild {
     Properties,
@@ -64,10 +64,10 @@ pub enum OfChild {
     Contains,
 }
 
-/// A keyword, by how it is read.
+/// The keywords, by how they are read.
 #[derive(Clone, Copy)]
 pub enum Keyword {
-    /// It describes the schema, or is read with another keyword.
+    /// It only describes the schema, or is read together with another keyword.
     SaysNothing,
     Dialect,
     Id,
@@ -164,7 +164,7 @@ static KEYWORDS: &[(&str, Keyword)] = &[
 ];
 
 impl Keyword {
-    /// Returns what the member of a schema with this name says, or `None` if it is no keyword.
+    /// Returns the keyword with this name. Returns `None` if it is not a keyword.
     pub fn of(name: &str) -> Option<Keyword> {
         for (text, keyword) in KEYWORDS {
             if *text == name {

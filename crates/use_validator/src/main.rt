@@ -1,6 +1,7 @@
 //! Checks a JSON document against a JSON Schema.
 //!
-//! It ends with status 0 if the document is valid, with 1 if it is not, and with 2 if it cannot tell.
+//! The exit status is 0 if the document is valid, 1 if it is not, and 2 if this cannot be decided
+//! or an error occurs.
 #![tactic(auto)]
 
 mod claims;
@@ -31,7 +32,7 @@ use std::process::ExitCode;
 use std::{fs, io};
 use use_support::{CommandLine, Given, Program, TROUBLE, run};
 
-// A file's text; that of `-` is standard input.
+// Reads a file as text. `-` is standard input.
 fn read(rt: &HostRuntime, path: &str) -> io::Result<String> {
     if path == "-" {
         return io::read_to_string(rt.alloc(), rt.stdin());
@@ -39,7 +40,7 @@ fn read(rt: &HostRuntime, path: &str) -> io::Result<String> {
     fs::read_to_string(rt, path)
 }
 
-// A file as JSON, in which whole numbers are integers.
+// Reads a file as JSON, with whole numbers as integers.
 fn read_value(rt: &HostRuntime, path: &str) -> Result<Value> {
     let text = match read(rt, path) {
         Ok(text) => text,
@@ -54,7 +55,8 @@ fn read_value(rt: &HostRuntime, path: &str) -> Result<Value> {
     }
 }
 
-// Checks whether the document is valid, and prints a line for each finding. If rows are asked for, answers them too.
+// Checks whether the document is valid, and prints a line for each finding. If rows are wanted,
+// also answers them.
 fn validate(rt: &HostRuntime, options: &Options<'_>) -> Result<Outcome> {
     let alloc = rt.alloc();
     let schema = read_value(rt, options.schema)?;

@@ -1,4 +1,4 @@
-//! Numbers, compared by their values.
+//! Comparison of numbers by their values.
 
 ghost use Rattle.std.specs.Prelude.{◌≡◌, true, false};
 ghost use Rattle.serde_json.specs.Find.{is_float};
@@ -11,18 +11,18 @@ use std::num::{
     saturating_f64_to_u64,
 };
 
-// 2^63 and 2^64 as floats.
+// 2^63 and 2^64 as floating-point numbers.
 const TWO_63: f64 = 9223372036854775808.0;
 
 const TWO_64: f64 = 18446744073709551616.0;
 
-// The bit of a significand that a float does not store, and the bits of its exponent.
+// The leading bit of a significand, which a float does not store, and the bits of its exponent.
 const HIDDEN_BIT: u64 = 1 << 52;
 
 const EXPONENT_BITS: u64 = 0x7ff << 52;
 
-/// Makes each whole number in a value an integer, so that equal numbers are equal values: 1.0
-/// becomes 1. Numbers that fit no integer of 64 bits stay as they are.
+/// Converts each whole number in a value to an integer, so that equal numbers are equal values: 1.0
+/// becomes 1. Numbers that do not fit in an integer of 64 bits are unchanged.
 pub fn make_whole(value: &mut Value) {
     match value {
         Value::Number(number) => *number = whole(*number),
@@ -40,7 +40,7 @@ pub fn make_whole(value: &mut Value) {
     }
 }
 
-// Returns the integer that is equal to the number, or the number itself if there is none.
+// Returns the integer that is equal to the number. If there is none, returns the number itself.
 fn whole(number: Number) -> Number {
     if !number.is_f64() {
         return number;
@@ -52,7 +52,7 @@ fn whole(number: Number) -> Number {
     integer.unwrap_or(number)
 }
 
-// Returns the integer of 64 bits that is equal to a float.
+// Returns the 64-bit integer that is equal to a float.
 fn integer_of(x: f64) -> Option<Number> {
     if -TWO_63 <= x && x < TWO_63 {
         let n = saturating_f64_to_i64(x);
@@ -68,7 +68,7 @@ fn integer_of(x: f64) -> Option<Number> {
     None
 }
 
-/// Checks whether a number is an integer: it is whole.
+/// Checks whether a number is an integer, that is, whole.
 pub fn is_integer(number: &Number) -> bool
     ensures { is_float (number_view number.now) ≡ false → result ≡ true }
 {
@@ -81,7 +81,8 @@ pub fn is_integer(number: &Number) -> bool
     }
 }
 
-/// Checks whether a number is in a range. Integers are compared exactly, other numbers as floats.
+/// Checks whether a number is in a range. Integers are compared exactly, and other numbers as
+/// floats.
 pub fn is_in(number: &Number, range: Range, bound: &Number) -> bool {
     match range {
         Range::AtLeast => !is_less(number, bound),
@@ -92,7 +93,7 @@ pub fn is_in(number: &Number, range: Range, bound: &Number) -> bool {
     }
 }
 
-/// Checks whether a number is more than zero.
+/// Checks whether a number is greater than zero.
 pub fn is_positive(number: &Number) -> bool {
     match number.as_f64() {
         Some(x) => 0.0 < x,
@@ -110,8 +111,8 @@ fn is_less(a: &Number, b: &Number) -> bool {
     }
 }
 
-// Checks whether the quotient is whole. If it is too large for a float, the odd parts tell: the
-// number has more factors of two.
+// Checks whether the quotient is whole. If the number is so large that the quotient is no float,
+// the odd parts decide, because the number has more factors of two.
 fn is_multiple(number: &Number, factor: &Number) -> bool {
     if let (Some(n), Some(d)) = (magnitude(number), magnitude(factor)) {
         return d != 0 && n % d == 0;
@@ -128,7 +129,7 @@ fn is_multiple(number: &Number, factor: &Number) -> bool {
     }
 }
 
-// Returns the significand of a float, without its sign and its factors of two.
+// Returns the odd part of a float's significand, without the sign.
 fn odd_part(x: f64) -> u64 {
     let bits = f64_to_bits_with_nan(x);
     let fraction = bits & (HIDDEN_BIT - 1);
@@ -146,12 +147,12 @@ fn odd_part(x: f64) -> u64 {
     }
 }
 
-// A float of 2^63 or more is whole.
+// Checks whether a float is whole. Each float of 2^63 or more is.
 fn is_whole(x: f64) -> bool {
     x <= -TWO_63 || TWO_63 <= x || nearest_i64_to_f64(saturating_f64_to_i64(x)) == x
 }
 
-// Returns an integer without its sign.
+// Returns the absolute value of an integer.
 fn magnitude(number: &Number) -> Option<u64> {
     match number.as_u64() {
         Some(n) => Some(n),

@@ -13,7 +13,7 @@ use std::collections::BTreeMap;
 /// The language of a schema's patterns.
 const SYNTAX: Syntax = Syntax::EcmaScript2018;
 
-/// Each pattern of a schema as a program, by its text.
+/// The compiled patterns of a schema, by their texts.
 #[derive(Drop)]
 pub struct Patterns {
     compiled: BTreeMap<String, Regex>,
@@ -21,25 +21,25 @@ pub struct Patterns {
 }
 
 impl Patterns {
-    /// Returns the patterns of a schema that has none.
+    /// Creates the patterns of a schema that has none.
     pub fn none(alloc: Global) -> Self {
         let compiled = BTreeMap::new(alloc);
         Patterns { compiled }
     }
 
-    /// Returns the program of a pattern, or `None` if the schema does not have it.
+    /// Returns the compiled pattern with this text. Returns `None` if the schema does not have it.
     pub fn get(&self, pattern: &str) -> Option<&Regex>
         ensures { IfSome result (λ re. IsPatternOf pattern.now re.now) }
     {
         self.compiled.get(pattern)
     }
 
-    /// Compiles a pattern that stands at a place of the schema, with the flag `u`.
+    /// Compiles a pattern at a position of the schema, with the flag `u`.
     ///
     /// # Errors
     ///
-    /// If the pattern is refused, the error says where it stands and why. Allocation failure is an
-    /// error too.
+    /// Returns an error if the pattern is refused; it says where and why. Also returns an error if
+    /// an allocation fails.
     pub fn compile(&mut self, alloc: Global, place: &str, pattern: &str) -> Result<()> {
         if self.compiled.get(pattern).is_some() {
             return Ok(());
@@ -48,7 +48,7 @@ impl Patterns {
         self.insert(String::from_str(alloc, pattern)?, re)
     }
 
-    // Adds the program of a pattern.
+    // Adds a compiled pattern.
     fn insert(&mut self, pattern: String, re: Regex) -> Result<()>
         requires { IsProgramOf (string_bytes pattern) re }
     {
@@ -57,7 +57,7 @@ impl Patterns {
     }
 }
 
-// Compiles a pattern. If it is refused, the error says where it stands and why.
+// Compiles a pattern. If it is refused, the error says where and why.
 fn compile(alloc: Global, place: &str, pattern: &str) -> Result<Regex>
     ensures { IfOk result (IsProgramOf pattern.now) }
 {
@@ -76,7 +76,7 @@ fn compile(alloc: Global, place: &str, pattern: &str) -> Result<Regex>
     bail!("the schema's #{place} is refused: {why}")
 }
 
-// Compiles a pattern, with the error of the constructor.
+// Compiles a pattern, and returns the engine's error if it is refused.
 fn read(alloc: Global, pattern: &str) -> Result<Regex, Error>
     ensures { IfOk result (IsProgramOf pattern.now) }
 {

@@ -1,4 +1,4 @@
-//! Places in a JSON document (JSON Pointer, RFC 6901).
+//! Positions in a JSON document, as JSON Pointers (RFC 6901).
 
 ghost use Rattle.std.specs.Prelude.{◌≡◌, ◌++◌, IfOk, string_bytes};
 ghost use Rattle.std.specs.Char.{encode_utf8};
@@ -6,8 +6,9 @@ ghost use Rattle.use_validator.specs.Pointer.{LeadsToMember, escape, longer};
 
 use std::alloc::{AllocError, Global};
 
-/// The pointer to a member of what another one points to: `/` and the member's name, in which `~` is written `~0` and
-/// `/` is written `~1` (section 3). The name of an item is its number.
+/// Returns the pointer to a member of what `pointer` leads to. It appends `/` and the member's
+/// name, in which `~` is written `~0` and `/` is written `~1` (RFC 6901, section 3). The name of an
+/// item is its index.
 ///
 /// # Errors
 ///
@@ -21,7 +22,7 @@ pub fn child(alloc: Global, pointer: &str, name: &str) -> Result<String, AllocEr
     Ok(longer)
 }
 
-// Writes a name.
+// Appends an escaped name.
 fn push_name(pointer: &mut String, name: &str) -> Result<(), AllocError>
     ensures { IfOk result (λ _. string_bytes pointer.new ≡ string_bytes pointer.old ++ escape name.now) }
 {
@@ -31,7 +32,7 @@ fn push_name(pointer: &mut String, name: &str) -> Result<(), AllocError>
     Ok(())
 }
 
-// Writes a character of a name.
+// Appends an escaped character of a name.
 fn push_escaped(pointer: &mut String, c: char) -> Result<(), AllocError>
     ensures { IfOk result (λ _. string_bytes pointer.new ≡ string_bytes pointer.old ++ escape (encode_utf8 c)) }
 {
@@ -42,7 +43,8 @@ fn push_escaped(pointer: &mut String, c: char) -> Result<(), AllocError>
     }
 }
 
-/// A pointer with one more name leads to the member of that name, if what it led to is an object.
+/// A law: if a pointer leads to an object, the pointer with one more name leads to the member with
+/// this name.
 pub fn pointers_lead_to_members()
     ensures { LeadsToMember }
 {}

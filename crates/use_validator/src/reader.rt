@@ -1,4 +1,4 @@
-//! The reader of schemas.
+//! Reads schemas.
 
 use crate::formats::Format;
 use crate::keyword::{Keyword, OfChild, OfSame, OfText, OfValue, Range};
@@ -15,48 +15,48 @@ use std::collections::BTreeMap;
 /// How a schema is read.
 #[derive(Clone, Copy)]
 pub struct Reading {
-    /// `format` is checked, and does not only describe.
+    /// Whether `format` is checked. Otherwise it only describes.
     pub assert_format: bool,
-    /// What is not supported (keywords, formats, dialects) says nothing, and is not refused.
+    /// Whether unsupported keywords, formats and dialects are ignored. Otherwise they are refused.
     pub ignore_unknown: bool,
 }
 
-// A schema within the whole one, and where it stands.
+// A subschema and its position.
 #[derive(Drop)]
 struct Found<'s> {
     place: String,
     schema: &'s Value,
 }
 
-// Reads the parts of a schema in the order in which they are found.
+// Reads the subschemas in the order in which they are found.
 #[derive(Drop)]
 struct Reader<'s> {
     alloc: Global,
     reading: Reading,
     whole: &'s Value,
     found: Vec<Found<'s>>,
-    // The number of each part that was found, by its place.
+    // The number of each part that was found, by its position.
     numbers: BTreeMap<String, usize>,
     patterns: Patterns,
 }
 
-// A keyword of a part that is being read.
+// A keyword of the part that is being read.
 #[derive(Clone, Copy)]
 struct Member<'s> {
     keyword: &'s str,
     value: &'s Value,
-    // The schema that has it.
+    // The schema that has the keyword.
     schema: &'s Value,
 }
 
-// Why what is not supported is refused.
+// Why unsupported things are refused.
 const UNKNOWN_KEYWORD: &str = "is not a supported keyword (--ignore-unknown passes over it)";
 
 const UNKNOWN_FORMAT: &str = "is not a supported format (--ignore-unknown passes over it)";
 
 const UNKNOWN_DIALECT: &str = "is not draft 2020-12 (--ignore-unknown passes over it)";
 
-// The value of `$schema` for the dialect that is read.
+// The value of `$schema` for the supported dialect.
 const DIALECT: &str = "https://json-schema.org/draft/2020-12/schema";
 
 static KINDS: &[(&str, Kind)] = &[
@@ -70,14 +70,14 @@ static KINDS: &[(&str, Kind)] = &[
 ];
 
 impl<'s> Schema<'s> {
-    /// Reads a schema, in which whole numbers are integers, with all that is within it or that a
-    /// `$ref` leads to.
+    /// Reads a schema, with all subschemas that it contains or that a `$ref` leads to. Whole
+    /// numbers in the schema have to be integers.
     ///
     /// # Errors
     ///
-    /// If a keyword is not supported (unless `reading` ignores that), has a value that it may not
-    /// have, or leads out of the document; or if a pattern is refused. The error says where.
-    /// Allocation failure is an error too.
+    /// Returns an error if a keyword is unsupported (unless `reading` ignores this), has an invalid
+    /// value, or refers to another document, or if a pattern is refused. The error says where. Also
+    /// returns an error if an allocation fails.
     pub fn read(alloc: Global, whole: &'s Value, reading: Reading) -> Result<Self> {
         let mut reader = Reader {
             alloc,
@@ -117,7 +117,7 @@ impl<'s> Part<'s> {
         }
     }
 
-    // Refuses each value, as the schema `false`.
+    // Refuses each value, like the schema `false`.
     fn refuse_all(&mut self, schema: &'s Value) -> Result<(), AllocError> {
         Ok(
             self.rules.push(Rule {
@@ -152,13 +152,13 @@ impl<'s> Part<'s> {
 }
 
 impl<'s> Reader<'s> {
-    // Returns the number of the schema at a place.
+    // Returns the number of the schema at a position.
     fn number(&mut self, place: String, schema: &'s Value) -> Result<usize> {
         if let Some(number) = self.numbers.get(place.as_str()) {
             return Ok(*number);
         }
         if !schema.is_object() && !schema.is_boolean() {
-            bail!("the schema's #{place} is no schema");
+            bail!("the schema's #{place} is neither an object nor a boolean");
         }
         let number = self.found.len();
         self.numbers.insert(place.clone()?, number)?;
@@ -166,7 +166,7 @@ impl<'s> Reader<'s> {
         Ok(number)
     }
 
-    // Reads the part with this number, if so many were found.
+    // Reads the part with this number. Returns `None` if fewer parts were found.
     fn part(&mut self, number: usize) -> Result<Option<Part<'s>>> {
         let Some(found) = self.found.get(number) else {
             return Ok(None);
@@ -208,7 +208,7 @@ impl<'s> Reader<'s> {
         }
     }
 
-    // Passes over what is not supported, or refuses it.
+    // Ignores something unsupported, or refuses it.
     fn read_unknown(&self, part: &Part<'s>, member: Member<'s>, why: &str) -> Result<()> {
         if self.reading.ignore_unknown {
             return Ok(());
@@ -216,7 +216,7 @@ impl<'s> Reader<'s> {
         refuse(part, member, why)
     }
 
-    // Reads `$schema`, which names the dialect.
+    // Reads `$schema`, the name of the dialect.
     fn read_dialect(&self, part: &Part<'s>, member: Member<'s>) -> Result<()> {
         let dialect = text(part, member)?;
         if dialect.trim_end_matches('#') == DIALECT {
@@ -225,7 +225,8 @@ impl<'s> Reader<'s> {
         self.read_unknown(part, member, UNKNOWN_DIALECT)
     }
 
-    // Reads `$id`, which names the document. Below its top it would begin another one.
+    // Reads `$id`, the name of the document. It is refused in subschemas, where it would begin
+    // another document.
     fn read_id(&self, part: &Part<'s>, member: Member<'s>) -> Result<()> {
         if !part.place.is_empty() {
             return refuse(part, member, "begins a document within the document");
@@ -258,7 +259,7 @@ impl<'s> Reader<'s> {
         )
     }
 
-    // Reads a keyword that applies other schemas to the value.
+    // Reads a keyword that applies other schemas to the same value.
     fn read_same(&mut self, part: &mut Part<'s>, member: Member<'s>, word: OfSame) -> Result<()> {
         match word {
             OfSame::Ref => self.read_ref(part, member),
@@ -318,7 +319,7 @@ impl<'s> Reader<'s> {
         )
     }
 
-    // Reads a keyword that applies other schemas to the items or members.
+    // Reads a keyword that applies other schemas to items or members.
     fn read_child(&mut self, part: &mut Part<'s>, member: Member<'s>, word: OfChild) -> Result<()> {
         match word {
             OfChild::Properties => part.named = self.named(part, member)?,
@@ -348,7 +349,7 @@ impl<'s> Reader<'s> {
         Ok(part.count(Counting::Contains, items, Limits { least, most })?)
     }
 
-    // Compiles the names of `patternProperties`.
+    // Compiles the patterns that are the names of `patternProperties`.
     fn compile_names(&mut self, part: &Part<'s>, member: Member<'s>) -> Result<()> {
         let place = child(self.alloc, part.place.as_str(), member.keyword)?;
         for (pattern, _) in &part.by_pattern {
@@ -359,7 +360,7 @@ impl<'s> Reader<'s> {
         Ok(())
     }
 
-    // Returns the number of the schema that a `$ref` leads to.
+    // Returns the number of the schema to which a `$ref` leads.
     fn reference(&mut self, part: &Part<'s>, member: Member<'s>) -> Result<usize> {
         let reference = text(part, member)?;
         let own = self.whole.get("$id").and_then(Value::as_str);
@@ -380,7 +381,8 @@ impl<'s> Reader<'s> {
         self.number(place, member.value)
     }
 
-    // Returns the number of the schema that is the value of another keyword, if it is there.
+    // Returns the number of the schema that is the value of another keyword of the same schema.
+    // Returns `None` if that keyword is absent.
     fn sibling(
         &mut self,
         part: &Part<'s>,
@@ -393,7 +395,7 @@ impl<'s> Reader<'s> {
         }
     }
 
-    // Returns the numbers of the schemas in the keyword's value, an array that is not empty.
+    // Returns the numbers of the schemas in the keyword's value, a non-empty array.
     fn list(&mut self, part: &Part<'s>, member: Member<'s>) -> Result<Vec<usize>> {
         let above = child(self.alloc, part.place.as_str(), member.keyword)?;
         let mut numbers = Vec::new(self.alloc);
@@ -409,7 +411,7 @@ impl<'s> Reader<'s> {
         Ok(numbers)
     }
 
-    // Returns the numbers of the schemas in the keyword's value, an object, by their names.
+    // Returns the numbers of the schemas in the keyword's value, an object, by member name.
     fn named(&mut self, part: &Part<'s>, member: Member<'s>) -> Result<BTreeMap<String, usize>> {
         let above = child(self.alloc, part.place.as_str(), member.keyword)?;
         let mut numbers = BTreeMap::new(self.alloc);
@@ -423,7 +425,7 @@ impl<'s> Reader<'s> {
 }
 
 impl<'s> Member<'s> {
-    // Returns another keyword of the same schema, if it is there.
+    // Returns another keyword of the same schema. Returns `None` if it is absent.
     fn sibling(self, keyword: &'static str) -> Option<Member<'s>> {
         let schema = self.schema;
         schema.get(keyword).map(|value| Member {
@@ -434,7 +436,7 @@ impl<'s> Member<'s> {
     }
 }
 
-// Reads a keyword that says something of a value alone.
+// Reads a keyword that checks a value itself.
 fn read_value<'s>(
     alloc: Global,
     part: &mut Part<'s>,
@@ -486,7 +488,7 @@ fn read_dependent<'s>(part: &mut Part<'s>, member: Member<'s>) -> Result<()> {
     Ok(())
 }
 
-// Returns the types that `type` names.
+// Returns the types in the value of `type`.
 fn kinds<'s>(alloc: Global, part: &Part<'s>, member: Member<'s>) -> Result<Vec<Kind>> {
     let mut kinds = Vec::new(alloc);
     if member.value.is_string() {
@@ -507,7 +509,8 @@ fn kind(part: &Part<'_>, member: Member<'_>, name: &Value) -> Result<Kind> {
     }
 }
 
-// Returns the value of a keyword that has to be an array, or one of the next forms.
+// Returns the value of a keyword, which has to be an array. The next functions do the same for
+// other types.
 fn array<'s>(part: &Part<'_>, member: Member<'s>) -> Result<&'s Vec<Value>> {
     match member.value.as_array() {
         Some(items) => Ok(items),
@@ -536,7 +539,7 @@ fn size(part: &Part<'_>, member: Member<'_>) -> Result<u64> {
     }
 }
 
-// A factor has to be more than zero.
+// Returns the bound of a range. A factor has to be greater than zero.
 fn bound(part: &Part<'_>, member: Member<'_>, range: Range) -> Result<Number> {
     match member.value.as_number() {
         Some(bound) if range != Range::MultipleOf || is_positive(bound) => Ok(*bound),
@@ -544,7 +547,7 @@ fn bound(part: &Part<'_>, member: Member<'_>, range: Range) -> Result<Number> {
     }
 }
 
-// Refuses a keyword, with its place.
+// Refuses a keyword. The error has its position.
 fn refuse<T>(part: &Part<'_>, member: Member<'_>, why: &str) -> Result<T> {
     bail!("the schema's #{}/{} {why}", part.place, member.keyword)
 }

@@ -4,17 +4,17 @@ use anyhow::{Context, Result, bail};
 use percent_encoding::percent_decode_str;
 use std::alloc::Global;
 
-/// Returns the JSON Pointer that a reference names: its fragment, with `%XX` read as bytes. The
-/// document's own URI may stand before the fragment.
+/// Returns the JSON Pointer in the fragment of a reference, with each `%XX` decoded. The document's
+/// own URI may precede the fragment.
 ///
 /// # Errors
 ///
-/// If the reference names another document, or its fragment is no JSON Pointer. Allocation failure
-/// is an error too.
+/// Returns an error if the reference names another document, if its fragment is not a JSON Pointer,
+/// or if an allocation fails.
 pub fn target(alloc: Global, reference: &str, own: &str) -> Result<String> {
     let (uri, fragment) = reference.split_once('#').unwrap_or((reference, ""));
     if !uri.is_empty() && uri != own.trim_end_matches('#') {
-        bail!("{reference} leads out of the document");
+        bail!("{reference} refers to another document, which is not supported");
     }
     if !fragment.is_empty() && !fragment.starts_with('/') {
         bail!("{reference} is no JSON Pointer");

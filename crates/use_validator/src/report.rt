@@ -1,25 +1,25 @@
-//! The report on a value: failures and annotations.
+//! The report on a value: its findings, and the outcome.
 
 ghost use Rattle.use_validator.specs.Outcomes.{FollowsFromCounts};
 
 use std::alloc::{AllocError, Global};
 use std::fmt;
 
-/// What a schema says of a value.
+/// The outcome of checking a value with a schema.
 #[derive(Clone, Copy, PartialEq, Eq)]
 pub enum Outcome {
     Holds,
     Fails,
-    /// A search had too few steps to tell.
+    /// A search did not have enough steps to decide.
     Undecided,
 }
 
-/// A value that does not conform to its schema, or of which that is undecided.
+/// A value that does not conform to its schema, or for which this is undecided.
 #[derive(Drop)]
 pub struct Finding {
-    /// Where the value stands (a JSON Pointer).
+    /// The position of the value (a JSON Pointer).
     pub pointer: String,
-    /// Where what it says stands in the schema.
+    /// The position in the schema of the keyword that requires this.
     pub place: String,
     /// What is wrong.
     pub told: String,
@@ -36,7 +36,7 @@ impl fmt::Display for Finding {
     }
 }
 
-// Writes a text with its control characters escaped, so that it stays on one line.
+// Writes a text with its control characters escaped, so that it is a single line.
 fn write_line<W: fmt::Write>(f: &mut fmt::Formatter<W>, text: &str) -> fmt::Result {
     for c in text.chars() {
         if c.is_control() {
@@ -48,7 +48,7 @@ fn write_line<W: fmt::Write>(f: &mut fmt::Formatter<W>, text: &str) -> fmt::Resu
     Ok(())
 }
 
-// Writes a control character by its number, as in JSON: all of them are below U+0100.
+// Writes a control character by its number, as in JSON. All of them are below U+0100.
 fn write_control<W: fmt::Write>(f: &mut fmt::Formatter<W>, c: char) -> fmt::Result {
     f.write_str("\\u00")?;
     f.write_char(hex_digit(c as u32 / 16))?;
@@ -59,18 +59,18 @@ fn hex_digit(n: u32) -> char {
     char::from_digit(n, 16).unwrap_or('?')
 }
 
-/// The failures and annotations of a value, in the order in which the walk finds them.
+/// The findings about a value, in the order in which the walk makes them, and the outcome.
 #[derive(Drop)]
 pub struct Report {
     pub findings: Vec<Finding>,
-    // Only the outcome is asked for.
+    // Whether only the outcome is wanted.
     is_quiet: bool,
     fails: bool,
     is_undecided: bool,
 }
 
 impl Report {
-    /// Returns a report in which nothing is told yet. A quiet one has no findings.
+    /// Creates an empty report. A quiet one collects no findings.
     pub fn new(alloc: Global, is_quiet: bool) -> Self {
         Report {
             findings: Vec::new(alloc),
@@ -80,7 +80,7 @@ impl Report {
         }
     }
 
-    /// Notes that something fails or is undecided. Returns whether a finding has to tell it.
+    /// Records that something fails or is undecided. Returns whether a finding has to be added.
     pub fn note(&mut self, outcome: Outcome) -> bool {
         match outcome {
             Outcome::Holds => return false,
@@ -90,7 +90,7 @@ impl Report {
         !self.is_quiet
     }
 
-    /// Checks whether nothing more can change the outcome, and only that is asked for.
+    /// Checks whether only the outcome is wanted and nothing more can change it.
     pub fn is_done(&self) -> bool {
         self.is_quiet && self.fails
     }
@@ -106,7 +106,7 @@ impl Report {
     }
 }
 
-/// How many schemas hold, and how many may hold: these or those that are undecided.
+/// How many schemas hold, and how many may hold. The second number includes the undecided ones.
 #[derive(Clone, Copy)]
 pub struct Tally {
     pub holding: u64,
@@ -119,7 +119,7 @@ impl Tally {
         possible: 0,
     };
 
-    /// Counts one more.
+    /// Counts one more schema.
     pub fn count(&mut self, outcome: Outcome) {
         match outcome {
             Outcome::Holds => {
@@ -131,7 +131,8 @@ impl Tally {
         }
     }
 
-    /// Whether at least and at most so many hold, whatever the undecided ones are.
+    /// Returns the outcome for the limits: whether at least `least` and at most `most` schemas
+    /// hold, whatever the undecided ones do.
     pub fn conclude(self, least: u64, most: u64) -> Outcome
         ensures { FollowsFromCounts least most self.holding self.possible result }
     {

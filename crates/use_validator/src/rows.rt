@@ -1,4 +1,4 @@
-//! Rows of documents, on standard input, each with a schema of its own.
+//! Rows of standard input for tests. Each row has a schema and a document.
 
 use crate::command::Options;
 use crate::numbers::make_whole;
@@ -10,13 +10,13 @@ use anyhow::{Context, Error, Result, bail};
 use serde_json::Value;
 use std::alloc::Global;
 
-/// Prints each row of standard input with one more field. A row has fields with ` | ` between them:
-/// a schema and a document, for which the field is `valid`, `invalid`, `undecided` or `refused` (the
-/// schema is); or these and how many steps a search may take, for which it has the findings, or the
-/// first line of why the schema is refused. `--assert-format ` or `--ignore-unknown ` before the schema
-/// is the option for the row.
+/// Prints each row of standard input with one more field. The fields of a row are separated by ` |
+/// `. A row with a schema and a document gets `valid`, `invalid`, `undecided`, or `refused` if the
+/// schema is refused. A row with a third field, the number of steps of a search, gets the findings,
+/// or the first line of why the schema is refused. If the schema is preceded by `--assert-format `
+/// or `--ignore-unknown `, this option applies to the row.
 ///
-/// # Errors
+/// Returns an error if a row cannot be read or printed, or if an allocation fails.
 ///
 /// If a row cannot be read or printed. Allocation failure is an error too.
 pub fn answer_rows(rt: &HostRuntime, options: &Options<'_>) -> Result<()> {
@@ -58,7 +58,7 @@ fn verdict(told: &Result<Report>) -> &'static str {
     }
 }
 
-// Checks the document of a row with its schema.
+// Checks the document of a row against its schema.
 fn check(
     rt: &HostRuntime,
     options: &Options<'_>,
@@ -72,7 +72,7 @@ fn check(
     report(rt, &schema, steps, &document)
 }
 
-// Takes an option from before a schema.
+// Removes an option in front of a schema, and applies it to `reading`.
 fn reading(schema: &str, mut reading: Reading) -> (&str, Reading) {
     if let Some(schema) = schema.strip_prefix("--assert-format ") {
         reading.assert_format = true;
@@ -91,7 +91,7 @@ fn value(alloc: Global, text: &str) -> Result<Value> {
     Ok(value)
 }
 
-// Returns the first line of why a schema is refused.
+// Returns the first line of the reason why a schema is refused.
 fn refusal(alloc: Global, why: &Error) -> Result<String> {
     let why = format!(in alloc; "refused: {why}")?;
     let (line, _) = why.split_once('\n').unwrap_or((why.as_str(), ""));

@@ -1,4 +1,4 @@
-//! A schema as parts: each schema within it, with what it says of a value.
+//! A schema as a list of parts. Each subschema is a part, and says what is required of a value.
 
 use crate::keyword::{Measure, Range};
 use crate::patterns::Patterns;
@@ -17,7 +17,7 @@ pub enum Kind {
     Object,
 }
 
-/// What a keyword says of a value alone.
+/// What a keyword requires of a value itself.
 #[derive(Drop)]
 pub enum Claim<'s> {
     /// The schema is `false`.
@@ -30,11 +30,11 @@ pub enum Claim<'s> {
     HasDistinctItems,
     Number(Range, Number),
     Has(&'s str),
-    /// If it has the first member, it has the second.
+    /// If the value has the first member, it has the second.
     HasWith(&'s str, &'s str),
 }
 
-/// A claim, and the keyword that makes it; the name of `false` is empty.
+/// A claim, and the keyword that makes it. The name of the schema `false` is empty.
 #[derive(Drop)]
 pub struct Rule<'s> {
     pub keyword: &'s str,
@@ -42,16 +42,16 @@ pub struct Rule<'s> {
     pub claim: Claim<'s>,
 }
 
-/// What `pattern` or `format` says of a string: it matches the pattern.
+/// What `pattern` or `format` requires of a string: that it matches the pattern.
 #[derive(Drop)]
 pub struct TextRule<'s> {
     pub keyword: &'s str,
     pub pattern: String,
-    /// The name of the format that the pattern stands for.
+    /// The name of the format that the pattern represents.
     pub format: Option<&'static str>,
 }
 
-/// A keyword that counts the parts or items that hold.
+/// A keyword that counts the parts, or the items, that hold.
 #[derive(Clone, Copy)]
 pub enum Counting {
     AnyOf,
@@ -60,7 +60,7 @@ pub enum Counting {
     Contains,
 }
 
-/// How many of what is counted hold at least and at most.
+/// The minimum and the maximum number of what is counted.
 #[derive(Clone, Copy)]
 pub struct Limits {
     pub least: u64,
@@ -81,12 +81,12 @@ impl Limits {
     }
 }
 
-/// Which values are counted with which parts.
+/// What is counted: which values are checked with which parts.
 #[derive(Drop)]
 pub enum Counted {
-    /// The value itself, with each part.
+    /// The value itself, with each of these parts.
     Parts(Vec<usize>),
-    /// Each item, with one part.
+    /// Each item of an array, with this part.
     Items(usize),
 }
 
@@ -100,7 +100,7 @@ impl Counting {
         }
     }
 
-    /// Returns what is wrong if too few hold, or too many.
+    /// Returns the message if too few hold, or too many.
     pub fn complaint(self, too_few: bool) -> &'static str {
         match self {
             Counting::Not => "matches the schema that it must not match",
@@ -112,16 +112,16 @@ impl Counting {
     }
 }
 
-/// What is said by whether other parts hold. A part is named by its number.
+/// A requirement that depends on whether other parts hold. A part is identified by its number.
 #[derive(Drop)]
 pub enum Test {
-    /// As many of what is counted hold as the limits say.
+    /// The number of what holds is within the limits.
     Count {
         by: Counting,
         counted: Counted,
         limits: Limits,
     },
-    /// The second part applies if the first holds, and else the third.
+    /// If the first part holds, the second applies, and otherwise the third.
     If {
         test: usize,
         then: Option<usize>,
@@ -131,25 +131,25 @@ pub enum Test {
     Names(usize),
 }
 
-/// A schema within the whole one. Other parts are named by their numbers.
+/// A subschema. Other parts are identified by their numbers.
 #[derive(Drop)]
 pub struct Part<'s> {
-    /// Where it stands (a JSON Pointer).
+    /// Its position in the schema (a JSON Pointer).
     pub place: String,
     pub rules: Vec<Rule<'s>>,
     pub texts: Vec<TextRule<'s>>,
     pub tests: Vec<Test>,
-    /// The parts that apply to the same value: those of `$ref` and `allOf`.
+    /// The parts that apply to the same value, from `$ref` and `allOf`.
     pub here: Vec<usize>,
-    /// Those that apply to it if it has the member.
+    /// The parts that apply to the same value if it has the member.
     pub with_member: BTreeMap<String, usize>,
-    /// Those of the members with these names.
+    /// The part for each member with a given name.
     pub named: BTreeMap<String, usize>,
-    /// Those of the members whose names match these patterns.
+    /// The part for each pattern of member names.
     pub by_pattern: BTreeMap<String, usize>,
-    /// That of all other members.
+    /// The part for all other members.
     pub others: Option<usize>,
-    /// Those of the first items, and that of all behind them.
+    /// The parts for the first items, and the part for all items after them.
     pub first: Vec<usize>,
     pub rest: Option<usize>,
 }
@@ -157,7 +157,7 @@ pub struct Part<'s> {
 /// A schema.
 #[derive(Drop)]
 pub struct Schema<'s> {
-    /// The whole one comes first.
+    /// The parts. The first one is the whole schema.
     pub parts: Vec<Part<'s>>,
     pub patterns: Patterns,
 }

@@ -1,4 +1,4 @@
-//! Searches for the patterns of a schema.
+//! Searches with the patterns of a schema.
 
 ghost use Rattle.std.specs.Prelude.{IfOk};
 ghost use Rattle.use_validator.specs.Patterns.{IsVerdictOf};
@@ -7,21 +7,21 @@ use crate::judge::{Verdict, decide};
 use crate::patterns::Patterns;
 use anyhow::{Result, bail};
 
-/// What searches are made with.
+/// The patterns of a schema, and the limit of a search.
 #[derive(Clone, Copy)]
 pub struct Search<'p> {
     pub patterns: &'p Patterns,
-    /// How many steps each search may take at first.
+    /// The maximum number of steps of each search, before a search with a work budget.
     pub steps: u64,
 }
 
 impl<'p> Search<'p> {
-    /// Returns what a pattern of the schema says of a text, in the steps that a search may take or
-    /// the work that is enough.
+    /// Returns the verdict of a pattern of the schema on a text, from a search with limited steps
+    /// or, after it, with a sufficient work budget.
     ///
     /// # Errors
     ///
-    /// If the schema does not have the pattern, or an allocation fails.
+    /// Returns an error if the schema does not have the pattern, or if an allocation fails.
     pub fn verdict(self, pattern: &str, text: &str) -> Result<Verdict>
         ensures { IfOk result (IsVerdictOf pattern.now text.now self.entry.steps) }
     {

@@ -1,4 +1,4 @@
-//! The values of a document, each with the schemas for it.
+//! Walks over the values of a document, and checks each with the schemas that apply to it.
 
 use crate::judge::Verdict;
 use crate::pointer::child;
@@ -11,17 +11,17 @@ use std::alloc::{AllocError, Global};
 use std::io;
 use std::io::IsTerminal;
 
-// A value of the document, where it stands, and the number of a part of the schema for it.
+// A value of the document, its position, and the number of the part of the schema to check it with.
 #[derive(Drop)]
 struct Spot<'v> {
     pointer: String,
     value: &'v Value,
     part: usize,
-    // How many parts were applied to the value one by another.
+    // How many parts were applied to the value, each because of the one before it.
     applied: usize,
 }
 
-// What a document is checked with.
+// The data that are needed to check a document.
 #[derive(Clone, Copy)]
 struct Walk<'p> {
     alloc: Global,
@@ -29,19 +29,19 @@ struct Walk<'p> {
     search: Search<'p>,
 }
 
-// After how many values of a document it is told on a terminal how far the walk is.
+// On a terminal, progress is shown each time this many values were checked.
 const MANY: u64 = 100_000;
 
-// How deep tests of schemas may stand in one another.
+// The maximum nesting depth of tests of schemas.
 const DEPTH: u32 = 300;
 
-/// Returns what the schema says of a document in which whole numbers are integers, with a finding
-/// for each value that it refuses, or of which it is not told in so many steps of each search.
+/// Returns the report on a document in which whole numbers are integers. It has a finding for each
+/// value that the schema refuses, or for which the steps of a search did not suffice.
 ///
 /// # Errors
 ///
-/// If the schema applies to a value without end, or its tests stand too deep in one another. The
-/// error says where. Allocation failure is an error too.
+/// Returns an error if the schema applies to a value infinitely often, or if its tests are nested
+/// too deeply. The error says where. Also returns an error if an allocation fails.
 pub fn report(
     rt: &HostRuntime,
     schema: &Schema<'_>,
@@ -69,7 +69,7 @@ pub fn report(
     Ok(report)
 }
 
-// Tells on a terminal how far the walk is.
+// Shows the progress on a terminal.
 fn tell(rt: &HostRuntime, done: u64) -> io::Result<()> {
     if done % MANY == 0 && rt.stderr().is_terminal() {
         eprint!(rt; "\r{done} values")?;
@@ -77,7 +77,7 @@ fn tell(rt: &HostRuntime, done: u64) -> io::Result<()> {
     Ok(())
 }
 
-// Clears what was told.
+// Clears the progress line.
 fn clear(rt: &HostRuntime) -> io::Result<()> {
     if rt.stderr().is_terminal() {
         eprint!(rt; "\r\u{1b}[K")?;
@@ -97,7 +97,7 @@ impl<'v> Spot<'v> {
 }
 
 impl<'p> Walk<'p> {
-    // Checks a value with a part, and puts what else it has to be checked with on the stack.
+    // Checks a value with a part, and pushes what else has to be checked onto the stack.
     #[cycle(walk)]
     fn step<'v>(
         self,
@@ -121,7 +121,7 @@ impl<'p> Walk<'p> {
         Ok(put_back(&mut next, spots)?)
     }
 
-    // Checks a value with what asks whether other parts hold.
+    // Checks a value with a test, which depends on whether other parts hold.
     #[cycle(walk)]
     fn check_test<'v>(
         self,
@@ -220,7 +220,7 @@ impl<'p> Walk<'p> {
 }
 
 impl<'p> Walk<'p> {
-    // Checks a value with the keywords that need no other part of the schema.
+    // Checks a value with the keywords that do not refer to other parts.
     fn check_rules(
         self,
         part: &Part<'_>,
@@ -240,7 +240,7 @@ impl<'p> Walk<'p> {
         Ok(())
     }
 
-    // Checks a string with the patterns for it.
+    // Checks a string with the patterns that apply to it.
     fn check_texts(self, part: &Part<'_>, spot: &Spot<'_>, report: &mut Report) -> Result<()> {
         let Some(text) = spot.value.as_str() else {
             return Ok(());
@@ -263,7 +263,7 @@ impl<'p> Walk<'p> {
         Ok(())
     }
 
-    // Tells what is wrong with a value that a test refuses, or that it is not decided.
+    // Adds a finding that a value fails a test, or that this is undecided.
     fn tell_test(
         self,
         keyword: &str,
@@ -284,7 +284,7 @@ impl<'p> Walk<'p> {
         self.tell(keyword, spot, told, report)
     }
 
-    // Tells that a member's name is refused, or that it is not decided.
+    // Adds a finding that a member's name is refused, or that this is undecided.
     fn tell_name(
         self,
         name: &str,
@@ -306,7 +306,7 @@ impl<'p> Walk<'p> {
         self.tell("propertyNames", spot, told, report)
     }
 
-    // Adds a finding at a keyword of the part that a value is checked with.
+    // Adds a finding at a keyword of the part.
     fn tell(self, keyword: &str, spot: &Spot<'_>, told: String, report: &mut Report) -> Result<()> {
         let Some(part) = self.parts.get(spot.part) else {
             bail!("the schema has no such part");
@@ -320,7 +320,8 @@ impl<'p> Walk<'p> {
         )
     }
 
-    // Returns where a keyword stands, or the part itself if the keyword has no name.
+    // Returns the position of a keyword. If the keyword has no name, it is the position of the
+    // part.
     fn place(self, part: &Part<'_>, keyword: &str) -> Result<String, AllocError> {
         if keyword.is_empty() {
             part.place.clone()
@@ -329,8 +330,8 @@ impl<'p> Walk<'p> {
         }
     }
 
-    // Returns the same value with another part. With more steps than there are parts one of them
-    // was applied twice, and would be for ever.
+    // Returns the same value with another part. If more parts were applied to the value than there
+    // are, one was applied twice, and would be applied infinitely often.
     fn same<'v>(self, spot: &Spot<'v>, part: usize) -> Result<Spot<'v>> {
         if spot.applied >= self.parts.len() {
             let place = self.parts.get(part).map_or("", |part| part.place.as_str());
@@ -359,7 +360,7 @@ impl<'p> Walk<'p> {
         }
     }
 
-    // Puts the value on the stack with each part that applies to it.
+    // Pushes the value with each part that applies to it onto the stack.
     fn push_same<'v>(
         self,
         part: &Part<'_>,
@@ -380,7 +381,7 @@ impl<'p> Walk<'p> {
         Ok(())
     }
 
-    // Puts what is counted on the stack.
+    // Pushes what is counted onto the stack.
     fn push_counted<'v>(
         self,
         counted: &Counted,
@@ -404,7 +405,7 @@ impl<'p> Walk<'p> {
         Ok(())
     }
 
-    // Puts the items of an array on the stack, each with the part for it.
+    // Pushes the items of an array onto the stack, each with its part.
     fn push_items<'v>(
         self,
         part: &Part<'_>,
@@ -436,7 +437,7 @@ impl<'p> Walk<'p> {
         Ok(Spot::new(pointer, value, part))
     }
 
-    // Puts the members of an object on the stack, each with the parts for it.
+    // Pushes the members of an object onto the stack, each with its parts.
     fn push_members<'v>(
         self,
         part: &Part<'_>,
@@ -458,7 +459,7 @@ impl<'p> Walk<'p> {
         Ok(())
     }
 
-    // Puts a member on the stack with the parts for it.
+    // Pushes a member onto the stack, with its parts.
     fn push_member<'v>(
         self,
         part: &Part<'_>,
@@ -476,8 +477,8 @@ impl<'p> Walk<'p> {
         Ok(())
     }
 
-    // Puts a member on the stack with the part of each pattern that its name matches. Returns
-    // whether it matches one, or may.
+    // Pushes a member onto the stack with the part of each pattern that its name matches. Returns
+    // whether its name matches a pattern, or may match one.
     fn push_by_patterns<'v>(
         self,
         part: &Part<'_>,
@@ -503,7 +504,7 @@ impl<'p> Walk<'p> {
         Ok(matches)
     }
 
-    // Tells that a pattern is not decided for the name of a member.
+    // Adds a finding that it is undecided whether a pattern matches a member's name.
     fn tell_pattern(self, pattern: &str, member: &Spot<'_>, report: &mut Report) -> Result<()> {
         if !report.note(Outcome::Undecided) {
             return Ok(());
@@ -515,14 +516,14 @@ impl<'p> Walk<'p> {
 }
 
 impl Part<'_> {
-    // Checks whether it applies other parts to members.
+    // Checks whether the part applies other parts to members.
     fn has_parts_for_members(&self) -> bool {
         self.others.is_some() || !self.named.is_empty() || !self.by_pattern.is_empty()
     }
 }
 
 impl Counted {
-    // Checks whether a value has what is counted.
+    // Checks whether the value has what is counted.
     fn is_in(&self, value: &Value) -> bool {
         match self {
             Counted::Parts(_) => true,
@@ -532,7 +533,7 @@ impl Counted {
 }
 
 impl TextRule<'_> {
-    // Returns what is wrong with a string that has no match, or may have none.
+    // Returns the message for a string that has no match, or may have none.
     fn complaint(&self, alloc: Global, outcome: Outcome) -> Result<String, AllocError> {
         let pattern = self.pattern.as_str();
         let (before, name) = match self.format {
@@ -547,7 +548,7 @@ impl TextRule<'_> {
     }
 }
 
-// Puts a member on the stack with a part, if there is one.
+// If there is a part, pushes a member with it onto the stack.
 fn push_with<'v>(
     member: &Spot<'v>,
     part: Option<usize>,
@@ -559,7 +560,7 @@ fn push_with<'v>(
     Ok(())
 }
 
-// Puts what is to come next on the stack, the last one first.
+// Pushes the given items onto the stack in reverse order, so that the first one comes next.
 fn put_back<'v>(next: &mut Vec<Spot<'v>>, spots: &mut Vec<Spot<'v>>) -> Result<(), AllocError> {
     for _ in 0..u64::MAX {
         let Some(spot) = next.pop() else {

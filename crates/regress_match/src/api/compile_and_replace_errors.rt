@@ -25,8 +25,8 @@ pub enum Error {
 }
 
 impl Error {
-    /// Returns what is wrong with a pattern that is refused as `Parse(Syntax)`, and where. The place
-    /// is in code points of the pattern.
+    /// If a pattern was refused as `Parse(Syntax)`, returns what is wrong with it, and where, in
+    /// code points of the pattern.
     pub fn diagnosis(self) -> Option<Diagnosis>
         ensures { result ≡ diagnosis_in_error self }
     {

@@ -21,13 +21,13 @@ pub(super) fn code_points(alloc: Global, text: &str) -> Result<Vec<u32>, AllocEr
 
 impl Regex {
     /// Returns what is wrong with a pattern that `with_flags` refuses as `Parse(Syntax)` or for too
-    /// many groups, and where, without compiling it. Returns `None` if it is a valid pattern. The
-    /// error `Parse(Syntax)` of `with_flags` contains a diagnosis, too (`Error::diagnosis`); as tested,
-    /// it is the same.
+    /// many groups, and where. It does not compile the pattern. Returns `None` if the pattern is
+    /// valid. The error `Parse(Syntax)` of `with_flags` also contains a diagnosis
+    /// (`Error::diagnosis`). Tests show that it is the same.
     ///
-    /// The diagnosis is displayed like `unclosed group at 3`, and `below_text` displays it in a
-    /// line below the pattern. The position is in code points; `offset_in` converts it to bytes.
-    /// For `é(a|b` these are 1 and 2 (tested in `test_searches`).
+    /// The diagnosis displays like `unclosed group at 3`, and `below_text` displays it in a line
+    /// below the pattern. The position is in code points, and `offset_in` converts it to bytes. For
+    /// `é(a|b`, these are 1 and 2 (tested in `test_searches`).
     ///
     /// # Errors
     ///
@@ -45,8 +45,8 @@ impl Regex {
         Regex::diagnose_with_syntax(alloc, pattern, flags, Syntax::Profile)
     }
 
-    /// Returns what is wrong with a pattern that `with_syntax` refuses, and where, as `diagnose` does
-    /// for `with_flags`.
+    /// Returns what is wrong with a pattern that `with_syntax` refuses, and where, as `diagnose`
+    /// does for `with_flags`.
     ///
     /// # Errors
     ///

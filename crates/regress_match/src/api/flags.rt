@@ -23,8 +23,8 @@ pub struct Flags {
     /// Patterns are read by code points, and with `i`, U+017F matches like `s` and U+212A like `k`
     /// (`u`). With `Syntax::EcmaScript2018`, letters match by simple case folding.
     pub unicode: bool,
-    /// Classes with set operations or nested classes are refused (`v`). `Syntax::EcmaScript2018`,
-    /// which is older than `v`, ignores it.
+    /// Refuse classes with set operations and nested classes (`v`). `Syntax::EcmaScript2018`, which
+    /// is older than `v`, ignores this flag.
     pub unicode_sets: bool,
 }
 

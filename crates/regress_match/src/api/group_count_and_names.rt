@@ -1,4 +1,4 @@
-//! Properties of a pattern that are known before it has matched: its groups and their names.
+//! Properties of a pattern that are known without a search: its groups and their names.
 
 ghost use Rattle.std.specs.Prelude.{◌≡◌, ◌<◌, ◌^◌, length, map, string_bytes};
 ghost use Rattle.regex_meaning.specs.{MatchGroupsByNumberAndName.{group_names_by_id}, Tree.{group_ids}};
@@ -17,7 +17,7 @@ impl Regex {
     }
 
     /// Returns the length of `captures` in each match in a text of 16-bit code units. It equals
-    /// `group_count` unless the pattern was made of the programs of two different trees.
+    /// `group_count`, unless the pattern was created from programs of two different trees.
     pub fn unit_group_count(&self) -> usize
         ensures count { result ≡ length (group_ids (tree_for_16_bit_units self.now).root) }
         ensures few { result < 2 ^ 32 }

@@ -16,8 +16,8 @@ impl Regex {
     /// Returns the match of highest priority in `text` that begins at byte offset `at`, which is a
     /// character boundary (`is_char_boundary`) or past the end.
     ///
-    /// Returns `None` exactly if no match begins there. No other start position is tried.
-    /// What precedes the offset is part of the text, as in `find_from`.
+    /// Returns `None` exactly if no match begins there. No other start position is tried. As in
+    /// `find_from`, the text before the offset is part of the text.
     ///
     /// In `xab`, the match of `a|ab` at 1 is `1..2`, and at 0 there is none (tested in
     /// `test_searches`).
@@ -69,8 +69,8 @@ impl Regex {
     /// Returns the match of highest priority in a UCS-2 text that begins at `at`, an offset in code
     /// units. Each code unit is a character.
     ///
-    /// Returns `None` exactly if no match begins there, as when `at` is past the end. No other
-    /// start position is tried.
+    /// Returns `None` exactly if no match begins there, for example if `at` is past the end. No
+    /// other start position is tried.
     ///
     /// # Errors
     ///

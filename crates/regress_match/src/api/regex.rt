@@ -29,7 +29,7 @@ pub type Matches<'r, 't> = exec::Matches<DefaultExecutor<'r, 't>>;
 pub type AsciiMatches<'r, 't> = exec::Matches<DefaultAsciiExecutor<'r, 't>>;
 
 /// An iterator over the matches of a pattern in a UTF-8 text, within a step budget. Contracts see
-/// the remaining answers, and whether the step limit follows them in place of the end.
+/// the remaining answers, and whether `StepLimit` follows them instead of the end.
 pub type LimitedMatches<'r, 't> = exec::Matches<LimitedExecutor<'r, 't>>;
 
 /// A compiled pattern.
@@ -106,12 +106,12 @@ impl Regex {
     /// Compiles a pattern of a syntax with the given flags.
     ///
     /// `Syntax::Profile` is the language of `with_flags`. `Syntax::EcmaScript2018` is the whole
-    /// language of ECMAScript 2018 with annex B, and a pattern of the profile may mean something
-    /// else in it: with `i`, letters beyond ASCII fold too.
+    /// language of ECMAScript 2018 with annex B. A pattern of the profile may have another meaning
+    /// in it: with `i`, for example, letters outside ASCII are folded too.
     ///
     /// # Errors
     ///
-    /// The same as `with_flags`, where `Parse` means that the text is not a pattern of the syntax.
+    /// The same as `with_flags`. `Parse` means that the text is not a pattern of the syntax.
     pub fn with_syntax(
         alloc: Global,
         pattern: &str,
@@ -151,8 +151,8 @@ impl Regex {
         })
     }
 
-    /// Returns the pattern that searches texts of bytes with `byte_program` and texts of 16-bit code units
-    /// with `unit_program`. Does not allocate.
+    /// Creates a pattern that searches texts of bytes with `byte_program` and texts of 16-bit code
+    /// units with `unit_program`. It does not allocate.
     pub fn from_programs(
         byte_program: CompiledRegex,
         unit_program: CompiledRegexFor16BitUnits,
@@ -180,7 +180,7 @@ impl Regex {
         })
     }
 
-    // Returns the allocator that its programs were made with.
+    // Returns the allocator of its programs.
     pub(super) fn allocator(&self) -> Global {
         self.byte_program.allocator()
     }
@@ -265,9 +265,9 @@ impl Regex {
     /// Returns an iterator over the matches in `text` from byte offset `start` on, which is a
     /// character boundary (`is_char_boundary`) or past the end. Past the end there are no matches.
     ///
-    /// What precedes `start` is part of the text: `start` does not count as the beginning of the
-    /// text for `^`, and a lookbehind reads what precedes it. The matches of `(?<=x)y` in `xyxy`
-    /// from 1 on are `1..2` and `3..4` (tested in `test_searches`).
+    /// The text before `start` is part of the text: `^` does not match at `start`, and a lookbehind
+    /// reads what precedes it. The matches of `(?<=x)y` in `xyxy` from 1 on are `1..2` and `3..4`
+    /// (tested in `test_searches`).
     ///
     /// # Errors
     ///
@@ -287,14 +287,14 @@ impl Regex {
         search_with_executor_from::<DefaultExecutor<'r, 't>>(&self.byte_program, text, start)
     }
 
-    /// Like `find_from`, with at most `steps` steps for all items together.
+    /// Like `find_from`, but all items together take at most `steps` steps.
     ///
-    /// A match is returned exactly if the steps are enough for it and the matches before it, and
-    /// `None` if they are enough for the end of the list too. Otherwise an item is `StepLimit`, and
-    /// no item follows it. How many steps are needed depends on the pattern's tree and the text
-    /// alone, and not on the time that a search takes; it may be more than any `u64`.
+    /// A match is returned exactly if the steps suffice for it and the matches before it. `None` is
+    /// returned if they also suffice for finding the end of the list. Otherwise the next item is
+    /// `StepLimit`, and no item follows it. The number of steps depends only on the pattern's tree
+    /// and the text, not on the time that a search takes. It may be more than any `u64`.
     ///
-    /// A search for `[b]c` in `aabbc` needs five steps: with four, the first item is `StepLimit`
+    /// A search for `[b]c` in `aabbc` needs five steps. With four, the first item is `StepLimit`
     /// (tested in `test_searches`).
     ///
     /// # Errors

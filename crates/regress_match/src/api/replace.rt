@@ -15,7 +15,7 @@ use regress_search::exec::{MatchProducer, Matches};
 use std::alloc::{AllocError, Global};
 
 impl Regex {
-    /// Returns `text` with the first match replaced by `replacement`. Without a match, returns
+    /// Returns `text` with the first match replaced by `replacement`. If there is no match, returns
     /// `text` itself.
     ///
     /// With `(\d{4})-(\d{2})-(\d{2})`, the replacement `$2/$3/$1` turns `2023-12-25` into
@@ -60,7 +60,7 @@ impl Regex {
     }
 }
 
-/// States that replacing the first match, or all matches, by `$0` gives the text back.
+/// A law: replacing the first match, or all matches, by `$0` does not change the text.
 pub fn replacing_by_match_keeps_text()
     ensures { ReplacingByMatchKeepsText }
 {}

@@ -1,5 +1,4 @@
-//! Searches that resume from an offset, for callers that cannot hold an iterator between two
-//! matches.
+//! Searches that resume at an offset, for callers that cannot hold an iterator between two matches.
 
 ghost use Rattle.std.specs.Prelude.{◌≡◌, ◌<◌, IfErr, IfOk, None, Some, option_map, unwrap_or};
 ghost use Rattle.regex_meaning.specs.CodeUnitOffsets.{units, IsBoundaryOrPastEnd};
@@ -26,7 +25,7 @@ pub struct Step {
 }
 
 impl Regex {
-    /// Returns a search for the matches in a UTF-8 text, which `next_from` finds one after another.
+    /// Returns a search for the matches in a UTF-8 text. `next_from` finds them one after another.
     ///
     /// # Errors
     ///
@@ -45,8 +44,8 @@ impl Regex {
         Ok(DefaultExecutor::new(self.byte_program(), text)?)
     }
 
-    /// Like `utf8_search`, with at most `steps` steps for all calls together. `steps_left` of the
-    /// search reports how many are left.
+    /// Like `utf8_search`, but all calls together take at most `steps` steps. The search's
+    /// `steps_left` returns how many are left.
     ///
     /// # Errors
     ///
@@ -66,8 +65,7 @@ impl Regex {
         Ok(LimitedExecutor::new(self.byte_program(), text, steps)?)
     }
 
-    /// Returns a search for the matches in a UTF-16 text, which `next_from` finds one after
-    /// another.
+    /// Returns a search for the matches in a UTF-16 text. `next_from` finds them one after another.
     ///
     /// # Errors
     ///
@@ -86,7 +84,7 @@ impl Regex {
         Ok(DefaultUtf16Executor::new_utf16(self.unit_program(), text)?)
     }
 
-    /// Returns a search for the matches in a UCS-2 text, which `next_from` finds one after another.
+    /// Returns a search for the matches in a UCS-2 text. `next_from` finds them one after another.
     ///
     /// # Errors
     ///
@@ -106,16 +104,16 @@ impl Regex {
     }
 }
 
-/// Returns the first match from an offset in units on, and the offset from which the list of
-/// matches continues. `start` is a boundary or past the end.
+/// Returns the first match from `start` on, and the offset at which the list of matches continues.
+/// `start` is an offset in units. It is a boundary or past the end.
 ///
 /// Within the steps that are left, the list of matches from `start` is this match, followed by the
 /// list from `next` within the steps that are left after the call. Returns `None` exactly if no
 /// match remains. So calls that each start at the `next` of the call before return what an iterator
-/// yields, and no iterator has to be held in between.
+/// yields, and no iterator has to be held between them.
 ///
-/// A call takes exactly the steps that the match needs, or that it needs to find that there is
-/// none. Past the end of the text it takes none.
+/// A call takes exactly the steps that are needed to find the match, or to find that there is none.
+/// Past the end of the text, it takes none.
 ///
 /// # Errors
 ///
@@ -142,8 +140,8 @@ pub fn next_from<E: SingleAttemptExecutor>(
     Ok(Some(Step { found, next }))
 }
 
-// Returns the offset of a position, or `usize::MAX`, which is past the end of every text, if there
-// is none.
+// Returns the offset of a position. If there is none, returns `usize::MAX`, which is past the end
+// of every text.
 fn offset_of_position<E: SingleAttemptExecutor>(
     search: &E,
     position: Option<<E::Input as InputIndexer>::Position>,

@@ -19,7 +19,7 @@ use regress_search::exec::{MatchProducer, WorkMatches};
 use std::marker::Model;
 
 /// An iterator over the matches of a pattern in a text, within a work budget. Contracts see the
-/// remaining answers, how much work is left, and whether that is enough for all of them.
+/// remaining answers, how much work is left, and whether that suffices for all of them.
 pub type MatchesInWork<'r, Input> = WorkMatches<BoundedExecutor<'r, Input>>;
 
 /// A pattern with a known work bound: on a text of n units, all matches together take at most
@@ -27,10 +27,10 @@ pub type MatchesInWork<'r, Input> = WorkMatches<BoundedExecutor<'r, Input>>;
 ///
 /// A unit of work is one step of a thread, one backtrack to a pending thread, one thread that is
 /// dropped because it is known to fail, one character that a char loop examines, or one record of a
-/// failure that is reached. Each call of `next` takes exactly what its search costs (`CostsInWork`).
-/// Copies of states and the positions that are passed are not counted. On most texts these searches take longer than
-/// those of `Regex` (`docs/LINEAR.md`). They remember failures in one bit for each position, each
-/// instruction that records, and each state of the loops around it.
+/// failure that is reached. Each call of `next` takes exactly the cost of its search
+/// (`CostsInWork`). Copying states and passing over positions are not counted. On most texts, these
+/// searches take longer than those of `Regex` (`docs/LINEAR.md`). They remember failures in one bit
+/// for each position, each instruction that records, and each state of the loops around it.
 ///
 /// Contracts see the pattern, and the number that `work_per_unit` returns.
 #[derive(Drop)]
@@ -59,10 +59,11 @@ impl Regex {
     ///
     /// # Errors
     ///
-    /// Why no bound is known: the first of these whose cause holds, except that `Memory` may replace
-    /// the last two. `docs/LINEAR.md` has the full list of causes.
+    /// Returns the reason why no bound is known. `docs/LINEAR.md` has the full list of causes. It is
+    /// proved when the first two are returned, and tested when the others are.
     ///
-    /// - `Lookaround`, `Backreference` if the pattern has one.
+    /// - `Lookaround` exactly if the pattern has one, and otherwise `Backreference` exactly if it has
+    ///   one.
     /// - `Count` if the counts of its loops are too large, or its loops are nested too deeply.
     /// - `BoundTooLarge` if the bound is too large.
     /// - `Memory` if an allocation for computing the bound fails.
@@ -81,15 +82,15 @@ impl Regex {
         })
     }
 
-    /// Returns the `work_per_unit` of the pattern: on a text of n units, `work_per_unit` × (n + 1)
-    /// work is enough.
+    /// Returns the `work_per_unit` of the pattern. For a text of n units, `work_per_unit` × (n + 1)
+    /// work suffices.
     ///
-    /// Contracts tie a search to the number of its own `BoundedRegex`. A caller who searches takes
-    /// the number from there.
+    /// A contract relates a search to the number of its own `BoundedRegex`, so a caller who
+    /// searches should take the number from there.
     ///
     /// # Errors
     ///
-    /// Why no bound is known, as `bounded`.
+    /// Returns the reason why no bound is known, like `bounded`.
     pub fn work_per_unit(&self) -> Result<u64, Unbounded>
         ensures enough { IfOk result (IsHigherOfProgramWorkBounds self.now) }
         ensures refused { IfErr result (IsPatternUnboundedBy self.now) }
@@ -100,8 +101,8 @@ impl Regex {
 }
 
 impl<'r> BoundedRegex<'r> {
-    /// Returns the work bound: on a text of n units, `work_per_unit` × (n + 1) work is enough for
-    /// all matches together, in any of the encodings.
+    /// Returns the work bound. In any encoding, `work_per_unit` × (n + 1) work suffices for all
+    /// matches in a text of n units.
     pub fn work_per_unit(&self) -> u64
         ensures number { result ≡ self.now.per_unit }
         ensures enough { IsHigherOfProgramWorkBounds self.now.re result }
@@ -110,16 +111,16 @@ impl<'r> BoundedRegex<'r> {
     }
 
     /// Returns an iterator over the matches in `text` from byte offset `start` on, like
-    /// `Regex::find_from`, with at most `work` work for all items together.
+    /// `Regex::find_from`. All items together take at most `work` work.
     ///
     /// The items are the list of matches, or a beginning of it followed by an error. After the last
-    /// item, `None` is returned for good. The error is `WorkLimit` if more work were needed; then
-    /// no work is left. It never occurs if `work` is at least `work_per_unit` × (n + 1) for a text
-    /// of n bytes. The error is `Memory` if an allocation fails. `work_left` of the iterator
-    /// returns how much work is left.
+    /// item, each call returns `None`. The error is `WorkLimit` if more work is needed than is
+    /// left; then no work is left. It never occurs if `work` is at least `work_per_unit` × (n + 1)
+    /// for a text of n bytes. The error is `Memory` if an allocation fails. The iterator's
+    /// `work_left` returns how much work is left.
     ///
-    /// A search for all matches of `a` in `ba` takes 3 units of work: with 2, the match is followed
-    /// by a `WorkLimit` (tested in `test_searches`).
+    /// A search for all matches of `a` in `ba` takes 3 units of work. With 2 units, `WorkLimit`
+    /// follows the match (tested in `test_searches`).
     ///
     /// # Errors
     ///

@@ -1,5 +1,5 @@
-//! Char loops: reading one character after another, and the exits at each number of characters
-//! between the bounds.
+//! Char loops: reading characters one by one, and the exits after each number of characters between
+//! the bounds.
 
 ghost use Rattle.std.specs.Prelude.{◌≡◌, ◌<◌, ◌^◌, ◌+◌, ℕ, IfOk, OnOk, IsTrue, IsSome, if◌then◌else◌, reverse};
 ghost use Rattle.regex_meaning.specs.CodeUnitOffsets.{IsBoundary};
@@ -17,7 +17,8 @@ use regress_program::insn::Insn;
 use regress_search::program_and_input::ProgramAndInput;
 use std::alloc::AllocError;
 
-/// The least and greatest number of iterations of a char loop, and whether it prefers more of them.
+/// The minimum and the maximum number of iterations of a char loop, and whether it prefers more
+/// iterations.
 #[derive(Clone, Copy)]
 pub(crate) struct CharLoopBoundsAndGreed {
     pub min_iters: usize,
@@ -44,7 +45,7 @@ pub(crate) fn execute_char_loop<Input: InputIndexer, Dir: Direction>(
     Ok(NextStates::CharLoopExits(tries, states_by_priority(run.greedy, states)))
 }
 
-// Orders states for rising numbers of iterations so that the preferred one is last.
+// Takes states in ascending order of iterations, and orders them so that the preferred one is last.
 fn states_by_priority<P: PositionType>(greedy: bool, mut states: Vec<State<P>>) -> Vec<State<P>>
     ensures { result.items ≡ (if greedy then states.items else reverse states.items) }
 {
@@ -54,8 +55,8 @@ fn states_by_priority<P: PositionType>(greedy: bool, mut states: Vec<State<P>>) 
     states
 }
 
-// Returns how many characters are tried, and the states at the exits, the one after the most
-// iterations last.
+// Returns the number of characters that were tested, and the states at the exits in ascending order
+// of iterations.
 fn loop_exits<Input: InputIndexer, Dir: Direction>(
     run: CharLoopBoundsAndGreed,
     body: Insn,
@@ -85,7 +86,7 @@ fn loop_exits<Input: InputIndexer, Dir: Direction>(
     }
 }
 
-// Pushes one more exit state, if it is wanted.
+// Pushes another exit state if `wanted`.
 fn push_if_wanted<P: PositionType>(
     wanted: bool,
     at: P,

@@ -1,4 +1,4 @@
-//! Executing instructions that only read or test the text.
+//! Executes instructions that only read or test the text.
 
 ghost use Rattle.std.specs.Prelude.{◌≡◌, ◌≤◌, IsTrue, IsSome, Some};
 ghost use Rattle.regex_meaning.specs.CodeUnitOffsets.{IsBoundary, units};
@@ -15,9 +15,8 @@ use regress_search::insns_that_read_or_test_text::{
 };
 use regress_search::program_and_input::ProgramAndInput;
 
-/// Checks whether the instruction, which reads one character, accepts the next character in the
-/// direction. If so, the position is after the character, and otherwise the position is not
-/// specified.
+/// Checks whether an instruction that reads one character accepts the next character in the
+/// direction. If so, the position is moved past the character; otherwise it is unspecified.
 #[inline(always)]
 pub fn insn_accepts_next_char<Input: InputIndexer, Dir: Direction>(
     searched: &ProgramAndInput<'_, Input>,
@@ -37,8 +36,8 @@ pub fn insn_accepts_next_char<Input: InputIndexer, Dir: Direction>(
     }
 }
 
-// Does the work of `insn_accepts_next_char` where neither a boundary nor an instruction that reads a
-// character is known. The precondition `can` excludes the other cases.
+// Like `insn_accepts_next_char`, but the position may be no boundary and the instruction may be
+// another one. The precondition `can` excludes these cases.
 #[inline(always)]
 fn reads_one<Input: InputIndexer, Dir: Direction>(
     searched: &ProgramAndInput<'_, Input>,
@@ -57,8 +56,8 @@ fn reads_one<Input: InputIndexer, Dir: Direction>(
     insn_accepts_next_char(searched, insn, dir, pos)
 }
 
-// Checks whether the bytes of the instruction occur in the direction from any offset. If so, the
-// position is after them, and otherwise it is not specified.
+// Checks whether the bytes of the instruction are next in the direction, from any offset. If so,
+// the position is moved past them; otherwise it is unspecified.
 #[inline(always)]
 fn reads_literal<Input: InputIndexer, Dir: Direction>(
     searched: &ProgramAndInput<'_, Input>,
@@ -79,7 +78,7 @@ fn reads_literal<Input: InputIndexer, Dir: Direction>(
 }
 
 /// Checks whether an instruction that only reads or tests the text matches at a position. If so,
-/// the position is where matching continues, and otherwise it is not specified.
+/// the position is moved to where matching continues; otherwise it is unspecified.
 #[inline(always)]
 pub(crate) fn read_or_assertion_insn_matches<Input: InputIndexer, Dir: Direction>(
     searched: &ProgramAndInput<'_, Input>,

@@ -1,4 +1,4 @@
-//! Executing one instruction in a state.
+//! Executes one instruction in a state.
 
 ghost use Rattle.std.specs.Prelude.{◌≡◌, ◌<◌, ◌≤◌, ◌^◌, ◌+◌, IfOk, IsTrue, Some, map, [], ◌∷◌, length};
 ghost use Rattle.regex_meaning.specs.CodeUnitOffsets.{units};
@@ -24,7 +24,7 @@ use regress_search::insns_that_read_or_test_text::backref_matches;
 use regress_search::program_and_input::ProgramAndInput;
 use std::alloc::AllocError;
 
-/// Executes the instruction at the state.
+/// Executes the instruction at the state's index.
 #[inline(always)]
 pub fn execute_insn<Input: InputIndexer, Dir: Direction>(
     searched: &ProgramAndInput<'_, Input>,
@@ -101,7 +101,7 @@ fn perform<Input: InputIndexer, Dir: Direction>(
 }
 
 // Executes an instruction that only reads or tests the text. The thread continues at the next
-// instruction, or it fails.
+// instruction, or fails.
 #[inline(always)]
 fn execute_test<Input: InputIndexer, Dir: Direction>(
     insn: Insn,
@@ -126,7 +126,7 @@ fn execute_test<Input: InputIndexer, Dir: Direction>(
     }
 }
 
-// Forks to the next instruction, which is preferred, and to the one with index `secondary`.
+// Forks into a thread at the next instruction, which is preferred, and one at index `secondary`.
 fn fork<P: PositionType>(secondary: u32, mut state: State<P>) -> Result<NextStates<P>, AllocError>
     requires { state.ip + 1 < 2 ^ 64 }
     ensures { let s = state_of P.offset state in IfOk result (λ t. effect_of_next_states P.offset t
@@ -138,8 +138,8 @@ fn fork<P: PositionType>(secondary: u32, mut state: State<P>) -> Result<NextStat
     Ok(NextStates::Fork(state, second))
 }
 
-// Starts the search of a lookaround at the next instruction. `continuation` is the instruction at
-// which the thread continues after it.
+// Forks into the search of a lookaround, which begins at the next instruction, and the thread that
+// continues at `continuation` after it.
 fn fork_lookaround<P: PositionType>(
     forward: bool,
     negate: bool,
@@ -193,7 +193,7 @@ fn close_group<P: PositionType, Dir: Direction>(
     NextStates::Continue(state)
 }
 
-// Returns the ordered range of two positions, of which `to` was reached from `from`.
+// Returns the range between two positions, in ascending order. `to` was reached from `from`.
 #[inline(always)]
 fn ordered_span<P: PositionType, Dir: Direction>(_dir: Dir, from: P, to: P) -> (P, P)
     ensures { (P.offset result.0, P.offset result.1)
@@ -233,7 +233,7 @@ fn execute_backref<Input: InputIndexer, Dir: Direction>(
     match_range_again(range, same, searched, dir, state)
 }
 
-// Matches the characters of a range again. Without a range it matches the empty string.
+// Matches the characters of a range again. If there is no range, it matches the empty string.
 fn match_range_again<Input: InputIndexer, Dir: Direction>(
     range: Option<(Input::Position, Input::Position)>,
     same: Sameness,
@@ -339,8 +339,8 @@ fn end_body<P: PositionType>(
     }
 }
 
-// Executes the end of an iteration with the loop's state `last`. An iteration that is empty and
-// past the minimum fails.
+// Executes the end of an iteration, given the loop's data `last`. If the iteration is empty and
+// past the minimum, the thread fails.
 fn end_iteration<P: PositionType>(
     fields: LoopFields,
     begin: usize,

@@ -11,15 +11,16 @@ use regress_input::position::PositionType;
 use regress_program::insn::Program;
 use std::alloc::{AllocError, Global};
 
-/// The number of finished iterations of a loop, and the position at which the current one began.
+/// The number of finished iterations of a loop, and the position at which the current iteration
+/// began.
 #[derive(Clone, Copy)]
 pub struct LoopData<P> {
     pub iters: usize,
     pub entry: P,
 }
 
-/// The state of a thread: an instruction and a position, the groups, where each open group began,
-/// and the loops.
+/// The state of a thread: its instruction and position, the groups, the start of each open group,
+/// and the data of the loops.
 #[derive(Drop)]
 pub struct State<P> {
     pub ip: usize,
@@ -29,17 +30,17 @@ pub struct State<P> {
     pub loops: Vec<LoopData<P>>,
 }
 
-/// The threads after an instruction, the preferred one first.
+/// The threads after an instruction, in order of priority.
 #[derive(Drop)]
 pub enum NextStates<P> {
     /// The thread has failed.
     Dead,
     Continue(State<P>),
     Fork(State<P>, State<P>),
-    /// This number of characters was tried, and these are the threads at the exits, the preferred
+    /// The number of characters that were tested, and the threads at the exits, with the preferred
     /// one last.
     CharLoopExits(usize, Vec<State<P>>),
-    /// A search from `inner` decides whether `after` continues.
+    /// The search from `inner` decides whether the thread `after` continues.
     Lookaround {
         forward: bool,
         negate: bool,
@@ -98,8 +99,8 @@ pub fn initial_state<P: PositionType>(program: &Program, pos: P) -> Result<State
     })
 }
 
-/// Returns the state that continues after a lookaround, given the end that its search found. After
-/// a positive lookaround, it keeps the groups and loops of that search. Returns `None` if the
+/// Returns the state that continues after a lookaround, given the end of its search. After a
+/// positive lookaround, it keeps the groups and loop data of that search. Returns `None` if the
 /// lookaround fails.
 pub(crate) fn resume_after_lookaround<P: PositionType>(
     negate: bool,

@@ -112,7 +112,7 @@ impl LookaroundFields {
     }
 }
 
-/// A program that is being built.
+/// The code that has been emitted so far.
 #[derive(Drop)]
 pub(crate) struct Emitter {
     pub(crate) insns: Vec<Insn>,

@@ -1,4 +1,5 @@
-//! Checks of group ids: each id occurs once, and loops and lookarounds name the groups inside them.
+//! Checks of group ids: each id occurs once, and the ranges of loops and lookarounds contain
+//! exactly the groups inside them.
 #![tactic(auto, unfolding(regex_pattern_front::specs::AstToSpecTree::node_of, crate::specs::GroupIdCheck::are_distinct_unseen, crate::specs::GroupIdCheck::least_group_id, crate::specs::GroupIdCheck::id_end, crate::specs::InnerNodeCountMeasure::inner_node_count))]
 
 ghost use Rattle.std.specs.Prelude.{◌≡◌, is_some, IfSome, ◌≤◌, ◌<◌, ◌^◌, ◌&&◌, ◌||◌, ◌+◌, ◌-◌, ◌∷◌, [], not, ◌==◌, ℕ, false, length, IsTrue, nat_le};
@@ -14,7 +15,7 @@ ghost use Rattle.regress_program.specs.GroupIdSpans.{group_id_span_as_numbers, J
 use regex_pattern_front::ir::Node;
 use regex_pattern_front::types::CaptureGroupID;
 
-/// The number of group ids inside a node, the least of them, and one past the greatest.
+/// The number of group ids inside a node, the least of them, and one more than the greatest.
 #[derive(Clone, Copy)]
 pub(crate) struct GroupIdCountAndBounds {
     pub(crate) count: usize,
@@ -73,8 +74,8 @@ const ALL: usize = 1024;
 /// each possible id takes longer than all other work.
 const FEW: usize = 4;
 
-/// Returns the span of the ids inside a node. Returns `None` if an id occurs twice, or if a loop or
-/// a lookaround does not name exactly the groups inside it.
+/// Returns the span of the ids inside a node. Returns `None` if an id occurs twice, or if the range
+/// of a loop or a lookaround is not exactly that of the groups inside it.
 pub(crate) fn group_id_span_if_ids_valid(root: &Node) -> Option<GroupIdCountAndBounds>
     ensures in_text { is_some result ≡ has_exact_group_ids (λ k. false) (node_of root.now) }
     ensures span { IfSome result (λ span. group_id_span_as_numbers span ≡ count_and_span_of_group_ids
@@ -88,8 +89,8 @@ pub(crate) fn group_id_span_if_ids_valid(root: &Node) -> Option<GroupIdCountAndB
     }
 }
 
-// Does the work of `group_id_span_if_ids_valid` with a bitmap for all ids, for trees that the small bitmap does
-// not decide. It is a separate function because each call clears a bit for each id.
+// Does the work of `group_id_span_if_ids_valid` with a bitmap for all ids, for trees that the small
+// bitmap does not decide. It is a separate function because each call clears a bit for each id.
 #[inline(never)]
 fn span_of_many(root: &Node) -> Option<GroupIdCountAndBounds>
     ensures in_text { is_some result ≡ has_exact_group_ids (λ k. false) (node_of root.now) }
@@ -102,8 +103,8 @@ fn span_of_many(root: &Node) -> Option<GroupIdCountAndBounds>
 }
 
 // Returns the span of the ids inside a node. Returns `None` if an id has its bit set or occurs
-// twice, or if a loop or a lookaround does not name exactly the groups inside it. If the bitmap
-// does not have a bit for each possible id, the ids without a bit count as set.
+// twice, or if the range of a loop or a lookaround is not exactly that of the groups inside it. If
+// the bitmap does not have a bit for each possible id, the ids without a bit count as set.
 fn span_in(bits: &mut [u64], root: &Node) -> Option<GroupIdCountAndBounds>
     ensures in_text { is_some result ≡ has_exact_group_ids (is_group_id_seen bits.old) (node_of root.now) }
     ensures span { IfSome result (λ span. group_id_span_as_numbers span ≡ count_and_span_of_group_ids
@@ -151,8 +152,8 @@ impl GroupIdSpanDuringCheck {
         before >> bit & 1 == 0
     }
 
-    // Records the ids inside a node. Returns whether none of them had been seen or occurs twice,
-    // and each loop and each lookaround names exactly the groups inside it.
+    // Records the ids inside a node. Returns whether each id was unseen and occurs once, and the
+    // ranges of loops and lookarounds are exactly those of the groups inside them.
     #[cycle(check_ids)]
     #[inline(never)]
     fn check_ids(&mut self, bits: &mut [u64], root: &Node) -> bool
@@ -270,7 +271,7 @@ impl GroupIdSpanDuringCheck {
         true
     }
 
-    // Checks the ids inside a loop or a lookaround, which names them.
+    // Checks the ids inside a loop or a lookaround against its range.
     #[cycle(check_ids)]
     #[inline(never)]
     fn check_enclosed_ids(

@@ -121,7 +121,7 @@ fn store_node_names<'a>(
     }
 }
 
-// Pushes two nodes, of which the first is handled first.
+// Pushes two nodes. The first one is handled first.
 fn defer_both<'a>(
     first: &'a Node,
     others: &'a Node,
@@ -155,7 +155,7 @@ fn store_group_name<'a>(
     Ok(())
 }
 
-// Pushes the first node of a list that has children, and the nodes after it.
+// Pushes the nodes of a list from the first node with children on.
 fn defer_node_list<'a>(
     nodes: &'a [Node],
     rest: &mut Vec<NodeOrListWithUnstoredNames<'a>>,

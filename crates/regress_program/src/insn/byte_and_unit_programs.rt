@@ -60,8 +60,9 @@ impl CompiledRegex {
         &self.start_pred
     }
 
-    /// Checks whether every alternative of the pattern begins with `^`, without the flag `m`. Then the pattern
-    /// matches only at the left end of a text. A `^` inside a loop or a lookaround does not count.
+    /// Checks whether every alternative of the pattern begins with `^`, without the flag `m`. Then
+    /// the pattern matches only at the left end of a text. A `^` inside a loop or a lookaround does
+    /// not count.
     #[inline(always)]
     pub fn is_anchored(&self) -> bool
         ensures { result ≡ is_anchored_tree (tree_of self.now) }
@@ -143,8 +144,9 @@ impl CompiledRegexFor16BitUnits {
         &self.program
     }
 
-    /// Checks whether every alternative of the pattern begins with `^`, without the flag `m`. Then the pattern
-    /// matches only at the left end of a text. A `^` inside a loop or a lookaround does not count.
+    /// Checks whether every alternative of the pattern begins with `^`, without the flag `m`. Then
+    /// the pattern matches only at the left end of a text. A `^` inside a loop or a lookaround does
+    /// not count.
     #[inline(always)]
     pub fn is_anchored(&self) -> bool
         ensures { result ≡ is_anchored_tree (tree_of self.now) }

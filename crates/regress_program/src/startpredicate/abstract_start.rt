@@ -1,4 +1,4 @@
-//! Computes what the nodes of a tree begin with.
+//! Computes the bytes that the nodes of a tree begin with.
 #![tactic(auto, unfolding(regex_pattern_front::specs::AstToSpecTree::node_of, regex_meaning::specs::StartPredicate::abstract_start_predicate, crate::specs::StartPredicates::making_node_start_predicate_may_allocate, crate::specs::InnerNodeCountMeasure::inner_node_count))]
 
 ghost use Rattle.std.specs.Prelude.{◌≡◌, not, true, false, IfOk, OnOk, IsOk};

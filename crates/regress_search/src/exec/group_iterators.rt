@@ -13,8 +13,7 @@ use std::marker::Model;
 use std::ops::Range;
 
 impl Match {
-    /// Iterates over the ranges of the groups: the whole match, and then the groups of the pattern
-    /// by number.
+    /// Iterates over the ranges of all groups by number. The first one is the whole match.
     pub fn groups(&self) -> Groups<'_>
         ensures { result ≡ all_groups (answer_of self.now) }
     {
@@ -24,8 +23,8 @@ impl Match {
         }
     }
 
-    /// Iterates over the names of the groups, each where it occurs first, with the range of the
-    /// first group of that name that matched.
+    /// Iterates over the distinct names of groups in order of their first occurrence. Each name
+    /// comes with the range of its first group that matched.
     pub fn named_groups(&self) -> NamedGroups<'_>
         ensures { result ≡ groups_of_names (answer_of self.now) }
     {
@@ -36,7 +35,8 @@ impl Match {
     }
 }
 
-// Returns the first name at `from` or a later id that occurs at no earlier id, and the id after it.
+// Returns the first name at id `from` or later that does not occur at an earlier id, and the id
+// after it.
 fn new_name_from(names: &[String], from: usize) -> Option<(usize, &str)>
     ensures { let left = distinct_names_from (map string_bytes names.now) in
         MatchOption result (left from ≡ []) (λ found. left from ≡ found.1.now ∷ left found.0) }
@@ -50,7 +50,7 @@ fn new_name_from(names: &[String], from: usize) -> Option<(usize, &str)>
     None
 }
 
-// Returns the number of names at `from` or later ids that occur at no earlier id.
+// Returns the number of names at id `from` or later that do not occur at an earlier id.
 fn new_names_from(names: &[String], from: usize) -> usize
     ensures { result ≡ length (distinct_names_from (map string_bytes names.now) from) }
 {
@@ -63,7 +63,7 @@ fn new_names_from(names: &[String], from: usize) -> usize
     left
 }
 
-// Checks whether a name is not empty, and is none of those before it.
+// Checks whether a name is not empty and does not occur in `before`.
 fn is_new(name: &str, before: &[String]) -> bool
     ensures { result ≡ is_new_name name.now (map string_bytes before.now) }
 {
@@ -76,8 +76,8 @@ fn is_among_names(name: &str, names: &[String]) -> bool
     names.iter().any(|other| name == other.as_str())
 }
 
-/// An iterator over the ranges of a match's groups, the whole match first. Contracts see the ranges
-/// that are left.
+/// An iterator over the ranges of a match's groups. The first one is the whole match. Contracts see
+/// the ranges that are left.
 #[derive(Drop)]
 pub struct Groups<'m> {
     matched: &'m Match,
@@ -147,7 +147,7 @@ impl<'m> FusedIterator for Groups<'m> {}
 #[derive(Drop)]
 pub struct NamedGroups<'m> {
     matched: &'m Match,
-    // The first id whose name has not been looked at.
+    // The id from which on names are still to be looked at.
     id: usize,
 }
 
@@ -198,7 +198,7 @@ impl<'m> Iterator for NamedGroups<'m> {
 }
 
 impl<'m> ExactSizeIterator for NamedGroups<'m> {
-    /// Returns the number of names that are left. It searches for each of them.
+    /// Returns the number of names that are left. This takes a search for each name.
     fn len(&self) -> usize {
         new_names_from(self.matched.names.as_slice(), self.id)
     }

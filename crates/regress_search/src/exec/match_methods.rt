@@ -30,9 +30,9 @@ impl Match {
         self.range.end
     }
 
-    /// Returns the matched part of the text that was searched. The range may not be valid in
-    /// another text, so the contract requires that it is ordered and that both ends are boundaries
-    /// (`is_char_boundary`).
+    /// Returns the matched part of `text`, which has to be the text that was searched: in another
+    /// text, the range may be invalid. So the contract requires an ordered range between two
+    /// boundaries (`is_char_boundary`).
     pub fn as_str<'t>(&self, text: &'t str) -> &'t str
         requires rising { self.now.range.start ≤ self.now.range.end }
         requires from { IsCharBoundary text.now self.now.range.start }
@@ -55,9 +55,9 @@ impl Match {
         }
     }
 
-    /// Returns the range of a group by name. If several groups have the name, it is the first that
-    /// matched, in order of their numbers. Returns `None` if none of them matched, and for the
-    /// empty name, which marks a group without a name.
+    /// Returns the range of a group by name. If several groups have the name, it returns the range
+    /// of the first one, by number, that matched. It returns `None` if none of them matched, and
+    /// for the empty name, which marks groups without a name.
     pub fn named_group(&self, name: &str) -> Option<Range<usize>>
         ensures { option_map range_as_pair result ≡ group_of_name (answer_of self.now) name.now }
     {
@@ -68,8 +68,7 @@ impl Match {
         }
     }
 
-    // Returns the first range of a group with this name that matched. The name may be the empty
-    // one.
+    // Like `named_group`, but the name may be empty.
     pub(super) fn first_named(&self, name: &str) -> Option<Range<usize>>
         ensures { option_map range_as_pair result
             ≡ first_range (answer_of self.now) (ids_named (answer_of self.now) name.now) }

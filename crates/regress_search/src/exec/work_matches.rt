@@ -1,4 +1,4 @@
-//! Finding matches one after another within a limit of work.
+//! Iterates over matches within a work limit.
 
 ghost use Rattle.std.specs.Prelude.{◌≡◌, ℕ, true, Option, Some, None, option_map, not};
 ghost use Rattle.std.specs.Iterator.{at_most};
@@ -12,7 +12,7 @@ use super::{Match, MatchProducer, advance_matches};
 use std::marker::Model;
 use thiserror::Error;
 
-/// Why a search with a limit of work failed.
+/// Why a search with a work limit failed.
 #[derive(Clone, Copy, Debug, PartialEq, Eq, Error)]
 pub enum WorkError {
     /// An allocation failed.
@@ -23,15 +23,15 @@ pub enum WorkError {
     WorkLimit,
 }
 
-/// A producer of matches with a limit of work. Contracts see how much work is left, which never
-/// rises, what attempts cost, and whether the work left is enough for attempts in ascending order of
-/// offsets (`left`, `attempt_costs` and `enough` of `MatchProducer`).
+/// A producer of matches with a work limit. In contracts, `left` is the work that is left, which
+/// never increases; `attempt_costs` is the cost of attempts; `enough` says whether the work left
+/// suffices for attempts in ascending order of offsets (see `MatchProducer`).
 pub trait WorkLimitedProducer: MatchProducer {
-    /// Returns how much work it may still do.
+    /// Returns the work that is left.
     fn work_left(&self) -> u64
         ensures { result ≡ Self.left self.now };
 
-    /// Checks whether its last attempt needed more work than was left. Then no work is left.
+    /// Checks whether the last attempt needed more work than was left. If so, no work is left.
     fn is_work_exhausted(&self) -> bool
         ensures limit { result ≡ Self.out_of_work self.now }
         ensures spent { result ≡ true → Self.left self.now ≡ 0 };
@@ -39,9 +39,9 @@ pub trait WorkLimitedProducer: MatchProducer {
     ghost is_counted: { Self.MatchProducer.counts_work ≡ true };
 }
 
-/// An iterator over the matches of a pattern in a text from a start on, within a limit of work.
-/// Contracts see the answers still to come, how much work is left, whether it is enough for all of
-/// them, and what the cost of the next call depends on.
+/// An iterator over the matches of a pattern in a text, within a work limit. Contracts see the
+/// answers still to come, the work that is left, whether it suffices for all of them, and what
+/// determines the cost of the next call.
 #[derive(Drop)]
 pub struct WorkMatches<P: WorkLimitedProducer> {
     producer: P,
@@ -64,8 +64,8 @@ impl<P: WorkLimitedProducer> Model for WorkMatches<P> {
 }
 
 impl<P: WorkLimitedProducer> WorkMatches<P> {
-    /// Iterates over the matches from an offset in code units on, which is a boundary or past the
-    /// end. Past the end there are none.
+    /// Creates an iterator over the matches at `start` or later. `start` is an offset in code
+    /// units. It is a boundary, or past the end of the text, where there are no matches.
     pub fn new(producer: P, start: usize) -> Self
         requires { IsBoundaryOrPastEnd (P.text producer) start }
         ensures answers { result.remaining.answers
@@ -86,7 +86,7 @@ impl<P: WorkLimitedProducer> WorkMatches<P> {
         WorkMatches { producer, position }
     }
 
-    /// Returns how much work may still be done.
+    /// Returns the work that is left.
     pub fn work_left(&self) -> u64
         ensures { result ≡ self.now.left }
     {
@@ -101,8 +101,7 @@ impl<P: WorkLimitedProducer + Drop> Iterator for WorkMatches<P> {
 
     ghost remaining = { λ s. at_most (max_items_left s.remaining) };
 
-    /// Returns the next match. Once there is no other match, or after an error, it always returns
-    /// `None`.
+    /// Returns the next match. After the last match and after an error, it returns `None`.
     fn next(&mut self) -> Option<Result<Match, WorkError>> {
         match advance_matches(&mut self.producer, &mut self.position)? {
             Ok(found) => Some(Ok(found)),
@@ -111,8 +110,8 @@ impl<P: WorkLimitedProducer + Drop> Iterator for WorkMatches<P> {
     }
 }
 
-// Returns why the last search failed: the work limit was reached, or otherwise an allocation
-// failed.
+// Returns the cause of the last search's error: the work limit if it was reached, and otherwise a
+// failed allocation.
 fn cause_in<P: WorkLimitedProducer>(producer: &P) -> WorkError
     ensures { IsWorkLimitOrMemoryCause result (P.out_of_work producer.now) (P.left producer.now) }
 {

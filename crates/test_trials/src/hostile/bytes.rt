@@ -1,4 +1,4 @@
-//! Searches of texts in UTF-8 and of ASCII, by each call.
+//! Searches in UTF-8 and in ASCII texts, by each call.
 
 ghost use Rattle.std.specs.Prelude.{◌<◌, ◌⊎◌, IsAscii, IsCharBoundary, IsTrue, length};
 
@@ -14,24 +14,24 @@ use regress_match::backends::{
 use regress_pikevm::exec::ProducerFromProgramAndText;
 use regress_program::insn::CompiledRegex;
 
-/// A way to search.
+/// The ways to search.
 #[derive(Clone, Copy)]
 pub enum Way {
-    /// The first match, which is looked for from the left end alone.
+    /// The first match, searched for from the left end.
     First,
     /// All matches.
     All,
-    /// All matches, in more steps than are taken.
+    /// All matches, with more steps than are needed.
     Limited,
-    /// The first match, of an executor that is asked itself.
+    /// The first match, from a direct call of an executor.
     Asked,
     /// All matches, by the copying executor.
     CopyingAll,
-    /// The first match, of that executor itself.
+    /// The first match, from a direct call of the copying executor.
     CopyingAsked,
 }
 
-/// Whether an offset is a boundary of the text's characters, or past the end.
+/// Checks whether an offset is a character boundary of the text, or past the end.
 pub fn is_start(text: &str, offset: usize) -> bool
     ensures { IsTrue result → IsCharBoundary text.now offset ⊎ (length text.now < offset) }
 {
@@ -76,7 +76,7 @@ fn copying_asked(
     finds(&mut executor, start, wanted)
 }
 
-/// Whether a search of a text in UTF-8 finds what is wanted.
+/// Checks whether a search of a UTF-8 text has the expected result.
 pub fn in_utf8(
     re: &Compiled,
     text: &str,
@@ -139,7 +139,7 @@ fn copying_asked_in_ascii(
     finds(&mut executor, start, wanted)
 }
 
-/// The same of a text of ASCII.
+/// Checks the same for an ASCII text.
 pub fn in_ascii(
     re: &Compiled,
     text: &str,

@@ -6,7 +6,7 @@ use crate::hostile::lists::is_first;
 use regress_match::{Error, Flags, Regex, escape};
 use std::alloc::Global;
 
-/// A constructor.
+/// The constructors.
 #[derive(Clone, Copy)]
 enum Constructor {
     New,
@@ -15,7 +15,7 @@ enum Constructor {
     FromUnicode { no_opt: bool },
 }
 
-/// Each of them.
+/// All constructors.
 const CONSTRUCTORS: [Constructor; 6] = [
     Constructor::New,
     Constructor::FromStr,
@@ -40,14 +40,14 @@ fn construct(alloc: Global, pattern: &str, flags: Flags, by: Constructor) -> Res
     }
 }
 
-// Whether a clone of the pattern finds a match that is wanted.
+// Checks whether a clone of the pattern finds the expected match.
 fn is_cloned(re: &Regex, text: &str, wanted: &str) -> Result<bool, ParseFault> {
     let re = re.clone()?;
     is_first(re.find(text)?, wanted)
 }
 
-/// Whether each constructor answers a pattern whose first match in a text is the one that is wanted, or, for `Syntax`, that
-/// it is no pattern.
+/// Checks whether each constructor returns a pattern with the expected first match in a text. For
+/// `Syntax`, checks that each one refuses the pattern.
 pub fn are_constructed(alloc: Global, line: &str) -> Result<bool, ParseFault> {
     let mut fields = Fields::of(line);
     let (pattern, flags) = (fields.next(), Flags::from(fields.next()));
@@ -63,7 +63,7 @@ pub fn are_constructed(alloc: Global, line: &str) -> Result<bool, ParseFault> {
     Ok(agree)
 }
 
-/// Whether a text is escaped as it has to be.
+/// Checks whether a text is escaped as expected.
 pub fn is_escaped(alloc: Global, line: &str) -> Result<bool, ParseFault> {
     let mut fields = Fields::of(line);
     let text = fields.next();

@@ -1,4 +1,4 @@
-//! Executors that are asked themselves.
+//! Executors that are called directly.
 
 ghost use Rattle.regex_meaning.specs.CodeUnitOffsets.{IsBoundaryOrPastEnd};
 
@@ -8,8 +8,9 @@ use crate::hostile::wanted::is_none;
 use regress_match::SearchError;
 use regress_pikevm::exec::MatchProducer;
 
-/// Whether an executor finds the first match that is wanted from a start on. One to which memory is refused leaves where
-/// the list goes on, and answers the match when it is asked again.
+/// Checks whether an executor finds the expected first match from a start on. If an allocation
+/// fails, the place where the list continues is unchanged, and the executor finds the match in a
+/// second call.
 pub fn finds<P: MatchProducer>(
     executor: &mut P,
     start: usize,

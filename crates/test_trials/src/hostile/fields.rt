@@ -1,6 +1,6 @@
-//! Fields of rows, which take no memory.
+//! The fields of rows, without allocations.
 
-/// The fields of a row that are left, with `~` between them.
+/// The remaining fields of a row, separated by `~`.
 #[derive(Clone, Copy)]
 pub struct Fields<'a> {
     rest: &'a str,
@@ -11,7 +11,7 @@ impl<'a> Fields<'a> {
         Fields { rest: line }
     }
 
-    /// The next field; behind the last one it is that again.
+    /// Returns the next field. After the last field, returns the last field again.
     pub fn next(&mut self) -> &'a str {
         let (field, rest) = self.rest.split_once('~').unwrap_or((self.rest, self.rest));
         self.rest = rest;

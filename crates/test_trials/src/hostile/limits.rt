@@ -1,4 +1,4 @@
-//! Searches that end where their steps do.
+//! Searches with a step limit.
 
 ghost use Rattle.regex_meaning.specs.CodeUnitOffsets.{IsBoundaryOrPastEnd};
 ghost use Rattle.std.specs.Prelude.{◌<◌, ◌⊎◌, IsCharBoundary, length};
@@ -15,7 +15,7 @@ use regress_pikevm::exec::MatchProducer;
 use regress_program::insn::CompiledRegex;
 use std::alloc::Global;
 
-// The steps that a search may take and those that its first match needs, and what is wanted.
+// The step limit, the number of steps for the first match, and the expected matches.
 #[derive(Clone, Copy)]
 struct Row<'a> {
     steps: u64,
@@ -23,8 +23,8 @@ struct Row<'a> {
     wanted: &'a str,
 }
 
-// Whether an executor with so many steps answers the first match that is wanted, and takes what it needs; or the limit, and
-// has none left.
+// Checks whether an executor with this many steps returns the expected first match and takes the
+// steps that it needs, or returns the limit and has no steps left.
 fn is_answered(
     row: Row<'_>,
     before: u64,
@@ -43,7 +43,7 @@ fn is_answered(
 
 /// An executor that counts its steps.
 trait Counting: MatchProducer {
-    /// How many it may still take.
+    /// Returns the number of steps that are left.
     fn left(&self) -> u64;
 }
 
@@ -53,8 +53,9 @@ impl<'r, 't> Counting for LimitedExecutor<'r, 't> {
     }
 }
 
-// Whether an executor answers by its steps. One to which memory is refused leaves where the list goes on, has no more steps
-// than before, and answers by those when it is asked again.
+// Checks whether an executor returns the expected result for its steps. If an allocation fails, the
+// place where the list continues is unchanged, no steps were added, and a second call returns the
+// expected result for the steps that are left.
 fn answers<P: Counting>(executor: &mut P, start: usize, row: Row<'_>) -> Result<bool, ParseFault>
     requires { IsBoundaryOrPastEnd (P.text executor.old) start }
 {
@@ -105,7 +106,8 @@ fn agrees(
     }
 }
 
-/// Whether the searches of a row agree. One to which memory is refused is made once more, with the same pattern.
+/// Checks whether the searches of a row agree. If an allocation fails, the search is repeated with
+/// the same pattern.
 pub fn agree(alloc: Global, line: &str) -> Result<bool, ParseFault> {
     let mut fields = Fields::of(line);
     let re = compile(alloc, fields.next(), fields.next(), false)?;
@@ -127,8 +129,9 @@ pub fn agree(alloc: Global, line: &str) -> Result<bool, ParseFault> {
     Ok(agree)
 }
 
-// Whether an executor finds two matches in turn, the second one behind this place. One to which memory is refused at the
-// second has taken so many steps for it by then, at least: what the first one took serves until then.
+// Checks whether an executor finds two matches in turn, the second one from this place on. If an
+// allocation fails in the second search, it has taken at least this many steps before: until then,
+// the memory of the first search suffices.
 fn finds_both<P: Counting>(
     executor: &mut P,
     behind: usize,
@@ -174,8 +177,7 @@ fn is_taken(
     finds_both(&mut executor, behind, first, second, taken)
 }
 
-/// Whether steps stay taken that were taken before memory was refused, of a row with a pattern, the letters of its flags, a text,
-/// its first two matches, how many steps the second takes at least before it asks for memory, and where it is looked for.
+/// Checks that steps that were taken before an allocation failed are spent, for a row of `TAKEN`.
 pub fn stay_taken(alloc: Global, line: &str) -> Result<bool, ParseFault> {
     let mut fields = Fields::of(line);
     let re = compile(alloc, fields.next(), fields.next(), false)?;

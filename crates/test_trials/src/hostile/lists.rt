@@ -1,11 +1,12 @@
-//! First matches, and lists of matches that may be refused.
+//! First matches, and lists of matches, where allocations may fail.
 
 use crate::fault::ParseFault;
 use crate::hostile::wanted::{LIMIT, NONE, is_match, is_none, split_first};
 use regress_match::{Match, SearchError};
 use regress_pikevm::exec::{MatchProducer, Matches};
 
-/// Whether a clone of this is the first match that is wanted, or none is.
+/// Checks whether a clone of this is the expected first match, or whether there is none as
+/// expected.
 pub fn is_first(found: Option<Match>, words: &str) -> Result<bool, ParseFault> {
     match found {
         Some(found) => Ok(is_match(&found.clone()?, split_first(words).0)),
@@ -13,8 +14,9 @@ pub fn is_first(found: Option<Match>, words: &str) -> Result<bool, ParseFault> {
     }
 }
 
-/// Whether these are the matches that are wanted. A refused item comes behind a beginning of them, and steps end where they
-/// have to; behind either, as behind the end, there is none for good.
+/// Checks whether these are the expected matches. A failed allocation comes after a prefix of them,
+/// and a step limit where it is expected. After these and after the end, the iterator returns
+/// `None`.
 pub fn are_found<P: MatchProducer + Drop>(
     mut matches: Matches<P>,
     words: &str,

@@ -1,4 +1,4 @@
-//! What rows search with: a pattern, or a tree in words.
+//! The patterns of rows: a text, or a tree in words.
 
 use crate::fault::ParseFault;
 use regex_pattern_front::bytesearch::{ByteBitmap, ByteSet};
@@ -11,7 +11,7 @@ use regress_program::startpredicate::predicate_for_re;
 use std::alloc::Global;
 use test_trees::tree_of;
 
-/// The programs of a tree, and the pattern of their clones.
+/// The programs of a tree, and the pattern that is made of their clones.
 #[derive(Drop)]
 pub struct Compiled {
     pub regex: Regex,
@@ -19,13 +19,13 @@ pub struct Compiled {
     pub units: CompiledRegexFor16BitUnits,
 }
 
-// The tree of a pattern.
+// Returns the tree of a pattern.
 fn parsed(alloc: Global, pattern: &str, flags: Flags) -> Result<ir::Regex, Error> {
     let code_points: Vec<u32> = pattern.chars().map(u32::from).collect(alloc)?;
     Ok(try_parse(alloc, &code_points, flags.for_front())?)
 }
 
-// The tree of a row.
+// Returns the tree of a row.
 fn tree_of_row(alloc: Global, pattern: &str, flags: &str) -> Result<ir::Regex, ParseFault> {
     if flags == "tree" {
         tree_of(alloc, pattern).ok_or(ParseFault::Refused)
@@ -34,7 +34,8 @@ fn tree_of_row(alloc: Global, pattern: &str, flags: &str) -> Result<ir::Regex, P
     }
 }
 
-// The program for 16-bit units. In place of a tree that reads bytes stands one that always matches.
+// Returns the program for 16-bit units. For a tree that reads bytes, it is a program that always
+// matches.
 fn units_of(alloc: Global, tree: &ir::Regex) -> Result<CompiledRegexFor16BitUnits, ParseFault> {
     match emit_units(alloc, tree) {
         Err(EmitError::BytesInUnits) => {
@@ -82,7 +83,8 @@ fn is_same(one: &StartPredicate, other: &StartPredicate) -> bool {
     }
 }
 
-// The program for bytes, whose predicate is the tree's, as is a copy of that.
+// Returns the program for bytes. Checks that its start predicate, and a copy of it, are those of
+// the tree.
 fn bytes_of(alloc: Global, tree: &ir::Regex) -> Result<CompiledRegex, ParseFault> {
     let bytes = emit(alloc, tree)?;
     let predicate = predicate_for_re(alloc, tree)?;
@@ -94,8 +96,8 @@ fn bytes_of(alloc: Global, tree: &ir::Regex) -> Result<CompiledRegex, ParseFault
     }
 }
 
-/// What a pattern with flags is searched with, or a tree in words, for `tree` in place of flags. It is optimized unless
-/// `no_opt` is set.
+/// Compiles a pattern with flags, or a tree in words (with `tree` in place of flags). It is
+/// optimized unless `no_opt` is set.
 pub fn compile(
     alloc: Global,
     pattern: &str,

@@ -1,4 +1,4 @@
-//! Texts with other text in place of matches.
+//! Replacements of matches.
 
 use crate::fault::ParseFault;
 use crate::hostile::fields::Fields;
@@ -6,12 +6,12 @@ use regress_match::{Flags, Match, Regex, ReplaceError};
 use std::alloc::{AllocError, Global};
 use std::cell::Cell;
 
-/// How a closure goes wrong.
+/// The errors of a closure.
 #[derive(Clone, Copy, PartialEq, Eq)]
 enum Failure {
-    /// Memory was refused to it.
+    /// An allocation failed.
     Memory,
-    /// It takes no number as great as this.
+    /// The number is too great for the closure.
     TooGreat(u32),
 }
 
@@ -21,7 +21,7 @@ impl From<AllocError> for Failure {
     }
 }
 
-// What a closure answers for a match, which is a number.
+// Returns the closure's result for a match, which is a number.
 fn answer_to(alloc: Global, text: &str, found: &Match, how: &str) -> Result<String, Failure> {
     let word = text.get(found.range()).unwrap_or("");
     let number = word.parse::<u32>().unwrap_or(0);
@@ -33,7 +33,8 @@ fn answer_to(alloc: Global, text: &str, found: &Match, how: &str) -> Result<Stri
     }
 }
 
-// Whether these are the words of the number that a closure refused, and how often it was called until then.
+// Checks whether these are the words of the number that a closure refused, and of the number of
+// calls until then.
 fn is_refusal(number: u32, count: u8, wanted: &str) -> bool {
     match wanted
         .strip_prefix("refused ")
@@ -46,8 +47,8 @@ fn is_refusal(number: u32, count: u8, wanted: &str) -> bool {
     }
 }
 
-// A text that closures make, or what a closure refused; it says whether memory was refused to it, and then the refusal is
-// its own.
+// Checks the text that closures make, or the error of a closure. The closure says whether an
+// allocation failed in it; then the error is its own.
 fn is_made(
     made: Result<String, ReplaceError<Failure>>,
     calls: &Cell<(u8, bool)>,
@@ -65,7 +66,7 @@ fn is_made(
     }
 }
 
-// Replaces by a closure, the first match or each.
+// Replaces the first match, or each match, with a closure.
 fn is_made_by(
     alloc: Global,
     re: &Regex,
@@ -87,8 +88,8 @@ fn is_made_by(
     is_made(made, &calls, wanted)
 }
 
-/// Whether a replacement of a row makes what it has to, which is a text of its own and no part of one: by the pattern as it is
-/// written and by the optimized one.
+/// Checks whether the replacement of a row has the expected result, by the unoptimized and by the
+/// optimized pattern. The result is a text of its own, and not a part of another one.
 pub fn is_replaced(alloc: Global, line: &str) -> Result<bool, ParseFault> {
     let mut fields = Fields::of(line);
     let pattern = fields.next();

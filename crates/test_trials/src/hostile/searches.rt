@@ -1,4 +1,5 @@
-//! Rows of searches, each by all calls and over each input that can hold its text.
+//! Rows of searches. Each row is searched by all calls, and in each encoding that can hold its
+//! text.
 
 use crate::fault::ParseFault;
 use crate::hostile::bytes::{Way, in_ascii, in_utf8, is_start};
@@ -10,13 +11,13 @@ use crate::hostile::wide::{
 };
 use std::alloc::Global;
 
-/// What stands for matches in an encoding that cannot hold the text or the tree.
-const APART: &str = "apart";
+/// The word for an encoding that cannot hold the text or the tree.
+const NOT_REPRESENTABLE: &str = "apart";
 
-/// What stands for matches where a search may not start.
+/// The word for a start at which a search may not begin.
 const NO_START: &str = "no start";
 
-/// How a text is held and searched.
+/// How a text is encoded and searched.
 #[derive(Clone, Copy)]
 enum Search {
     Utf8(Way),
@@ -27,7 +28,7 @@ enum Search {
     Ucs2Asked,
 }
 
-/// All there is.
+/// All searches.
 const SEARCHES: [Search; 15] = [
     Search::Utf8(Way::First),
     Search::Utf8(Way::All),
@@ -46,7 +47,7 @@ const SEARCHES: [Search; 15] = [
     Search::Ucs2Asked,
 ];
 
-// A text, where its search starts, and what is wanted in each encoding.
+// A text, the start of its search, and the expected matches in each encoding.
 #[derive(Clone, Copy)]
 struct Row<'a> {
     text: &'a str,
@@ -56,7 +57,7 @@ struct Row<'a> {
     ucs2: &'a str,
 }
 
-// Whether a search of a text of bytes agrees.
+// Checks whether a search in bytes has the expected result.
 fn agrees_in_bytes(re: &Compiled, row: Row<'_>, way: Way, ascii: bool) -> Result<bool, ParseFault> {
     let Row {
         text,
@@ -64,7 +65,7 @@ fn agrees_in_bytes(re: &Compiled, row: Row<'_>, way: Way, ascii: bool) -> Result
         bytes,
         ..
     } = row;
-    if bytes == APART {
+    if bytes == NOT_REPRESENTABLE {
         Ok(true)
     } else if ascii {
         if text.is_ascii() {
@@ -79,11 +80,11 @@ fn agrees_in_bytes(re: &Compiled, row: Row<'_>, way: Way, ascii: bool) -> Result
     }
 }
 
-// Whether a search in UTF-16 agrees.
+// Checks whether a search in UTF-16 has the expected result.
 fn agrees_in_utf16(re: &Compiled, row: Row<'_>, asked: bool) -> Result<bool, ParseFault> {
     let made = Units::of(row.text);
     let units = made.as_slice();
-    if row.utf16 == APART {
+    if row.utf16 == NOT_REPRESENTABLE {
         Ok(true)
     } else if !is_unit_start(units, row.start) {
         Ok(row.utf16 == NO_START)
@@ -94,11 +95,11 @@ fn agrees_in_utf16(re: &Compiled, row: Row<'_>, asked: bool) -> Result<bool, Par
     }
 }
 
-// Whether a search in UCS-2 agrees.
+// Checks whether a search in UCS-2 has the expected result.
 fn agrees_in_ucs2(re: &Compiled, row: Row<'_>, asked: bool) -> Result<bool, ParseFault> {
     let made = Units::of(row.text);
     let units = made.as_slice();
-    if row.ucs2 == APART {
+    if row.ucs2 == NOT_REPRESENTABLE {
         Ok(true)
     } else if asked {
         asked_in_ucs2(&re.units, units, row.start, row.ucs2)
@@ -118,7 +119,8 @@ fn agrees(re: &Compiled, row: Row<'_>, search: Search) -> Result<bool, ParseFaul
     }
 }
 
-// Whether all searches agree. One to which memory is refused is made once more, with the same pattern.
+// Checks whether all searches have the expected results. If an allocation fails, the search is
+// repeated with the same pattern.
 fn all_agree(re: &Compiled, row: Row<'_>) -> bool {
     let mut agree = true;
     for search in SEARCHES {
@@ -131,7 +133,8 @@ fn all_agree(re: &Compiled, row: Row<'_>) -> bool {
     agree
 }
 
-/// Whether the searches of a row agree, of the pattern as it is written and of the optimized one.
+/// Checks whether the searches of a row have the expected results, by the unoptimized and by the
+/// optimized pattern.
 pub fn agree(alloc: Global, line: &str) -> Result<bool, ParseFault> {
     let mut fields = Fields::of(line);
     let (pattern, flags) = (fields.next(), fields.next());

@@ -1,4 +1,4 @@
-//! The sections.
+//! The sections of rows.
 
 use crate::fault::ParseFault;
 use crate::hostile::calls::{are_constructed, is_escaped};
@@ -7,7 +7,7 @@ use crate::hostile::tool::is_run;
 use crate::hostile::{limits, searches, table};
 use std::alloc::Global;
 
-/// Rows, and what is tried with each.
+/// A section: rows, and what is tested with each of them.
 #[derive(Clone, Copy)]
 pub enum Section {
     Searches,
@@ -20,7 +20,7 @@ pub enum Section {
     Tool,
 }
 
-/// Each of them.
+/// All sections.
 pub const SECTIONS: [Section; 8] = [
     Section::Searches,
     Section::Odd,
@@ -71,7 +71,7 @@ impl Section {
         }
     }
 
-    /// Whether a row agrees, which is tried once more where memory is refused.
+    /// Checks whether a row has the expected result. It is repeated if an allocation fails.
     pub fn agrees(self, alloc: Global, line: &str) -> bool {
         let mut tried = self.try_row(alloc, line);
         if matches!(tried, Err(ParseFault::Refused)) {

@@ -1,8 +1,9 @@
-//! What is tried, and what has to come of it.
+//! The rows, and the expected results.
 
-/// Rows of fields with `~` between them: a pattern, or a tree in words where the flags are `tree`; the letters of its flags;
-/// a text, or units in hexadecimal behind `units:`; where the search starts; the matches in bytes; those in UTF-16, if they
-/// are others, and those in UCS-2, if they are others again. `apart` stands for what an encoding cannot hold.
+/// Rows of fields that are separated by `~`: a pattern (or a tree in words, with the flags `tree`);
+/// the letters of its flags; a text, or units in hexadecimal after `units:`; the start of the
+/// search; the matches in bytes; the matches in UTF-16 if they differ; and those in UCS-2 if they
+/// differ again. `apart` stands for an encoding that cannot hold the text or the tree.
 pub const SEARCHES: &str = "\
 a|ab~~abc~0~0..1
 ((a)|(ab))((c)|(bc))~~abc~0~0..3 0..1 0..1 - 1..3 - 1..3
@@ -36,8 +37,9 @@ cat:2 class:7E,80 goal~tree~a~0~none
 cat:4 a group:0 not loop:1,2,0 named:1,62 b goal~tree~ab~0~0..2 1..2 -
 ";
 
-/// Such rows where something is odd: loops over nothing, the greatest counts, characters that no text has, sets of nothing,
-/// lookarounds that name groups that are none, starts past the end.
+/// Rows of the same form with something odd: loops over nothing, the greatest counts, characters
+/// that no text has, empty sets, lookarounds with the ids of missing groups, and starts past the
+/// end.
 pub const ODD: &str = "\
 cat:2 ahead:5,5 a goal~tree~a~0~0..0
 (?:(?:a*)*)*~~b~0~0..0;1..1
@@ -78,9 +80,9 @@ a~~units:D83D DE00~1~apart~no start~none
 $~~units:DE00~1~apart~1..1
 ";
 
-/// Rows of seven fields: a pattern, or a tree in words where the flags are `tree`, the letters of its flags, a text, where
-/// the search starts, how many steps it may take, how many its first match needs, or the end where there is none, and the
-/// matches, with `limit` where the steps are not enough.
+/// Rows of seven fields: a pattern (or a tree in words, with the flags `tree`), the letters of its
+/// flags, a text, the start of the search, the step limit, the number of steps for the first match
+/// (or for the end if there is none), and the matches, with `limit` if the steps do not suffice.
 pub const LIMITS: &str = "\
 cat:2 a goal~tree~a~0~1~2~limit
 cat:2 a goal~tree~a~0~2~2~0..1;limit
@@ -104,16 +106,17 @@ cat:2 loop:0,1,0,1 group:0 a goal~tree~a~0~13~7~0..1 0..1;1..1 -
 a~~aa~3~0~0~none
 ";
 
-/// Rows of seven fields: a pattern, the letters of its flags, a text, its first two matches, how many steps the second takes
-/// at least before it asks for more memory than the first had, and where it is looked for.
+/// Rows of seven fields: a pattern, the letters of its flags, a text, its first two matches, the
+/// least number of steps that the search for the second takes before it needs more memory than the
+/// first did, and the start of that search.
 pub const TAKEN: &str = "\
 (a|c)*b~~aaaaaaaabaaaaaaaaaaaaaaaaaaaaaaaaaaaaaaaaaaaaaaaaaaaaaaaaaaaaaaaaaaaaaaaaaaaaaaaaaaaaaaaaaaaaaaaaaaaaaaaaaaaab~0..9 7..8~9..110 108..109~20~9
 (a|c)*?b~~aaaaaaaabaaaaaaaaaaaaaaaaaaaaaaaaaaaaaaaaaaaaaaaaaaaaaaaaaaaaaaaaaaaaaaaaaaaaaaaaaaaaaaaaaaaaaaaaaaaaaaaaaaaab~0..9 7..8~9..110 108..109~20~9
 (?:a(?=(a|b)))*b~~aaaaaaaabaaaaaaaaaaaaaaaaaaaaaaaaaaaaaaaaaaaaaaaaaaaaaaaaaaaaaaaaaaaab~0..9 8..9~9..70 69..70~20~9
 ";
 
-/// Rows of four fields: a pattern, the letters of its flags, a text, and the first match in it, or `Syntax` for what is no
-/// pattern.
+/// Rows of four fields: a pattern, the letters of its flags, a text, and the first match in it, or
+/// `Syntax` if it is not a pattern.
 pub const CONSTRUCTORS: &str = "\
 a|ab~~abc~0..1
 (?<year>\\d{4})-(\\d\\d)~~on 2023-12~3..10 3..7 8..10
@@ -128,10 +131,11 @@ a**~~a~Syntax
 \\1~~a~Syntax
 ";
 
-/// Rows of five fields: a pattern, a text, how it is replaced, by what, and the text that comes of it. `first` and `all` are
-/// for the first match and for each. A closure is handed the number that is matched: it answers the first one `doubled`,
-/// each of them `tenfold` in brackets, or an `x` for each that is `small`, and refuses any other one; then it is told which
-/// one, and how often the closure was called.
+/// Rows of five fields: a pattern, a text, how it is replaced, the replacement, and the new text.
+/// `first` replaces the first match, and `all` replaces each match. A closure gets the matched
+/// number. It returns twice the first one (`doubled`), ten times each one in brackets (`tenfold`),
+/// or an `x` for each small one (`small`). For other numbers it returns an error; then the result
+/// says which number, and how often the closure was called.
 pub const REPLACEMENTS: &str = "\
 (\\d{4})-(\\d{2})-(\\d{2})~2023-12-25~first~$2/$3/$1~12/25/2023
 (\\w+)~hello~first~$1 $2 $3~hello  
@@ -168,7 +172,8 @@ a-b/c~a-b/c
 é.~é\\.
 ";
 
-/// Rows of six fields: a pattern, flags, a text, the status, what is printed and what is told, where `;` ends a line.
+/// Rows of six fields: a pattern, flags, a text, the exit status, the output, and the error output,
+/// where `;` ends a line.
 pub const TOOL: &str = "\
 a|ab~~abc~0~0..1;~
 a*~~baac~0~0..0;1..3;3..3;4..4;~

@@ -1,4 +1,4 @@
-//! The body of `regress-tool`, with pages that take no memory to write to.
+//! Runs the body of `regress-tool`, with outputs that do not allocate.
 
 use crate::fault::ParseFault;
 use crate::hostile::fields::Fields;
@@ -7,10 +7,10 @@ use std::alloc::{AllocError, Global};
 use std::io;
 use std::io::Write;
 
-/// How many bytes fit on a page.
+/// The maximum number of bytes of an output.
 const MOST: usize = 128;
 
-// What was written, as far as it fits; `;` stands for a line feed.
+// What was written, as far as it fits. `;` stands for a line feed.
 #[derive(Drop)]
 struct Page {
     bytes: [u8; MOST],
@@ -29,7 +29,7 @@ impl Page {
         self.bytes.get(..self.len).unwrap_or(&[])
     }
 
-    // One byte more.
+    // Appends a byte.
     fn put(&mut self, byte: u8) -> io::Result<()> {
         let place = self
             .bytes
@@ -62,14 +62,14 @@ fn words_of(alloc: Global, texts: [&str; 3]) -> Result<Vec<Option<String>>, Allo
     Ok(words)
 }
 
-// Whether these are whole lines, and a beginning of what is wanted.
+// Checks whether these are whole lines, and a prefix of the expected output.
 fn is_beginning(printed: &[u8], wanted: &str) -> bool {
     let whole = printed.is_empty() || printed.ends_with(b";");
     whole && wanted.as_bytes().starts_with(printed)
 }
 
-/// Whether the program answers, prints and tells what it has to. Where memory is refused it says so, and the lines before
-/// stand.
+/// Checks whether the program has the expected exit status and outputs. If an allocation fails, it
+/// reports this after a prefix of the expected lines.
 pub fn is_run(alloc: Global, line: &str) -> Result<bool, ParseFault> {
     let mut fields = Fields::of(line);
     let words = words_of(alloc, [fields.next(), fields.next(), fields.next()])?;

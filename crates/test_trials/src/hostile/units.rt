@@ -1,9 +1,9 @@
-//! Texts of 16-bit units, which take no memory.
+//! Texts of 16-bit units, without allocations.
 
-/// How many units fit.
+/// The maximum number of units.
 const MOST: usize = 64;
 
-/// At most so many units.
+/// Up to `MOST` units.
 #[derive(Clone, Copy)]
 pub struct Units {
     units: [u16; MOST],
@@ -11,7 +11,7 @@ pub struct Units {
 }
 
 impl Units {
-    // One unit more, if it fits.
+    // Appends a unit if it fits.
     fn push(&mut self, unit: u16) {
         if let Some(place) = self.units.get_mut(self.len) {
             *place = unit;
@@ -19,7 +19,7 @@ impl Units {
         }
     }
 
-    /// The units of a text, or those of the numbers in hexadecimal behind `units:`.
+    /// Returns the units of a text, or those that are given as hexadecimal numbers after `units:`.
     pub fn of(text: &str) -> Self {
         let mut made = Units {
             units: [0; MOST],

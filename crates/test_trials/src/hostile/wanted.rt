@@ -1,15 +1,16 @@
-//! Matches in words, as rows have them: the range, and behind it those of the groups, `-` for a group that did not match;
-//! `;` stands between matches, and `none` for no match. They are compared without taking memory.
+//! Expected matches in words: the range of the match, followed by the ranges of its groups, with
+//! `-` for a group that did not match. `;` separates matches, and `none` stands for no match. They
+//! are compared without allocations.
 
 use regress_match::{Match, Range};
 
-/// What stands for no match.
+/// The word for no match.
 pub const NONE: &str = "none";
 
-/// What stands for the end of steps.
+/// The word for the step limit.
 pub const LIMIT: &str = "limit";
 
-/// Whether these are the words of a range, or of none.
+/// Checks whether this is the word of a range, or of no range.
 pub fn is_range(range: Option<&Range<usize>>, word: &str) -> bool {
     match (range, word.split_once("..")) {
         (Some(range), Some((start, end))) => {
@@ -20,7 +21,7 @@ pub fn is_range(range: Option<&Range<usize>>, word: &str) -> bool {
     }
 }
 
-/// Whether these are the words of a match.
+/// Checks whether these are the words of a match.
 pub fn is_match(found: &Match, words: &str) -> bool {
     let mut words = words.split(' ');
     let mut agrees = is_range(Some(&found.range), words.next().unwrap_or(""));
@@ -30,12 +31,12 @@ pub fn is_match(found: &Match, words: &str) -> bool {
     agrees && words.next().is_none()
 }
 
-/// The words of the first match, and those of the others.
+/// Returns the words of the first match, and those of the others.
 pub fn split_first(words: &str) -> (&str, &str) {
     words.split_once(';').unwrap_or((words, NONE))
 }
 
-/// Whether no match is wanted.
+/// Checks whether no match is expected.
 pub fn is_none(words: &str) -> bool {
     words == NONE
 }

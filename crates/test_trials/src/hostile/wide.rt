@@ -1,4 +1,5 @@
-//! Searches of texts of 16-bit units: all matches, or the first one of an executor that is asked itself.
+//! Searches in texts of 16-bit units: for all matches, or for the first one by a direct call of an
+//! executor.
 
 ghost use Rattle.std.specs.Prelude.{◌<◌, ◌⊎◌, IsTrue, length};
 ghost use Rattle.regex_meaning.specs.Text.{is_unit_boundary as is_boundary_of};
@@ -10,14 +11,14 @@ use regress_match::backends::{DefaultUcs2Executor, DefaultUtf16Executor};
 use regress_match::{Regex, is_unit_boundary};
 use regress_program::insn::CompiledRegexFor16BitUnits;
 
-/// Whether an offset cuts no pair of the units, or is past the end.
+/// Checks whether an offset does not split a surrogate pair, or is past the end.
 pub fn is_unit_start(units: &[u16], offset: usize) -> bool
     ensures { IsTrue result → IsTrue (is_boundary_of units.now offset) ⊎ (length units.now < offset) }
 {
     is_unit_boundary(units, offset) || units.len() < offset
 }
 
-/// Whether all matches in UTF-16 are those that are wanted.
+/// Checks whether the matches in UTF-16 are the expected ones.
 pub fn all_in_utf16(
     re: &Regex,
     units: &[u16],
@@ -29,7 +30,7 @@ pub fn all_in_utf16(
     are_found(re.find_from_utf16(units, start)?, wanted)
 }
 
-/// Whether an executor finds the first of them.
+/// Checks whether an executor finds the first expected match in UTF-16.
 pub fn asked_in_utf16(
     re: &CompiledRegexFor16BitUnits,
     units: &[u16],
@@ -42,7 +43,7 @@ pub fn asked_in_utf16(
     finds(&mut executor, start, wanted)
 }
 
-/// Whether all matches in UCS-2 are those that are wanted.
+/// Checks whether the matches in UCS-2 are the expected ones.
 pub fn all_in_ucs2(
     re: &Regex,
     units: &[u16],
@@ -52,7 +53,7 @@ pub fn all_in_ucs2(
     are_found(re.find_from_ucs2(units, start)?, wanted)
 }
 
-/// Whether an executor finds the first of them.
+/// Checks whether an executor finds the first expected match in UCS-2.
 pub fn asked_in_ucs2(
     re: &CompiledRegexFor16BitUnits,
     units: &[u16],

@@ -12,7 +12,7 @@ use regress_search::exec::{MatchProducer, Matches};
 use std::alloc::Global;
 
 impl Regex {
-    /// Returns `text` with the first match replaced by the closure's result for it. Without a
+    /// Returns `text` with the first match replaced by the closure's result for it. If there is no
     /// match, returns `text` itself and does not call the closure.
     ///
     /// # Errors
@@ -31,7 +31,7 @@ impl Regex {
     }
 
     /// Returns `text` with each match replaced by the closure's result for it. The closure is
-    /// called for one match after the other, and not again after an error.
+    /// called for the matches in order. After an error, it is not called again.
     ///
     /// # Errors
     ///

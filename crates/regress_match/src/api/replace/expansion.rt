@@ -60,8 +60,8 @@ fn read_part(behind: &str) -> (DollarSubstitution<'_>, &str)
     }
 }
 
-// Reads a name up to `}`, and returns it with the rest; without a `}`, all of it is literal. The
-// text begins with `{`.
+// Reads a name up to `}`, and returns it with the rest. If there is no `}`, the whole text is
+// literal. The text begins with `{`.
 fn read_name(braced_name: &str) -> (DollarSubstitution<'_>, &str)
     requires { slice_get braced_name.now 0 ≡ Some 123 }
     ensures { parsed_part_and_rest result.0 result.1.now ≡ parse_after_dollar braced_name.now }
@@ -86,8 +86,8 @@ fn read_number(digits: &str) -> (usize, &str)
     (number, left)
 }
 
-// Appends one more digit to the number. Returns the new number and the rest, or `None` if no digit
-// is to be read.
+// Appends one more digit to the number. Returns the new number and the rest. Returns `None` if no
+// more digits are read.
 fn next_digit(number: usize, digits: &str) -> Option<(usize, &str)>
     ensures ends { IfNone result (parse_digits_of_group_number number digits.now
         ≡ parsed_part_from_single_replacement_part (group_part number) digits.now) }

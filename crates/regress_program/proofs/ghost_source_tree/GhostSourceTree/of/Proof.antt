@@ -1,4 +1,4 @@
--- The value made has the tree that is read from the other.
+-- The returned value has the tree that is read from the argument.
 use Rattle.std.proofs.Common.{List, [], ◌∷◌, ◌++◌, refl}
 use seplogic.Ra.Ura.{Ura}
 use mir.Syntax.{Fn, Args, Dict, dcons, dnil, a_type}

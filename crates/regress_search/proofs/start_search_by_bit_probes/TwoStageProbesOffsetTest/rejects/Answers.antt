@@ -4,7 +4,7 @@ use Rattle.std.proofs.lemmas.Bool.{eqb-true}
 use Rattle.regress_program.specs.declared.required_prefix_prefilters.MaskedUnitProbe.{MaskedUnitProbe}
 use Rattle.regress_search.specs.StartSearch.{prefix_fits_at}
 use Rattle.regress_search.proofs.MarkedOffsetLemmas.{marks-both, none-marked}
-use Rattle.regress_search.proofs.start_search_by_bit_probes.RarestProbeFirstOffsetTest.rejects.Goals as goal
+use Rattle.regress_search.proofs.start_search_by_bit_probes.TwoStageProbesOffsetTest.rejects.Goals as goal
 
 -- what stands for a probe where there is none
 abbrev no_probe : MaskedUnitProbe

@@ -1,0 +1,284 @@
+-- Where each match begins with a group of one character of one unit, which a backreference repeats, and the next unit is another one, no match begins.
+use Rattle.std.proofs.Common.{◌≡◌, ℕ, zero, suc, ◌+◌, ◌-◌, ◌<◌, ◌≤◌, Bool, true, false, ◌&&◌, List, [], ◌∷◌, length, take, drop, Option, Some, None, refl, ap, ap₂, sym, ◌∙◌, subst, arith, slice_get, get_or}
+use Rattle.std.specs.Prelude.{slice_set, slice_range, slice_index_or, ◌==◌, nat_lt, nat_le, option_map, option_and_then, if◌then◌else◌}
+use Rattle.std.proofs.lemmas.Bool.{cases_lt, ltb-true, lt-ltb, eqb-true}
+use Rattle.std.proofs.lemmas.List.{append-nil}
+use Rattle.std.proofs.lemmas.Option.{slice_get_within, slice_get-get_or}
+use mathlib.Core.Logic.{inl, inr}
+use lib.Pointwise.{pointwise}
+use lib.Utf8.{encode}
+use Rattle.regex_meaning.specs.Tree.{exact}
+use Rattle.regex_meaning.specs.Text.{Text, rightwards, last_place, moved, next_character, next_characters, characters_ahead}
+use Rattle.regex_meaning.specs.CodeUnitOffsets.{HasRisingPlaceOffsets, IsBoundary, offset, place_at, units}
+use Rattle.regex_meaning.specs.CodeUnits.{Encoding, utf8, utf16, ucs2, spelled_in, text_units_in_encoding}
+use Rattle.regex_meaning.specs.CompilationRelation.{Program, Insn, BeginCaptureGroup, EndCaptureGroup, BackRef}
+use Rattle.regex_meaning.specs.Outcomes.{is_some_and, is_same}
+use Rattle.regex_meaning.proofs.BoolLemmas.{and-left, and-right}
+use Rattle.regex_meaning.proofs.CodeUnitOffsetsLemmas.{place_at-offset, offset-place_at}
+use Rattle.regress_input.specs.CharAndByteReadsFromOffset.{past_if}
+use Rattle.regress_input.proofs.UnitsAtBoundaries.{units-length}
+use Rattle.regress_input.proofs.ListRangeLemmas.{get-cons}
+use Rattle.regress_input.proofs.BoundaryPositions.{read-place}
+use Rattle.regress_input.proofs.Utf8Reads.{encode_two, encode_three, encode_four}
+use Rattle.regress_machine.specs.FirstSetTables.{HasUnitsForTables}
+use Rattle.regress_machine.specs.Machine.{State, running, Next, go, go_if, only_if, with_some, next_insn_at_place, read_one, read_group, backref_read, test_of, act_on}
+use Rattle.regress_machine.specs.ThreadSimulation.{FindsNothing}
+use Rattle.regress_machine.proofs.FailureByStepInduction.{NothingNext, nothing-some, nothing-go, nothing-go_if}
+use Rattle.regress_machine.proofs.RequiredPrefixLemmas.{nothing-turned, nothing-below}
+use Rattle.regress_program.specs.declared.char_class_tables.Class.{Class}
+use Rattle.regress_program.specs.Plans.{reads_class_char, IsPlanOf, IsOpOf}
+use Rattle.regress_program.specs.TableKeysOfUnits.{key, is_16_bit_encoding, AreReadLengthsByKey}
+use Rattle.regress_program.proofs.LookbehindFilterLemmas.{reads-in}
+use Rattle.regress_machine.specs.SearchFindsFirstOutcomeAtPlace.{TreeProgramCanSearchText, state_before_first_insn}
+use Rattle.regress_machine.proofs.ExcludedMatchStartLemmas.{nothing-no-match}
+use Rattle.regress_machine.proofs.FirstUnitsOfCharacters.{unit-there, some-units}
+use Rattle.regress_program.specs.declared.ops.Op.{Op}
+use Rattle.regress_program.specs.declared.ops.Op.TheVariants as variant
+use Rattle.regex_pattern_front.specs.declared.canonical.Sameness.TheVariants.{Exact}
+use Rattle.regress_program.specs.InsnsAsSpec.{insn_as_spec_insn}
+use Rattle.regress_program.proofs.AppendedEntryLemmas.{get-below}
+use Rattle.regress_search.specs.DeadThreads.{MatchFailureExtendsUntil, BeginsWithRepeatedChar, IsUnrepeated}
+use Rattle.regress_search.specs.ReadsAtOffset.{unit_in}
+use Rattle.regress_search.specs.TreePlanAndText.{SearchInput, program_of}
+use Rattle.regress_search.proofs.NextCharByUnit.{next-is, past-next, excluded, stepped, own-spelled}
+
+-- ---- Lists
+
+set-got : {X : Type 0} (xs : List X) (i : ℕ) (x : X) → i < length xs → slice_get (slice_set xs i x) i ≡ Some x
+set-got [] i x less = absurd (omega (arith, less))
+set-got (y ∷ xs) zero x less = refl
+set-got (y ∷ xs) (suc i) x less = set-got xs i x (omega (arith, less))
+
+range-one : (xs : List ℕ) (i c : ℕ) → slice_get xs i ≡ Some c → slice_range xs i (i + 1) ≡ c ∷ []
+range-one xs i c is =
+    let one : i + 1 - i ≡ 1 = omega arith in
+    ap (λ n. take n (drop i xs)) one ∙ ap (take 1) (get-cons xs i c is)
+
+none-left : (xs : List ℕ) (i : ℕ) → slice_get xs i ≡ None → drop i xs ≡ []
+none-left [] zero is = refl
+none-left [] (suc i) is = refl
+none-left (x ∷ xs) zero is = cc
+none-left (x ∷ xs) (suc i) is = none-left xs i is
+
+range-none : (xs : List ℕ) (i : ℕ) → slice_get xs i ≡ None → slice_range xs i (i + 1) ≡ []
+range-none xs i is =
+    let one : i + 1 - i ≡ 1 = omega arith in
+    ap (λ n. take n (drop i xs)) one ∙ ap (take 1) (none-left xs i is)
+
+some-and : (o : Option ℕ) (test : ℕ → Bool) → is_some_and o test ≡ true → (c : ℕ) × (o ≡ Some c) × (test c ≡ true)
+some-and None test h = cc
+some-and (Some c) test h = (c, refl, h)
+
+-- ---- Turns
+
+module _ (program : Program) (text : Text) (has_text : HasRisingPlaceOffsets text) (group : ℕ) (reader : Insn)
+    (opens : slice_get program.insns 0 ≡ Some (BeginCaptureGroup group)) (reads : slice_get program.insns 1 ≡ Some reader) (one : reads_class_char reader ≡ true)
+    (closes : slice_get program.insns 2 ≡ Some (EndCaptureGroup group)) (again : slice_get program.insns 3 ≡ Some (BackRef group exact)) (p : ℕ) (inside : p ≤ last_place text)
+    (apart : (test : ℕ → Bool) → test_of program (Some reader) ≡ Some test → (c : ℕ) → slice_get text.characters p ≡ Some c → test c ≡ true
+    → slice_get text.characters (p + 1) ≡ Some c → ⊥) where
+  turned : (s : State) (ip : ℕ) (insn : Insn) (x : Next) → s.ip ≡ ip → slice_get program.insns ip ≡ Some insn → act_on program text rightwards (Some insn) s ≡ x
+      → ((n : ℕ) → NothingNext program text n rightwards x) → FindsNothing program text rightwards (running s)
+  turned s ip insn x at there acts nothing =
+      nothing-turned program text s (λ n.
+      subst (λ y. NothingNext program text n rightwards y)
+      (sym (ap (λ i. act_on program text rightwards (slice_get program.insns i) s) at ∙ ap (λ o. act_on program text rightwards o s) there ∙ acts)) (nothing n))
+
+  module _ (test : ℕ → Bool) (tests : test_of program (Some reader) ≡ Some test) (c : ℕ) (there : slice_get text.characters p ≡ Some c) (accepted : test c ≡ true) where
+    next_inside : p + 1 ≤ last_place text
+    next_inside = let less = slice_get_within text.characters p c there in omega (arith, less)
+
+    -- the character is not repeated
+    never : (from to q : ℕ) → from ≡ p → to ≡ p + 1 → q ≡ p + 1
+        → pointwise (is_same text exact) (slice_range text.characters from to) (next_characters text rightwards (length (slice_range text.characters from to)) q) ≡ true → ⊥
+    never from to q is_from is_to is_q same = by (slice_get text.characters (p + 1)) refl
+      where
+        first : slice_range text.characters from to ≡ c ∷ []
+        first = ap₂ (slice_range text.characters) is_from is_to ∙ range-one text.characters p c there
+
+        second : next_characters text rightwards (length (slice_range text.characters from to)) q ≡ slice_range text.characters (p + 1) (p + 1 + 1)
+        second = ap₂ (λ n q. slice_range text.characters q (q + n)) (ap length first) is_q
+
+        both : pointwise (is_same text exact) (c ∷ []) (slice_range text.characters (p + 1) (p + 1 + 1)) ≡ true
+        both = sym (ap₂ (pointwise (is_same text exact)) first second) ∙ same
+
+        by : (o : Option ℕ) → slice_get text.characters (p + 1) ≡ o → ⊥
+        by None is = let no : false ≡ true = sym (ap (pointwise (is_same text exact) (c ∷ [])) (range-none text.characters (p + 1) is)) ∙ both in cc
+        by (Some d) is =
+            let equal = sym (ap (pointwise (is_same text exact) (c ∷ [])) (range-one text.characters (p + 1) d is)) ∙ both in
+            apart test tests c there accepted (is ∙ ap Some (sym (eqb-true c d (and-left (c == d) true equal))))
+
+    repeats : (s : State) → s.ip ≡ 3 → s.pos ≡ offset text (p + 1) → slice_get s.groups group ≡ Some (Some (offset text p, s.pos)) → FindsNothing program text rightwards (running s)
+    repeats s at pos held = turned s 3 (BackRef group exact) (with_some (slice_get s.groups group) (λ range. read_group text exact rightwards range s)) at again refl (λ n.
+        nothing-some program text n rightwards (slice_get s.groups group) (λ range. read_group text exact rightwards range s) (λ range is.
+        let same : Some (offset text p, s.pos) ≡ range = (let e : Some (Some (offset text p, s.pos)) ≡ Some range = sym held ∙ is in cc) in
+        subst (λ r. NothingNext program text n rightwards (read_group text exact rightwards r s)) same (found n)))
+      where
+        at_next : (q : ℕ) → place_at text s.pos ≡ Some q → q ≡ p + 1
+        at_next q is = let e : Some q ≡ Some (p + 1) = sym is ∙ ap (place_at text) pos ∙ place_at-offset text (p + 1) has_text next_inside in cc
+
+        at_first : (q : ℕ) → place_at text (offset text p) ≡ Some q → q ≡ p
+        at_first q is = let e : Some q ≡ Some p = sym is ∙ place_at-offset text p has_text inside in cc
+
+        found : (n : ℕ) → NothingNext program text n rightwards (read_group text exact rightwards (Some (offset text p, s.pos)) s)
+        found n =
+            nothing-some program text n rightwards (place_at text s.pos)
+            (λ q. with_some (place_at text (offset text p)) (λ from. with_some (place_at text s.pos) (λ to. backref_read text exact rightwards from to q s))) (λ q q_is.
+            nothing-some program text n rightwards (place_at text (offset text p))
+            (λ from. with_some (place_at text s.pos) (λ to. backref_read text exact rightwards from to q s)) (λ from from_is.
+            nothing-some program text n rightwards (place_at text s.pos) (λ to. backref_read text exact rightwards from to q s) (λ to to_is.
+            let cs = slice_range text.characters from to in
+            nothing-go_if program text n rightwards
+            (nat_le (length cs) (characters_ahead text rightwards q) && pointwise (is_same text exact) cs (next_characters text rightwards (length cs) q))
+            (next_insn_at_place text (moved text rightwards (length cs) q) s) (λ yes.
+            absurd (never from to q (at_first from from_is) (at_next to to_is) (at_next q q_is)
+            (and-right (nat_le (length cs) (characters_ahead text rightwards q)) (pointwise (is_same text exact) cs (next_characters text rightwards (length cs) q)) yes))))))
+
+    closed : (s : State) → s.ip ≡ 2 → s.pos ≡ offset text (p + 1) → slice_get s.starts group ≡ Some (offset text p) → FindsNothing program text rightwards (running s)
+    closed s at pos held = turned s 2 (EndCaptureGroup group) (only_if (nat_lt group (length s.groups)) (with_some (slice_get s.starts group) (λ start. go (next start)))) at closes refl
+        (λ n. by n (nat_lt group (length s.groups)) refl)
+      where
+        next : ℕ → State
+        next start = record s { ip = s.ip + 1; groups = slice_set s.groups group (Some (start, s.pos)) }
+
+        by : (n : ℕ) (b : Bool) → nat_lt group (length s.groups) ≡ b
+            → NothingNext program text n rightwards (only_if b (with_some (slice_get s.starts group) (λ start. go (next start))))
+        by n false e = tt
+        by n true e = nothing-some program text n rightwards (slice_get s.starts group) (λ start. go (next start)) (λ start is.
+            let same : start ≡ offset text p = (let e : Some start ≡ Some (offset text p) = sym is ∙ held in cc) in
+            nothing-go program text n rightwards (next start) (nothing-below program text n (next start) (repeats (next start) (ap (λ i. i + 1) at) pos
+            (set-got s.groups group (Some (start, s.pos)) (ltb-true group (length s.groups) e) ∙ ap (λ start. Some (Some (start, s.pos))) same))))
+
+  read-first : (s : State) → s.ip ≡ 1 → s.pos ≡ offset text p → slice_get s.starts group ≡ Some (offset text p) → FindsNothing program text rightwards (running s)
+  read-first s at pos held = turned s 1 reader (with_some (test_of program (Some reader)) (λ test. read_one text test rightwards s)) at reads
+      (reads-in rightwards program text reader (inl one) s) (λ n.
+      nothing-some program text n rightwards (test_of program (Some reader)) (λ test. read_one text test rightwards s) (λ test tests.
+      nothing-some program text n rightwards (place_at text s.pos) (λ q. go_if (is_some_and (next_character text rightwards q) test) (next_insn_at_place text (moved text rightwards 1 q) s)) (λ q q_is.
+      let same : q ≡ p = (let e : Some q ≡ Some p = sym q_is ∙ ap (place_at text) pos ∙ place_at-offset text p has_text inside in cc) in
+      nothing-go_if program text n rightwards (is_some_and (next_character text rightwards q) test) (next_insn_at_place text (moved text rightwards 1 q) s) (λ yes.
+      let c = some-and (slice_get text.characters q) test yes in
+      nothing-below program text n (next_insn_at_place text (moved text rightwards 1 q) s)
+      (closed test tests c.0 (ap (slice_get text.characters) (sym same) ∙ c.1) c.2 (next_insn_at_place text (moved text rightwards 1 q) s) (ap (λ i. i + 1) at)
+      (ap (λ q. offset text (q + 1)) same) held)))))
+
+  pub repeated-bars : (s : State) → s.ip ≡ 0 → s.pos ≡ offset text p → FindsNothing program text rightwards (running s)
+  repeated-bars s at pos = turned s 0 (BeginCaptureGroup group) (only_if (nat_lt group (length s.groups) && nat_lt group (length s.starts)) (go next)) at opens refl
+      (λ n. by n (nat_lt group (length s.groups) && nat_lt group (length s.starts)) refl)
+    where
+      next : State
+      next = record s { ip = s.ip + 1; groups = slice_set s.groups group None; starts = slice_set s.starts group s.pos }
+
+      by : (n : ℕ) (b : Bool) → (nat_lt group (length s.groups) && nat_lt group (length s.starts)) ≡ b → NothingNext program text n rightwards (only_if b (go next))
+      by n false e = tt
+      by n true e =
+          nothing-go program text n rightwards next (nothing-below program text n next (read-first next (ap (λ i. i + 1) at) pos
+          (set-got s.starts group s.pos (ltb-true group (length s.starts) (and-right (nat_lt group (length s.groups)) (nat_lt group (length s.starts)) e)) ∙ ap Some pos)))
+
+-- ---- Units
+
+-- texts in bytes are in UTF-8
+in-utf8 : (e : Encoding) → is_16_bit_encoding e ≡ false → e ≡ utf8
+in-utf8 utf8 is = refl
+in-utf8 utf16 is = cc
+in-utf8 ucs2 is = cc
+
+one-low : (c : ℕ) → length (spelled_in utf8 c) ≡ 1 → c < 128
+one-low c one = elim (cases_lt c 128) [
+  | inl low ↦ low
+  | inr above ↦ elim (cases_lt c 2048) [
+    | inl two ↦ let n : length (spelled_in utf8 c) ≡ 2 = ap length (append-nil (encode c)) ∙ ap length (encode_two c above two) in absurd (omega (arith, one, n))
+    | inr more ↦ elim (cases_lt c 65536) [
+      | inl three ↦ let n : length (spelled_in utf8 c) ≡ 3 = ap length (append-nil (encode c)) ∙ ap length (encode_three c more three) in absurd (omega (arith, one, n))
+      | inr four ↦ let n : length (spelled_in utf8 c) ≡ 4 = ap length (append-nil (encode c)) ∙ ap length (encode_four c four) in absurd (omega (arith, one, n))
+    ]
+  ]
+]
+
+module _ (text : Text) (has : HasUnitsForTables utf8 text) (test : ℕ → Bool) (steps : List ℕ) (are : AreReadLengthsByKey false test steps)
+    (single : (k : ℕ) → slice_index_or steps k 0 ≤ 1) (at p c : ℕ) (on : IsBoundary text at) (place_is : place_at text at ≡ Some p) (there : slice_get text.characters p ≡ Some c)
+    (accepted : test c ≡ true) where
+  -- what is accepted is a unit below 128, and the next character begins with the next unit
+  pub accepted-low : (u : ℕ) → slice_get (text_units_in_encoding utf8 text) at ≡ Some u → (u ≡ c) × (u < 128) × (offset text (p + 1) ≡ at + 1)
+  accepted-low u unit =
+      let n = next-is utf8 text has at u on unit in
+      let reads : Some (c, offset text (p + 1)) ≡ Some (n.0, at + length (spelled_in utf8 n.0)) =
+      sym (read-place text rightwards at p place_is ∙ ap (option_map {U = ℕ × ℕ} (λ c. (c, offset text (p + 1)))) there) ∙ n.1.read_is in
+      let pair : (c, offset text (p + 1)) ≡ (n.0, at + length (spelled_in utf8 n.0)) = cc in
+      let same : n.0 ≡ c = sym (ap (λ (r : ℕ × ℕ). r.0) pair) in
+      let behind : offset text (p + 1) ≡ at + length (spelled_in utf8 n.0) = ap (λ (r : ℕ × ℕ). r.1) pair in
+      let past : past_if text test rightwards at ≡ Some (at + length (spelled_in utf8 n.0)) =
+      past-next utf8 text has test at u n.0 n.1 ∙ ap (λ b. if b then Some (at + length (spelled_in utf8 n.0)) else None) (ap test same ∙ accepted) in
+      let least = single u in
+      let one : length (spelled_in utf8 n.0) ≡ 1 = elim (cases_lt 0 (slice_index_or steps u 0)) [
+        | inl some ↦
+            let led = stepped utf8 text has test steps are at u on (ap (option_map (key false)) unit) 1 (at + 1) (omega (arith, some, least)) (λ z. omega (arith, z)) (λ z. omega (arith, z)) refl in
+            let e : Some (at + 1) ≡ Some (at + length (spelled_in utf8 n.0)) = led ∙ past in
+            let f : at + 1 ≡ at + length (spelled_in utf8 n.0) = cc in omega (arith, f)
+        | inr none ↦
+            let no : None ≡ Some (at + length (spelled_in utf8 n.0)) = excluded utf8 text has test steps are at u on (ap (option_map (key false)) unit) (omega (arith, none)) ∙ past in cc
+      ] in
+      let low = one-low n.0 one in
+      let begins : Some n.0 ≡ Some u = sym (ap (λ (l : List ℕ). slice_get l 0) (own-spelled utf8 n.0 (lt-ltb n.0 0x80 low))) ∙ n.1.first in
+      let is : n.0 ≡ u = cc in
+      (sym is ∙ same, omega (arith, low, is), behind ∙ ap (λ n. at + n) one)
+
+-- ---- Searches
+
+module _ (w : SearchInput) (has : HasUnitsForTables w.encoding w.text) (plan : IsPlanOf (is_16_bit_encoding w.encoding) (program_of w) w.plan)
+    (can : TreeProgramCanSearchText (program_of w) w.tree w.text) (bytes : is_16_bit_encoding w.encoding ≡ false) (number : ℕ) (begins : BeginsWithRepeatedChar w.plan number)
+    (class : Class) (there : slice_get w.plan.classes.items number ≡ Some class) (single : class.single_unit ≡ true) where
+  insn-of : (ip : ℕ) (op : Op) → slice_get w.plan.ops.items ip ≡ Some op → (insn : Insn) × (slice_get (program_of w).insns ip ≡ Some insn) × IsOpOf (program_of w) w.plan op ip insn
+  insn-of ip op is =
+      let many = plan.as_many in
+      let some = get-below (program_of w).insns ip (let less = slice_get_within w.plan.ops.items ip op is in omega (arith, less, many)) in
+      (some.0, some.1, plan.each ip op some.0 is some.1)
+
+  is_utf8 : w.encoding ≡ utf8
+  is_utf8 = in-utf8 w.encoding bytes
+
+  in_bytes : HasUnitsForTables utf8 w.text
+  in_bytes = subst (λ e. HasUnitsForTables e w.text) is_utf8 has
+
+  unit : (at : ℕ) → slice_get (text_units_in_encoding utf8 w.text) at ≡ unit_in w at
+  unit at = ap (λ e. slice_get (text_units_in_encoding e w.text) at) (sym is_utf8)
+
+  module _ (at p : ℕ) (on : IsBoundary w.text at) (place_is : place_at w.text at ≡ Some p) (alone : IsUnrepeated w at) where
+    apart-there : (test : ℕ → Bool) → AreReadLengthsByKey false test class.steps → (c : ℕ) → slice_get w.text.characters p ≡ Some c → test c ≡ true
+        → slice_get w.text.characters (p + 1) ≡ Some c → ⊥
+    apart-there test are c first accepted second =
+        let begun : slice_get (spelled_in utf8 c) 0 ≡ Some (get_or (spelled_in utf8 c) 0 0) = slice_get-get_or (spelled_in utf8 c) 0 0 (some-units utf8 c) in
+        let u = get_or (spelled_in utf8 c) 0 0 in
+        let here : slice_get (text_units_in_encoding utf8 w.text) at ≡ Some u =
+        unit-there utf8 w.text has.is_text in_bytes.spelled at p place_is ∙ ap (option_and_then (λ c. slice_get (spelled_in utf8 c) 0)) first ∙ begun in
+        let low = accepted-low w.text in_bytes test class.steps are ((plan.classes number class there).single_unit single) at p c on place_is first accepted u here in
+        let less = slice_get_within w.text.characters (p + 1) c second in
+        let next_place : place_at w.text (at + 1) ≡ Some (p + 1) = ap (place_at w.text) (sym low.2) ∙ place_at-offset w.text (p + 1) has.is_text (omega (arith, less)) in
+        let next : slice_get (text_units_in_encoding utf8 w.text) (at + 1) ≡ Some u =
+        unit-there utf8 w.text has.is_text in_bytes.spelled (at + 1) (p + 1) next_place ∙ ap (option_and_then (λ c. slice_get (spelled_in utf8 c) 0)) second ∙ begun in
+        alone u low.1 (sym (unit at) ∙ here) (sym (unit (at + 1)) ∙ next)
+
+  -- no match begins where the next unit is another one
+  pub repeated-vain : (from to : ℕ) → ((at : ℕ) → from ≤ at → at < to → IsUnrepeated w at) → MatchFailureExtendsUntil w from to
+  repeated-vain from to alone none at on le less p is =
+      let first = insn-of 0 (variant.OpenGroup begins.group) begins.opens in
+      let second = insn-of 1 (variant.One number) begins.reads in
+      let third = insn-of 2 (variant.CloseGroup begins.group) begins.closes in
+      let fourth = insn-of 3 (variant.MatchBackref (record { slot = begins.group; same = Exact })) begins.repeats in
+      let has_class = second.2.0 in
+      let class_is : class ≡ has_class.class = (let e : Some class ≡ Some has_class.class = sym there ∙ has_class.is_there in cc) in
+      let reader_is : second.0 ≡ insn_as_spec_insn class.insn = has_class.is_class ∙ ap (λ (k : Class). insn_as_spec_insn k.insn) (sym class_is) in
+      let here = offset-place_at w.text at p has.is_text is in
+      nothing-no-match (program_of w) w.tree w.text can p here.1
+      (repeated-bars (program_of w) w.text has.is_text begins.group second.0 (first.1 ∙ ap Some first.2) second.1 second.2.1 (third.1 ∙ ap Some third.2) (fourth.1 ∙ ap Some fourth.2)
+      p here.1
+      (λ test tests c there_c accepted again.
+      apart-there at p on is (alone at le less) test
+      (subst (λ b. AreReadLengthsByKey b test class.steps) bytes ((plan.classes number class there).steps test (ap (λ i. test_of (program_of w) (Some i)) (sym reader_is) ∙ tests)))
+      c there_c accepted again)
+      (state_before_first_insn (program_of w) (offset w.text p)) refl refl)
+
+-- the last unit is not repeated
+pub unrepeated-last : (w : SearchInput) → HasUnitsForTables w.encoding w.text → (at : ℕ) → units w.text ≤ at + 1 → IsUnrepeated w at
+unrepeated-last w has at last u low here next =
+    let long = units-length w.encoding w.text has.spelled in
+    let less = slice_get_within (text_units_in_encoding w.encoding w.text) (at + 1) u next in
+    absurd (omega (arith, last, long, less))

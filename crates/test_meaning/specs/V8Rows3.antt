@@ -1,933 +1,552 @@
--- Patterns on texts, part 3, with the results of JavaScript's V8: the same flags, and its indices as byte offsets. The trees are
--- those of the patterns, optimized.
+-- Patterns on texts, part 3, with the results of JavaScript's V8: the same flags, and its indices as
+-- byte offsets. The trees are those of the patterns, optimized.
 use Rattle.std.specs.Prelude.{◌≡◌, [], ◌∷◌, Some, None, refl, true, false}
-use Rattle.regex_meaning.specs.Tree.{goal, char, char_set, cat, end_of_cat, alt, bracket, match_any, match_any_except_line_terminator, anchor}
-use Rattle.regex_meaning.specs.Tree.{start_of_line, end_of_line, word_boundary, capture_group, back_ref, exact, folded, lookaround, loop, loop_1_char_body}
+use Rattle.regex_meaning.specs.Tree.{goal, char, char_set, cat, end_of_cat, alt, bracket, match_any_except_line_terminator, anchor, start_of_line, end_of_line}
+use Rattle.regex_meaning.specs.Tree.{word_boundary, capture_group, back_ref, exact, lookaround, loop, loop_1_char_body, match_any}
 use Rattle.regex_meaning.specs.Text.{utf8_text}
 use Rattle.test_meaning.specs.Computing.{found, matches, times, in_brackets, look}
 
--- `a{0,}"+?\S` of flags `iu` on `\u{FEFF},"c\u{17F}""c`
-judged_3_01 : matches (cat (cat (loop_1_char_body (times 0 None true) (char_set (65 ∷ 97 ∷ [])))
-    (cat (loop_1_char_body (times 1 None false) (char 34))
-    (cat (bracket (in_brackets false ((0, 8) ∷ (14, 31) ∷ (33, 159) ∷ (161, 5759) ∷ (5761, 8191) ∷ (8203, 8231)
-    ∷ (8234, 8238) ∷ (8240, 8286) ∷ (8288, 12287) ∷ (12289, 65278) ∷ (65280, 1114111) ∷ []))) end_of_cat)))
-    (cat goal end_of_cat)) (utf8_text (239 ∷ 187 ∷ 191 ∷ 44 ∷ 34 ∷ 99 ∷ 197 ∷ 191 ∷ 34 ∷ 34 ∷ 99 ∷ []) true)
-    0 ≡ (found 4 6 [] ∷ found 8 10 [] ∷ [])
+-- `((?=\1)|a*){2}b` on `cbababa`
+judged_3_01 : matches (cat (cat (loop (times 2 (Some 2) true) 0 1
+    (capture_group 0 [] (alt (cat (lookaround (look false false 1 1) (cat (back_ref 1 exact) end_of_cat)) end_of_cat)
+    (cat (loop_1_char_body (times 0 None true) (char 97)) end_of_cat)))) (cat (char 98) end_of_cat))
+    (cat goal end_of_cat)) (utf8_text (99 ∷ 98 ∷ 97 ∷ 98 ∷ 97 ∷ 98 ∷ 97 ∷ []) false)
+    0 ≡ (found 1 2 (Some (1, 1) ∷ []) ∷ found 2 4 (Some (2, 3) ∷ []) ∷ found 4 6 (Some (4, 5) ∷ []) ∷ [])
 unfolding matches
 judged_3_01 = refl
 
--- `/{0,1}` of flags `miu` on ``
-judged_3_02 : matches (cat (cat (loop_1_char_body (times 0 (Some 1) true) (char 47)) end_of_cat) (cat goal end_of_cat))
-    (utf8_text [] true) 0 ≡ (found 0 0 [] ∷ [])
+-- `(aa|aa*|\1a){2}` of flags `u` on `cbaabab`
+judged_3_02 : matches (cat (cat (loop (times 2 (Some 2) true) 0 1
+    (capture_group 0 [] (alt (cat (char 97) (cat (char 97) end_of_cat))
+    (alt (cat (char 97) (cat (loop_1_char_body (times 0 None true) (char 97)) end_of_cat))
+    (cat (back_ref 1 exact) (cat (char 97) end_of_cat)))))) end_of_cat) (cat goal end_of_cat))
+    (utf8_text (99 ∷ 98 ∷ 97 ∷ 97 ∷ 98 ∷ 97 ∷ 98 ∷ []) true) 0 ≡ (found 2 4 (Some (3, 4) ∷ []) ∷ [])
 unfolding matches
 judged_3_02 = refl
 
--- `K` on `K`
-judged_3_03 : matches (cat (cat (char 75) end_of_cat) (cat goal end_of_cat)) (utf8_text (75 ∷ []) false)
-    0 ≡ (found 0 1 [] ∷ [])
+-- `b?((?:|b)(?:(?:a?){2,}b){2,3}?|(?:a|)){3}\b` of flags `i` on `caaaaa`
+judged_3_03 : matches (cat (cat (loop_1_char_body (times 0 (Some 1) true) (char_set (66 ∷ 98 ∷ [])))
+    (cat (loop (times 3 (Some 3) true) 0 1 (capture_group 0 []
+    (alt (cat (alt end_of_cat (cat (char_set (66 ∷ 98 ∷ [])) end_of_cat))
+    (cat (loop (times 2 (Some 3) false) 1 1
+    (cat (loop (times 2 None true) 1 1 (cat
+    (loop_1_char_body (times 0 (Some 1) true) (char_set (65 ∷ 97 ∷ []))) end_of_cat))
+    (cat (char_set (66 ∷ 98 ∷ [])) end_of_cat))) end_of_cat))
+    (cat (alt (cat (char_set (65 ∷ 97 ∷ [])) end_of_cat) end_of_cat) end_of_cat))))
+    (cat (word_boundary false false) end_of_cat))) (cat goal end_of_cat))
+    (utf8_text (99 ∷ 97 ∷ 97 ∷ 97 ∷ 97 ∷ 97 ∷ []) false)
+    0 ≡ (found 0 0 (Some (0, 0) ∷ []) ∷ found 3 6 (Some (5, 6) ∷ []) ∷ found 6 6
+    (Some (6, 6) ∷ []) ∷ [])
 unfolding matches
 judged_3_03 = refl
 
--- `(\2{1,1}(^[^a0\S\x61-z]){1,2}K)` of flags `mu` on `b cKc  cK`
-judged_3_04 : matches (cat (cat (capture_group 0 []
-    (cat (loop (times 1 (Some 1) true) 1 1 (back_ref 2 exact))
-    (cat (loop (times 1 (Some 2) true) 1 2 (capture_group 1 []
-    (cat (anchor start_of_line true) (cat (bracket
-    (in_brackets true ((0, 8) ∷ (14, 31) ∷ (33, 159) ∷ (161, 5759) ∷ (5761, 8191) ∷ (8203, 8231)
-    ∷ (8234, 8238) ∷ (8240, 8286) ∷ (8288, 12287) ∷ (12289, 65278) ∷ (65280, 1114111) ∷ [])))
-    end_of_cat)))) (cat (char 75) end_of_cat)))) end_of_cat) (cat goal end_of_cat))
-    (utf8_text (98 ∷ 32 ∷ 99 ∷ 75 ∷ 99 ∷ 32 ∷ 32 ∷ 99 ∷ 75 ∷ []) true) 0 ≡ []
+-- `[s\u{212A}]??[ab]{3,}ab` on `\u{E9}\u{17F}\u{17F}\u{17F}ss\u{A}\u{A}\u{A}`
+judged_3_04 : matches (cat (cat (loop_1_char_body (times 0 (Some 1) false)
+    (bracket (in_brackets false ((115, 115) ∷ (8490, 8490) ∷ []))))
+    (cat (loop_1_char_body (times 3 None true) (bracket (in_brackets false ((97, 98) ∷ []))))
+    (cat (char 97) (cat (char 98) end_of_cat)))) (cat goal end_of_cat))
+    (utf8_text (195 ∷ 169 ∷ 197 ∷ 191 ∷ 197 ∷ 191 ∷ 197 ∷ 191 ∷ 115 ∷ 115 ∷ 10 ∷ 10 ∷ 10 ∷ []) false) 0 ≡ []
 unfolding matches
 judged_3_04 = refl
 
--- `\D+?b{1,1}?a(?!<{1,2}a)` of flags `mis` on `bbbba`
-judged_3_05 : matches (cat (cat (loop_1_char_body (times 1 None false)
-    (bracket (in_brackets false ((0, 47) ∷ (58, 1114111) ∷ []))))
-    (cat (loop_1_char_body (times 1 (Some 1) false) (char_set (66 ∷ 98 ∷ [])))
-    (cat (char_set (65 ∷ 97 ∷ [])) (cat (lookaround (look true false 0 0)
-    (cat (loop_1_char_body (times 1 (Some 2) true) (char 60)) (cat (char_set (65 ∷ 97 ∷ [])) end_of_cat)))
-    end_of_cat)))) (cat goal end_of_cat)) (utf8_text (98 ∷ 98 ∷ 98 ∷ 98 ∷ 97 ∷ []) false)
-    0 ≡ (found 0 5 [] ∷ [])
+-- `[ab]?(\u{1F600}{2,}).` of flags `u` on `kkkkkbbb`
+judged_3_05 : matches (cat (cat (loop_1_char_body (times 0 (Some 1) true) (bracket (in_brackets false ((97, 98) ∷ []))))
+    (cat (capture_group 0 [] (cat (loop_1_char_body (times 2 None true) (char 128512)) end_of_cat))
+    (cat match_any_except_line_terminator end_of_cat))) (cat goal end_of_cat))
+    (utf8_text (107 ∷ 107 ∷ 107 ∷ 107 ∷ 107 ∷ 98 ∷ 98 ∷ 98 ∷ []) true) 0 ≡ []
 unfolding matches
 judged_3_05 = refl
 
--- `((?:\1)+?)*?A{2,}` of flags `i` on `"s`
-judged_3_06 : matches (cat (cat (loop (times 0 None false) 0 1
-    (capture_group 0 [] (cat (loop (times 1 None false) 1 1 (cat (back_ref 1 folded) end_of_cat)) end_of_cat)))
-    (cat (loop_1_char_body (times 2 None true) (char_set (65 ∷ 97 ∷ []))) end_of_cat)) (cat goal end_of_cat))
-    (utf8_text (34 ∷ 115 ∷ []) false) 0 ≡ []
+-- `(?<=^[^a]{1,4}[^a]+)ab` of flags `u` on `\u{A}\u{A}\u{A}aa`
+judged_3_06 : matches (cat (cat (lookaround (look false true 0 0)
+    (cat (loop_1_char_body (times 1 None true) (bracket (in_brackets true ((97, 97) ∷ []))))
+    (cat (loop_1_char_body (times 1 (Some 4) true) (bracket (in_brackets true ((97, 97) ∷ []))))
+    (cat (anchor start_of_line false) end_of_cat)))) (cat (char 97) (cat (char 98) end_of_cat)))
+    (cat goal end_of_cat)) (utf8_text (10 ∷ 10 ∷ 10 ∷ 97 ∷ 97 ∷ []) true) 0 ≡ []
 unfolding matches
 judged_3_06 = refl
 
--- `(?<n0>(?:\u{20AC}){2,65536}(?:(\u{E9}?^.,|.?)b)*|\k<n0>\b)?` of flags `mi` on ``
-judged_3_07 : matches (cat (cat (loop (times 0 (Some 1) true) 0 2
-    (capture_group 0 (110 ∷ 48 ∷ []) (alt (cat (loop (times 2 (Some 65536) true) 1 1 (cat (char 8364) end_of_cat))
-    (cat (loop (times 0 None true) 1 2 (cat (capture_group 1 []
-    (alt (cat (loop_1_char_body (times 0 (Some 1) true) (char 233))
-    (cat (anchor start_of_line true) (cat match_any_except_line_terminator (cat (char 44) end_of_cat))))
-    (cat (loop_1_char_body (times 0 (Some 1) true) match_any_except_line_terminator) end_of_cat)))
-    (cat (char_set (66 ∷ 98 ∷ [])) end_of_cat))) end_of_cat))
-    (cat (back_ref 1 folded) (cat (word_boundary false false) end_of_cat))))) end_of_cat)
-    (cat goal end_of_cat)) (utf8_text [] false) 0 ≡ (found 0 0 (None ∷ None ∷ []) ∷ [])
+-- `a{1,1}.*[ab]{2}` of flags `u` on `\u{17F}AA`
+judged_3_07 : matches (cat (cat (loop_1_char_body (times 1 (Some 1) true) (char 97))
+    (cat (loop_1_char_body (times 0 None true) match_any_except_line_terminator)
+    (cat (loop_1_char_body (times 2 (Some 2) true) (bracket (in_brackets false ((97, 98) ∷ [])))) end_of_cat)))
+    (cat goal end_of_cat)) (utf8_text (197 ∷ 191 ∷ 65 ∷ 65 ∷ []) true) 0 ≡ []
 unfolding matches
 judged_3_07 = refl
 
--- `(\1[\u{D}])` of flags `is` on `\u{D}`
-judged_3_08 : matches (cat (cat (capture_group 0 []
-    (cat (back_ref 1 folded) (cat (bracket (in_brackets false ((13, 13) ∷ []))) end_of_cat))) end_of_cat)
-    (cat goal end_of_cat)) (utf8_text (13 ∷ []) false) 0 ≡ (found 0 1 (Some (0, 1) ∷ []) ∷ [])
+-- `([a-\u{E9}])\1{2,3}\b` of flags `u` on `\u{E9}s`
+judged_3_08 : matches (cat (cat (capture_group 0 [] (cat (bracket (in_brackets false ((97, 233) ∷ []))) end_of_cat))
+    (cat (loop (times 2 (Some 3) true) 1 1 (back_ref 1 exact)) (cat (word_boundary false false) end_of_cat)))
+    (cat goal end_of_cat)) (utf8_text (195 ∷ 169 ∷ 115 ∷ []) true) 0 ≡ []
 unfolding matches
 judged_3_08 = refl
 
--- `(?:[]?(?:x\u{1F600}){1,2}|(?:\1)|$((?:\1)\u{2028})?\b)[^\w/]+?.` of flags `mu` on `_x\u{1F600}_K `
-judged_3_09 : matches (cat (cat (alt (cat (loop_1_char_body (times 0 (Some 1) true) (bracket (in_brackets false [])))
-    (cat (loop (times 1 (Some 2) true) 0 0 (cat (char 120) (cat (char 128512) end_of_cat))) end_of_cat))
-    (alt (cat (cat (back_ref 1 exact) end_of_cat) end_of_cat)
-    (cat (anchor end_of_line true) (cat (loop (times 0 (Some 1) true) 0 1
-    (capture_group 0 [] (cat (cat (back_ref 1 exact) end_of_cat) (cat (char 8232) end_of_cat))))
-    (cat (word_boundary false false) end_of_cat)))))
-    (cat (loop_1_char_body (times 1 None false)
-    (bracket (in_brackets true ((47, 57) ∷ (65, 90) ∷ (95, 95) ∷ (97, 122) ∷ []))))
-    (cat match_any_except_line_terminator end_of_cat))) (cat goal end_of_cat))
-    (utf8_text (95 ∷ 120 ∷ 240 ∷ 159 ∷ 152 ∷ 128 ∷ 95 ∷ 75 ∷ 32 ∷ []) true)
-    0 ≡ (found 2 7 (None ∷ []) ∷ [])
+-- `(?<!b{3,3}b{0,1}?)(?!a)` on `aaassbb`
+judged_3_09 : matches (cat (cat (lookaround (look true true 0 0)
+    (cat (loop_1_char_body (times 0 (Some 1) false) (char 98))
+    (cat (loop_1_char_body (times 3 (Some 3) true) (char 98)) end_of_cat)))
+    (cat (lookaround (look true false 0 0) (cat (char 97) end_of_cat)) end_of_cat)) (cat goal end_of_cat))
+    (utf8_text (97 ∷ 97 ∷ 97 ∷ 115 ∷ 115 ∷ 98 ∷ 98 ∷ []) false)
+    0 ≡ (found 3 3 [] ∷ found 4 4 [] ∷ found 5 5 [] ∷ found 6 6 [] ∷ found 7 7 [] ∷ [])
 unfolding matches
 judged_3_09 = refl
 
--- `(?<!\D{3}?k+\u{E9})(<\D{2,4}B)` of flags `i` on `<bbbB`
-judged_3_10 : matches (cat (cat (lookaround (look true true 0 0)
-    (cat (char 233) (cat (loop_1_char_body (times 1 None true) (char_set (75 ∷ 107 ∷ [])))
-    (cat (loop_1_char_body (times 3 (Some 3) false) (bracket (in_brackets false ((0, 47) ∷ (58, 1114111) ∷ []))))
-    end_of_cat)))) (cat (capture_group 0 []
-    (cat (char 60) (cat (loop_1_char_body (times 2 (Some 4) true)
-    (bracket (in_brackets false ((0, 47) ∷ (58, 1114111) ∷ []))))
-    (cat (char_set (66 ∷ 98 ∷ [])) end_of_cat)))) end_of_cat)) (cat goal end_of_cat))
-    (utf8_text (60 ∷ 98 ∷ 98 ∷ 98 ∷ 66 ∷ []) false) 0 ≡ (found 0 5 (Some (0, 5) ∷ []) ∷ [])
+-- `(?<!(a{1,4}?)a*a{1,2}?)a` of flags `i` on `aa\u{212A}kaaaaa`
+judged_3_10 : matches (cat (cat (lookaround (look true true 0 1)
+    (cat (loop_1_char_body (times 1 (Some 2) false) (char_set (65 ∷ 97 ∷ [])))
+    (cat (loop_1_char_body (times 0 None true) (char_set (65 ∷ 97 ∷ [])))
+    (cat (capture_group 0 [] (cat (loop_1_char_body (times 1 (Some 4) false) (char_set (65 ∷ 97 ∷ [])))
+    end_of_cat)) end_of_cat)))) (cat (char_set (65 ∷ 97 ∷ [])) end_of_cat)) (cat goal end_of_cat))
+    (utf8_text (97 ∷ 97 ∷ 226 ∷ 132 ∷ 170 ∷ 107 ∷ 97 ∷ 97 ∷ 97 ∷ 97 ∷ 97 ∷ []) false)
+    0 ≡ (found 0 1 (None ∷ []) ∷ found 1 2 (None ∷ []) ∷ found 6 7 (None ∷ []) ∷ found 7 8
+    (None ∷ []) ∷ [])
 unfolding matches
 judged_3_10 = refl
 
--- `\u{A}(.\d\x31)*?.\b` of flags `m` on `\u{A}"`
-judged_3_11 : matches (cat (cat (char 10) (cat (loop (times 0 None false) 0 1
-    (capture_group 0 [] (cat match_any_except_line_terminator
-    (cat (bracket (in_brackets false ((48, 57) ∷ []))) (cat (char 49) end_of_cat)))))
-    (cat match_any_except_line_terminator (cat (word_boundary false false) end_of_cat)))) (cat goal end_of_cat))
-    (utf8_text (10 ∷ 34 ∷ []) false) 0 ≡ []
+-- `.{0,2}?\b` on `a`
+judged_3_11 : matches (cat (cat (loop_1_char_body (times 0 (Some 2) false) match_any_except_line_terminator)
+    (cat (word_boundary false false) end_of_cat)) (cat goal end_of_cat)) (utf8_text (97 ∷ []) false)
+    0 ≡ (found 0 0 [] ∷ found 1 1 [] ∷ [])
 unfolding matches
 judged_3_11 = refl
 
--- `_(?:\b){2}\b|(?:k$)` on `_`
-judged_3_12 : matches (cat (alt (cat (char 95) (cat
-    (loop (times 2 (Some 2) true) 0 0 (cat (word_boundary false false) end_of_cat))
-    (cat (word_boundary false false) end_of_cat)))
-    (cat (cat (char 107) (cat (anchor end_of_line false) end_of_cat)) end_of_cat)) (cat goal end_of_cat))
-    (utf8_text (95 ∷ []) false) 0 ≡ (found 0 1 [] ∷ [])
+-- `(?<=^(\S{0,}?)a??)(?=b)` on `bbbb`
+judged_3_12 : matches (cat (cat (lookaround (look false true 0 1)
+    (cat (loop_1_char_body (times 0 (Some 1) false) (char 97))
+    (cat (capture_group 0 [] (cat (loop_1_char_body (times 0 None false)
+    (bracket (in_brackets false ((0, 8) ∷ (14, 31) ∷ (33, 159) ∷ (161, 5759) ∷ (5761, 8191) ∷ (8203, 8231)
+    ∷ (8234, 8238) ∷ (8240, 8286) ∷ (8288, 12287) ∷ (12289, 65278) ∷ (65280, 1114111) ∷ [])))) end_of_cat))
+    (cat (anchor start_of_line false) end_of_cat))))
+    (cat (lookaround (look false false 1 1) (cat (char 98) end_of_cat)) end_of_cat))
+    (cat goal end_of_cat)) (utf8_text (98 ∷ 98 ∷ 98 ∷ 98 ∷ []) false)
+    0 ≡ (found 0 0 (Some (0, 0) ∷ []) ∷ found 1 1 (Some (0, 1) ∷ []) ∷ found 2 2
+    (Some (0, 2) ∷ []) ∷ found 3 3 (Some (0, 3) ∷ []) ∷ [])
 unfolding matches
 judged_3_12 = refl
 
--- `(.{2,2}\b|[\u{20AC}k-\u{17F}\b-])(\w*?)` of flags `s` on `baaa`
-judged_3_13 : matches (cat (cat (capture_group 0 []
-    (alt (cat (loop_1_char_body (times 2 (Some 2) true) match_any) (cat (word_boundary false false) end_of_cat))
-    (cat (bracket (in_brackets false ((8, 8) ∷ (45, 45) ∷ (107, 383) ∷ (8364, 8364) ∷ []))) end_of_cat)))
-    (cat (capture_group 1 [] (cat (loop_1_char_body (times 0 None false)
-    (bracket (in_brackets false ((48, 57) ∷ (65, 90) ∷ (95, 95) ∷ (97, 122) ∷ [])))) end_of_cat))
-    end_of_cat)) (cat goal end_of_cat)) (utf8_text (98 ∷ 97 ∷ 97 ∷ 97 ∷ []) false)
-    0 ≡ (found 2 4 (Some (2, 4) ∷ Some (4, 4) ∷ []) ∷ [])
+-- `[a-\u{E9}]{3,5}?[^a]+?a{1,4}?` of flags `i` on `aaaaa`
+judged_3_13 : matches (cat (cat (loop_1_char_body (times 3 (Some 5) false)
+    (bracket (in_brackets false ((65, 90) ∷ (97, 233) ∷ []))))
+    (cat (loop_1_char_body (times 1 None false) (bracket (in_brackets true ((65, 65) ∷ (97, 97) ∷ []))))
+    (cat (loop_1_char_body (times 1 (Some 4) false) (char_set (65 ∷ 97 ∷ []))) end_of_cat)))
+    (cat goal end_of_cat)) (utf8_text (97 ∷ 97 ∷ 97 ∷ 97 ∷ 97 ∷ []) false) 0 ≡ []
 unfolding matches
 judged_3_13 = refl
 
--- `\w$|(?=.($\ScA|((?:\1){1}?)|\1)|$\B[\u{2029}]+)(?:\2)+?` on `a`
-judged_3_14 : matches (cat (alt (cat (bracket (in_brackets false ((48, 57) ∷ (65, 90) ∷ (95, 95) ∷ (97, 122) ∷ [])))
-    (cat (anchor end_of_line false) end_of_cat)) (cat
-    (lookaround (look false false 0 2) (alt (cat match_any_except_line_terminator
-    (cat (capture_group 0 [] (alt (cat (anchor end_of_line false)
-    (cat (bracket (in_brackets false ((0, 8) ∷ (14, 31) ∷ (33, 159) ∷ (161, 5759) ∷ (5761, 8191)
-    ∷ (8203, 8231) ∷ (8234, 8238) ∷ (8240, 8286) ∷ (8288, 12287) ∷ (12289, 65278) ∷ (65280, 1114111)
-    ∷ []))) (cat (char 99) (cat (char 65) end_of_cat))))
-    (alt (cat (capture_group 1 []
-    (cat (loop (times 1 (Some 1) false) 2 2 (cat (back_ref 1 exact) end_of_cat))
-    end_of_cat)) end_of_cat) (cat (back_ref 1 exact) end_of_cat)))) end_of_cat))
-    (cat (anchor end_of_line false)
-    (cat (word_boundary true false)
-    (cat (loop_1_char_body (times 1 None true)
-    (bracket (in_brackets false ((8233, 8233) ∷ [])))) end_of_cat)))))
-    (cat (loop (times 1 None false) 2 2
-    (cat (back_ref 2 exact) end_of_cat)) end_of_cat)))
-    (cat goal end_of_cat)) (utf8_text (97 ∷ []) false)
-    0 ≡ (found 0 1 (None ∷ None ∷ []) ∷ [])
+-- `[^\n]{2,3}.?(a*)b` of flags `i` on `baabss`
+judged_3_14 : matches (cat (cat (loop_1_char_body (times 2 (Some 3) true) (bracket (in_brackets true ((10, 10) ∷ []))))
+    (cat (loop_1_char_body (times 0 (Some 1) true) match_any_except_line_terminator)
+    (cat (capture_group 0 [] (cat (loop_1_char_body (times 0 None true) (char_set (65 ∷ 97 ∷ []))) end_of_cat))
+    (cat (char_set (66 ∷ 98 ∷ [])) end_of_cat)))) (cat goal end_of_cat))
+    (utf8_text (98 ∷ 97 ∷ 97 ∷ 98 ∷ 115 ∷ 115 ∷ []) false) 0 ≡ (found 0 4 (Some (3, 3) ∷ []) ∷ [])
 unfolding matches
 judged_3_14 = refl
 
--- `\u{D}(s*?)(?:\1)*` of flags `msu` on `\u{D}sss`
-judged_3_15 : matches (cat (cat (char 13) (cat (capture_group 0 []
-    (cat (loop_1_char_body (times 0 None false) (char 115)) end_of_cat))
-    (cat (loop (times 0 None true) 1 1 (cat (back_ref 1 exact) end_of_cat)) end_of_cat))) (cat goal end_of_cat))
-    (utf8_text (13 ∷ 115 ∷ 115 ∷ 115 ∷ []) true) 0 ≡ (found 0 1 (Some (1, 1) ∷ []) ∷ [])
+-- `(a*)(a??)\b` of flags `i` on `aaaaaaab`
+judged_3_15 : matches (cat (cat (capture_group 0 []
+    (cat (loop_1_char_body (times 0 None true) (char_set (65 ∷ 97 ∷ []))) end_of_cat))
+    (cat (capture_group 1 [] (cat (loop_1_char_body (times 0 (Some 1) false) (char_set (65 ∷ 97 ∷ []))) end_of_cat))
+    (cat (word_boundary false false) end_of_cat))) (cat goal end_of_cat))
+    (utf8_text (97 ∷ 97 ∷ 97 ∷ 97 ∷ 97 ∷ 97 ∷ 97 ∷ 98 ∷ []) false)
+    0 ≡ (found 0 0 (Some (0, 0) ∷ Some (0, 0) ∷ []) ∷ found 8 8 (Some (8, 8) ∷ Some (8, 8) ∷ []) ∷ [])
 unfolding matches
 judged_3_15 = refl
 
--- `.|!{0,0}1+` of flags `s` on `11`
-judged_3_16 : matches (cat (alt (cat match_any end_of_cat)
-    (cat (loop_1_char_body (times 0 (Some 0) true) (char 33))
-    (cat (loop_1_char_body (times 1 None true) (char 49)) end_of_cat))) (cat goal end_of_cat))
-    (utf8_text (49 ∷ 49 ∷ []) false) 0 ≡ (found 0 1 [] ∷ found 1 2 [] ∷ [])
+-- `(?:(a?)a{0}?b)+.` on `aaaa\u{A}\u{A}kk\u{A}\u{A}`
+judged_3_16 : matches (cat (cat (loop (times 1 None true) 0 1
+    (cat (capture_group 0 [] (cat (loop_1_char_body (times 0 (Some 1) true) (char 97)) end_of_cat))
+    (cat (loop_1_char_body (times 0 (Some 0) false) (char 97)) (cat (char 98) end_of_cat))))
+    (cat match_any_except_line_terminator end_of_cat)) (cat goal end_of_cat))
+    (utf8_text (97 ∷ 97 ∷ 97 ∷ 97 ∷ 10 ∷ 10 ∷ 107 ∷ 107 ∷ 10 ∷ 10 ∷ []) false) 0 ≡ []
 unfolding matches
 judged_3_16 = refl
 
--- `a..` of flags `is` on `c<-aa\u{17F}\u{9}`
-judged_3_17 : matches (cat (cat (char_set (65 ∷ 97 ∷ [])) (cat match_any (cat match_any end_of_cat)))
-    (cat goal end_of_cat)) (utf8_text (99 ∷ 60 ∷ 45 ∷ 97 ∷ 97 ∷ 197 ∷ 191 ∷ 9 ∷ []) false) 0 ≡ (found 3 7 [] ∷ [])
+-- `(?<!(\w{1,}?)\S{3,}a{1,4})$` of flags `iu` on `aaaaa\u{E9}\u{E9}\u{E9}`
+judged_3_17 : matches (cat (cat (lookaround (look true true 0 1)
+    (cat (loop_1_char_body (times 1 (Some 4) true) (char_set (65 ∷ 97 ∷ [])))
+    (cat (loop_1_char_body (times 3 None true) (bracket
+    (in_brackets false ((0, 8) ∷ (14, 31) ∷ (33, 159) ∷ (161, 5759) ∷ (5761, 8191) ∷ (8203, 8231) ∷ (8234, 8238)
+    ∷ (8240, 8286) ∷ (8288, 12287) ∷ (12289, 65278) ∷ (65280, 1114111) ∷ []))))
+    (cat (capture_group 0 [] (cat (loop_1_char_body (times 1 None false)
+    (bracket (in_brackets false
+    ((48, 57) ∷ (65, 90) ∷ (95, 95) ∷ (97, 122) ∷ (383, 383) ∷ (8490, 8490) ∷ []))))
+    end_of_cat)) end_of_cat)))) (cat (anchor end_of_line false) end_of_cat))
+    (cat goal end_of_cat))
+    (utf8_text (97 ∷ 97 ∷ 97 ∷ 97 ∷ 97 ∷ 195 ∷ 169 ∷ 195 ∷ 169 ∷ 195 ∷ 169 ∷ [])
+    true) 0 ≡ (found 11 11 (None ∷ []) ∷ [])
 unfolding matches
 judged_3_17 = refl
 
--- `\1.{3}(?:.)([\w\u{20AC}-\u{212A}\S_-](?:)|\d*b??)` of flags `s` on `aabaacaac`
-judged_3_18 : matches (cat (cat (back_ref 1 exact) (cat (loop_1_char_body (times 3 (Some 3) true) match_any)
-    (cat (cat match_any end_of_cat) (cat (capture_group 0 []
-    (alt (cat (bracket (in_brackets false ((0, 8) ∷ (14, 31) ∷ (33, 159) ∷ (161, 5759) ∷ (5761, 8191) ∷ (8203, 8231)
-    ∷ (8234, 8238) ∷ (8240, 8286) ∷ (8288, 12287) ∷ (12289, 65278) ∷ (65280, 1114111) ∷ [])))
-    (cat end_of_cat end_of_cat)) (cat (loop_1_char_body (times 0 None true)
-    (bracket (in_brackets false ((48, 57) ∷ []))))
-    (cat (loop_1_char_body (times 0 (Some 1) false) (char 98)) end_of_cat)))) end_of_cat))))
-    (cat goal end_of_cat)) (utf8_text (97 ∷ 97 ∷ 98 ∷ 97 ∷ 97 ∷ 99 ∷ 97 ∷ 97 ∷ 99 ∷ []) false)
-    0 ≡ (found 0 5 (Some (4, 5) ∷ []) ∷ found 5 9 (Some (9, 9) ∷ []) ∷ [])
+-- `(?<=(\u{20AC}{1,3}?)\u{20AC}{0,0}a{2,3})\b` of flags `iu` on `aaaaaaaa`
+judged_3_18 : matches (cat (cat (lookaround (look false true 0 1)
+    (cat (loop_1_char_body (times 2 (Some 3) true) (char_set (65 ∷ 97 ∷ [])))
+    (cat (loop_1_char_body (times 0 (Some 0) true) (char 8364))
+    (cat (capture_group 0 [] (cat (loop_1_char_body (times 1 (Some 3) false) (char 8364)) end_of_cat))
+    end_of_cat)))) (cat (word_boundary false true) end_of_cat)) (cat goal end_of_cat))
+    (utf8_text (97 ∷ 97 ∷ 97 ∷ 97 ∷ 97 ∷ 97 ∷ 97 ∷ 97 ∷ []) true) 0 ≡ []
 unfolding matches
 judged_3_18 = refl
 
--- `(?<n0>(^B))??\u006b*` on `k`
-judged_3_19 : matches (cat (cat (loop (times 0 (Some 1) false) 0 2
-    (capture_group 0 (110 ∷ 48 ∷ []) (cat (capture_group 1 []
-    (cat (anchor start_of_line false) (cat (char 66) end_of_cat))) end_of_cat)))
-    (cat (loop_1_char_body (times 0 None true) (char 107)) end_of_cat)) (cat goal end_of_cat))
-    (utf8_text (107 ∷ []) false) 0 ≡ (found 0 1 (None ∷ None ∷ []) ∷ found 1 1 (None ∷ None ∷ []) ∷ [])
+-- `(.*)a*a{0,0}` on `bb`
+judged_3_19 : matches (cat (cat (capture_group 0 []
+    (cat (loop_1_char_body (times 0 None true) match_any_except_line_terminator) end_of_cat))
+    (cat (loop_1_char_body (times 0 None true) (char 97))
+    (cat (loop_1_char_body (times 0 (Some 0) true) (char 97)) end_of_cat))) (cat goal end_of_cat))
+    (utf8_text (98 ∷ 98 ∷ []) false) 0 ≡ (found 0 2 (Some (0, 2) ∷ []) ∷ found 2 2 (Some (2, 2) ∷ []) ∷ [])
 unfolding matches
 judged_3_19 = refl
 
--- `(.)$A{2,2}` on `abbcc`
-judged_3_20 : matches (cat (cat (capture_group 0 [] (cat match_any_except_line_terminator end_of_cat))
-    (cat (anchor end_of_line false) (cat (loop_1_char_body (times 2 (Some 2) true) (char 65)) end_of_cat)))
-    (cat goal end_of_cat)) (utf8_text (97 ∷ 98 ∷ 98 ∷ 99 ∷ 99 ∷ []) false) 0 ≡ []
+-- `.{3,3}?a{3,3}?([a-\u{E9}]{0,1}?)(?=b)` on `AA`
+judged_3_20 : matches (cat (cat (loop_1_char_body (times 3 (Some 3) false) match_any_except_line_terminator)
+    (cat (loop_1_char_body (times 3 (Some 3) false) (char 97))
+    (cat (capture_group 0 [] (cat (loop_1_char_body (times 0 (Some 1) false)
+    (bracket (in_brackets false ((97, 233) ∷ [])))) end_of_cat))
+    (cat (lookaround (look false false 1 1) (cat (char 98) end_of_cat)) end_of_cat))))
+    (cat goal end_of_cat)) (utf8_text (65 ∷ 65 ∷ []) false) 0 ≡ []
 unfolding matches
 judged_3_20 = refl
 
--- `(?:[]*^|\1)\u3000$|.(^[^a\uFEFF])??` of flags `mi` on `ab`
-judged_3_21 : matches (cat (alt (cat (alt (cat (loop_1_char_body (times 0 None true) (bracket (in_brackets false [])))
-    (cat (anchor start_of_line true) end_of_cat)) (cat (back_ref 1 folded) end_of_cat))
-    (cat (char 12288) (cat (anchor end_of_line true) end_of_cat)))
-    (cat match_any_except_line_terminator (cat
-    (loop (times 0 (Some 1) false) 0 1 (capture_group 0 []
-    (cat (anchor start_of_line true)
-    (cat (bracket (in_brackets true ((65, 65) ∷ (97, 97) ∷ (65279, 65279) ∷ []))) end_of_cat))))
-    end_of_cat))) (cat goal end_of_cat)) (utf8_text (97 ∷ 98 ∷ []) false)
-    0 ≡ (found 0 1 (None ∷ []) ∷ found 1 2 (None ∷ []) ∷ [])
+-- `^([\u{E9}\u{20AC}]{3}).` on `\u{E9}sssaaa`
+judged_3_21 : matches (cat (cat (anchor start_of_line false)
+    (cat (capture_group 0 [] (cat (loop_1_char_body (times 3 (Some 3) true)
+    (bracket (in_brackets false ((233, 233) ∷ (8364, 8364) ∷ [])))) end_of_cat))
+    (cat match_any_except_line_terminator end_of_cat))) (cat goal end_of_cat))
+    (utf8_text (195 ∷ 169 ∷ 115 ∷ 115 ∷ 115 ∷ 97 ∷ 97 ∷ 97 ∷ []) false) 0 ≡ []
 unfolding matches
 judged_3_21 = refl
 
--- `aa` on `aa`
-judged_3_22 : matches (cat (cat (char 97) (cat (char 97) end_of_cat)) (cat goal end_of_cat))
-    (utf8_text (97 ∷ 97 ∷ []) false) 0 ≡ (found 0 2 [] ∷ [])
+-- `(a)\1{1,1}ab` of flags `u` on `aaaaaabb`
+judged_3_22 : matches (cat (cat (capture_group 0 [] (cat (char 97) end_of_cat))
+    (cat (loop (times 1 (Some 1) true) 1 1 (back_ref 1 exact)) (cat (char 97) (cat (char 98) end_of_cat))))
+    (cat goal end_of_cat)) (utf8_text (97 ∷ 97 ∷ 97 ∷ 97 ∷ 97 ∷ 97 ∷ 98 ∷ 98 ∷ []) true)
+    0 ≡ (found 3 7 (Some (3, 4) ∷ []) ∷ [])
 unfolding matches
 judged_3_22 = refl
 
--- `a??` of flags `miu` on ``
-judged_3_23 : matches (cat (cat (loop_1_char_body (times 0 (Some 1) false) (char_set (65 ∷ 97 ∷ []))) end_of_cat)
-    (cat goal end_of_cat)) (utf8_text [] true) 0 ≡ (found 0 0 [] ∷ [])
+-- `s*\w{3}?b*$` of flags `s` on `bb\u{17F}\u{17F}kkk`
+judged_3_23 : matches (cat (cat (loop_1_char_body (times 0 None true) (char 115))
+    (cat (loop_1_char_body (times 3 (Some 3) false)
+    (bracket (in_brackets false ((48, 57) ∷ (65, 90) ∷ (95, 95) ∷ (97, 122) ∷ []))))
+    (cat (loop_1_char_body (times 0 None true) (char 98)) (cat (anchor end_of_line false) end_of_cat))))
+    (cat goal end_of_cat)) (utf8_text (98 ∷ 98 ∷ 197 ∷ 191 ∷ 197 ∷ 191 ∷ 107 ∷ 107 ∷ 107 ∷ []) false)
+    0 ≡ (found 6 9 [] ∷ [])
 unfolding matches
 judged_3_23 = refl
 
--- `\ba{2,2}a|c\u{17F}(?=a?.{0,}/*?^|\u000A.*)` of flags `s` on `c\u{17F}`
-judged_3_24 : matches (cat (alt (cat (word_boundary false false)
-    (cat (loop_1_char_body (times 2 (Some 2) true) (char 97)) (cat (char 97) end_of_cat)))
-    (cat (char 99) (cat (char 383) (cat (lookaround (look false false 0 0)
-    (alt (cat (loop_1_char_body (times 0 (Some 1) true) (char 97))
-    (cat (loop_1_char_body (times 0 None true) match_any)
-    (cat (loop_1_char_body (times 0 None false) (char 47))
-    (cat (anchor start_of_line false) end_of_cat))))
-    (cat (char 10) (cat (loop_1_char_body (times 0 None true) match_any) end_of_cat))))
-    end_of_cat)))) (cat goal end_of_cat)) (utf8_text (99 ∷ 197 ∷ 191 ∷ []) false) 0 ≡ []
+-- `(?:a{0,3}\w{2,2}?([a-\u{E9}]{3,4})b)+(?=b)` of flags `s` on `\u{E9}bbb`
+judged_3_24 : matches (cat (cat (loop (times 1 None true) 0 1
+    (cat (loop_1_char_body (times 0 (Some 3) true) (char 97))
+    (cat (loop_1_char_body (times 2 (Some 2) false)
+    (bracket (in_brackets false ((48, 57) ∷ (65, 90) ∷ (95, 95) ∷ (97, 122) ∷ []))))
+    (cat (capture_group 0 [] (cat (loop_1_char_body (times 3 (Some 4) true)
+    (bracket (in_brackets false ((97, 233) ∷ [])))) end_of_cat)) (cat (char 98) end_of_cat)))))
+    (cat (lookaround (look false false 1 1) (cat (char 98) end_of_cat)) end_of_cat))
+    (cat goal end_of_cat)) (utf8_text (195 ∷ 169 ∷ 98 ∷ 98 ∷ 98 ∷ []) false) 0 ≡ []
 unfolding matches
 judged_3_24 = refl
 
--- `S[^\w\d-]|x.|[!-\x30\u2029\u003Cc]` on `Sa`
-judged_3_25 : matches (cat (alt (cat (char 83) (cat
-    (bracket (in_brackets true ((45, 45) ∷ (48, 57) ∷ (65, 90) ∷ (95, 95) ∷ (97, 122) ∷ []))) end_of_cat))
-    (alt (cat (char 120) (cat match_any_except_line_terminator end_of_cat))
-    (cat (bracket (in_brackets false ((33, 48) ∷ (60, 60) ∷ (99, 99) ∷ (8233, 8233) ∷ []))) end_of_cat)))
-    (cat goal end_of_cat)) (utf8_text (83 ∷ 97 ∷ []) false) 0 ≡ []
+-- `^(b??)(.+)b{3,6}` of flags `i` on `bbbb\u{17F}\u{17F}\u{20AC}\u{20AC}`
+judged_3_25 : matches (cat (cat (anchor start_of_line false)
+    (cat (capture_group 0 [] (cat (loop_1_char_body (times 0 (Some 1) false) (char_set (66 ∷ 98 ∷ []))) end_of_cat))
+    (cat (capture_group 1 [] (cat (loop_1_char_body (times 1 None true) match_any_except_line_terminator)
+    end_of_cat)) (cat (loop_1_char_body (times 3 (Some 6) true) (char_set (66 ∷ 98 ∷ []))) end_of_cat))))
+    (cat goal end_of_cat)) (utf8_text (98 ∷ 98 ∷ 98 ∷ 98 ∷ 197 ∷ 191 ∷ 197 ∷ 191 ∷ 226 ∷ 130 ∷ 172 ∷ 226
+    ∷ 130 ∷ 172 ∷ []) false) 0 ≡ (found 0 4 (Some (0, 0) ∷ Some (0, 1) ∷ []) ∷ [])
 unfolding matches
 judged_3_25 = refl
 
--- `(?=(?=aa|\D{0,1}?)_)\u{17F}??\B` on `\u{17F}_\u{17F}`
-judged_3_26 : matches (cat (cat (lookaround (look false false 0 0)
-    (cat (lookaround (look false false 0 0) (alt (cat (char 97) (cat (char 97) end_of_cat))
-    (cat (loop_1_char_body (times 0 (Some 1) false) (bracket (in_brackets false ((0, 47) ∷ (58, 1114111) ∷ []))))
-    end_of_cat))) (cat (char 95) end_of_cat)))
-    (cat (loop_1_char_body (times 0 (Some 1) false) (char 383))
-    (cat (word_boundary true false) end_of_cat))) (cat goal end_of_cat))
-    (utf8_text (197 ∷ 191 ∷ 95 ∷ 197 ∷ 191 ∷ []) false) 0 ≡ []
+-- `\u{E9}*?(?!a)` on `\u{20AC}\u{20AC}\u{212A}\u{212A}aaaa`
+judged_3_26 : matches (cat (cat (loop_1_char_body (times 0 None false) (char 233))
+    (cat (lookaround (look true false 0 0) (cat (char 97) end_of_cat)) end_of_cat)) (cat goal end_of_cat))
+    (utf8_text (226 ∷ 130 ∷ 172 ∷ 226 ∷ 130 ∷ 172 ∷ 226 ∷ 132 ∷ 170 ∷ 226 ∷ 132 ∷ 170 ∷ 97 ∷ 97 ∷ 97 ∷ 97 ∷ [])
+    false) 0 ≡ (found 0 0 [] ∷ found 3 3 [] ∷ found 6 6 [] ∷ found 9 9 [] ∷ found 16 16 [] ∷ [])
 unfolding matches
 judged_3_26 = refl
 
--- `\D` of flags `s` on `a\u{D}A`
-judged_3_27 : matches (cat (cat (bracket (in_brackets false ((0, 47) ∷ (58, 1114111) ∷ []))) end_of_cat)
-    (cat goal end_of_cat)) (utf8_text (97 ∷ 13 ∷ 65 ∷ []) false) 0 ≡ (found 0 1 [] ∷ found 1 2 [] ∷ found 2 3 [] ∷ [])
+-- `.??(?!a)` on `aaa`
+judged_3_27 : matches (cat (cat (loop_1_char_body (times 0 (Some 1) false) match_any_except_line_terminator)
+    (cat (lookaround (look true false 0 0) (cat (char 97) end_of_cat)) end_of_cat)) (cat goal end_of_cat))
+    (utf8_text (97 ∷ 97 ∷ 97 ∷ []) false) 0 ≡ (found 2 3 [] ∷ found 3 3 [] ∷ [])
 unfolding matches
 judged_3_27 = refl
 
--- `(?<n0>(x)*([\u2029\s!-\u{E9}]\D_)*?)B[^c}]*` of flags `ms` on `K x\u{2029}b_Bac`
-judged_3_28 : matches (cat (cat (capture_group 0 (110 ∷ 48 ∷ [])
-    (cat (loop (times 0 None true) 1 2 (capture_group 1 [] (cat (char 120) end_of_cat)))
-    (cat (loop (times 0 None false) 2 3 (capture_group 2 []
-    (cat (bracket (in_brackets false ((9, 13) ∷ (32, 233) ∷ (5760, 5760) ∷ (8192, 8202) ∷ (8232, 8233)
-    ∷ (8239, 8239) ∷ (8287, 8287) ∷ (12288, 12288) ∷ (65279, 65279) ∷ [])))
-    (cat (bracket (in_brackets false ((0, 47) ∷ (58, 1114111) ∷ []))) (cat (char 95) end_of_cat)))))
-    end_of_cat))) (cat (char 66)
-    (cat (loop_1_char_body (times 0 None true)
-    (bracket (in_brackets true ((99, 99) ∷ (125, 125) ∷ [])))) end_of_cat)))
-    (cat goal end_of_cat))
-    (utf8_text (75 ∷ 32 ∷ 120 ∷ 226 ∷ 128 ∷ 169 ∷ 98 ∷ 95 ∷ 66 ∷ 97 ∷ 99 ∷ [])
-    false) 0 ≡ (found 2 10 (Some (2, 8) ∷ Some (2, 3) ∷ Some (3, 8) ∷ []) ∷ [])
+-- `b+(?=b)` of flags `iu` on `bbbb`
+judged_3_28 : matches (cat (cat (loop_1_char_body (times 1 None true) (char_set (66 ∷ 98 ∷ [])))
+    (cat (lookaround (look false false 0 0) (cat (char_set (66 ∷ 98 ∷ [])) end_of_cat)) end_of_cat))
+    (cat goal end_of_cat)) (utf8_text (98 ∷ 98 ∷ 98 ∷ 98 ∷ []) true) 0 ≡ (found 0 3 [] ∷ [])
 unfolding matches
 judged_3_28 = refl
 
--- `(\u005f\d\w)S(?:(a+?\u{2029}\u{63}){0,2}?\x53??(\v\w*?(?=)|(?:\1)(?:.)\3){2,2})+` of flags `isu` on `b`
-judged_3_29 : matches (cat (cat (capture_group 0 []
-    (cat (char 95) (cat (bracket (in_brackets false ((48, 57) ∷ [])))
-    (cat (bracket (in_brackets false ((48, 57) ∷ (65, 90) ∷ (95, 95) ∷ (97, 122) ∷ (383, 383) ∷ (8490, 8490) ∷ [])))
-    end_of_cat)))) (cat (char_set (83 ∷ 115 ∷ 383 ∷ []))
-    (cat (loop (times 1 None true) 1 3 (cat
-    (loop (times 0 (Some 2) false) 1 2
-    (capture_group 1 [] (cat (loop_1_char_body (times 1 None false) (char_set (65 ∷ 97 ∷ [])))
-    (cat (char 8233) (cat (char_set (67 ∷ 99 ∷ [])) end_of_cat)))))
-    (cat (loop_1_char_body (times 0 (Some 1) false) (char_set (83 ∷ 115 ∷ 383 ∷ [])))
-    (cat (loop (times 2 (Some 2) true) 2 3
-    (capture_group 2 [] (alt
-    (cat (char 11) (cat (loop_1_char_body (times 0 None false)
-    (bracket (in_brackets false
-    ((48, 57) ∷ (65, 90) ∷ (95, 95) ∷ (97, 122) ∷ (383, 383)
-    ∷ (8490, 8490) ∷ []))))
-    (cat (lookaround (look false false 3 3) end_of_cat)
-    end_of_cat))) (cat (cat (back_ref 1 folded) end_of_cat)
-    (cat (cat match_any end_of_cat)
-    (cat (back_ref 3 folded) end_of_cat))))))
-    end_of_cat)))) end_of_cat)))
-    (cat goal end_of_cat))
-    (utf8_text (98 ∷ []) true) 0 ≡ []
+-- `(?<!.{3}[a-\u{E9}]{3,6}?)\b` of flags `u` on `bbaaaaaa`
+judged_3_29 : matches (cat (cat (lookaround (look true true 0 0)
+    (cat (loop_1_char_body (times 3 (Some 6) false) (bracket (in_brackets false ((97, 233) ∷ []))))
+    (cat (loop_1_char_body (times 3 (Some 3) true) match_any_except_line_terminator) end_of_cat)))
+    (cat (word_boundary false false) end_of_cat)) (cat goal end_of_cat))
+    (utf8_text (98 ∷ 98 ∷ 97 ∷ 97 ∷ 97 ∷ 97 ∷ 97 ∷ 97 ∷ []) true) 0 ≡ (found 0 0 [] ∷ [])
 unfolding matches
 judged_3_29 = refl
 
--- `[/k-~]{0,1}\u{2029}b` of flags `mis` on `k\u{2029}B/\u{2029}b`
-judged_3_30 : matches (cat (cat (loop_1_char_body (times 0 (Some 1) true)
-    (bracket (in_brackets false ((47, 47) ∷ (75, 90) ∷ (107, 126) ∷ []))))
-    (cat (char 8233) (cat (char_set (66 ∷ 98 ∷ [])) end_of_cat))) (cat goal end_of_cat))
-    (utf8_text (107 ∷ 226 ∷ 128 ∷ 169 ∷ 66 ∷ 47 ∷ 226 ∷ 128 ∷ 169 ∷ 98 ∷ []) false)
-    0 ≡ (found 0 5 [] ∷ found 5 10 [] ∷ [])
+-- `([^b]?)(a{0,3})a{0,3}?.` of flags `u` on `ba`
+judged_3_30 : matches (cat (cat (capture_group 0 []
+    (cat (loop_1_char_body (times 0 (Some 1) true) (bracket (in_brackets true ((98, 98) ∷ [])))) end_of_cat))
+    (cat (capture_group 1 [] (cat (loop_1_char_body (times 0 (Some 3) true) (char 97)) end_of_cat))
+    (cat (loop_1_char_body (times 0 (Some 3) false) (char 97))
+    (cat match_any_except_line_terminator end_of_cat)))) (cat goal end_of_cat))
+    (utf8_text (98 ∷ 97 ∷ []) true)
+    0 ≡ (found 0 1 (Some (0, 0) ∷ Some (0, 0) ∷ []) ∷ found 1 2
+    (Some (1, 1) ∷ Some (1, 1) ∷ []) ∷ [])
 unfolding matches
 judged_3_30 = refl
 
--- `a.{1,2}` on `caaaaa`
-judged_3_31 : matches (cat (cat (char 97) (cat (loop_1_char_body (times 1 (Some 2) true)
-    match_any_except_line_terminator) end_of_cat)) (cat goal end_of_cat))
-    (utf8_text (99 ∷ 97 ∷ 97 ∷ 97 ∷ 97 ∷ 97 ∷ []) false) 0 ≡ (found 1 4 [] ∷ found 4 6 [] ∷ [])
+-- `a+\b` of flags `i` on `\u{E9}k`
+judged_3_31 : matches (cat (cat (loop_1_char_body (times 1 None true) (char_set (65 ∷ 97 ∷ [])))
+    (cat (word_boundary false false) end_of_cat)) (cat goal end_of_cat)) (utf8_text (195 ∷ 169 ∷ 107 ∷ []) false) 0 ≡ []
 unfolding matches
 judged_3_31 = refl
 
--- `\u005f[b-~]` of flags `msu` on `_~`
-judged_3_32 : matches (cat (cat (char 95) (cat (bracket (in_brackets false ((98, 126) ∷ []))) end_of_cat))
-    (cat goal end_of_cat)) (utf8_text (95 ∷ 126 ∷ []) true) 0 ≡ (found 0 2 [] ∷ [])
+-- `^.{3,}` on `aaaaaaaabb`
+judged_3_32 : matches (cat (cat (anchor start_of_line false)
+    (cat (loop_1_char_body (times 3 None true) match_any_except_line_terminator) end_of_cat)) (cat goal end_of_cat))
+    (utf8_text (97 ∷ 97 ∷ 97 ∷ 97 ∷ 97 ∷ 97 ∷ 97 ∷ 97 ∷ 98 ∷ 98 ∷ []) false) 0 ≡ (found 0 10 [] ∷ [])
 unfolding matches
 judged_3_32 = refl
 
--- `\u{A0}\u{E9}{0,0}?(.[.]\s{1,}(?:_\w+)+)` on `\u{A0}/.   _aa_aaa`
-judged_3_33 : matches (cat (cat (char 160) (cat (loop_1_char_body (times 0 (Some 0) false) (char 233))
-    (cat (capture_group 0 [] (cat match_any_except_line_terminator
-    (cat (bracket (in_brackets false ((46, 46) ∷ [])))
-    (cat (loop_1_char_body (times 1 None true)
-    (bracket (in_brackets false ((9, 13) ∷ (32, 32) ∷ (160, 160) ∷ (5760, 5760) ∷ (8192, 8202)
-    ∷ (8232, 8233) ∷ (8239, 8239) ∷ (8287, 8287) ∷ (12288, 12288) ∷ (65279, 65279) ∷ []))))
-    (cat (loop (times 1 None true) 1 1
-    (cat (char 95) (cat (loop_1_char_body (times 1 None true)
-    (bracket (in_brackets false ((48, 57) ∷ (65, 90) ∷ (95, 95) ∷ (97, 122) ∷ []))))
-    end_of_cat))) end_of_cat))))) end_of_cat))) (cat goal end_of_cat))
-    (utf8_text (194 ∷ 160 ∷ 47 ∷ 46 ∷ 32 ∷ 32 ∷ 32 ∷ 95 ∷ 97 ∷ 97 ∷ 95 ∷ 97 ∷ 97
-    ∷ 97 ∷ []) false) 0 ≡ (found 0 14 (Some (2, 14) ∷ []) ∷ [])
+-- `(?<=^.{0,0}.{1,4}?\S{0,2})b` on `bbb\u{E9}\u{E9}\u{E9}`
+judged_3_33 : matches (cat (cat (lookaround (look false true 0 0)
+    (cat (loop_1_char_body (times 0 (Some 2) true) (bracket
+    (in_brackets false ((0, 8) ∷ (14, 31) ∷ (33, 159) ∷ (161, 5759) ∷ (5761, 8191) ∷ (8203, 8231) ∷ (8234, 8238)
+    ∷ (8240, 8286) ∷ (8288, 12287) ∷ (12289, 65278) ∷ (65280, 1114111) ∷ []))))
+    (cat (loop_1_char_body (times 1 (Some 4) false) match_any_except_line_terminator)
+    (cat (loop_1_char_body (times 0 (Some 0) true) match_any_except_line_terminator)
+    (cat (anchor start_of_line false) end_of_cat))))) (cat (char 98) end_of_cat))
+    (cat goal end_of_cat)) (utf8_text (98 ∷ 98 ∷ 98 ∷ 195 ∷ 169 ∷ 195 ∷ 169 ∷ 195 ∷ 169 ∷ [])
+    false) 0 ≡ (found 1 2 [] ∷ found 2 3 [] ∷ [])
 unfolding matches
 judged_3_33 = refl
 
--- `(\d{1,2}((?<=\ra))|(?<n0>\B|c(?=B(?:\1)bS)\1(?<=.?))\1|\u{FEFF}(?<=,)S)\k<n0>*` on `\u{FEFF}S`
-judged_3_34 : matches (cat (cat (capture_group 0 []
-    (alt (cat (loop_1_char_body (times 1 (Some 2) true) (bracket (in_brackets false ((48, 57) ∷ []))))
-    (cat (capture_group 1 [] (cat (lookaround (look false true 2 2) (cat (char 97) (cat (char 13) end_of_cat)))
-    end_of_cat)) end_of_cat)) (alt (cat (capture_group 2 (110 ∷ 48 ∷ [])
-    (alt (cat (word_boundary true false) end_of_cat)
-    (cat (char 99) (cat (lookaround (look false false 3 3)
-    (cat (char 66) (cat (cat (back_ref 1 exact) end_of_cat)
-    (cat (char 98) (cat (char 83) end_of_cat)))))
-    (cat (back_ref 1 exact)
-    (cat (lookaround (look false true 3 3)
-    (cat (loop_1_char_body (times 0 (Some 1) true) match_any_except_line_terminator)
-    end_of_cat)) end_of_cat)))))) (cat (back_ref 1 exact) end_of_cat))
-    (cat (char 65279) (cat
-    (lookaround (look false true 3 3) (cat (char 44) end_of_cat))
-    (cat (char 83) end_of_cat))))))
-    (cat (loop (times 0 None true) 3 3 (back_ref 3 exact))
-    end_of_cat)) (cat goal end_of_cat))
-    (utf8_text (239 ∷ 187 ∷ 191 ∷ 83 ∷ []) false)
-    0 ≡ (found 0 0 (Some (0, 0) ∷ None ∷ Some
-    (0, 0) ∷ []) ∷ [])
+-- `a{1,4}?$` of flags `iu` on `\u{1F600}\u{1F600}`
+judged_3_34 : matches (cat (cat (loop_1_char_body (times 1 (Some 4) false) (char_set (65 ∷ 97 ∷ [])))
+    (cat (anchor end_of_line false) end_of_cat)) (cat goal end_of_cat))
+    (utf8_text (240 ∷ 159 ∷ 152 ∷ 128 ∷ 240 ∷ 159 ∷ 152 ∷ 128 ∷ []) true) 0 ≡ []
 unfolding matches
 judged_3_34 = refl
 
--- `\u{0021}\u20ac` of flags `mu` on `!\u{20AC}`
-judged_3_35 : matches (cat (cat (char 33) (cat (char 8364) end_of_cat)) (cat goal end_of_cat))
-    (utf8_text (33 ∷ 226 ∷ 130 ∷ 172 ∷ []) true) 0 ≡ (found 0 4 [] ∷ [])
+-- `a+?.` on `\u{E9}\u{E9}\u{E9}a`
+judged_3_35 : matches (cat (cat (loop_1_char_body (times 1 None false) (char 97))
+    (cat match_any_except_line_terminator end_of_cat)) (cat goal end_of_cat))
+    (utf8_text (195 ∷ 169 ∷ 195 ∷ 169 ∷ 195 ∷ 169 ∷ 97 ∷ []) false) 0 ≡ []
 unfolding matches
 judged_3_35 = refl
 
--- `\x62` of flags `is` on `B,`
-judged_3_36 : matches (cat (cat (char_set (66 ∷ 98 ∷ [])) end_of_cat) (cat goal end_of_cat))
-    (utf8_text (66 ∷ 44 ∷ []) false) 0 ≡ (found 0 1 [] ∷ [])
+-- `a{2}` of flags `s` on `b,aa`
+judged_3_36 : matches (cat (cat (loop_1_char_body (times 2 (Some 2) true) (char 97)) end_of_cat) (cat goal end_of_cat))
+    (utf8_text (98 ∷ 44 ∷ 97 ∷ 97 ∷ []) false) 0 ≡ (found 2 4 [] ∷ [])
 unfolding matches
 judged_3_36 = refl
 
--- `"(?<n0>.\k<n0>?)(?<!\B$(?:\\u{20AC}?){1,}?)` of flags `m` on `"\u{D}`
-judged_3_37 : matches (cat (cat (char 34) (cat (capture_group 0 (110 ∷ 48 ∷ [])
-    (cat match_any_except_line_terminator (cat (loop (times 0 (Some 1) true) 1 1 (back_ref 1 exact)) end_of_cat)))
-    (cat (lookaround (look true true 1 1) (cat (loop (times 1 None false) 1 1
-    (cat (loop_1_char_body (times 0 (Some 1) true) (char 8364)) end_of_cat))
-    (cat (anchor end_of_line true) (cat (word_boundary true false) end_of_cat)))) end_of_cat)))
-    (cat goal end_of_cat)) (utf8_text (34 ∷ 13 ∷ []) false) 0 ≡ []
+-- `x\b|[\d-](((\u{0041}))??[a\Sa]*)` of flags `mu` on `!x`
+judged_3_37 : matches (cat (alt (cat (char 120) (cat (word_boundary false false) end_of_cat))
+    (cat (bracket (in_brackets false ((45, 45) ∷ (48, 57) ∷ [])))
+    (cat (capture_group 0 [] (cat (loop (times 0 (Some 1) false) 1 3
+    (capture_group 1 [] (cat (capture_group 2 [] (cat (char 65) end_of_cat)) end_of_cat)))
+    (cat (loop_1_char_body (times 0 None true)
+    (bracket (in_brackets false ((0, 8) ∷ (14, 31) ∷ (33, 159) ∷ (161, 5759) ∷ (5761, 8191)
+    ∷ (8203, 8231) ∷ (8234, 8238) ∷ (8240, 8286) ∷ (8288, 12287) ∷ (12289, 65278) ∷ (65280, 1114111)
+    ∷ [])))) end_of_cat))) end_of_cat))) (cat goal end_of_cat)) (utf8_text (33 ∷ 120 ∷ []) true)
+    0 ≡ (found 1 2 (None ∷ None ∷ None ∷ []) ∷ [])
 unfolding matches
 judged_3_37 = refl
 
--- `(?<=b?a)|\B\u{E9}+\W.+?|` of flags `is` on `\u{E9}\u{E9} bb,`
-judged_3_38 : matches (cat (alt (cat (lookaround (look false true 0 0)
-    (cat (char_set (65 ∷ 97 ∷ [])) (cat (loop_1_char_body (times 0 (Some 1) true) (char_set (66 ∷ 98 ∷ [])))
-    end_of_cat))) end_of_cat) (alt (cat (word_boundary true false)
-    (cat (loop_1_char_body (times 1 None true) (char 233))
-    (cat (bracket (in_brackets false ((0, 47) ∷ (58, 64) ∷ (91, 94) ∷ (96, 96) ∷ (123, 1114111) ∷ [])))
-    (cat (loop_1_char_body (times 1 None false) match_any) end_of_cat)))) end_of_cat))
-    (cat goal end_of_cat)) (utf8_text (195 ∷ 169 ∷ 195 ∷ 169 ∷ 32 ∷ 98 ∷ 98 ∷ 44 ∷ []) false)
-    0 ≡ (found 0 6 [] ∷ found 6 6 [] ∷ found 7 7 [] ∷ found 8 8 [] ∷ [])
+-- `([][<a-]).` on `11<kb-A`
+judged_3_38 : matches (cat (cat (capture_group 0 []
+    (cat (bracket (in_brackets false [])) (cat (bracket (in_brackets false ((45, 45) ∷ (60, 60) ∷ (97, 97) ∷ [])))
+    end_of_cat))) (cat match_any_except_line_terminator end_of_cat)) (cat goal end_of_cat))
+    (utf8_text (49 ∷ 49 ∷ 60 ∷ 107 ∷ 98 ∷ 45 ∷ 65 ∷ []) false) 0 ≡ []
 unfolding matches
 judged_3_38 = refl
 
--- `\s?s` of flags `mi` on ` s`
-judged_3_39 : matches (cat (cat (loop_1_char_body (times 0 (Some 1) true)
-    (bracket (in_brackets false ((9, 13) ∷ (32, 32) ∷ (160, 160) ∷ (5760, 5760) ∷ (8192, 8202) ∷ (8232, 8233)
-    ∷ (8239, 8239) ∷ (8287, 8287) ∷ (12288, 12288) ∷ (65279, 65279) ∷ []))))
-    (cat (char_set (83 ∷ 115 ∷ [])) end_of_cat)) (cat goal end_of_cat)) (utf8_text (32 ∷ 115 ∷ []) false)
-    0 ≡ (found 0 2 [] ∷ [])
+-- `a(?<=c{0,0})` of flags `iu` on `a\u{3000}`
+judged_3_39 : matches (cat (cat (char_set (65 ∷ 97 ∷ []))
+    (cat (lookaround (look false true 0 0) (cat (loop_1_char_body (times 0 (Some 0) true) (char_set (67 ∷ 99 ∷ [])))
+    end_of_cat)) end_of_cat)) (cat goal end_of_cat)) (utf8_text (97 ∷ 227 ∷ 128 ∷ 128 ∷ []) true)
+    0 ≡ (found 0 1 [] ∷ [])
 unfolding matches
 judged_3_39 = refl
 
--- `[^\x6b\u{1F389}](?<!\B)` of flags `su` on `baaaaa`
-judged_3_40 : matches (cat (cat (bracket (in_brackets true ((107, 107) ∷ (127881, 127881) ∷ [])))
-    (cat (lookaround (look true true 0 0) (cat (word_boundary true false) end_of_cat)) end_of_cat))
-    (cat goal end_of_cat)) (utf8_text (98 ∷ 97 ∷ 97 ∷ 97 ∷ 97 ∷ 97 ∷ []) true) 0 ≡ (found 5 6 [] ∷ [])
+-- `(\1)K` on `cbccccaca`
+judged_3_40 : matches (cat (cat (capture_group 0 [] (cat (back_ref 1 exact) end_of_cat)) (cat (char 75) end_of_cat))
+    (cat goal end_of_cat)) (utf8_text (99 ∷ 98 ∷ 99 ∷ 99 ∷ 99 ∷ 99 ∷ 97 ∷ 99 ∷ 97 ∷ []) false) 0 ≡ []
 unfolding matches
 judged_3_40 = refl
 
--- `(\s(?:\S?\u{FEFF}){0,1}\1{2,}?)(b|(?<n0>(?=.*)|\u{E9}+\k<n0>)\s{2,})|\r.|\1k` of flags `su` on ` a  `
-judged_3_41 : matches (cat (alt (cat (capture_group 0 []
-    (cat (bracket (in_brackets false ((9, 13) ∷ (32, 32) ∷ (160, 160) ∷ (5760, 5760) ∷ (8192, 8202) ∷ (8232, 8233)
-    ∷ (8239, 8239) ∷ (8287, 8287) ∷ (12288, 12288) ∷ (65279, 65279) ∷ [])))
-    (cat (loop (times 0 (Some 1) true) 1 1 (cat
-    (loop_1_char_body (times 0 (Some 1) true)
-    (bracket (in_brackets false ((0, 8) ∷ (14, 31) ∷ (33, 159) ∷ (161, 5759) ∷ (5761, 8191)
-    ∷ (8203, 8231) ∷ (8234, 8238) ∷ (8240, 8286) ∷ (8288, 12287) ∷ (12289, 65278) ∷ (65280, 1114111)
-    ∷ [])))) (cat (char 65279) end_of_cat)))
-    (cat (loop (times 2 None false) 1 1 (back_ref 1 exact)) end_of_cat))))
-    (cat (capture_group 1 []
-    (alt (cat (char 98) end_of_cat)
-    (cat (capture_group 2 (110 ∷ 48 ∷ [])
-    (alt (cat (lookaround (look false false 3 3)
-    (cat (loop_1_char_body (times 0 None true) match_any) end_of_cat))
-    end_of_cat) (cat (loop_1_char_body (times 1 None true)
-    (char 233)) (cat (back_ref 3 exact) end_of_cat))))
-    (cat (loop_1_char_body (times 2 None true)
-    (bracket (in_brackets false
-    ((9, 13) ∷ (32, 32) ∷ (160, 160) ∷ (5760, 5760)
-    ∷ (8192, 8202) ∷ (8232, 8233) ∷ (8239, 8239)
-    ∷ (8287, 8287) ∷ (12288, 12288)
-    ∷ (65279, 65279) ∷ []))))
-    end_of_cat)))) end_of_cat))
-    (alt (cat (char 13) (cat
-    match_any end_of_cat))
-    (cat (back_ref 1 exact) (cat (char 107) end_of_cat)))) (cat goal end_of_cat)) (utf8_text (32 ∷ 97 ∷ 32 ∷ 32 ∷ []) true) 0 ≡ []
+-- `0()\D ` on `0b 0b `
+judged_3_41 : matches (cat (cat (char 48) (cat (capture_group 0 [] end_of_cat)
+    (cat (bracket (in_brackets false ((0, 47) ∷ (58, 1114111) ∷ []))) (cat (char 32) end_of_cat))))
+    (cat goal end_of_cat)) (utf8_text (48 ∷ 98 ∷ 32 ∷ 48 ∷ 98 ∷ 32 ∷ []) false)
+    0 ≡ (found 0 3 (Some (1, 1) ∷ []) ∷ found 3 6 (Some (4, 4) ∷ []) ∷ [])
 unfolding matches
 judged_3_41 = refl
 
--- `[\u{1F389}-\ud83d\ude00k]` of flags `iu` on ` 0K\u{1F389} \u{212A}`
-judged_3_42 : matches (cat (cat (bracket (in_brackets false
-    ((75, 75) ∷ (107, 107) ∷ (8490, 8490) ∷ (127881, 128512) ∷ []))) end_of_cat) (cat goal end_of_cat))
-    (utf8_text (32 ∷ 48 ∷ 75 ∷ 240 ∷ 159 ∷ 142 ∷ 137 ∷ 32 ∷ 226 ∷ 132 ∷ 170 ∷ []) true)
-    0 ≡ (found 2 3 [] ∷ found 3 7 [] ∷ found 8 11 [] ∷ [])
+-- `(?<n0>a*?.\w?\k<n0>){2,4}` of flags `u` on `aaakaaaaacakaa`
+judged_3_42 : matches (cat (cat (loop (times 2 (Some 4) true) 0 1
+    (capture_group 0 (110 ∷ 48 ∷ []) (cat (loop_1_char_body (times 0 None false) (char 97))
+    (cat match_any_except_line_terminator (cat (loop_1_char_body (times 0 (Some 1) true)
+    (bracket (in_brackets false ((48, 57) ∷ (65, 90) ∷ (95, 95) ∷ (97, 122) ∷ []))))
+    (cat (back_ref 1 exact) end_of_cat)))))) end_of_cat) (cat goal end_of_cat))
+    (utf8_text (97 ∷ 97 ∷ 97 ∷ 107 ∷ 97 ∷ 97 ∷ 97 ∷ 97 ∷ 97 ∷ 99 ∷ 97 ∷ 107 ∷ 97 ∷ 97 ∷ []) true)
+    0 ≡ (found 0 8 (Some (6, 8) ∷ []) ∷ found 8 14 (Some (12, 14) ∷ []) ∷ [])
 unfolding matches
 judged_3_42 = refl
 
--- `(?<=[^b~-\u{20AC}<\w])[\u005a-\u{212A}<\u{A}]` of flags `siu` on `\u{E9}\u{1F389}\u{20AC}AKs `
-judged_3_43 : matches (cat (cat (lookaround (look false true 0 0)
-    (cat (bracket (in_brackets true ((48, 57) ∷ (60, 60) ∷ (65, 90) ∷ (95, 95) ∷ (97, 122) ∷ (126, 8364) ∷ (8490, 8490)
-    ∷ []))) end_of_cat)) (cat (bracket (in_brackets false ((10, 10) ∷ (60, 60) ∷ (65, 8490) ∷ []))) end_of_cat))
-    (cat goal end_of_cat)) (utf8_text (195 ∷ 169 ∷ 240 ∷ 159 ∷ 142 ∷ 137 ∷ 226 ∷ 130 ∷ 172 ∷ 65 ∷ 75 ∷ 115 ∷ 32
-    ∷ []) true) 0 ≡ (found 6 9 [] ∷ [])
+-- `(b|\1(?<!\d |a)).*?0` on `bB 0`
+judged_3_43 : matches (cat (cat (capture_group 0 []
+    (alt (cat (char 98) end_of_cat) (cat (back_ref 1 exact)
+    (cat (lookaround (look true true 1 1) (alt (cat (char 32)
+    (cat (bracket (in_brackets false ((48, 57) ∷ []))) end_of_cat)) (cat (char 97) end_of_cat))) end_of_cat))))
+    (cat (loop_1_char_body (times 0 None false) match_any_except_line_terminator)
+    (cat (char 48) end_of_cat))) (cat goal end_of_cat)) (utf8_text (98 ∷ 66 ∷ 32 ∷ 48 ∷ []) false)
+    0 ≡ (found 0 4 (Some (0, 1) ∷ []) ∷ [])
 unfolding matches
 judged_3_43 = refl
 
--- `\W` of flags `u` on ``
-judged_3_44 : matches (cat (cat (bracket (in_brackets false
-    ((0, 47) ∷ (58, 64) ∷ (91, 94) ∷ (96, 96) ∷ (123, 1114111) ∷ []))) end_of_cat) (cat goal end_of_cat))
-    (utf8_text [] true) 0 ≡ []
+-- `k` of flags `ms` on `k`
+judged_3_44 : matches (cat (cat (char 107) end_of_cat) (cat goal end_of_cat)) (utf8_text (107 ∷ []) false)
+    0 ≡ (found 0 1 [] ∷ [])
 unfolding matches
 judged_3_44 = refl
 
--- `_+` of flags `iu` on `z\u{212A}S`
-judged_3_45 : matches (cat (cat (loop_1_char_body (times 1 None true) (char 95)) end_of_cat) (cat goal end_of_cat))
-    (utf8_text (122 ∷ 226 ∷ 132 ∷ 170 ∷ 83 ∷ []) true) 0 ≡ []
+-- `(?<=(?<!.|[\u{2028}-]{0}b*s*)\u{01f600}|k|\s)\d` of flags `u` on ` 1`
+judged_3_45 : matches (cat (cat (lookaround (look false true 0 0)
+    (alt (cat (char 128512) (cat (lookaround (look true true 0 0)
+    (alt (cat match_any_except_line_terminator end_of_cat)
+    (cat (loop_1_char_body (times 0 None true) (char 115))
+    (cat (loop_1_char_body (times 0 None true) (char 98))
+    (cat (loop_1_char_body (times 0 (Some 0) true)
+    (bracket (in_brackets false ((45, 45) ∷ (8232, 8232) ∷ [])))) end_of_cat))))) end_of_cat))
+    (alt (cat (char 107) end_of_cat)
+    (cat (bracket (in_brackets false
+    ((9, 13) ∷ (32, 32) ∷ (160, 160) ∷ (5760, 5760) ∷ (8192, 8202) ∷ (8232, 8233)
+    ∷ (8239, 8239) ∷ (8287, 8287) ∷ (12288, 12288) ∷ (65279, 65279) ∷ [])))
+    end_of_cat)))) (cat (bracket (in_brackets false ((48, 57) ∷ [])))
+    end_of_cat)) (cat goal end_of_cat)) (utf8_text (32 ∷ 49 ∷ []) true)
+    0 ≡ (found 1 2 [] ∷ [])
 unfolding matches
 judged_3_45 = refl
 
--- `[A-\u{20AC}\S\u0021-\u{212A}]` of flags `u` on `_K- a\u{20AC}\u{212A}`
+-- `\wa_` of flags `iu` on `cbaccc`
 judged_3_46 : matches (cat (cat (bracket (in_brackets false
-    ((0, 8) ∷ (14, 31) ∷ (33, 12287) ∷ (12289, 65278) ∷ (65280, 1114111) ∷ []))) end_of_cat) (cat goal end_of_cat))
-    (utf8_text (95 ∷ 75 ∷ 45 ∷ 32 ∷ 97 ∷ 226 ∷ 130 ∷ 172 ∷ 226 ∷ 132 ∷ 170 ∷ []) true)
-    0 ≡ (found 0 1 [] ∷ found 1 2 [] ∷ found 2 3 [] ∷ found 4 5 [] ∷ found 5 8 [] ∷ found 8 11 [] ∷ [])
+    ((48, 57) ∷ (65, 90) ∷ (95, 95) ∷ (97, 122) ∷ (383, 383) ∷ (8490, 8490) ∷ [])))
+    (cat (char_set (65 ∷ 97 ∷ [])) (cat (char 95) end_of_cat))) (cat goal end_of_cat))
+    (utf8_text (99 ∷ 98 ∷ 97 ∷ 99 ∷ 99 ∷ 99 ∷ []) true) 0 ≡ []
 unfolding matches
 judged_3_46 = refl
 
--- `([z-\xE9a\b])\1` on `Z`
-judged_3_47 : matches (cat (cat (capture_group 0 []
-    (cat (bracket (in_brackets false ((8, 8) ∷ (97, 97) ∷ (122, 233) ∷ []))) end_of_cat))
-    (cat (back_ref 1 exact) end_of_cat)) (cat goal end_of_cat)) (utf8_text (90 ∷ []) false) 0 ≡ []
+-- `,{0,1}?` of flags `m` on ``
+judged_3_47 : matches (cat (cat (loop_1_char_body (times 0 (Some 1) false) (char 44)) end_of_cat) (cat goal end_of_cat))
+    (utf8_text [] false) 0 ≡ (found 0 0 [] ∷ [])
 unfolding matches
 judged_3_47 = refl
 
--- `(?<=(.)\1)` of flags `iu` on `sz\u{1F600}_zak`
-judged_3_48 : matches (cat (cat (lookaround (look false true 0 1)
-    (cat (back_ref 1 folded) (cat (capture_group 0 [] (cat match_any_except_line_terminator end_of_cat)) end_of_cat)))
-    end_of_cat) (cat goal end_of_cat)) (utf8_text (115 ∷ 122 ∷ 240 ∷ 159 ∷ 152 ∷ 128 ∷ 95 ∷ 122 ∷ 97 ∷ 107 ∷ [])
-    true) 0 ≡ (found 1 1 (Some (0, 1) ∷ []) ∷ found 2 2 (Some (1, 2) ∷ []) ∷ found 6 6
-    (Some (2, 6) ∷ []) ∷ found 7 7 (Some (6, 7) ∷ []) ∷ found 8 8 (Some (7, 8) ∷ []) ∷ found 9 9
-    (Some (8, 9) ∷ []) ∷ found 10 10 (Some (9, 10) ∷ []) ∷ [])
+-- `(?<n0>k(\ud83d\uDE00*a{1,}^|\u{061}{1,1}.{1}))c+|.?(?=[^\u003C\b+](?:ab<a){0,1})` of flags `miu` on `0,`
+judged_3_48 : matches (cat (alt (cat (capture_group 0 (110 ∷ 48 ∷ [])
+    (cat (char_set (75 ∷ 107 ∷ 8490 ∷ [])) (cat (capture_group 1 []
+    (alt (cat (loop_1_char_body (times 0 None true) (char 128512))
+    (cat (loop_1_char_body (times 1 None true) (char_set (65 ∷ 97 ∷ [])))
+    (cat (anchor start_of_line true) end_of_cat)))
+    (cat (loop_1_char_body (times 1 (Some 1) true) (char_set (65 ∷ 97 ∷ [])))
+    (cat (loop_1_char_body (times 1 (Some 1) true) match_any_except_line_terminator) end_of_cat))))
+    end_of_cat))) (cat (loop_1_char_body (times 1 None true) (char_set (67 ∷ 99 ∷ [])))
+    end_of_cat)) (cat (loop_1_char_body (times 0 (Some 1) true)
+    match_any_except_line_terminator)
+    (cat (lookaround (look false false 2 2)
+    (cat (bracket (in_brackets true ((8, 8) ∷ (43, 43) ∷ (60, 60) ∷ [])))
+    (cat (loop (times 0 (Some 1) true) 2 2
+    (cat (char_set (65 ∷ 97 ∷ []))
+    (cat (char_set (66 ∷ 98 ∷ []))
+    (cat (char 60) (cat (char_set (65 ∷ 97 ∷ []))
+    end_of_cat))))) end_of_cat))) end_of_cat)))
+    (cat goal end_of_cat))
+    (utf8_text (48 ∷ 44 ∷ []) true)
+    0 ≡ (found 0 1 (None ∷ None ∷ []) ∷ found 1
+    1 (None ∷ None ∷ []) ∷ [])
 unfolding matches
 judged_3_48 = refl
 
--- `(?<=[\d0-0\w])[^c-~\u{D}-]` of flags `iu` on `aSs`
-judged_3_49 : matches (cat (cat (lookaround (look false true 0 0)
-    (cat (bracket (in_brackets false ((48, 57) ∷ (65, 90) ∷ (95, 95) ∷ (97, 122) ∷ (383, 383) ∷ (8490, 8490) ∷ [])))
-    end_of_cat)) (cat (bracket (in_brackets true
-    ((13, 13) ∷ (45, 45) ∷ (67, 90) ∷ (99, 126) ∷ (383, 383) ∷ (8490, 8490) ∷ []))) end_of_cat))
-    (cat goal end_of_cat)) (utf8_text (97 ∷ 83 ∷ 115 ∷ []) true) 0 ≡ []
+-- `[^\W\-]{1,2}?` of flags `m` on `\u{17F}a`
+judged_3_49 : matches (cat (cat (loop_1_char_body (times 1 (Some 2) false)
+    (bracket (in_brackets true ((0, 47) ∷ (58, 64) ∷ (91, 94) ∷ (96, 96) ∷ (123, 1114111) ∷ [])))) end_of_cat)
+    (cat goal end_of_cat)) (utf8_text (197 ∷ 191 ∷ 97 ∷ []) false) 0 ≡ (found 2 3 [] ∷ [])
 unfolding matches
 judged_3_49 = refl
 
--- `([_\s])\1` of flags `u` on `a00-\u{212A}Z`
-judged_3_50 : matches (cat (cat (capture_group 0 []
-    (cat (bracket (in_brackets false ((9, 13) ∷ (32, 32) ∷ (95, 95) ∷ (160, 160) ∷ (5760, 5760) ∷ (8192, 8202)
-    ∷ (8232, 8233) ∷ (8239, 8239) ∷ (8287, 8287) ∷ (12288, 12288) ∷ (65279, 65279) ∷ []))) end_of_cat))
-    (cat (back_ref 1 exact) end_of_cat)) (cat goal end_of_cat))
-    (utf8_text (97 ∷ 48 ∷ 48 ∷ 45 ∷ 226 ∷ 132 ∷ 170 ∷ 90 ∷ []) true) 0 ≡ []
+-- `(c\v<\b)+A^|\w+.` of flags `mis` on `caabc`
+judged_3_50 : matches (cat (alt (cat (loop (times 1 None true) 0 1
+    (capture_group 0 [] (cat (char_set (67 ∷ 99 ∷ []))
+    (cat (char 11) (cat (char 60) (cat (word_boundary false false) end_of_cat))))))
+    (cat (char_set (65 ∷ 97 ∷ [])) (cat (anchor start_of_line true) end_of_cat)))
+    (cat (loop_1_char_body (times 1 None true)
+    (bracket (in_brackets false ((48, 57) ∷ (65, 90) ∷ (95, 95) ∷ (97, 122) ∷ []))))
+    (cat match_any end_of_cat))) (cat goal end_of_cat))
+    (utf8_text (99 ∷ 97 ∷ 97 ∷ 98 ∷ 99 ∷ []) false) 0 ≡ (found 0 5 (None ∷ []) ∷ [])
 unfolding matches
 judged_3_50 = refl
 
--- `(?<=[\w\u0041\w])[^\W]` of flags `si` on `\u{17F}szkkAk `
-judged_3_51 : matches (cat (cat (lookaround (look false true 0 0)
-    (cat (bracket (in_brackets false ((48, 57) ∷ (65, 90) ∷ (95, 95) ∷ (97, 122) ∷ []))) end_of_cat))
-    (cat (bracket (in_brackets true ((0, 47) ∷ (58, 64) ∷ (91, 94) ∷ (96, 96) ∷ (123, 1114111) ∷ []))) end_of_cat))
-    (cat goal end_of_cat)) (utf8_text (197 ∷ 191 ∷ 115 ∷ 122 ∷ 107 ∷ 107 ∷ 65 ∷ 107 ∷ 32 ∷ []) false)
-    0 ≡ (found 3 4 [] ∷ found 4 5 [] ∷ found 5 6 [] ∷ found 6 7 [] ∷ found 7 8 [] ∷ [])
+-- `(?!(?!))^(|[^c-\u{E9}9-Z?]\u{FEFF}*0*?)` of flags `mis` on ``
+judged_3_51 : matches (cat (cat (lookaround (look true false 0 0)
+    (cat (lookaround (look true false 0 0) end_of_cat) end_of_cat))
+    (cat (anchor start_of_line true) (cat (capture_group 0 []
+    (alt end_of_cat (cat (bracket (in_brackets true ((57, 90) ∷ (97, 233) ∷ [])))
+    (cat (loop_1_char_body (times 0 None true) (char 65279))
+    (cat (loop_1_char_body (times 0 None false) (char 48)) end_of_cat))))) end_of_cat)))
+    (cat goal end_of_cat)) (utf8_text [] false) 0 ≡ (found 0 0 (Some (0, 0) ∷ []) ∷ [])
 unfolding matches
 judged_3_51 = refl
 
--- `[^Z-\x63]*` of flags `iu` on `\u{20AC}`
-judged_3_52 : matches (cat (cat (loop_1_char_body (times 0 None true)
-    (bracket (in_brackets true ((65, 67) ∷ (90, 99) ∷ (122, 122) ∷ [])))) end_of_cat) (cat goal end_of_cat))
-    (utf8_text (226 ∷ 130 ∷ 172 ∷ []) true) 0 ≡ (found 0 3 [] ∷ found 3 3 [] ∷ [])
+-- `\x21a` of flags `i` on `\u{2029}-a`
+judged_3_52 : matches (cat (cat (char 33) (cat (char_set (65 ∷ 97 ∷ [])) end_of_cat)) (cat goal end_of_cat))
+    (utf8_text (226 ∷ 128 ∷ 169 ∷ 45 ∷ 97 ∷ []) false) 0 ≡ []
 unfolding matches
 judged_3_52 = refl
 
--- `(?<=(.)\1)` of flags `siu` on `_`
-judged_3_53 : matches (cat (cat (lookaround (look false true 0 1)
-    (cat (back_ref 1 folded) (cat (capture_group 0 [] (cat match_any end_of_cat)) end_of_cat))) end_of_cat)
-    (cat goal end_of_cat)) (utf8_text (95 ∷ []) true) 0 ≡ (found 1 1 (Some (0, 1) ∷ []) ∷ [])
+-- `[^\u007A-\u{17F}]??\S{3}[^]|(?:(?<![\D!-k,]+?_)|\D{1,2}(b)(?:(?:\1)|b)+)*(?:)??` of flags `ms` on `\u{3000}KcccaK`
+judged_3_53 : matches (cat (alt (cat (loop_1_char_body (times 0 (Some 1) false)
+    (bracket (in_brackets true ((122, 383) ∷ []))))
+    (cat (loop_1_char_body (times 3 (Some 3) true)
+    (bracket (in_brackets false ((0, 8) ∷ (14, 31) ∷ (33, 159) ∷ (161, 5759) ∷ (5761, 8191) ∷ (8203, 8231)
+    ∷ (8234, 8238) ∷ (8240, 8286) ∷ (8288, 12287) ∷ (12289, 65278) ∷ (65280, 1114111) ∷ []))))
+    (cat (bracket (in_brackets true [])) end_of_cat)))
+    (cat (loop (times 0 None true) 0 1
+    (alt (cat (lookaround (look true true 0 0)
+    (cat (char 95) (cat (loop_1_char_body (times 1 None false)
+    (bracket (in_brackets false ((0, 1114111) ∷ [])))) end_of_cat))) end_of_cat)
+    (cat (loop_1_char_body (times 1 (Some 2) true)
+    (bracket (in_brackets false ((0, 47) ∷ (58, 1114111) ∷ []))))
+    (cat (capture_group 0 [] (cat (char 98) end_of_cat))
+    (cat (loop (times 1 None true) 1 1
+    (alt (cat (cat (back_ref 1 exact) end_of_cat) end_of_cat)
+    (cat (char 98) end_of_cat))) end_of_cat)))))
+    (cat (loop (times 0 (Some 1) false) 1 1 end_of_cat)
+    end_of_cat))) (cat goal end_of_cat))
+    (utf8_text (227 ∷ 128 ∷ 128 ∷ 75 ∷ 99 ∷ 99 ∷ 99
+    ∷ 97 ∷ 75 ∷ []) false)
+    0 ≡ (found 0 7 (None ∷ []) ∷ found 7 7
+    (None ∷ []) ∷ found 8 8
+    (None ∷ []) ∷ found 9 9
+    (None ∷ []) ∷ [])
 unfolding matches
 judged_3_53 = refl
 
--- `[a-\u{7a}!]` of flags `miu` on `\u{17F} 0Ak`
-judged_3_54 : matches (cat (cat (bracket (in_brackets false
-    ((33, 33) ∷ (65, 90) ∷ (97, 122) ∷ (383, 383) ∷ (8490, 8490) ∷ []))) end_of_cat) (cat goal end_of_cat))
-    (utf8_text (197 ∷ 191 ∷ 32 ∷ 48 ∷ 65 ∷ 107 ∷ []) true) 0 ≡ (found 0 2 [] ∷ found 4 5 [] ∷ found 5 6 [] ∷ [])
+-- `(\w\b[^!\s!\u005a-\u{1F600}]){0,1}"?|(?:$.*(?:\1)\u002F){1,3}?` of flags `mu` on `cccab`
+judged_3_54 : matches (cat (alt (cat (loop (times 0 (Some 1) true) 0 1
+    (capture_group 0 [] (cat (bracket (in_brackets false ((48, 57) ∷ (65, 90) ∷ (95, 95) ∷ (97, 122) ∷ [])))
+    (cat (word_boundary false false) (cat (bracket (in_brackets true ((9, 13) ∷ (32, 33) ∷ (90, 128512) ∷ [])))
+    end_of_cat))))) (cat (loop_1_char_body (times 0 (Some 1) true) (char 34)) end_of_cat))
+    (cat (loop (times 1 (Some 3) false) 1 1
+    (cat (anchor end_of_line true) (cat
+    (loop_1_char_body (times 0 None true) match_any_except_line_terminator)
+    (cat (cat (back_ref 1 exact) end_of_cat) (cat (char 47) end_of_cat))))) end_of_cat))
+    (cat goal end_of_cat)) (utf8_text (99 ∷ 99 ∷ 99 ∷ 97 ∷ 98 ∷ []) true)
+    0 ≡ (found 0 0 (None ∷ []) ∷ found 1 1 (None ∷ []) ∷ found 2 2 (None ∷ []) ∷ found 3
+    3 (None ∷ []) ∷ found 4 4 (None ∷ []) ∷ found 5 5 (None ∷ []) ∷ [])
 unfolding matches
 judged_3_54 = refl
-
--- `[\u{A}]` of flags `i` on `\u{A}zz`
-judged_3_55 : matches (cat (cat (bracket (in_brackets false ((10, 10) ∷ []))) end_of_cat) (cat goal end_of_cat))
-    (utf8_text (10 ∷ 122 ∷ 122 ∷ []) false) 0 ≡ (found 0 1 [] ∷ [])
-unfolding matches
-judged_3_55 = refl
-
--- `-+?` of flags `siu` on `-\u{A} \u{20AC}\u{1F600}\u{17F}`
-judged_3_56 : matches (cat (cat (loop_1_char_body (times 1 None false) (char 45)) end_of_cat) (cat goal end_of_cat))
-    (utf8_text (45 ∷ 10 ∷ 32 ∷ 226 ∷ 130 ∷ 172 ∷ 240 ∷ 159 ∷ 152 ∷ 128 ∷ 197 ∷ 191 ∷ []) true) 0 ≡ (found 0 1 [] ∷ [])
-unfolding matches
-judged_3_56 = refl
-
--- `\B.` of flags `i` on `z `
-judged_3_57 : matches (cat (cat (word_boundary true false) (cat match_any_except_line_terminator end_of_cat))
-    (cat goal end_of_cat)) (utf8_text (122 ∷ 32 ∷ []) false) 0 ≡ []
-unfolding matches
-judged_3_57 = refl
-
--- `[^\ba-\x7e]` of flags `i` on `\u{212A}\u{20AC}\u{17F}_\u{E9}`
-judged_3_58 : matches (cat (cat (bracket (in_brackets true ((8, 8) ∷ (65, 90) ∷ (97, 126) ∷ []))) end_of_cat)
-    (cat goal end_of_cat)) (utf8_text (226 ∷ 132 ∷ 170 ∷ 226 ∷ 130 ∷ 172 ∷ 197 ∷ 191 ∷ 95 ∷ 195 ∷ 169 ∷ []) false)
-    0 ≡ (found 0 3 [] ∷ found 3 6 [] ∷ found 6 8 [] ∷ found 8 9 [] ∷ found 9 11 [] ∷ [])
-unfolding matches
-judged_3_58 = refl
-
--- `([^ \w\u0039-a])\1` on `a\u{E9}Ss_\u{E9}K`
-judged_3_59 : matches (cat (cat (capture_group 0 []
-    (cat (bracket (in_brackets true ((32, 32) ∷ (48, 122) ∷ []))) end_of_cat)) (cat (back_ref 1 exact) end_of_cat))
-    (cat goal end_of_cat)) (utf8_text (97 ∷ 195 ∷ 169 ∷ 83 ∷ 115 ∷ 95 ∷ 195 ∷ 169 ∷ 75 ∷ []) false) 0 ≡ []
-unfolding matches
-judged_3_59 = refl
-
--- `(?<=[!-9\d])[^s-\u{1F600}/\u{3000}/]` of flags `iu` on `\u{17F}azK-`
-judged_3_60 : matches (cat (cat (lookaround (look false true 0 0)
-    (cat (bracket (in_brackets false ((33, 57) ∷ []))) end_of_cat))
-    (cat (bracket (in_brackets true ((47, 47) ∷ (75, 75) ∷ (83, 90) ∷ (107, 107) ∷ (115, 128512) ∷ [])))
-    end_of_cat)) (cat goal end_of_cat)) (utf8_text (197 ∷ 191 ∷ 97 ∷ 122 ∷ 75 ∷ 45 ∷ []) true) 0 ≡ []
-unfolding matches
-judged_3_60 = refl
-
--- `A*` of flags `u` on `\u{A}\u{A}S\u{E9}\u{A}0`
-judged_3_61 : matches (cat (cat (loop_1_char_body (times 0 None true) (char 65)) end_of_cat) (cat goal end_of_cat))
-    (utf8_text (10 ∷ 10 ∷ 83 ∷ 195 ∷ 169 ∷ 10 ∷ 48 ∷ []) true)
-    0 ≡ (found 0 0 [] ∷ found 1 1 [] ∷ found 2 2 [] ∷ found 3 3 [] ∷ found 5 5 [] ∷ found 6 6 [] ∷ found 7 7
-    [] ∷ [])
-unfolding matches
-judged_3_61 = refl
-
--- `\s` of flags `i` on `\u{17F}k\u{212A}0KZ\u{20AC}`
-judged_3_62 : matches (cat (cat (bracket (in_brackets false
-    ((9, 13) ∷ (32, 32) ∷ (160, 160) ∷ (5760, 5760) ∷ (8192, 8202) ∷ (8232, 8233) ∷ (8239, 8239) ∷ (8287, 8287)
-    ∷ (12288, 12288) ∷ (65279, 65279) ∷ []))) end_of_cat) (cat goal end_of_cat))
-    (utf8_text (197 ∷ 191 ∷ 107 ∷ 226 ∷ 132 ∷ 170 ∷ 48 ∷ 75 ∷ 90 ∷ 226 ∷ 130 ∷ 172 ∷ []) false) 0 ≡ []
-unfolding matches
-judged_3_62 = refl
-
--- `(?<=([ks]+)\1)` of flags `i` on ``
-judged_3_63 : matches (cat (cat (lookaround (look false true 0 1)
-    (cat (back_ref 1 folded) (cat (capture_group 0 []
-    (cat (loop_1_char_body (times 1 None true) (bracket
-    (in_brackets false ((75, 75) ∷ (83, 83) ∷ (107, 107) ∷ (115, 115) ∷ [])))) end_of_cat)) end_of_cat)))
-    end_of_cat) (cat goal end_of_cat)) (utf8_text [] false) 0 ≡ []
-unfolding matches
-judged_3_63 = refl
-
--- `(?<=(\u{17F}s)\1)` of flags `i` on `xb\u{E9}b\u{E9}b\u{E9}x`
-judged_3_64 : matches (cat (cat (lookaround (look false true 0 1)
-    (cat (back_ref 1 folded) (cat (capture_group 0 [] (cat (char_set (83 ∷ 115 ∷ [])) (cat (char 383) end_of_cat)))
-    end_of_cat))) end_of_cat) (cat goal end_of_cat))
-    (utf8_text (120 ∷ 98 ∷ 195 ∷ 169 ∷ 98 ∷ 195 ∷ 169 ∷ 98 ∷ 195 ∷ 169 ∷ 120 ∷ []) false) 0 ≡ []
-unfolding matches
-judged_3_64 = refl
-
--- `(?<=(\u{1F600}b|s)\1)` of flags `iu` on `x\u{1F600}b\u{1F600}b\u{1F600}b\u{1F600}Bx`
-judged_3_65 : matches (cat (cat (lookaround (look false true 0 1)
-    (cat (back_ref 1 folded) (cat (capture_group 0 []
-    (alt (cat (char_set (66 ∷ 98 ∷ [])) (cat (char 128512) end_of_cat))
-    (cat (char_set (83 ∷ 115 ∷ 383 ∷ [])) end_of_cat))) end_of_cat))) end_of_cat) (cat goal end_of_cat))
-    (utf8_text (120 ∷ 240 ∷ 159 ∷ 152 ∷ 128 ∷ 98 ∷ 240 ∷ 159 ∷ 152 ∷ 128 ∷ 98 ∷ 240 ∷ 159 ∷ 152 ∷ 128 ∷ 98
-    ∷ 240 ∷ 159 ∷ 152 ∷ 128 ∷ 66 ∷ 120 ∷ []) true)
-    0 ≡ (found 6 6 (Some (1, 6) ∷ []) ∷ found 11 11 (Some (6, 11) ∷ []) ∷ found 16 16
-    (Some (11, 16) ∷ []) ∷ found 21 21 (Some (16, 21) ∷ []) ∷ [])
-unfolding matches
-judged_3_65 = refl
-
--- `\1([ks]+)` on `\u{E9}\u{E9}\u{E9}\u{E9}`
-judged_3_66 : matches (cat (cat (back_ref 1 exact) (cat
-    (capture_group 0 [] (cat (loop_1_char_body (times 1 None true)
-    (bracket (in_brackets false ((107, 107) ∷ (115, 115) ∷ [])))) end_of_cat)) end_of_cat)) (cat goal end_of_cat))
-    (utf8_text (195 ∷ 169 ∷ 195 ∷ 169 ∷ 195 ∷ 169 ∷ 195 ∷ 169 ∷ []) false) 0 ≡ []
-unfolding matches
-judged_3_66 = refl
-
--- `()\1` of flags `i` on `x`
-judged_3_67 : matches (cat (cat (capture_group 0 [] end_of_cat) (cat (back_ref 1 folded) end_of_cat))
-    (cat goal end_of_cat)) (utf8_text (120 ∷ []) false)
-    0 ≡ (found 0 0 (Some (0, 0) ∷ []) ∷ found 1 1 (Some (1, 1) ∷ []) ∷ [])
-unfolding matches
-judged_3_67 = refl
-
--- `(a|s)\1` of flags `iu` on `\u{212A}kx`
-judged_3_68 : matches (cat (cat (capture_group 0 []
-    (alt (cat (char_set (65 ∷ 97 ∷ [])) end_of_cat) (cat (char_set (83 ∷ 115 ∷ 383 ∷ [])) end_of_cat)))
-    (cat (back_ref 1 folded) end_of_cat)) (cat goal end_of_cat)) (utf8_text (226 ∷ 132 ∷ 170 ∷ 107 ∷ 120 ∷ []) true)
-    0 ≡ []
-unfolding matches
-judged_3_68 = refl
-
--- `(?<!(\u{212A})\1).` of flags `i` on `xbBb`
-judged_3_69 : matches (cat (cat (lookaround (look true true 0 1)
-    (cat (back_ref 1 folded) (cat (capture_group 0 [] (cat (char 8490) end_of_cat)) end_of_cat)))
-    (cat match_any_except_line_terminator end_of_cat)) (cat goal end_of_cat))
-    (utf8_text (120 ∷ 98 ∷ 66 ∷ 98 ∷ []) false)
-    0 ≡ (found 0 1 (None ∷ []) ∷ found 1 2 (None ∷ []) ∷ found 2 3 (None ∷ []) ∷ found 3 4 (None ∷ []) ∷ [])
-unfolding matches
-judged_3_69 = refl
-
--- `(?:(\u{17F})\1)+` of flags `iu` on `xabAB`
-judged_3_70 : matches (cat (cat (loop (times 1 None true) 0 1
-    (cat (capture_group 0 [] (cat (char_set (83 ∷ 115 ∷ 383 ∷ [])) end_of_cat)) (cat (back_ref 1 folded) end_of_cat)))
-    end_of_cat) (cat goal end_of_cat)) (utf8_text (120 ∷ 97 ∷ 98 ∷ 65 ∷ 66 ∷ []) true) 0 ≡ []
-unfolding matches
-judged_3_70 = refl
-
--- `(?!(.)\1).` on `\u{E9}\u{E9}`
-judged_3_71 : matches (cat (cat (lookaround (look true false 0 1)
-    (cat (capture_group 0 [] (cat match_any_except_line_terminator end_of_cat)) (cat (back_ref 1 exact) end_of_cat)))
-    (cat match_any_except_line_terminator end_of_cat)) (cat goal end_of_cat))
-    (utf8_text (195 ∷ 169 ∷ 195 ∷ 169 ∷ []) false) 0 ≡ (found 2 4 (None ∷ []) ∷ [])
-unfolding matches
-judged_3_71 = refl
-
--- `\1(\u{1F600})` of flags `iu` on `\u{1F600}\u{1F600}\u{1F600}`
-judged_3_72 : matches (cat (cat (back_ref 1 folded)
-    (cat (capture_group 0 [] (cat (char 128512) end_of_cat)) end_of_cat)) (cat goal end_of_cat))
-    (utf8_text (240 ∷ 159 ∷ 152 ∷ 128 ∷ 240 ∷ 159 ∷ 152 ∷ 128 ∷ 240 ∷ 159 ∷ 152 ∷ 128 ∷ []) true)
-    0 ≡ (found 0 4 (Some (0, 4) ∷ []) ∷ found 4 8 (Some (4, 8) ∷ []) ∷ found 8 12 (Some (8, 12) ∷ []) ∷ [])
-unfolding matches
-judged_3_72 = refl
-
--- `(.*?)\1` of flags `iu` on `<,<,<,<,x`
-judged_3_73 : matches (cat (cat (capture_group 0 []
-    (cat (loop_1_char_body (times 0 None false) match_any_except_line_terminator) end_of_cat))
-    (cat (back_ref 1 folded) end_of_cat)) (cat goal end_of_cat))
-    (utf8_text (60 ∷ 44 ∷ 60 ∷ 44 ∷ 60 ∷ 44 ∷ 60 ∷ 44 ∷ 120 ∷ []) true)
-    0 ≡ (found 0 0 (Some (0, 0) ∷ []) ∷ found 1 1 (Some (1, 1) ∷ []) ∷ found 2 2 (Some (2, 2) ∷ []) ∷ found
-    3 3 (Some (3, 3) ∷ []) ∷ found 4 4 (Some (4, 4) ∷ []) ∷ found 5 5 (Some (5, 5) ∷ []) ∷ found 6 6
-    (Some (6, 6) ∷ []) ∷ found 7 7 (Some (7, 7) ∷ []) ∷ found 8 8 (Some (8, 8) ∷ []) ∷ found 9 9
-    (Some (9, 9) ∷ []) ∷ [])
-unfolding matches
-judged_3_73 = refl
-
--- `(.+)\1` of flags `i` on `x,a,a,A,ax`
-judged_3_74 : matches (cat (cat (capture_group 0 []
-    (cat (loop_1_char_body (times 1 None true) match_any_except_line_terminator) end_of_cat))
-    (cat (back_ref 1 folded) end_of_cat)) (cat goal end_of_cat))
-    (utf8_text (120 ∷ 44 ∷ 97 ∷ 44 ∷ 97 ∷ 44 ∷ 65 ∷ 44 ∷ 97 ∷ 120 ∷ []) false)
-    0 ≡ (found 1 9 (Some (1, 5) ∷ []) ∷ [])
-unfolding matches
-judged_3_74 = refl
-
--- `(?<=([ks]+)\1)` on `xsskssksskssk`
-judged_3_75 : matches (cat (cat (lookaround (look false true 0 1)
-    (cat (back_ref 1 exact) (cat (capture_group 0 []
-    (cat (loop_1_char_body (times 1 None true) (bracket (in_brackets false ((107, 107) ∷ (115, 115) ∷ []))))
-    end_of_cat)) end_of_cat))) end_of_cat) (cat goal end_of_cat))
-    (utf8_text (120 ∷ 115 ∷ 115 ∷ 107 ∷ 115 ∷ 115 ∷ 107 ∷ 115 ∷ 115 ∷ 107 ∷ 115 ∷ 115 ∷ 107 ∷ []) false)
-    0 ≡ (found 2 2 (Some (1, 2) ∷ []) ∷ found 3 3 (Some (1, 3) ∷ []) ∷ found 4 4
-    (Some (1, 4) ∷ []) ∷ found 5 5 (Some (1, 5) ∷ []) ∷ found 6 6 (Some (1, 6) ∷ []) ∷ found 7 7
-    (Some (1, 7) ∷ []) ∷ found 8 8 (Some (1, 8) ∷ []) ∷ found 9 9 (Some (1, 9) ∷ []) ∷ found 10
-    10 (Some (1, 10) ∷ []) ∷ found 11 11 (Some (1, 11) ∷ []) ∷ found 12 12
-    (Some (1, 12) ∷ []) ∷ found 13 13 (Some (1, 13) ∷ []) ∷ [])
-unfolding matches
-judged_3_75 = refl
-
--- `[ab]casssc\u{E9}a` on `casssc\u{E9}a`
-judged_3_76 : matches (cat (cat (bracket (in_brackets false ((97, 98) ∷ [])))
-    (cat (char 99) (cat (char 97) (cat (char 115) (cat (char 115)
-    (cat (char 115) (cat (char 99) (cat (char 233) (cat (char 97) end_of_cat))))))))) (cat goal end_of_cat))
-    (utf8_text (99 ∷ 97 ∷ 115 ∷ 115 ∷ 115 ∷ 99 ∷ 195 ∷ 169 ∷ 97 ∷ []) false) 0 ≡ []
-unfolding matches
-judged_3_76 = refl
-
--- `(?:|aa\u{20AC}s)\u{1F600}\u{1F600}Ksb\u{20AC}\u{E9}` of flags `u` on `cs\u{E9}\u{1F600}aa\u{20AC}saa\u{20AC}saa\u{20AC}s`
-judged_3_77 : matches (cat (cat (alt end_of_cat (cat (char 97)
-    (cat (char 97) (cat (char 8364) (cat (char 115) end_of_cat)))))
-    (cat (char 128512) (cat (char 128512) (cat (char 75)
-    (cat (char 115) (cat (char 98) (cat (char 8364) (cat (char 233) end_of_cat)))))))) (cat goal end_of_cat))
-    (utf8_text (99 ∷ 115 ∷ 195 ∷ 169 ∷ 240 ∷ 159 ∷ 152 ∷ 128 ∷ 97 ∷ 97 ∷ 226 ∷ 130 ∷ 172 ∷ 115 ∷ 97 ∷ 97
-    ∷ 226 ∷ 130 ∷ 172 ∷ 115 ∷ 97 ∷ 97 ∷ 226 ∷ 130 ∷ 172 ∷ 115 ∷ []) true) 0 ≡ []
-unfolding matches
-judged_3_77 = refl
-
--- `\u{E9}|acb` of flags `i` on `\u{E9}b`
-judged_3_78 : matches (cat (alt (cat (char 233) end_of_cat)
-    (cat (char_set (65 ∷ 97 ∷ [])) (cat (char_set (67 ∷ 99 ∷ [])) (cat (char_set (66 ∷ 98 ∷ [])) end_of_cat))))
-    (cat goal end_of_cat)) (utf8_text (195 ∷ 169 ∷ 98 ∷ []) false) 0 ≡ (found 0 2 [] ∷ [])
-unfolding matches
-judged_3_78 = refl
-
--- `s\u{20AC}` on `s\u{20AC}s\u{20AC}s\u{20AC}`
-judged_3_79 : matches (cat (cat (char 115) (cat (char 8364) end_of_cat)) (cat goal end_of_cat))
-    (utf8_text (115 ∷ 226 ∷ 130 ∷ 172 ∷ 115 ∷ 226 ∷ 130 ∷ 172 ∷ 115 ∷ 226 ∷ 130 ∷ 172 ∷ []) false)
-    0 ≡ (found 0 4 [] ∷ found 4 8 [] ∷ found 8 12 [] ∷ [])
-unfolding matches
-judged_3_79 = refl
-
--- `(?<=\u{E9}s\u{20AC}aKabsb\u{E9}s\u{E9}bscKa\u{E9}aaa(?=\u{E9}))\u{E9}s\u{20AC}aKabsb\u{E9}s\u{E9}bscKa\u{E9}aaa` on `\u{E9}s\u{20AC}aKabsb\u{E9}s\u{E9}bscKa\u{E9}aaa\u{E9}s\u{20AC}aKabsb\u{E9}s\u{E9}bscKa\u{E9}aaac\u{20AC}`
-judged_3_80 : matches (cat (cat (lookaround (look false true 0 0)
-    (cat (lookaround (look false false 0 0) (cat (char 233) end_of_cat))
-    (cat (char 97) (cat (char 97) (cat (char 97)
-    (cat (char 233) (cat (char 97) (cat (char 75)
-    (cat (char 99) (cat (char 115) (cat (char 98)
-    (cat (char 233) (cat (char 115)
-    (cat (char 233) (cat (char 98)
-    (cat (char 115) (cat (char 98)
-    (cat (char 97) (cat (char 75)
-    (cat (char 97) (cat (char 8364)
-    (cat (char 115) (cat (char 233) end_of_cat)))))))))))))))))))))))
-    (cat (char 233) (cat (char 115)
-    (cat (char 8364) (cat (char 97)
-    (cat (char 75) (cat (char 97)
-    (cat (char 98) (cat (char 115)
-    (cat (char 98) (cat (char 233)
-    (cat (char 115) (cat (char 233)
-    (cat (char 98) (cat (char 115)
-    (cat (char 99) (cat (char 75)
-    (cat (char 97) (cat (char 233)
-    (cat (char 97) (cat (char 97)
-    (cat (char 97) end_of_cat)))))))))))))))))))))) (cat goal end_of_cat)) (utf8_text (195 ∷ 169 ∷ 115 ∷ 226 ∷ 130 ∷ 172 ∷ 97 ∷ 75 ∷ 97 ∷ 98 ∷ 115 ∷ 98 ∷ 195 ∷ 169 ∷ 115 ∷ 195 ∷ 169 ∷ 98 ∷ 115 ∷ 99 ∷ 75 ∷ 97 ∷ 195 ∷ 169 ∷ 97 ∷ 97 ∷ 97 ∷ 195 ∷ 169 ∷ 115 ∷ 226 ∷ 130 ∷ 172 ∷ 97 ∷ 75 ∷ 97 ∷ 98 ∷ 115 ∷ 98 ∷ 195 ∷ 169 ∷ 115 ∷ 195 ∷ 169 ∷ 98 ∷ 115 ∷ 99 ∷ 75 ∷ 97 ∷ 195 ∷ 169 ∷ 97 ∷ 97 ∷ 97 ∷ 99 ∷ 226 ∷ 130 ∷ 172 ∷ []) false) 0 ≡ (found 27 54 [] ∷ [])
-unfolding matches
-judged_3_80 = refl
-
--- `sa|saa\u{20AC}K` on `\u{E9}bsasa`
-judged_3_81 : matches (cat (alt (cat (char 115) (cat (char 97) end_of_cat))
-    (cat (char 115) (cat (char 97) (cat (char 97) (cat (char 8364) (cat (char 75) end_of_cat))))))
-    (cat goal end_of_cat)) (utf8_text (195 ∷ 169 ∷ 98 ∷ 115 ∷ 97 ∷ 115 ∷ 97 ∷ []) false)
-    0 ≡ (found 3 5 [] ∷ found 5 7 [] ∷ [])
-unfolding matches
-judged_3_81 = refl
-
--- `s` on `\u{20AC}s`
-judged_3_82 : matches (cat (cat (char 115) end_of_cat) (cat goal end_of_cat))
-    (utf8_text (226 ∷ 130 ∷ 172 ∷ 115 ∷ []) false) 0 ≡ (found 3 4 [] ∷ [])
-unfolding matches
-judged_3_82 = refl
-
--- `(?<=a\u{E9}(?=a))a\u{E9}` of flags `u` on `\u{A}a\u{E9}a\u{E9}\u{20AC}a\u{E9}`
-judged_3_83 : matches (cat (cat (lookaround (look false true 0 0)
-    (cat (lookaround (look false false 0 0) (cat (char 97) end_of_cat)) (cat (char 233) (cat (char 97) end_of_cat))))
-    (cat (char 97) (cat (char 233) end_of_cat))) (cat goal end_of_cat))
-    (utf8_text (10 ∷ 97 ∷ 195 ∷ 169 ∷ 97 ∷ 195 ∷ 169 ∷ 226 ∷ 130 ∷ 172 ∷ 97 ∷ 195 ∷ 169 ∷ []) true)
-    0 ≡ (found 4 7 [] ∷ [])
-unfolding matches
-judged_3_83 = refl
-
--- `(?<=(?=bbb)bbb|b)a` on `bbb`
-judged_3_84 : matches (cat (cat (lookaround (look false true 0 0)
-    (alt (cat (char 98) (cat (char 98) (cat (char 98)
-    (cat (lookaround (look false false 0 0) (cat (char 98) (cat (char 98) (cat (char 98) end_of_cat))))
-    end_of_cat)))) (cat (char 98) end_of_cat))) (cat (char 97) end_of_cat)) (cat goal end_of_cat))
-    (utf8_text (98 ∷ 98 ∷ 98 ∷ []) false) 0 ≡ []
-unfolding matches
-judged_3_84 = refl
-
--- `(?:)c\u{20AC}\u{20AC}\u{1F600}` of flags `u` on `c\u{20AC}\u{20AC}\u{1F600}`
-judged_3_85 : matches (cat (cat end_of_cat (cat (char 99)
-    (cat (char 8364) (cat (char 8364) (cat (char 128512) end_of_cat))))) (cat goal end_of_cat))
-    (utf8_text (99 ∷ 226 ∷ 130 ∷ 172 ∷ 226 ∷ 130 ∷ 172 ∷ 240 ∷ 159 ∷ 152 ∷ 128 ∷ []) true) 0 ≡ (found 0 11 [] ∷ [])
-unfolding matches
-judged_3_85 = refl
-
--- `c\u{20AC}cs|cs\u{20AC}s` on `K\u{E9}\u{A}`
-judged_3_86 : matches (cat (alt (cat (char 99) (cat (char 8364) (cat (char 99) (cat (char 115) end_of_cat))))
-    (cat (char 99) (cat (char 115) (cat (char 8364) (cat (char 115) end_of_cat))))) (cat goal end_of_cat))
-    (utf8_text (75 ∷ 195 ∷ 169 ∷ 10 ∷ []) false) 0 ≡ []
-unfolding matches
-judged_3_86 = refl
-
--- `(?=aKs)aKs` of flags `iu` on `aKsaKsaKscaKs`
-judged_3_87 : matches (cat (cat (lookaround (look false false 0 0)
-    (cat (char_set (65 ∷ 97 ∷ [])) (cat (char_set (75 ∷ 107 ∷ 8490 ∷ []))
-    (cat (char_set (83 ∷ 115 ∷ 383 ∷ [])) end_of_cat))))
-    (cat (char_set (65 ∷ 97 ∷ [])) (cat (char_set (75 ∷ 107 ∷ 8490 ∷ []))
-    (cat (char_set (83 ∷ 115 ∷ 383 ∷ [])) end_of_cat)))) (cat goal end_of_cat))
-    (utf8_text (97 ∷ 75 ∷ 115 ∷ 97 ∷ 75 ∷ 115 ∷ 97 ∷ 75 ∷ 115 ∷ 99 ∷ 97 ∷ 75 ∷ 115 ∷ []) true)
-    0 ≡ (found 0 3 [] ∷ found 3 6 [] ∷ found 6 9 [] ∷ found 10 13 [] ∷ [])
-unfolding matches
-judged_3_87 = refl
-
--- `cs` on `cs\u{20AC}`
-judged_3_88 : matches (cat (cat (char 99) (cat (char 115) end_of_cat)) (cat goal end_of_cat))
-    (utf8_text (99 ∷ 115 ∷ 226 ∷ 130 ∷ 172 ∷ []) false) 0 ≡ (found 0 2 [] ∷ [])
-unfolding matches
-judged_3_88 = refl
-
--- `(?:)acs` of flags `u` on `acsacsacs`
-judged_3_89 : matches (cat (cat end_of_cat (cat (char 97) (cat (char 99) (cat (char 115) end_of_cat))))
-    (cat goal end_of_cat)) (utf8_text (97 ∷ 99 ∷ 115 ∷ 97 ∷ 99 ∷ 115 ∷ 97 ∷ 99 ∷ 115 ∷ []) true)
-    0 ≡ (found 0 3 [] ∷ found 3 6 [] ∷ found 6 9 [] ∷ [])
-unfolding matches
-judged_3_89 = refl
-
--- `b\u{E9}*` of flags `iu` on `b\u{E9}\u{E9}`
-judged_3_90 : matches (cat (cat (char_set (66 ∷ 98 ∷ []))
-    (cat (loop_1_char_body (times 0 None true) (char 233)) end_of_cat)) (cat goal end_of_cat))
-    (utf8_text (98 ∷ 195 ∷ 169 ∷ 195 ∷ 169 ∷ []) true) 0 ≡ (found 0 5 [] ∷ [])
-unfolding matches
-judged_3_90 = refl
-
--- `(?<=(?=b)b|b)c` of flags `m` on `bb\u{20AC}b`
-judged_3_91 : matches (cat (cat (lookaround (look false true 0 0)
-    (alt (cat (char 98) (cat (lookaround (look false false 0 0) (cat (char 98) end_of_cat)) end_of_cat))
-    (cat (char 98) end_of_cat))) (cat (char 99) end_of_cat)) (cat goal end_of_cat))
-    (utf8_text (98 ∷ 98 ∷ 226 ∷ 130 ∷ 172 ∷ 98 ∷ []) false) 0 ≡ []
-unfolding matches
-judged_3_91 = refl
-
--- `(?<=bK)s\u{E9}K` on `bK\u{E9}bK`
-judged_3_92 : matches (cat (cat (lookaround (look false true 0 0) (cat (char 75) (cat (char 98) end_of_cat)))
-    (cat (char 115) (cat (char 233) (cat (char 75) end_of_cat)))) (cat goal end_of_cat))
-    (utf8_text (98 ∷ 75 ∷ 195 ∷ 169 ∷ 98 ∷ 75 ∷ []) false) 0 ≡ []
-unfolding matches
-judged_3_92 = refl
-
--- `\d0` on `10`
-judged_3_93 : matches (cat (cat (bracket (in_brackets false ((48, 57) ∷ []))) (cat (char 48) end_of_cat))
-    (cat goal end_of_cat)) (utf8_text (49 ∷ 48 ∷ []) false) 0 ≡ (found 0 2 [] ∷ [])
-unfolding matches
-judged_3_93 = refl
-
--- `]&&` on `]&&`
-judged_3_94 : matches (cat (cat (char 93) (cat (char 38) (cat (char 38) end_of_cat))) (cat goal end_of_cat))
-    (utf8_text (93 ∷ 38 ∷ 38 ∷ []) false) 0 ≡ (found 0 3 [] ∷ [])
-unfolding matches
-judged_3_94 = refl
-
--- `\_` on `cc`
-judged_3_95 : matches (cat (cat (char 95) end_of_cat) (cat goal end_of_cat)) (utf8_text (99 ∷ 99 ∷ []) false) 0 ≡ []
-unfolding matches
-judged_3_95 = refl
-
--- `|` of flags `gimsuy` on ``
-judged_3_96 : matches (cat (alt end_of_cat end_of_cat) (cat goal end_of_cat)) (utf8_text [] true)
-    0 ≡ (found 0 0 [] ∷ [])
-unfolding matches
-judged_3_96 = refl
-
--- `\0+\0\/*` of flags `u` on `\u{E9}\u{E9}\u{E9}\u{E9}`
-judged_3_97 : matches (cat (cat (loop_1_char_body (times 1 None true) (char 0))
-    (cat (char 0) (cat (loop_1_char_body (times 0 None true) (char 47)) end_of_cat))) (cat goal end_of_cat))
-    (utf8_text (195 ∷ 169 ∷ 195 ∷ 169 ∷ 195 ∷ 169 ∷ 195 ∷ 169 ∷ []) true) 0 ≡ []
-unfolding matches
-judged_3_97 = refl
-
--- `\0|0\&&` on `0x\u{E9}c\u{B}\u{E9}`
-judged_3_98 : matches (cat (alt (cat (char 0) end_of_cat) (cat (char 48) (cat (char 38) (cat (char 38) end_of_cat))))
-    (cat goal end_of_cat)) (utf8_text (48 ∷ 120 ∷ 195 ∷ 169 ∷ 99 ∷ 11 ∷ 195 ∷ 169 ∷ []) false) 0 ≡ []
-unfolding matches
-judged_3_98 = refl
-
--- `\\-\0` of flags `u` on ``
-judged_3_99 : matches (cat (cat (char 92) (cat (char 45) (cat (char 0) end_of_cat))) (cat goal end_of_cat))
-    (utf8_text [] true) 0 ≡ []
-unfolding matches
-judged_3_99 = refl
-
--- `{1` of flags `v` on `{1A`
-judged_3_100 : matches (cat (cat (char 123) (cat (char 49) end_of_cat)) (cat goal end_of_cat))
-    (utf8_text (123 ∷ 49 ∷ 65 ∷ []) false) 0 ≡ (found 0 2 [] ∷ [])
-unfolding matches
-judged_3_100 = refl
